@@ -1,3 +1,4 @@
-"""The tool `irr`: what people and other systems want of a registry, asked over its public formats."""
+"""The tool `irr`: what people and other systems want of a registry, asked over its public
+formats."""
 
-VERSION = "1.2.8"
+VERSION = "2.0.0"

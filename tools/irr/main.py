@@ -1,20 +1,17 @@
-"""The command line of `irr`: finds the command in the table, reads its words, and turns what ends it into a line and a status."""
+"""The command line of `irr`: finds the command in the table, reads its words, and turns what ends
+it into a line and a status."""
 import argparse
 import importlib
+import io
 import os
 import signal
 import sys
-from typing import NoReturn
+from typing import Any, NoReturn
 
-from irr import VERSION, texts
+from irr import VERSION
 from irr.commands import BY_NAME, GROUPS, TABLE, Command
-from irr.errors import ARGUMENTS, DONE, UNREAD, Failure, system_words
-
-
-# The modules that know what they read.
-READERS = {"irr.server": "the server's answer", "irr.answers": "the server's answer", "irr.replies": "the server's answer",
-           "irr.submissions": "a file", "irr.importing": "a file", "irr.making": "a file", "irr.stores": "a file of the registry",
-           "irr.past": "the history", "argparse": "an argument"}
+from irr.errors import ARGUMENTS, DONE, UNREAD, Failure, Reading, system_words, unread
+from irr.terminal import texts
 
 
 class Helped(Exception):
@@ -22,12 +19,13 @@ class Helped(Exception):
 
 
 class Parser(argparse.ArgumentParser):
-    """A parser whose faults are `Failure`s, so that they end as one line like any other, also where its help can't be written."""
+    """A parser whose faults are `Failure`s, so that they end as one line like any other, also where
+    its help can't be written."""
 
     def error(self, message: str) -> NoReturn:
         raise Failure("", f"{message}; see `{self.prog} --help`", ARGUMENTS)
 
-    def print_help(self, file=None) -> None:
+    def print_help(self, file: Any = None) -> None:
         print(self.format_help(), end="", file=file)
 
     def exit(self, status: int = 0, message: str | None = None) -> NoReturn:
@@ -37,9 +35,16 @@ class Parser(argparse.ArgumentParser):
 def parser_of(command: Command) -> Parser:
     """The parser of a command's words, which knows the function that does it."""
     module = importlib.import_module(f"irr.commands.{command.module}")
-    epilog = "Examples:\n" + "".join(f"  {line}\n" if line else "\n" for line in module.EXAMPLES.strip("\n").split("\n"))
-    parser = Parser(prog=f"irr {command.name}", description=command.summary[0].upper() + command.summary[1:] + ".",
-                    epilog=epilog, formatter_class=argparse.RawDescriptionHelpFormatter, allow_abbrev=False)
+    epilog = "Examples:\n" + "".join(
+        f"  {line}\n" if line else "\n" for line in module.EXAMPLES.strip("\n").split("\n")
+    )
+    parser = Parser(
+        prog=f"irr {command.name}",
+        description=command.summary[0].upper() + command.summary[1:] + ".",
+        epilog=epilog,
+        formatter_class=argparse.RawDescriptionHelpFormatter,
+        allow_abbrev=False,
+    )
     module.arguments(parser)
     parser.set_defaults(run=module.run)
     return parser
@@ -47,14 +52,26 @@ def parser_of(command: Command) -> Parser:
 
 def overview() -> str:
     """The help of `irr` itself."""
-    lines = ["usage: irr COMMAND [WORD ...]", "", "What people and other systems want of a registry that irrdesk serves."]
+    lines = [
+        "usage: irr COMMAND [WORD ...]",
+        "",
+        "What people and other systems want of a registry that irrdesk serves.",
+    ]
     width = max(len(command.name) for command in TABLE)
     for group in GROUPS:
         of_group = [command for command in TABLE if command.group == group]
         if of_group:
-            lines += ["", f"{group}:", *(f"  {command.name:{width}}  {command.summary}" for command in of_group)]
-    lines += ["", "irr COMMAND --help    its words, and examples",
-              "IRR_SERVER            the registry's address; http://127.0.0.1:4343 if it is not set", ""]
+            lines += [
+                "",
+                f"{group}:",
+                *(f"  {command.name:{width}}  {command.summary}" for command in of_group),
+            ]
+    lines += [
+        "",
+        "irr COMMAND --help    its words, and examples",
+        "IRR_SERVER            the registry's address; http://127.0.0.1:4343 if it is not set",
+        "",
+    ]
     return "\n".join(lines)
 
 
@@ -63,16 +80,26 @@ def find(name: str) -> Command:
     if name in BY_NAME:
         return BY_NAME[name]
     import difflib
+
     near = difflib.get_close_matches(name, BY_NAME, 1)
-    raise Failure(name, "there is no such command; " + (f"did you mean `irr {near[0]}`?" if near else "see `irr --help`"), ARGUMENTS)
+    raise Failure(
+        name,
+        "there is no such command; "
+        + (f"did you mean `irr {near[0]}`?" if near else "see `irr --help`"),
+        ARGUMENTS,
+    )
 
 
 def do(words: list[str]) -> int:
     """Does what the words say, and gives the status."""
     if words[:1] == ["help"]:
         if len(words) > 2:
-            raise Failure("help", "it takes one command at most; write `irr help COMMAND`", ARGUMENTS)
-        words = ["--help"] if words[1:] in ([], ["help"], ["-h"], ["--help"]) else [words[1], "--help"]
+            raise Failure(
+                "help", "it takes one command at most; write `irr help COMMAND`", ARGUMENTS
+            )
+        words = (
+            ["--help"] if words[1:] in ([], ["help"], ["-h"], ["--help"]) else [words[1], "--help"]
+        )
     if not words or words in (["-h"], ["--help"]):
         print(overview(), end="")
         return DONE if words else ARGUMENTS
@@ -80,12 +107,18 @@ def do(words: list[str]) -> int:
         print(f"irr {VERSION}")
         return DONE
     if words[0] in ("-h", "--help", "--version"):
-        raise Failure(words[0], "nothing goes with it; write `irr COMMAND --help` for the words of a command", ARGUMENTS)
+        raise Failure(
+            words[0],
+            "nothing goes with it; write `irr COMMAND --help` for the words of a command",
+            ARGUMENTS,
+        )
     try:
-        options = parser_of(find(words[0])).parse_args(words[1:])
+        with Reading("an argument"):
+            options = parser_of(find(words[0])).parse_args(words[1:])
     except Helped:
         return DONE
-    return options.run(options)
+    status: int = options.run(options)
+    return status
 
 
 def leave(number: int, _: object) -> NoReturn:
@@ -106,7 +139,8 @@ def close_output() -> None:
 
 
 def end_output() -> None:
-    """Writes what is left for standard output where something else ended the command, whose line was said."""
+    """Writes what is left for standard output where something else ended the command, whose line
+    was said."""
     try:
         sys.stdout.flush()
     except OSError:
@@ -125,19 +159,16 @@ def notes(error: BaseException) -> list[str]:
     return getattr(error, "__notes__", [])
 
 
-def unread(error: BaseException) -> Failure:
-    """What can't be read and is named nowhere else, by the first module on the way to it that knows what it reads."""
-    import traceback
-    frames = [frame.f_globals.get("__name__", "") for frame, _ in traceback.walk_tb(error.__traceback__)]
-    what = next((READERS[name] for name in frames if name in READERS), "an argument, a file or an answer")
-    return Failure("", f"{what} can't be read ({type(error).__name__}); look at what was given")
-
-
 def main(words: list[str] | None = None) -> int:
     """Runs `irr` with these words, or those of the command line."""
     words = sys.argv[1:] if words is None else words
-    for number, tidied in (signal.SIGTERM, leave), (signal.SIGHUP, leave), (signal.SIGINT, signal.default_int_handler):
-        # A command tidies up before it ends: it may have files that are nobody else's to read. What nohup ignores stays so.
+    for number, tidied in (
+        (signal.SIGTERM, leave),
+        (signal.SIGHUP, leave),
+        (signal.SIGINT, signal.default_int_handler),
+    ):
+        # A command tidies up before it ends: it may have files that are nobody else's to read. What
+        # nohup ignores stays so.
         if signal.getsignal(number) == signal.SIG_DFL:
             signal.signal(number, tidied)
     if sys.stdout is None:
@@ -145,8 +176,8 @@ def main(words: list[str] | None = None) -> int:
         return Failure("", "").status
     for stream in sys.stdout, sys.stderr:
         # A terminal that lacks a letter gets its number.
-        if stream is not None:
-            stream.reconfigure(errors="backslashreplace")  # type: ignore[union-attr]
+        if isinstance(stream, io.TextIOWrapper):
+            stream.reconfigure(errors="backslashreplace")
     try:
         status = do(words)
         sys.stdout.flush()
@@ -164,16 +195,22 @@ def main(words: list[str] | None = None) -> int:
         end_by(signal.SIGINT)
     except OSError as error:
         is_file = error.filename is not None
-        advice = ["look at it, or give another one" if is_file else "look where it goes to", *notes(error)]
-        failure = Failure(str(error.filename) if is_file else "standard output", "; ".join([system_words(error), *advice]))
+        advice = [
+            "look at it, or give another one" if is_file else "look where it goes to",
+            *notes(error),
+        ]
+        fault = Failure(
+            str(error.filename) if is_file else "standard output",
+            "; ".join([system_words(error), *advice]),
+        )
         close_output()
-        say(failure, words)
-        return failure.status
+        say(fault, words)
+        return fault.status
     except UNREAD as error:
-        failure = unread(error)
-        say(failure, words)
+        fault = unread(error)
+        say(fault, words)
         end_output()
-        return failure.status
+        return fault.status
     except MemoryError:
         say(Failure("", "out of memory; give the machine more, or take a smaller file"), words)
         return Failure("", "").status

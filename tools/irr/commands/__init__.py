@@ -1,10 +1,11 @@
-"""The one table of the commands of `irr`. Help, completion and the check of the manual pages read it.
+"""The one table of the commands of `irr`. Help, completion and the check of the manual read it.
 
 A command is a module of this folder, with
 
     EXAMPLES: str                     what stands under `Examples:` in its help
     arguments(parser) -> None         adds its words to an `argparse.ArgumentParser`
-    run(options) -> int               does it, and gives the status; anything else that ends it is a `Failure`
+    run(options) -> int               does it, and gives the status; anything else that ends it
+                                      is a `Failure`
 """
 from typing import NamedTuple
 
@@ -12,7 +13,9 @@ ASK, REGISTER, FILTER, KEEP, ABOUT = GROUPS = ("ask", "register", "filter", "kee
 
 
 class Command(NamedTuple):
-    """A command: its name on the command line, its group, its module in this folder, and what it does in a few words."""
+    """A command: its name on the command line, its group, its module in this folder, and what it
+    does in a few words."""
+
     name: str
     group: str
     module: str
@@ -22,23 +25,32 @@ class Command(NamedTuple):
 TABLE = (
     Command("query", ASK, "query", "ask a registry"),
     Command("dump", ASK, "dump", "print the public dump"),
-    Command("whois", ASK, "whois", "answer one whois connection"),
     Command("tree", ASK, "tree", "show who holds what below a prefix"),
     Command("held", ASK, "held", "say whether anybody else can change a prefix, and mend that"),
     Command("submit", REGISTER, "submit", "send a submission, or look what would be answered"),
     Command("diff", REGISTER, "diff", "compare a submission with what is registered"),
     Command("auth", REGISTER, "auth", "make a password and its auth line"),
-    Command("delegate", REGISTER, "delegate", "write the text that hands space and AS numbers over"),
+    Command(
+        "delegate", REGISTER, "delegate", "write the text that hands space and AS numbers over"
+    ),
     Command("explain", REGISTER, "explain", "say what a code of a report means, and what to do"),
-    Command("bgpq", FILTER, "bgpq", "answer one connection of bgpq4"),
     Command("filter", FILTER, "filter", "make a filter for BIRD or FRR"),
+    Command("why", FILTER, "why", "say by which references a prefix is in a set"),
     Command("rov", FILTER, "rov", "compare the registered routes with ROAs"),
+    Command(
+        "door", KEEP, "door", "answer the world: whois in three dialects, HTTP, and submissions"
+    ),
+    Command("log", KEEP, "log", "show who submitted what through the door"),
     Command("import", KEEP, "import_", "make a registry of another one's dump"),
     Command("export", KEEP, "export", "write the public dump in files of one class each"),
-    Command("mirror", KEEP, "mirror", "serve readers: copies of a registry that answer its queries"),
+    Command(
+        "mirror", KEEP, "mirror", "serve replicas: copies of a registry that answer its queries"
+    ),
     Command("backup", KEEP, "backup", "make a verified backup of a registry, served or not"),
     Command("history", KEEP, "history", "keep each public state of a registry, and show what was"),
     Command("reset", KEEP, "reset", "give a maintainer of a stopped registry another password"),
-    Command("completion", ABOUT, "completion", "print what a shell needs to complete the words of irr"),
+    Command(
+        "completion", ABOUT, "completion", "print what a shell needs to complete the words of irr"
+    ),
 )
 BY_NAME = {command.name: command for command in TABLE}

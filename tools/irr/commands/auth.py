@@ -1,35 +1,60 @@
-"""`irr auth [NAME]`: makes an `auth` line of a new password, or of one that is asked for, and with a name the mntner."""
+"""`irr auth [NAME]`: makes an `auth` line of a new password, or of one that is asked for, and with
+a name the mntner."""
 import argparse
 
-from irr import asking, files, hashes, keys, server, submissions, texts
 from irr.errors import ARGUMENTS, DONE, Failure
-from irr.reasons import source_of
-from irr.rpsl import Attribute, Paragraph
+from irr.registry import server, submissions
+from irr.registry.refusals import source_of
+from irr.rpsl import hashes, keys
+from irr.rpsl.syntax import Attribute, Paragraph
+from irr.system import files
+from irr.terminal import prompts, texts
 
 EXAMPLES = """
-irr auth                                              an `auth` line of a new password, which the terminal shows
-irr auth --ask                                        of a password that you type
+irr auth                              an `auth` line of a new password, which the terminal shows
+irr auth --ask                        of a password that you type
 irr auth --save my.password EXAMPLE-MNT > mntner.rpsl
-irr submit my.password mntner.rpsl                    a new maintainer, and its registration
+irr submit my.password mntner.rpsl    a new maintainer, and its registration
 """
 
 
 def arguments(parser: argparse.ArgumentParser) -> None:
     server.add_options(parser)
     how = parser.add_mutually_exclusive_group()
-    how.add_argument("--ask", action="store_true", help="ask for the password, twice; otherwise one of 96 random bits is made")
-    how.add_argument("--save", metavar="FILE", help="write the new password into a new file that only you can read, as a `password:` line")
-    parser.add_argument("--source", metavar="NAME", help="the registry's name for the mntner; otherwise the server is asked")
-    parser.add_argument("name", nargs="?", metavar="NAME", help="print the mntner of this name with the line")
+    how.add_argument(
+        "--ask",
+        action="store_true",
+        help="ask for the password, twice; otherwise one of 96 random bits is made",
+    )
+    how.add_argument(
+        "--save",
+        metavar="FILE",
+        help="write the new password into a new file that only you can read, as a `password:` line",
+    )
+    parser.add_argument(
+        "--source",
+        metavar="NAME",
+        help="the registry's name for the mntner; otherwise the server is asked",
+    )
+    parser.add_argument(
+        "name", nargs="?", metavar="NAME", help="print the mntner of this name with the line"
+    )
 
 
 def run(options: argparse.Namespace) -> int:
     mntner = None
     if options.source is not None and keys.read_source(options.source) is None:
-        raise Failure("--source", f"{options.source} is not a registry's name; write letters, digits, - and _, such as EXAMPLE", ARGUMENTS)
+        raise Failure(
+            "--source",
+            (
+                f"{options.source} is not a registry's name; write letters, digits, - and _, such"
+                " as EXAMPLE"
+            ),
+            ARGUMENTS,
+        )
     if options.name:
-        mntner = keys.need_maintainer(options.name), keys.read_source(options.source or registered_source(options))
-    password = asking.ask_twice("new password") if options.ask else hashes.new_password()
+        mntner = keys.need_maintainer(options.name), options.source or registered_source(options)
+    password = prompts.ask_twice("new password") if options.ask else hashes.new_password()
     item = submissions.password_item(password, "new password")
     secret = submissions.secret_of(item.passwords()[0])
     if options.save is not None:
@@ -40,15 +65,24 @@ def run(options: argparse.Namespace) -> int:
     attributes = [(b"auth", value)]
     if mntner:
         name, source = mntner
-        attributes = [(b"mntner", name.encode()), *attributes, (b"mnt-by", name.encode()), (b"source", source.encode())]
+        attributes = [
+            (b"mntner", name.encode()),
+            *attributes,
+            (b"mnt-by", name.encode()),
+            (b"source", source.encode()),
+        ]
     texts.put(Paragraph([Attribute(name, [value]) for name, value in attributes]).text())
     return DONE
 
 
 def registered_source(options: argparse.Namespace) -> str:
-    source = source_of(server.Server.from_options(options.server, options.plain).query("less 0.0.0.0/0").objects())
-    if not source:
-        raise Failure(options.name, "the registry does not say its name; give it by --source NAME", ARGUMENTS)
+    source = source_of(
+        server.Server.from_options(options.server, options.plain).query("less 0.0.0.0/0").objects()
+    )
+    if keys.read_source(source) is None:
+        raise Failure(
+            options.name, "the registry does not say its name; give it by --source NAME", ARGUMENTS
+        )
     return source
 
 
@@ -58,4 +92,8 @@ def show(password: str) -> None:
         with open("/dev/tty", "w", encoding="ascii") as terminal:
             terminal.write(f"password: {password}\nKeep it: the registry has only a hash of it.\n")
     except OSError:
-        raise Failure("", "there is no terminal to show the new password at; write it into a file by --save FILE", ARGUMENTS) from None
+        raise Failure(
+            "",
+            "there is no terminal to show the new password at; write it into a file by --save FILE",
+            ARGUMENTS,
+        ) from None

@@ -6,18 +6,21 @@ import re
 import time
 from pathlib import Path
 
-from irr import files, keys, rpsl, stores, texts
 from irr.errors import ARGUMENTS, DATABASE, DONE, Failure
-from irr.stores import Copy, Settings
+from irr.local import databases
+from irr.local.databases import Copy, Settings
+from irr.rpsl import keys, syntax
+from irr.system import files
+from irr.terminal import texts
 
 EXAMPLES = """
 irr backup /var/backups/irrdesk                       of /etc/irrdesk/irr.toml, which may be served
 irr backup --settings irr.toml --keep 30 backups
 irr backup --copy /snapshot/irr.db backups            of a snapshot of the file system
 
-To restore one, stop the server, put the file irr.db of the backup in the place of the database, and remove the
-log of what stood there, irr.db-wal; if `store` is a link, do this where it leads. Or load its dump.rpsl as a new
-registry.
+To restore one, stop the server, put the file irr.db of the backup in the place of the database,
+and remove the log of what stood there, irr.db-wal; if `store` is a link, do this where it leads.
+Or load its dump.rpsl as a new registry.
 """
 NAME = re.compile("[0-9]{8}T[0-9]{6}Z")
 # What the name of a folder begins with that is no backup yet, or no longer.
@@ -25,29 +28,59 @@ UNFINISHED = ".new-"
 
 
 def arguments(parser: argparse.ArgumentParser) -> None:
-    parser.add_argument("--settings", metavar="FILE", default=stores.DEFAULT, help=f"those of the registry; {stores.DEFAULT} otherwise")
-    parser.add_argument("--keep", metavar="COUNT", type=keys.number, default=7, help="how many backups are kept, 7 otherwise")
-    parser.add_argument("--hold", metavar="SECONDS", type=keys.decimal, default=30,
-                        help="how long a server may be held still while its database is copied, 30 otherwise")
-    parser.add_argument("--copy", metavar="FILE", help="take this database and the log beside it, of a snapshot of the file system")
-    parser.add_argument("folder", metavar="FOLDER", help="where the backups are kept, each in a folder named after its time")
+    parser.add_argument(
+        "--settings",
+        metavar="FILE",
+        default=databases.DEFAULT,
+        help=f"those of the registry; {databases.DEFAULT} otherwise",
+    )
+    parser.add_argument(
+        "--keep",
+        metavar="COUNT",
+        type=keys.number,
+        default=7,
+        help="how many backups are kept, 7 otherwise",
+    )
+    parser.add_argument(
+        "--hold",
+        metavar="SECONDS",
+        type=keys.decimal,
+        default=30,
+        help="how long a server may be held still while its database is copied, 30 otherwise",
+    )
+    parser.add_argument(
+        "--copy",
+        metavar="FILE",
+        help="take this database and the log beside it, of a snapshot of the file system",
+    )
+    parser.add_argument(
+        "folder",
+        metavar="FOLDER",
+        help="where the backups are kept, each in a folder named after its time",
+    )
 
 
 def run(options: argparse.Namespace) -> int:
     if options.keep < 1 or not 0 < options.hold <= 300:
-        raise Failure("", "--keep takes a number from 1, and --hold seconds up to 300; correct them", ARGUMENTS)
+        raise Failure(
+            "",
+            "--keep takes a number from 1, and --hold seconds up to 300; correct them",
+            ARGUMENTS,
+        )
     if options.copy == "":
         raise Failure("--copy", "the path is empty; give that of a database", ARGUMENTS)
     os.umask(0o077)
     settings = Settings.read(options.settings)
     place = files.folder(options.folder, 0o700)
     if place.stat().st_mode & 0o077:
-        raise Failure(options.folder, "others may enter the folder, and backups hold each hash; chmod 700 it")
+        raise Failure(
+            options.folder, "others may enter the folder, and backups hold each hash; chmod 700 it"
+        )
     with files.locked(place):
         # What cannot be removed is said once there is a new backup.
         with contextlib.suppress(Failure):
-            stores.clear(place, UNFINISHED)
-        with stores.working(place, UNFINISHED) as work:
+            databases.clear(place, UNFINISHED)
+        with databases.working(place, UNFINISHED) as work:
             made, held = make(settings, options, work)
             name = time.strftime("%Y%m%dT%H%M%SZ", time.gmtime())
             if os.path.lexists(place / name):
@@ -55,60 +88,85 @@ def run(options: argparse.Namespace) -> int:
             why = tried(work, settings, made)
             os.rename(made.folder, place / name)
             files.sync_folder(place)
-        retire(place, options.keep, not why)
+        for later in retire(place, name, options.keep, not why):
+            texts.note(
+                f"irr backup: {later}: its name is of the future, so it is neither counted nor"
+                " removed; look whether the clock is right, and remove it, or rename it to the"
+                " time it is of"
+            )
     if why:
-        raise Failure(str(place / name), f"its irr.db is good, but it has no dump, because that cannot be loaded: {why}", DATABASE)
+        raise Failure(
+            str(place / name),
+            f"its irr.db is good, but it has no dump, because that cannot be loaded: {why}",
+            DATABASE,
+        )
     objects = texts.counted(count_of(place / name / "dump.rpsl"), "object")
     print(texts.shown_line(f"{place / name}: {objects}, the database was held for {held:.2f} s"))
     return DONE
 
 
 def make(settings: Settings, options: argparse.Namespace, work: Path) -> tuple[Copy, float]:
-    """The backup in a folder of the working one: SQLite's copy of the database as it stands, and the settings beside it. And the seconds
-    for which the database was held."""
+    """The backup in a folder of the working one: SQLite's copy of the database as it stands, and
+    the settings beside it. And the seconds for which the database was held."""
     held, made = Copy(work / "held", settings.text()), Copy(work / "made", settings.text())
-    store, start = settings.store if options.copy is None else stores.real(options.copy), time.monotonic()
+    store, start = (
+        settings.store if options.copy is None else databases.real(options.copy),
+        time.monotonic(),
+    )
     if options.copy is not None:
-        with stores.unlocked(store):
-            stores.copied_store(store, held)
+        with databases.unlocked(store):
+            databases.copied_store(store, held)
         seconds = 0.0
     else:
-        with stores.still(settings, options.hold):
-            stores.copied_store(store, held)
+        with databases.still(settings, options.hold):
+            databases.copied_store(store, held)
         seconds = time.monotonic() - start
     # SQLite writes the log into the file when it closes; what it copies is what both had.
     as_it_was = Copy(work / "as-it-was", settings.text(), store)
-    stores.copied_store(held.store, as_it_was)
-    stores.sqlite_copy(held.store, made.store, str(store))
+    databases.copied_store(held.store, as_it_was)
+    databases.sqlite_copy(held.store, made.store, str(store))
     as_it_was.dump(work / "full.rpsl", full=True)
     return made, seconds
 
 
 def tried(work: Path, settings: Settings, made: Copy) -> str:
-    """Opens the backup and compares it with the copy; loads its dump and compares that too. The words of the program if the dump of a
-    good copy has an object that is too long to be loaded, else nothing."""
+    """Opens the backup and compares it with the copy; loads its dump and compares that too. The
+    words of the program if the dump of a good copy has an object that is too long to be loaded,
+    else nothing."""
     full = work / "full.rpsl"
     opened = Copy(work / "opened", settings.text())
-    stores.copied(made.store, opened.store)
+    databases.copied(made.store, opened.store)
     opened.dump(work / "opened.rpsl", full=True)
-    if not stores.same(full, work / "opened.rpsl"):
-        raise Failure(str(settings.store), "SQLite's backup has other objects than the database; look at the disk", DATABASE)
+    if not databases.same(full, work / "opened.rpsl"):
+        raise Failure(
+            str(settings.store),
+            "SQLite's backup has other objects than the database; look at the disk",
+            DATABASE,
+        )
     dump, loaded = made.folder / "dump.rpsl", Copy(work / "loaded", settings.text())
-    files.put(dump, stores.pressed(stores.blocks_of(full)), files.PRIVATE)
+    files.put(dump, databases.pressed(databases.blocks_of(full)), files.PRIVATE)
     why = ""
     try:
         loaded.load(dump)
-    except stores.TooLong as failure:
+    except databases.TooLong as failure:
         # The same is said of a text that a disk has spoilt.
-        if max(map(len, stores.blocks_of(dump)), default=0) <= rpsl.LARGEST + 1:
+        if max(map(len, databases.blocks_of(dump)), default=0) <= syntax.LARGEST + 1:
             raise
-        why = failure.what.partition(": ")[2].partition("dump.rpsl")[2].lstrip(":, ") or failure.what
+        why = (
+            failure.what.partition(": ")[2].partition("dump.rpsl")[2].lstrip(":, ") or failure.what
+        )
         dump.unlink()
     else:
         loaded.dump(work / "loaded.rpsl", full=True)
-        if not stores.same(full, work / "loaded.rpsl"):
-            raise Failure(str(settings.store), "the dump gives other objects than the database when it is loaded; tell it as a fault "
-                          "of irr", DATABASE)
+        if not databases.same(full, work / "loaded.rpsl"):
+            raise Failure(
+                str(settings.store),
+                (
+                    "the dump gives other objects than the database when it is loaded; tell it as a"
+                    " fault of irr"
+                ),
+                DATABASE,
+            )
     for path in made.folder.iterdir():
         with files.named(path), open(path, "rb") as file:
             os.fsync(file.fileno())
@@ -116,20 +174,34 @@ def tried(work: Path, settings: Settings, made: Copy) -> str:
     return why
 
 
-def retire(place: Path, keep: int, is_whole: bool) -> None:
-    """Removes what is outdated. It is renamed first: what is left of a backup if this is killed does not count as one without a dump, and
-    goes with the next run."""
-    for old in outdated(place, keep, is_whole):
+def retire(place: Path, new: str, keep: int, is_whole: bool) -> list[Path]:
+    """Removes what is outdated, and gives the folders whose names are later than that of the new
+    backup. Each is renamed first: what is left of a backup if this is killed does not count as one
+    without a dump, and goes with the next run."""
+    found = backups(place)
+    for old in outdated([entry for entry in found if entry.name <= new], keep, is_whole):
         os.rename(old, place / (UNFINISHED + old.name))
-    stores.clear(place, UNFINISHED)
+    databases.clear(place, UNFINISHED)
+    return [entry for entry in found if entry.name > new]
 
 
-def outdated(place: Path, keep: int, is_whole: bool) -> list[Path]:
-    """The backups before the last ones that are kept. One without a dump takes the place of none that has it: is_whole tells of the new
-    one whether it has. A link to one that was moved elsewhere is not counted."""
-    found = sorted(entry for entry in place.iterdir() if NAME.fullmatch(entry.name) and entry.is_dir() and not entry.is_symlink())
+def backups(place: Path) -> list[Path]:
+    """The backups by name. A link to one that was moved elsewhere is not counted."""
+    return sorted(
+        entry
+        for entry in place.iterdir()
+        if NAME.fullmatch(entry.name) and entry.is_dir() and not entry.is_symlink()
+    )
+
+
+def outdated(found: list[Path], keep: int, is_whole: bool) -> list[Path]:
+    """The backups before the last ones that are kept. One without a dump takes the place of none
+    that has it: is_whole tells of the new one whether it has."""
     whole = [entry for entry in found if (entry / "dump.rpsl").exists()]
-    return [*(whole[:-keep] if is_whole else []), *[entry for entry in found if entry not in whole][:-keep]]
+    return [
+        *(whole[:-keep] if is_whole else []),
+        *[entry for entry in found if entry not in whole][:-keep],
+    ]
 
 
 def count_of(dump: Path) -> int:

@@ -24,6 +24,7 @@ def run(options: argparse.Namespace) -> int:
 def options_of(name: str) -> list[tuple[str, str]]:
     """The options of a command and their help, as its parser has them."""
     from irr.main import find, parser_of
+
     found = []
     for action in parser_of(find(name))._actions:
         for option in action.option_strings:
@@ -34,17 +35,31 @@ def options_of(name: str) -> list[tuple[str, str]]:
 def words_of(name: str) -> list[str]:
     """The words that a command is known to take first."""
     from irr.main import find, parser_of
+
     if name == "query":
         return list(QUERIES)
     if name == "explain":
-        from irr.codes import TABLE as CODES
+        from irr.registry.codes import TABLE as CODES
+
         return [code.code for code in CODES]
-    return [word for action in parser_of(find(name))._actions if not action.option_strings for word in action.choices or ()]
+    return [
+        word
+        for action in parser_of(find(name))._actions
+        if not action.option_strings
+        for word in action.choices or ()
+    ]
+
+
+def words_after(name: str) -> list[str]:
+    """What may follow a command: its options, and words of its own."""
+    return [*(option for option, _ in options_of(name)), *words_of(name)]
 
 
 def bash() -> str:
-    cases = "".join(f'        {command.name}) words="{" ".join([option for option, _ in options_of(command.name)] + words_of(command.name))}" ;;\n'
-                    for command in TABLE)
+    cases = "".join(
+        f"        {command.name})" f' words="{" ".join(words_after(command.name))}"' " ;;\n"
+        for command in TABLE
+    )
     names = " ".join(command.name for command in TABLE)
     return f"""# Completion of irr for bash, made by `irr completion bash`.
 _irr() {{
@@ -65,14 +80,22 @@ complete -o filenames -F _irr irr
 
 def quoted(words: str) -> str:
     """A text inside single quotes, as zsh and fish read it."""
-    return words.replace("'", "").replace("[", "(").replace("]", ")").replace(":", " -").replace("`", "")
+    return (
+        words.replace("'", "")
+        .replace("[", "(")
+        .replace("]", ")")
+        .replace(":", " -")
+        .replace("`", "")
+    )
 
 
 def zsh() -> str:
     names = "\n".join(f"        '{command.name}:{quoted(command.summary)}'" for command in TABLE)
     cases = ""
     for command in TABLE:
-        options = " ".join(f"'{option}[{quoted(words)}]'" for option, words in options_of(command.name))
+        options = " ".join(
+            f"'{option}[{quoted(words)}]'" for option, words in options_of(command.name)
+        )
         words = words_of(command.name)
         rest = f"'*:word:({' '.join(words)})'" if words else "'*:file:_files'"
         cases += f"        {command.name}) _arguments {options} {rest} ;;\n"
@@ -100,10 +123,19 @@ _irr "$@"
 def fish() -> str:
     lines = ["# Completion of irr for fish, made by `irr completion fish`."]
     for command in TABLE:
-        lines.append(f"complete -c irr -n __fish_use_subcommand -f -a {command.name} -d '{quoted(command.summary)}'")
+        lines.append(
+            f"complete -c irr -n __fish_use_subcommand -f -a {command.name} -d"
+            f" '{quoted(command.summary)}'"
+        )
         for option, words in options_of(command.name):
             kind = "-l" if option.startswith("--") else "-s"
-            lines.append(f"complete -c irr -n '__fish_seen_subcommand_from {command.name}' {kind} {option.lstrip('-')} -d '{quoted(words)}'")
+            lines.append(
+                f"complete -c irr -n '__fish_seen_subcommand_from {command.name}'"
+                f" {kind} {option.lstrip('-')} -d '{quoted(words)}'"
+            )
         if words_of(command.name):
-            lines.append(f"complete -c irr -n '__fish_seen_subcommand_from {command.name}' -f -a '{' '.join(words_of(command.name))}'")
+            lines.append(
+                f"complete -c irr -n '__fish_seen_subcommand_from {command.name}' -f -a"
+                f" '{' '.join(words_of(command.name))}'"
+            )
     return "\n".join(lines) + "\n"

@@ -5,8 +5,11 @@ import gzip
 from pathlib import Path
 from typing import BinaryIO
 
-from irr import answers, files, keys, server, texts
 from irr.errors import DONE
+from irr.registry import answers, server
+from irr.rpsl import keys
+from irr.system import files
+from irr.terminal import texts
 
 EXAMPLES = """
 irr export /srv/ftp/irr                     /srv/ftp/irr/example.db.route.gz and six more
@@ -16,7 +19,11 @@ irr export -s https://irr.example.net .     of another registry, into this folde
 
 def arguments(parser: argparse.ArgumentParser) -> None:
     server.add_options(parser)
-    parser.add_argument("folder", metavar="FOLDER", help="where the files go: SOURCE.db.CLASS.gz, SOURCE in small letters")
+    parser.add_argument(
+        "folder",
+        metavar="FOLDER",
+        help="where the files go: SOURCE.db.CLASS.gz, SOURCE in small letters",
+    )
 
 
 def run(options: argparse.Namespace) -> int:
@@ -29,7 +36,9 @@ def run(options: argparse.Namespace) -> int:
         for key, paragraph in answers.dumped(place.dump(), place.url):
             if not outs:
                 source = keys.as_text(paragraph.value(b"source")).lower()
-                outs = {kind: opened(put, folder / f"{source}.db.{kind}.gz") for kind in keys.CLASSES}
+                outs = {
+                    kind: opened(put, folder / f"{source}.db.{kind}.gz") for kind in keys.CLASSES
+                }
             outs[key.kind].write(paragraph.text() + b"\n")
             counts[key.kind] += 1
     texts.note("; ".join(f"{kind} {count:,}" for kind, count in counts.items()))
@@ -37,6 +46,7 @@ def run(options: argparse.Namespace) -> int:
 
 
 def opened(put: contextlib.ExitStack, path: Path) -> gzip.GzipFile:
-    """A gzip'd file that is put in place when the stack is left without a fault. The same objects give the same bytes."""
+    """A gzip'd file that is put in place when the stack is left without a fault. The same objects
+    give the same bytes."""
     out: BinaryIO = put.enter_context(files.written(path))
     return put.enter_context(gzip.GzipFile(filename="", mode="wb", fileobj=out, mtime=0))

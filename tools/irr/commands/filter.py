@@ -1,17 +1,23 @@
-"""`irr filter FORMAT NAME SET FILE`: a filter of what a set or an AS number stands for, made whole or not at all."""
+"""`irr filter FORMAT NAME SET FILE`: a filter of what a set or an AS number stands for, made whole
+or not at all."""
 import argparse
 import sys
 from typing import Iterator
 
-from irr import files, keys, server, sets, texts
 from irr.errors import ARGUMENTS, DONE, REFUSED, Failure
-from irr.keys import Range
+from irr.filters import sets, settings
+from irr.registry import server
+from irr.rpsl import keys
+from irr.rpsl.keys import Range
+from irr.system import files
+from irr.terminal import texts
 
 EXAMPLES = """
 irr filter bird CUSTOMERS AS64496:RS-CUSTOMERS /etc/bird/customers.conf
 irr filter frr CUSTOMERS AS64496 -                        the routes of an AS, printed
 irr filter -m bird CUSTOMERS AS64496:AS-CUSTOMERS -       without the sets that are not registered
-irr filter --settings /etc/irrdesk/filters.toml           all filters of a file, each read by its router before it counts
+irr filter --settings /etc/irrdesk/filters.toml           all filters of a file
+irr filter --settings filters.toml --accept               also those that lost much
 """
 # No network has a range above this length, unless the user says so.
 WIDEST = 8
@@ -20,36 +26,77 @@ NAME = "ABCDEFGHIJKLMNOPQRSTUVWXYZ0123456789_"
 
 def arguments(parser: argparse.ArgumentParser) -> None:
     server.add_options(parser)
-    parser.add_argument("-m", "--missing", action="store_true", help="make the filter also if sets are missing, and say which")
-    parser.add_argument("--widest", metavar="LENGTH", default=str(WIDEST),
-                        help=f"the least length of a prefix, or of the prefix of a range, otherwise {WIDEST}; 0 allows 0.0.0.0/0")
-    parser.add_argument("--settings", metavar="FILE", help="make the filters of these settings, and nothing else")
+    parser.add_argument(
+        "-m",
+        "--missing",
+        action="store_true",
+        help="make the filter also if sets are missing, and say which",
+    )
+    parser.add_argument(
+        "--widest",
+        metavar="LENGTH",
+        default=str(WIDEST),
+        help="the least length of a prefix, or of the prefix of a range, "
+        f"otherwise {WIDEST}; 0 allows 0.0.0.0/0",
+    )
+    parser.add_argument(
+        "--settings", metavar="FILE", help="make the filters of these settings, and nothing else"
+    )
+    parser.add_argument(
+        "--accept",
+        action="store_true",
+        help="with --settings, take also a list that lost more of its entries than `shrink` allows",
+    )
     parser.add_argument("format", metavar="FORMAT", nargs="?", help="bird or frr")
-    parser.add_argument("name", metavar="NAME", nargs="?", help="the filter's name: capital letters, digits and _, a letter first")
-    parser.add_argument("set", metavar="SET", nargs="?", help="a set, such as AS64496:AS-CUSTOMERS, or an AS number")
-    parser.add_argument("file", metavar="FILE", nargs="?", help="is replaced by the filter if that could be made; - prints it")
+    parser.add_argument(
+        "name",
+        metavar="NAME",
+        nargs="?",
+        help="the filter's name: capital letters, digits and _, a letter first",
+    )
+    parser.add_argument(
+        "set", metavar="SET", nargs="?", help="a set, such as AS64496:AS-CUSTOMERS, or an AS number"
+    )
+    parser.add_argument(
+        "file",
+        metavar="FILE",
+        nargs="?",
+        help="is replaced by the filter if that could be made; - prints it",
+    )
     # Options may stand between these, which are not there with --settings.
-    parser.parse_args = parser.parse_intermixed_args  # type: ignore[method-assign]
+    setattr(parser, "parse_args", parser.parse_intermixed_args)
 
 
 def run(options: argparse.Namespace) -> int:
     if options.settings:
         if options.format:
-            raise Failure(options.format, "with --settings there is nothing else; take it away", ARGUMENTS)
-        from irr import making
-        return making.make_all(options.settings)
+            raise Failure(
+                options.format, "with --settings there is nothing else; take it away", ARGUMENTS
+            )
+        return settings.make_all(options.settings, options.accept)
+    if options.accept:
+        raise Failure("--accept", "it goes with --settings alone; take it away", ARGUMENTS)
     widest = read_words(options)
     place = server.Server.from_options(options.server, options.plain)
     try:
         found = ranges(place, options.set, options.missing)
         if wide := [one.text() for one in found if one.prefix.length < widest]:
-            raise Failure(options.set, f"it has ranges wider than /{widest}: {sets.listed(wide)}; look who registered them, "
-                          "or allow them by --widest", REFUSED)
-        text = "".join(line + "\n" for line in FORMATS[options.format](options.name, found, f"{options.set.upper()} at {place.url}"))
+            raise Failure(
+                options.set,
+                f"it has ranges wider than /{widest}: {sets.listed(wide)}; "
+                "look who registered them, or allow them by --widest",
+                REFUSED,
+            )
+        text = "".join(
+            line + "\n"
+            for line in FORMATS[options.format](
+                options.name, found, f"{options.set.upper()} at {texts.shown_line(place.url)}"
+            )
+        )
         if options.file == "-":
             sys.stdout.write(text)
         else:
-            files.put(options.file, text.encode("ascii"))
+            files.put(options.file, text.encode("ascii", "backslashreplace"))
             print(f"{options.file}: {options.set}: {texts.counted(len(found), 'range')}")
     except Failure as failure:
         stays = "" if options.file == "-" else f"; {options.file} stays as it was"
@@ -58,19 +105,42 @@ def run(options: argparse.Namespace) -> int:
 
 
 def read_words(options: argparse.Namespace) -> int:
-    """The widest length, once each word of the command line is known to be right; a Failure that names the one that is not."""
-    for word, what in [(options.format, "FORMAT"), (options.name, "NAME"), (options.set, "SET"), (options.file, "FILE")]:
+    """The widest length, once each word of the command line is known to be right; a Failure that
+    names the one that is not."""
+    for word, what in [
+        (options.format, "FORMAT"),
+        (options.name, "NAME"),
+        (options.set, "SET"),
+        (options.file, "FILE"),
+    ]:
         if not word:
             raise Failure(what, "it is missing; see `irr filter --help`", ARGUMENTS)
     if options.format not in FORMATS:
-        raise Failure(options.format, "this is not a format; write bird or frr, and take bgpq4 for other routers", ARGUMENTS)
+        raise Failure(
+            options.format,
+            "this is not a format; write bird or frr, and take bgpq4 for other routers",
+            ARGUMENTS,
+        )
     if options.name[0] not in NAME[:26] or options.name.strip(NAME):
-        raise Failure(options.name, "this is not the name of a filter; write capital letters, digits and _, such as CUSTOMERS", ARGUMENTS)
+        raise Failure(
+            options.name,
+            "this is not the name of a filter; "
+            "write capital letters, digits and _, such as CUSTOMERS",
+            ARGUMENTS,
+        )
     if keys.read_as(options.set) is None and keys.read_set(options.set) is None:
-        raise Failure(options.set, "this is not a set or an AS number; write it as AS64496:AS-CUSTOMERS or AS64496", ARGUMENTS)
+        raise Failure(
+            options.set,
+            "this is not a set or an AS number; write it as AS64496:AS-CUSTOMERS or AS64496",
+            ARGUMENTS,
+        )
     widest = keys.read_number(options.widest, 0, 32)
     if widest is None:
-        raise Failure(options.widest, "this is not a length; write a number from 0 to 32 after --widest", ARGUMENTS)
+        raise Failure(
+            options.widest,
+            "this is not a length; write a number from 0 to 32 after --widest",
+            ARGUMENTS,
+        )
     return widest
 
 
@@ -78,12 +148,17 @@ def ranges(place: server.Server, name: str, without_missing: bool) -> list[Range
     """The ranges that a set or an AS number stands for; there is one at least."""
     number = keys.read_as(name)
     if number is not None:
-        found = [Range(prefix, prefix.length, prefix.length) for prefix in sets.routes(place, number)]
+        found = [
+            Range(prefix, prefix.length, prefix.length) for prefix in sets.routes(place, number)
+        ]
     else:
         expansion = sets.expansion(place, "prefixes", name)
         lines = expansion.lines if without_missing else expansion.whole(name)
         if expansion.missing and without_missing:
-            texts.note(f"irr filter: {name}: made without sets that are not registered: {sets.listed(expansion.missing)}")
+            texts.note(
+                f"irr filter: {name}: made without sets that are not registered: "
+                f"{sets.listed(expansion.missing)}"
+            )
         found = sets.ranges(lines)
     if not found:
         what = "no route has this origin" if number is not None else "the set has no prefixes"
@@ -96,7 +171,9 @@ def bird(name: str, found: list[Range], origin: str) -> Iterator[str]:
     yield f"# Made by irr filter of {origin}"
     yield f"define {name} = ["
     for place, one in enumerate(found, 1):
-        yield f"    {one.prefix.text()}{{{one.low},{one.high}}}" + ("," if place < len(found) else "")
+        yield f"    {one.prefix.text()}{{{one.low},{one.high}}}" + (
+            "," if place < len(found) else ""
+        )
     yield "];"
 
 

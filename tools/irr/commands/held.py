@@ -1,22 +1,27 @@
-"""`irr held PREFIX MNT..`: whether a prefix is registered so that nobody else can touch it, and the text that mends what is missing."""
+"""`irr held PREFIX MNT..`: whether a prefix is registered so that nobody else can touch it, and the
+text that mends what is missing."""
 import argparse
 from typing import Iterable, Iterator, NamedTuple
 
-from irr import answers, holders, keys, server, texts
 from irr.errors import ARGUMENTS, DONE, REFUSED, Failure
-from irr.keys import Prefix
-from irr.reasons import name_of, span_of
-from irr.rpsl import ITEM, Attribute, Paragraph
+from irr.registry import answers, server
+from irr.registry.refusals import name_of, span_of
+from irr.rpsl import holders, keys
+from irr.rpsl.keys import Prefix
+from irr.rpsl.syntax import ITEM, Attribute, Paragraph
+from irr.terminal import texts
 
 EXAMPLES = """
 irr held 192.0.2.0/24 EXAMPLE-MNT                 what is missing
-irr held 192.0.2.0/24 EXAMPLE-MNT > mend.rpsl     the same as text to submit; what it says is in its comments
+irr held 192.0.2.0/24 EXAMPLE-MNT > mend.rpsl     the same as text to submit, with comments
 irr submit --as EXAMPLE-MNT mend.rpsl
 """
 
 
 class Finding(NamedTuple):
-    """What is missing or open, whether it keeps the prefix from being held, and the object that mends it, if one does."""
+    """What is missing or open, whether it keeps the prefix from being held, and the object that
+    mends it, if one does."""
+
     words: str
     is_hole: bool
     remedy: Paragraph | None = None
@@ -24,6 +29,7 @@ class Finding(NamedTuple):
 
 class Seen(NamedTuple):
     """What of a registry has to do with a prefix and its maintainers."""
+
     mntners: dict[str, Paragraph]
     space: list[Paragraph]
     numbers: list[Paragraph]
@@ -42,7 +48,11 @@ def run(options: argparse.Namespace) -> int:
     place = server.Server.from_options(options.server, options.plain)
     prefix = keys.read_prefix(options.prefix)
     if prefix is None:
-        raise Failure(options.prefix, "this is not a prefix; write four numbers and a length, such as 192.0.2.0/24", ARGUMENTS)
+        raise Failure(
+            options.prefix,
+            "this is not a prefix; write four numbers and a length, such as 192.0.2.0/24",
+            ARGUMENTS,
+        )
     names = list(map(keys.need_maintainer, options.names))
     seen = look(place.dump(), prefix, names, place.url)
     findings = list(find(seen, prefix, names))
@@ -80,14 +90,19 @@ def look(dump: Iterable[bytes], prefix: Prefix, names: list[str], place: str) ->
 
 
 def find(seen: Seen, prefix: Prefix, names: list[str]) -> Iterator[Finding]:
-    """What the page on confinement asks for and is not there, in the order in which it is mended."""
+    """What the page on confinement asks for and is not there, in the order in which it is
+    mended."""
     for name in names:
         if name not in seen.mntners:
             yield Finding(f"mntner {name} is not registered: register it (irr auth {name})", True)
     for mntner in seen.mntners.values():
         yield from strangers(mntner, names)
     yield from exact(seen, prefix, names)
-    for paragraph in [*seen.space, *seen.numbers, *(one for one in seen.sets if is_below(one, seen.numbers))]:
+    for paragraph in [
+        *seen.space,
+        *seen.numbers,
+        *(one for one in seen.sets if is_below(one, seen.numbers)),
+    ]:
         yield from strangers(paragraph, names)
     for paragraph in seen.sets:
         yield from open_members(paragraph, seen, names)
@@ -96,13 +111,21 @@ def find(seen: Seen, prefix: Prefix, names: list[str]) -> Iterator[Finding]:
 def exact(seen: Seen, prefix: Prefix, names: list[str]) -> Iterator[Finding]:
     """The inetnum and the route of exactly the prefix."""
     for kind in ("inetnum", "route"):
-        if any(holders.kind(other) == kind and span_of(other) == prefix.span() for other in seen.space):
+        if any(
+            holders.kind(other) == kind and span_of(other) == prefix.span() for other in seen.space
+        ):
             continue
         pairs = [(kind, prefix.text())]
         own = [keys.key_of(number) for number in seen.numbers]
         if kind == "route":
             if not own or own[0] is None:
-                yield Finding(f"there is no route of exactly {prefix.text()}, and no aut-num of yours to be its origin: register one", True)
+                yield Finding(
+                    (
+                        f"there is no route of exactly {prefix.text()}, and no aut-num of yours to"
+                        " be its origin: register one"
+                    ),
+                    True,
+                )
                 continue
             pairs.append(("origin", own[0].text))
         pairs += [("mnt-by", names[0]), ("source", seen.source)]
@@ -113,12 +136,21 @@ def exact(seen: Seen, prefix: Prefix, names: list[str]) -> Iterator[Finding]:
 def strangers(paragraph: Paragraph, names: list[str]) -> Iterator[Finding]:
     """The maintainers that an object names and that are not yours."""
     kind, key = holders.kind(paragraph), keys.key_of(paragraph)
-    found = [name for name in (holders.by(paragraph) if kind == "mntner" else acting(paragraph)) if name not in names]
+    found = [
+        name
+        for name in (holders.by(paragraph) if kind == "mntner" else acting(paragraph))
+        if name not in names
+    ]
     if not found or key is None:
         return
-    words = f"{name_of(key)} names {', '.join(found)}, who {'are' if len(found) > 1 else 'is'} not yours"
+    words = (
+        f"{name_of(key)} names {', '.join(found)}, who {'are' if len(found) > 1 else 'is'} not"
+        " yours"
+    )
     if kind == "mntner":
-        yield Finding(f"{words}: change its `mnt-by`, with its `auth` lines, which are hidden here", True)
+        yield Finding(
+            f"{words}: change its `mnt-by`, with its `auth` lines, which are hidden here", True
+        )
     elif not set(holders.by(paragraph)) & set(names):
         yield Finding(f"{words}: only they can change it", True)
     else:
@@ -127,7 +159,11 @@ def strangers(paragraph: Paragraph, names: list[str]) -> Iterator[Finding]:
 
 def acting(paragraph: Paragraph) -> list[str]:
     """The maintainers in `mnt-by`, `mnt-lower` and `mnt-routes`."""
-    found = holders.by(paragraph) + holders.names(paragraph, "mnt-lower") + [grant.name for grant in holders.grants(paragraph)]
+    found = (
+        holders.by(paragraph)
+        + holders.names(paragraph, "mnt-lower")
+        + [grant.name for grant in holders.grants(paragraph)]
+    )
     return list(dict.fromkeys(found))
 
 
@@ -136,14 +172,25 @@ def without(paragraph: Paragraph, names: list[str]) -> Paragraph:
     kept = []
     for attribute in paragraph.attributes:
         if attribute.name in (b"mnt-by", b"mnt-lower"):
-            items = [item for item in ITEM.findall(attribute.meaning()) if keys.as_text(item).upper() in names]
+            items = [
+                item
+                for item in ITEM.findall(attribute.meaning())
+                if keys.as_text(item).upper() in names
+            ]
             if items:
                 kept.append(Attribute(attribute.name, [b", ".join(items)]))
         elif attribute.name != b"mnt-routes" or not holders.grants(paragraph):
             kept.append(attribute)
     grants = [grant for grant in holders.grants(paragraph) if grant.name in names]
-    entries = [grant.name + ("" if grant.ranges is None else " {" + ", ".join(held.text() for held in grant.ranges) + "}")
-               for grant in grants]
+    entries = [
+        grant.name
+        + (
+            ""
+            if grant.ranges is None
+            else " {" + ", ".join(held.text() for held in grant.ranges) + "}"
+        )
+        for grant in grants
+    ]
     if entries:
         kept.insert(-1, Attribute(b"mnt-routes", [", ".join(entries).encode()]))
     return Paragraph(kept)
@@ -164,8 +211,20 @@ def open_members(paragraph: Paragraph, seen: Seen, names: list[str]) -> Iterator
     for item in dict.fromkeys(paragraph.items(b"members")):
         name = keys.read_set(keys.as_text(item).partition("^")[0])
         if name and name not in ("AS-ANY", "RS-ANY") and name not in seen.known:
-            yield Finding(f"{name_of(key)} lists {name}, which is not registered: who registers it decides what the set has", False)
+            yield Finding(
+                (
+                    f"{name_of(key)} lists {name}, which is not registered: who registers it"
+                    " decides what the set has"
+                ),
+                False,
+            )
     listed = holders.names(paragraph, "mbrs-by-ref")
     if listed:
         who = "anybody" if "ANY" in listed else f"anybody who names {', '.join(listed)} in `mnt-by`"
-        yield Finding(f"{name_of(key)} has `mbrs-by-ref`: {who} can join it by `member-of`; list members by name instead", False)
+        yield Finding(
+            (
+                f"{name_of(key)} has `mbrs-by-ref`: {who} can join it by `member-of`; list members"
+                " by name instead"
+            ),
+            False,
+        )

@@ -1,4 +1,5 @@
-"""`irr history FOLDER`, `irr history show KEY` and `irr history at TIME WORD..`: what a registry had, and what it answered."""
+"""`irr history FOLDER`, `irr history show KEY` and `irr history at TIME WORD..`: what a registry
+had, and what it answered."""
 import argparse
 import hashlib
 import os
@@ -6,29 +7,44 @@ import time
 from pathlib import Path
 from typing import Iterable, Iterator
 
-from irr import answers, files, keys, rpsl, scratch, server, texts
 from irr.errors import ARGUMENTS, DONE, REFUSED, Failure
-from irr.past import Repository, note_of_age, read_keys, read_time, shown_time, told
+from irr.local import temporary
+from irr.local.history import Repository, note_of_age, read_keys, read_time, shown_time, told
+from irr.registry import answers, server
+from irr.rpsl import keys, syntax
+from irr.system import files
+from irr.terminal import texts
 
 DEFAULT = "/var/lib/irrdesk-history"
 EXAMPLES = """
-irr history /var/lib/irrdesk-history                   fetch the public dump, and commit what has changed
+irr history /var/lib/irrdesk-history                   fetch the public dump, commit what changed
 irr history show route 192.0.2.0/24 AS64496            the versions of an object, with their times
 irr history at 2026-11-26T12:00Z closest 192.0.2.1     what was answered then
 git -C /var/lib/irrdesk-history log --stat             what git has: a file for each object
 
-`show` and `at` read the folder of --folder, or of IRR_HISTORY, or /var/lib/irrdesk-history. A change is dated by the
-fetch that saw it; of two between two fetches the second alone is seen. Passwords are not public, so a new one is not
-seen. Nor is who changed what: the log of the proxy in front of /submissions has that.
+`show` and `at` read the folder of --folder, or of IRR_HISTORY, or /var/lib/irrdesk-history. A
+change is dated by the fetch that saw it; of two between two fetches the second alone is seen.
+Passwords are not public, so a new one is not seen. Nor is who changed what: the log of the proxy
+in front of /submissions has that.
 """
 
 
 def arguments(parser: argparse.ArgumentParser) -> None:
     server.add_options(parser)
     parser.add_argument("--folder", metavar="FOLDER", help="that of `show` and `at`")
-    parser.add_argument("--limit", metavar="COUNT", type=keys.number, default=10_000,
-                        help="for `at`: `limit` of the registry's settings, 10000 otherwise")
-    parser.add_argument("words", nargs="+", metavar="WORD", help="FOLDER, `show` and a key, or `at`, a time and a query")
+    parser.add_argument(
+        "--limit",
+        metavar="COUNT",
+        type=keys.number,
+        default=10_000,
+        help="for `at`: `limit` of the registry's settings, 10000 otherwise",
+    )
+    parser.add_argument(
+        "words",
+        nargs="+",
+        metavar="WORD",
+        help="FOLDER, `show` and a key, or `at`, a time and a query",
+    )
 
 
 def run(options: argparse.Namespace) -> int:
@@ -38,13 +54,27 @@ def run(options: argparse.Namespace) -> int:
     if first in ("show", "at"):
         repository = Repository(Path(options.folder or os.environ.get("IRR_HISTORY") or DEFAULT))
         if not repository.is_there:
-            raise Failure(str(repository.folder), "there is no history; give its folder by --folder, or begin one by `irr history FOLDER`",
-                          ARGUMENTS)
+            raise Failure(
+                str(repository.folder),
+                (
+                    "there is no history; give its folder by --folder, or begin one by `irr history"
+                    " FOLDER`"
+                ),
+                ARGUMENTS,
+            )
         if len(rest) < (1 if first == "show" else 2):
             raise Failure(first, "a word is missing; see `irr history --help`", ARGUMENTS)
-        return show(repository, rest) if first == "show" else answer_at(repository, rest[0], rest[1:], options.limit)
+        return (
+            show(repository, rest)
+            if first == "show"
+            else answer_at(repository, rest[0], rest[1:], options.limit)
+        )
     if rest or options.folder:
-        raise Failure(first, "take one FOLDER, or the word `show` or `at`; see `irr history --help`", ARGUMENTS)
+        raise Failure(
+            first,
+            "take one FOLDER, or the word `show` or `at`; see `irr history --help`",
+            ARGUMENTS,
+        )
     return record(Path(first), server.Server.from_options(options.server, options.plain))
 
 
@@ -57,7 +87,12 @@ def record(place: Path, source: server.Server) -> int:
         files.put(dump, source.dump())
         try:
             with open(dump, "rb") as file:
-                counts = Repository(place).record(rpsl.blocks(digested(rpsl.chunks(file), digest)), digest.hexdigest, now, source.url)
+                counts = Repository(place).record(
+                    syntax.blocks(digested(syntax.chunks(file), digest)),
+                    digest.hexdigest,
+                    now,
+                    source.url,
+                )
         finally:
             dump.unlink()
     if counts:
@@ -65,7 +100,8 @@ def record(place: Path, source: server.Server) -> int:
     return DONE
 
 
-def digested(pieces: Iterable[bytes], digest) -> Iterator[bytes]:
+def digested(pieces: Iterable[bytes], digest: "hashlib._Hash") -> Iterator[bytes]:
+    """The pieces, each of which has gone into the digest."""
     for piece in pieces:
         digest.update(piece)
         yield piece
@@ -76,12 +112,21 @@ def show(repository: Repository, words: list[str]) -> int:
     found = {key: list(repository.versions(key)) for key in spelled}
     seen = [key for key in spelled if found[key]]
     if len(seen) > 1:
-        raise Failure(" ".join(words), f"{' and '.join(f'{key.kind} {key.text}' for key in seen)} were seen; put the class before it",
-                      ARGUMENTS)
+        raise Failure(
+            " ".join(words),
+            (
+                f"{' and '.join(f'{key.kind} {key.text}' for key in seen)} were seen; put the class"
+                " before it"
+            ),
+            ARGUMENTS,
+        )
     for version in found[seen[0]] if seen else []:
         texts.put(told(version))
     if not seen:
-        texts.note(f"irr history: {' or '.join(f'{key.kind} {key.text}' for key in spelled)}: it was never seen")
+        texts.note(
+            f"irr history: {' or '.join(f'{key.kind} {key.text}' for key in spelled)}: it was never"
+            " seen"
+        )
     return DONE if seen else REFUSED
 
 
@@ -90,7 +135,11 @@ def answer_at(repository: Repository, when: str, words: list[str], limit: int) -
     asked = read_time(when)
     state = repository.state(asked)
     if state is None:
-        began = f"the history begins at {shown_time(repository.first())}" if repository.state() else "the history is empty"
+        began = (
+            f"the history begins at {shown_time(repository.first())}"
+            if repository.state()
+            else "the history is empty"
+        )
         raise Failure(when, f"{began}; ask for a later time", ARGUMENTS)
     objects = repository.objects(state)
     first = next(objects)
@@ -99,11 +148,19 @@ def answer_at(repository: Repository, when: str, words: list[str], limit: int) -
     def pieces() -> Iterator[bytes]:
         yield first
         yield from objects
-    with scratch.Scratch(source, limit=limit) as then:
-        then.load(then.put("then.rpsl", scratch.loadable(pieces())), f"{repository.folder} at {when}")
+
+    with temporary.TemporaryRegistry(source, limit=limit) as then:
+        then.load(
+            then.put("then.rpsl", temporary.loadable(pieces())), f"{repository.folder} at {when}"
+        )
         if hashlib.sha256(then.dump()).hexdigest() != state.dump:
-            raise Failure(str(repository.folder), f"commit {state.commit} does not give the dump that it was made of; the repository was "
-                          "changed, or irrdesk is another one")
+            raise Failure(
+                str(repository.folder),
+                (
+                    f"commit {state.commit} does not give the dump that it was made of; the"
+                    " repository was changed, or irrdesk is another one"
+                ),
+            )
         answer = answers.Answer(then.query(*words), os.fsencode(" ".join(words)), when)
     note_of_age(repository, asked)
     texts.put(answer.text)

@@ -8,36 +8,81 @@ import tempfile
 from pathlib import Path
 from typing import Iterable, Iterator
 
-from irr import checking, files, importing, keys, texts
-from irr.errors import ARGUMENTS, DONE, Failure
-from irr.mending import KINDS, MNTNER, PASSWORD, Mender
-from irr.tally import Tally
+from irr.errors import ARGUMENTS, DONE, REFUSED, Failure
+from irr.migrate import conversion, verification
+from irr.migrate.kinds import KINDS
+from irr.migrate.normalisation import MNTNER, PASSWORD, Mender
+from irr.migrate.report import Tally
+from irr.rpsl import keys
+from irr.system import files
+from irr.terminal import texts
 
 GIVEN = re.compile(r"([^ \t=]+)=(.*)", re.S)
 EXAMPLES = """
 irr import ripe.db.*.gz --source EXAMPLE --root ROOT-MNT --auth 'SHA256-PW salt:..' > full.rpsl
 irrdesk load irr.toml full.rpsl             the registry of it
 irr import radb.db --source EXAMPLE --root ROOT-MNT --auth @holders.auth --check -o full.rpsl
-                                            holders.auth has the root's line and lines A-MNT=SHA256-PW ...
+                                            holders.auth has the root's line and lines
+                                            A-MNT=SHA256-PW ...
 """
+RULE = """What is written is, object by object, the paragraph that was read, but for what is mended
+and reported. A paragraph is not an object if the name of a class comes again after its
+first line, or `source` comes twice. It is parted where a class line follows directly on
+`source`; otherwise it is left out."""
 
 
 def arguments(parser: argparse.ArgumentParser) -> None:
-    parser.add_argument("files", nargs="+", metavar="FILE", help="a dump, plain or gzip'd; `-` for standard input")
-    parser.add_argument("--source", required=True, metavar="NAME", help="the name of the registry to be made")
+    parser.add_argument(
+        "files", nargs="+", metavar="FILE", help="a dump, plain or gzip'd; `-` for standard input"
+    )
+    parser.add_argument(
+        "--source", required=True, metavar="NAME", help="the name of the registry to be made"
+    )
     parser.add_argument("--root", required=True, metavar="MNT", help="its root maintainer")
-    parser.add_argument("--auth", action="append", default=[], metavar="[MNT=]LINE",
-                        help="the root's `auth`, as `irr auth` makes it; with MNT= that of another maintainer; @FILE for a file of such "
-                        "lines; may be given several times")
-    parser.add_argument("-o", "--output", metavar="FILE", help="put the result into a file, in one step once it is whole")
-    parser.add_argument("--check", action="store_true",
-                        help="load the result into a scratch registry and compare its dump, object by object, before anything is printed")
-    parser.add_argument("--left-out", metavar="FILE", help="list all that is left out: cause, place and first line, with tabs between them")
-    parser.add_argument("--renamed", metavar="FILE",
-                        help="list all maintainers that got another name: old and new, with a tab between them")
-    mended = parser.add_argument_group("what is mended", "Each option turns one off; what needs it is left out then.")
+    parser.add_argument(
+        "--auth",
+        action="append",
+        default=[],
+        metavar="[MNT=]LINE",
+        help="the root's `auth`, as `irr auth` makes it; with MNT= that of another maintainer; "
+        "@FILE for a file of such lines; may be given several times",
+    )
+    parser.add_argument(
+        "-o",
+        "--output",
+        metavar="FILE",
+        help="put the result into a file, in one step once it is whole",
+    )
+    parser.add_argument(
+        "--check",
+        action="store_true",
+        help="load the result into a scratch registry and compare its dump, object by object, "
+        "before anything is printed",
+    )
+    parser.add_argument(
+        "--left-out",
+        metavar="FILE",
+        help="list all that is left out: cause, place and first line, for an item of a list also "
+        "attribute and item, with tabs between them",
+    )
+    parser.add_argument(
+        "--renamed",
+        metavar="FILE",
+        help="list all maintainers that got another name: old and new, with a tab between them",
+    )
+    parser.add_argument(
+        "--keep-scoped",
+        action="store_true",
+        help="`RIPE::AS-X` becomes `AS-X` also if that set is not imported from RIPE",
+    )
+    parser.add_argument_group("what is an object", RULE)
+    mended = parser.add_argument_group(
+        "what is mended", "Each option turns one off; what needs it is left out then."
+    )
     for kind in KINDS.values():
-        mended.add_argument(f"--no-{kind.name}", dest="off", action="append_const", const=kind.name, help=kind.words)
+        mended.add_argument(
+            f"--no-{kind.name}", dest="off", action="append_const", const=kind.name, help=kind.words
+        )
     parser.set_defaults(off=[])
 
 
@@ -49,12 +94,18 @@ def run(options: argparse.Namespace) -> int:
         raise Failure("-", "standard input can be read once; give it once", ARGUMENTS)
     auths = read_auths(options.auth, root)
     if not auths.get(root):
-        raise Failure("--auth", "the root maintainer has no line; give one, as `irr auth` makes it", ARGUMENTS)
+        raise Failure(
+            "--auth", "the root maintainer has no line; give one, as `irr auth` makes it", ARGUMENTS
+        )
     with contextlib.ExitStack() as stack:
-        tally = Tally(stack.enter_context(files.written(options.left_out)) if options.left_out else None)
-        made = importing.Import(Mender(source, root, frozenset(options.off)), auths, tally)
+        tally = Tally(
+            stack.enter_context(files.written(options.left_out)) if options.left_out else None
+        )
+        mender = Mender(source, root, frozenset(options.off))
+        made = conversion.Import(mender, auths, tally, options.keep_scoped)
         stack.callback(made.spool.close)
         made.read(options.files)
+        need_some(tally)
         if options.check:
             checked(made, options, root, auths[root][0])
         elif options.output is not None:
@@ -65,15 +116,42 @@ def run(options: argparse.Namespace) -> int:
             made.write(sys.stdout.buffer)
             sys.stdout.buffer.flush()
         if options.renamed:
-            files.put(options.renamed, (f"{old}\t{new}\n".encode("latin-1") for old, new in sorted(tally.renamed.items())))
+            files.put(
+                options.renamed,
+                (f"{old}\t{new}\n".encode("latin-1") for old, new in sorted(tally.renamed.items())),
+            )
     for line in [*tally.lines(), *notes(made, root)]:
         texts.note(line)
     return DONE
 
 
-def notes(made: importing.Import, root: str) -> Iterator[str]:
+def need_some(tally: Tally) -> None:
+    """That anything was taken: nothing is put in the place of what is there otherwise."""
+    if tally.taken:
+        return
+    for line in tally.lines():
+        texts.note(line)
+    raise Failure(
+        "",
+        "no object was taken, so nothing is written; give dumps that have objects of the classes "
+        + ", ".join(keys.CLASSES),
+        REFUSED,
+    )
+
+
+def notes(made: conversion.Import, root: str) -> Iterator[str]:
+    """What an operator has to know of the registry that is made."""
     if root in made.taken[MNTNER] and made.tally.made:
-        yield f"{root} was in a dump: its objects are the root maintainer's now; take another --root if that is not yours"
+        yield (
+            f"{root} was in a dump: its objects are the root maintainer's now; take another --root "
+            "if that is not yours"
+        )
+    count = made.routes_beside()
+    if count:
+        yield (
+            f"{texts.counted(count, 'route has', 'routes have')} an origin without an aut-num: "
+            "`AS-ANY`, which is the registered aut-nums, does not have them"
+        )
 
 
 def read_auths(given: Iterable[str], root: str) -> dict[str, list[bytes]]:
@@ -84,13 +162,18 @@ def read_auths(given: Iterable[str], root: str) -> dict[str, list[bytes]]:
         name, line = (named[1].upper(), named[2]) if named else (root, words)
         line = " ".join(re.sub("^auth:", "", line.strip()).split())
         if not PASSWORD.fullmatch(line.encode("utf-8", "surrogateescape")):
-            raise Failure("--auth", f"the line for {name} is not what `irr auth` makes; write SHA256-PW and salt:hash", ARGUMENTS)
+            raise Failure(
+                "--auth",
+                f"the line for {name} is not what `irr auth` makes; write SHA256-PW and salt:hash",
+                ARGUMENTS,
+            )
         found.setdefault(name, []).append(line.encode())
     return found
 
 
 def unfolded(given: Iterable[str]) -> Iterator[str]:
-    """What was given, with the lines of each file in place of its name; comments and blank lines are passed over."""
+    """What was given, with the lines of each file in place of its name; comments and blank lines
+    are passed over."""
     for words in given:
         if not words.startswith("@"):
             yield words
@@ -99,13 +182,15 @@ def unfolded(given: Iterable[str]) -> Iterator[str]:
         yield from (line.strip() for line in lines if line.strip() and not line.startswith("#"))
 
 
-def checked(made: importing.Import, options: argparse.Namespace, root: str, auth: bytes) -> None:
+def checked(made: conversion.Import, options: argparse.Namespace, root: str, auth: bytes) -> None:
     """Writes the result once a registry was made of it that shows just that."""
     with tempfile.TemporaryDirectory(prefix="irr-") as folder:
         path = Path(folder) / "full.rpsl"
         with open(path, "wb") as out:
             made.write(out)
-        checking.check(path, options.source, root, auth.decode(), made.tally.taken + made.tally.made)
+        verification.check(
+            path, options.source, root, auth.decode(), made.tally.taken + made.tally.made
+        )
         with open(path, "rb") as whole:
             if options.output is not None:
                 with files.written(options.output, files.PRIVATE) as out:
@@ -114,4 +199,5 @@ def checked(made: importing.Import, options: argparse.Namespace, root: str, auth
                 sys.stdout.flush()
                 shutil.copyfileobj(whole, sys.stdout.buffer)
                 sys.stdout.buffer.flush()
-    texts.note(f"checked: irrdesk loads it, and its dump has these {made.tally.taken + made.tally.made:,} objects")
+    count = made.tally.taken + made.tally.made
+    texts.note(f"checked: irrdesk loads it, and its dump has these {count:,} objects")

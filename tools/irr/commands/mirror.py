@@ -1,71 +1,135 @@
-"""`irr mirror FOLDER`: readers, which are registries made of the public dump of another one."""
+"""`irr mirror FOLDER`: replicas, which are registries made of the public dump of another one."""
 import argparse
 import os
 import time
+from typing import Callable
 
-from irr import files, keys, readers, scratch, server, texts
-from irr.errors import ARGUMENTS, Failure
+from irr.errors import ARGUMENTS, DONE, Failure
+from irr.local import replicas, temporary
+from irr.registry import server
+from irr.rpsl import keys
+from irr.system import files
+from irr.terminal import texts
 
 EXAMPLES = """
-irr mirror readers                                           one reader of the registry of IRR_SERVER, at port 4345
+irr mirror replicas                    one replica of the registry of IRR_SERVER, at port 4345
 irr mirror -s https://irr.example.net --port 4345 --port 4346 --agent 4340 /var/lib/irrdesk-mirror
 
-A reader answers each query as the registry does that it is made of, and goes on while that is stopped. It has no password
-hashes, so it authorises no holder; new maintainers can register at it, so a proxy sends submissions to the registry. Give
-two ports at least: one reader after the other is started again on new objects, so that one always answers. In a proxy each
-port is a server: see examples/haproxy.cfg.
+A replica answers each query as the registry does that it is made of, and goes on while that is
+stopped. It has no password hashes, so it authorises no holder; new maintainers can register at it,
+so the door sends submissions to the registry. Give two ports at least: one replica after the other
+is started again on new objects, so that one always answers. The door learns of them from the agent.
 """
 
 
 def arguments(parser: argparse.ArgumentParser) -> None:
     server.add_options(parser)
-    parser.add_argument("--port", metavar="PORT", type=keys.number, action="append", help="a port of 127.0.0.1 that a reader serves, 4345 "
-                        "otherwise; several of these options are several readers")
-    parser.add_argument("--every", metavar="SECONDS", type=keys.decimal, default=60, help="when the dump is fetched again, after 60 otherwise")
-    parser.add_argument("--limit", metavar="COUNT", type=keys.number, default=10_000, help="`limit` of the registry's settings, 10000 otherwise")
-    parser.add_argument("--pause", metavar="SECONDS", type=keys.decimal, default=12, help="how long after one reader answers again the next one "
-                        "is ended, 12 otherwise: until a proxy has seen it")
-    parser.add_argument("--agent", metavar="PORT", type=keys.number, help="the port of 127.0.0.1 at which HAProxy asks which readers end soon")
-    parser.add_argument("folder", metavar="FOLDER", help="where the readers' databases are kept")
+    parser.add_argument(
+        "--port",
+        metavar="PORT",
+        type=keys.number,
+        action="append",
+        help="a port of 127.0.0.1 that a replica serves, 4345 "
+        "otherwise; several of these options are several replicas",
+    )
+    parser.add_argument(
+        "--every",
+        metavar="SECONDS",
+        type=keys.decimal,
+        default=60,
+        help="when the dump is fetched again, after 60 otherwise",
+    )
+    parser.add_argument(
+        "--limit",
+        metavar="COUNT",
+        type=keys.number,
+        default=10_000,
+        help="`limit` of the registry's settings, 10000 otherwise",
+    )
+    parser.add_argument(
+        "--pause",
+        metavar="SECONDS",
+        type=keys.decimal,
+        default=12,
+        help="how long after one replica answers again the next one "
+        "is ended, 12 otherwise: until a proxy has seen it",
+    )
+    parser.add_argument(
+        "--agent",
+        metavar="PORT",
+        type=keys.number,
+        help="the port of 127.0.0.1 at which HAProxy asks which replicas end soon",
+    )
+    parser.add_argument("folder", metavar="FOLDER", help="where the replicas' databases are kept")
 
 
 def run(options: argparse.Namespace) -> int:
     ports = options.port or [4345]
-    if not all(0 < port < 65_536 for port in [*ports, options.agent or 1]) or len({*ports, options.agent}) != len(ports) + 1:
-        raise Failure("", "the ports are not from 1 to 65535, each another one; correct them", ARGUMENTS)
-    if not 1 <= options.every <= 1e9 or not 0 <= options.pause <= 3_600 or not 1 <= options.limit <= 1_000_000:
-        raise Failure("", "--every takes seconds from 1, --pause from 0, and --limit a number from 1 to 1000000; correct them", ARGUMENTS)
+    if (
+        not all(0 < port < 65_536 for port in [*ports, options.agent or 1])
+        or len({*ports, options.agent}) != len(ports) + 1
+    ):
+        raise Failure(
+            "", "the ports are not from 1 to 65535, each another one; correct them", ARGUMENTS
+        )
+    if (
+        not 1 <= options.every <= 1e9
+        or not 0 <= options.pause <= 3_600
+        or not 1 <= options.limit <= 1_000_000
+    ):
+        raise Failure(
+            "",
+            "--every takes seconds from 1, --pause from 0, and --limit a number from 1 to 1000000; "
+            "correct them",
+            ARGUMENTS,
+        )
     place = server.Server.from_options(options.server, options.plain)
-    scratch.find_program()
+    temporary.find_program()
     os.umask(0o077)
     folder = files.folder(options.folder, 0o700)
     with files.locked(folder):
-        keeper = readers.Keeper(folder, ports, readers.Agent(options.agent) if options.agent else None, options.pause)
+        keeper = replicas.Keeper(
+            folder, ports, replicas.Agent(options.agent) if options.agent else None, options.pause
+        )
         try:
             keep(keeper, place, options)
         finally:
             keeper.end()
+    return DONE
 
 
-def keep(keeper: readers.Keeper, place: server.Server, options: argparse.Namespace) -> None:
-    """Goes on until a signal ends it. A failure is said each time, and the readers go on with what they have."""
+def keep(keeper: replicas.Keeper, place: server.Server, options: argparse.Namespace) -> None:
+    """Goes on until a signal ends it. A failure is said each time, and the replicas go on with what
+    they have."""
     attempt(lambda: keeper.start(options.limit))
     next_time = time.monotonic()
     while True:
         if time.monotonic() >= next_time:
-            if attempt(lambda: keeper.renew(place, options.limit)):
-                print(texts.shown_line(f"irr mirror: the readers have {readers.told(keeper.made)}"), flush=True)
+            if attempt(lambda: keeper.renew(place, options.limit), keeper):
+                print(
+                    texts.shown_line(f"irr mirror: the replicas have {replicas.told(keeper.made)}"),
+                    flush=True,
+                )
             next_time = time.monotonic() + options.every
         attempt(keeper.revive)
         time.sleep(0.2)
 
 
-def attempt(do) -> bool:
-    """What a step gives; a failure of it is one line, and nothing."""
+def attempt(do: Callable[[], object], keeper: replicas.Keeper | None = None) -> bool:
+    """What a step gives; a failure of it is one line, and nothing. A keeper is given with a
+    renewal, and remembers why that failed."""
     try:
-        return bool(do())
+        done = bool(do())
     except Failure as failure:
-        texts.note(f"irr mirror: {failure}")
+        fault = str(failure)
     except OSError as error:
-        texts.note(f"irr mirror: {error.filename or 'a file'}: {(error.strerror or str(error)).lower()}; the readers go on as they are")
+        words = (error.strerror or str(error)).lower()
+        fault = f"{error.filename or 'a file'}: {words}; the replicas go on as they are"
+    else:
+        if keeper:
+            keeper.fault = ""
+        return done
+    if keeper:
+        keeper.fault = fault
+    texts.note(f"irr mirror: {fault}")
     return False

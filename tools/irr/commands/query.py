@@ -1,8 +1,9 @@
 """`irr query WORD..`: the answer to a query."""
 import argparse
 
-from irr import answers, server, texts
 from irr.errors import DONE, REFUSED
+from irr.registry import answers, server
+from irr.terminal import texts
 
 EXAMPLES = """
 irr query 192.0.2.1                          whose address is this?
@@ -19,13 +20,25 @@ irr query --json AS64496                     one object a line, for other progra
 def arguments(parser: argparse.ArgumentParser) -> None:
     server.add_options(parser)
     form = parser.add_mutually_exclusive_group()
-    form.add_argument("--json", action="store_true", help="print each object, or each member of a set, as a line of JSON")
-    form.add_argument("--raw", action="store_true", help="print what came and nothing else; an error without its words")
-    parser.add_argument("words", nargs="+", metavar="WORD", help="the query; irrdesk(1) has all of them")
+    form.add_argument(
+        "--json",
+        action="store_true",
+        help="print each object, or each member of a set, as a line of JSON",
+    )
+    form.add_argument(
+        "--raw",
+        action="store_true",
+        help="print what came and nothing else; an error without its words",
+    )
+    parser.add_argument(
+        "words", nargs="+", metavar="WORD", help="the query; irrdesk(1) has all of them"
+    )
 
 
 def run(options: argparse.Namespace) -> int:
     answer = server.Server.from_options(options.server, options.plain).query(*options.words)
+    # A program that reads lines of JSON sees in the status alone that there are none.
+    is_nothing = options.json and (answer.has_none or answer.is_empty)
     if options.json and not answer.error:
         for paragraph in answer.objects():
             print(answers.json_text(paragraph))
@@ -33,6 +46,6 @@ def run(options: argparse.Namespace) -> int:
             print(line)
     else:
         texts.put(answer.text)
-    if answer.error and not options.raw:
+    if (answer.error and not options.raw) or is_nothing:
         texts.note(f"irr query: {' '.join(options.words)}: {answer.words()}")
-    return REFUSED if answer.error else DONE
+    return REFUSED if answer.error or is_nothing else DONE

@@ -6,28 +6,48 @@ import signal
 from pathlib import Path
 from typing import Iterator
 
-from irr import asking, files, hashes, keys, rpsl, stores, submissions, texts
 from irr.commands import auth as auths
 from irr.errors import ARGUMENTS, DATABASE, DONE, Failure, system_words
-from irr.rpsl import Attribute, Paragraph
-from irr.stores import Copy, Settings
+from irr.local import databases
+from irr.local.databases import Copy, Settings
+from irr.registry import submissions
+from irr.rpsl import hashes, keys, syntax
+from irr.rpsl.syntax import Attribute, Paragraph
+from irr.system import files
+from irr.terminal import prompts, texts
 
 EXAMPLES = """
 irr reset EXAMPLE-MNT --auth 'SHA256-PW k3:ccda..'     the line that its holder made by `irr auth`
-irr reset EXAMPLE-MNT --save new.password              a new password, in a file that only you can read
+irr reset EXAMPLE-MNT --save new.password              a new password, in a file for you alone
 irr reset EXAMPLE-MNT --settings irr.toml              a new password, which the terminal shows
 
-Stop the server before: systemctl stop irrdesk. All `auth` lines of the maintainer are replaced by the new one.
-Make sure that you speak to the holder: the new password gives all that the maintainer holds.
+Stop the server before: systemctl stop irrdesk. All `auth` lines of the maintainer are replaced by
+the new one. Make sure that you speak to the holder: the new password gives all that the maintainer
+holds.
 """
 
 
 def arguments(parser: argparse.ArgumentParser) -> None:
-    parser.add_argument("--settings", metavar="FILE", default=stores.DEFAULT, help=f"those of the registry; {stores.DEFAULT} otherwise")
+    parser.add_argument(
+        "--settings",
+        metavar="FILE",
+        default=databases.DEFAULT,
+        help=f"those of the registry; {databases.DEFAULT} otherwise",
+    )
     how = parser.add_mutually_exclusive_group()
-    how.add_argument("--auth", metavar="VALUE", help="the value of the new `auth` line, as `irr auth` prints it")
-    how.add_argument("--ask", action="store_true", help="ask for the new password, twice; otherwise one of 96 random bits is made")
-    how.add_argument("--save", metavar="FILE", help="write the new password into a new file that only you can read, as a `password:` line")
+    how.add_argument(
+        "--auth", metavar="VALUE", help="the value of the new `auth` line, as `irr auth` prints it"
+    )
+    how.add_argument(
+        "--ask",
+        action="store_true",
+        help="ask for the new password, twice; otherwise one of 96 random bits is made",
+    )
+    how.add_argument(
+        "--save",
+        metavar="FILE",
+        help="write the new password into a new file that only you can read, as a `password:` line",
+    )
     parser.add_argument("name", metavar="NAME", help="the maintainer")
 
 
@@ -36,24 +56,34 @@ def run(options: argparse.Namespace) -> int:
     os.umask(0o077)
     settings = Settings.read(options.settings)
     if not settings.store.exists():
-        raise Failure(str(settings.store), "there is no database; correct `store`, or run this in the folder that the program runs in",
-                      DATABASE)
+        raise Failure(
+            str(settings.store),
+            (
+                "there is no database; correct `store`, or run this in the folder that the program"
+                " runs in"
+            ),
+            DATABASE,
+        )
     settle(settings)
     with alone_in_work(settings) as work:
-        if os.path.lexists(settings.log) and settings.log.stat().st_size >= stores.EMPTY_LOG:
+        if os.path.lexists(settings.log) and settings.log.stat().st_size >= databases.EMPTY_LOG:
             raise Failure(str(settings.log), "the log is not empty; try again", DATABASE)
         before = Copy(work / "before", settings.text())
-        stores.copied_store(settings.store, before)
+        databases.copied_store(settings.store, before)
         full, wanted = work / "full.rpsl", work / "wanted.rpsl"
         before.dump(full, full=True)
-        if not any(stores.is_maintainer(piece, name) for piece in stores.blocks_of(full)):
+        if not any(databases.is_maintainer(piece, name) for piece in databases.blocks_of(full)):
             raise Failure(name, "there is no such maintainer; correct the name", ARGUMENTS)
         value, password = new_auth(options)
         files.put(wanted, ended(replaced(full, name, value)), files.PRIVATE)
         single = made_of(settings, wanted, work)
         with handed_over(options, password, single):
             put_in_place(settings, single)
-    print(texts.shown_line(f"mntner {name}: its auth is replaced, and nothing else; start the server again"))
+    print(
+        texts.shown_line(
+            f"mntner {name}: its auth is replaced, and nothing else; start the server again"
+        )
+    )
     return DONE
 
 
@@ -61,22 +91,31 @@ def run(options: argparse.Namespace) -> int:
 def alone_in_work(settings: Settings) -> Iterator[Path]:
     """A working folder beside the database, which nobody else has open while the block runs."""
     prefix = f".{settings.store.name}.irr-reset-"
-    with stores.alone(settings) as is_alone:
+    with databases.alone(settings) as is_alone:
         if not is_alone:
-            raise Failure(str(settings.store), "another process has the database open; stop the server first", DATABASE)
-        stores.clear(settings.store.parent, prefix)
-        with stores.working(settings.store.parent, prefix) as work:
+            raise Failure(
+                str(settings.store),
+                "another process has the database open; stop the server first",
+                DATABASE,
+            )
+        databases.clear(settings.store.parent, prefix)
+        with databases.working(settings.store.parent, prefix) as work:
             yield work
 
 
 def settle(settings: Settings) -> None:
     """Has the program open the registry and close it, which writes the log into the database."""
     import subprocess
-    from irr import scratch
-    done = subprocess.run([scratch.find_program(), "query", str(settings.path), settings.root], stdin=subprocess.DEVNULL,
-                          capture_output=True, check=False)
+    from irr.local import temporary
+
+    done = subprocess.run(
+        [temporary.find_program(), "query", str(settings.path), settings.root],
+        stdin=subprocess.DEVNULL,
+        capture_output=True,
+        check=False,
+    )
     if done.returncode > 1:
-        raise Failure(str(settings.path), scratch.said(done), done.returncode)
+        raise Failure(str(settings.path), temporary.said(done), done.returncode)
 
 
 def new_auth(options: argparse.Namespace) -> tuple[bytes, str]:
@@ -84,24 +123,34 @@ def new_auth(options: argparse.Namespace) -> tuple[bytes, str]:
     if options.auth is not None:
         value = options.auth.removeprefix("auth:").strip()
         if not lets_in(value):
-            raise Failure("--auth", "this is not an auth line that lets anybody in; take what `irr auth` prints", ARGUMENTS)
+            raise Failure(
+                "--auth",
+                "this is not an auth line that lets anybody in; take what `irr auth` prints",
+                ARGUMENTS,
+            )
         return value.encode("ascii"), ""
     if options.save is not None:
         files.need_new(options.save)
-    password = asking.ask_twice("new password") if options.ask else hashes.new_password()
+    password = prompts.ask_twice("new password") if options.ask else hashes.new_password()
     item = submissions.password_item(password, "new password")
-    return hashes.auth_of(submissions.secret_of(item.passwords()[0]), hashes.new_salt()).encode(), password
+    return (
+        hashes.auth_of(submissions.secret_of(item.passwords()[0]), hashes.new_salt()).encode(),
+        password,
+    )
 
 
 @contextlib.contextmanager
 def handed_over(options: argparse.Namespace, password: str, single: Path) -> Iterator[None]:
-    """Saves or shows the new password before the block puts the new database in place. A saved one goes again if that did not
-    happen."""
+    """Saves or shows the new password before the block puts the new database in place. A saved one
+    goes again if that did not happen."""
     is_saved = False
     try:
         if options.save is not None:
             with undisturbed():
-                files.put_new(options.save, submissions.password_item(password, "new password").block.text + b"\n")
+                files.put_new(
+                    options.save,
+                    submissions.password_item(password, "new password").block.text + b"\n",
+                )
                 is_saved = True
         elif password and not options.ask:
             auths.show(password)
@@ -126,17 +175,24 @@ def undisturbed() -> Iterator[None]:
 def lets_in(value: str) -> bool:
     """Whether it is the scheme, a salt, and a digest (profile)."""
     import re
+
     return bool(re.fullmatch("SHA256-PW [A-Za-z0-9]{1,16}:[0-9a-fA-F]{64}", value))
 
 
 def replaced(full: Path, name: str, value: bytes) -> Iterator[bytes]:
-    """The objects of a full dump, with another `auth` for one maintainer, where its first one stood."""
-    for piece in stores.blocks_of(full):
-        if stores.is_maintainer(piece, name):
-            attributes = rpsl.read_any(piece[:-1]).attributes
-            first = next(place for place, attribute in enumerate(attributes) if attribute.name == b"auth")
-            kept = [Attribute(b"auth", [value]) if place == first else attribute for place, attribute in enumerate(attributes)
-                    if place == first or attribute.name != b"auth"]
+    """The objects of a full dump, with another `auth` for one maintainer, where its first one
+    stood."""
+    for piece in databases.blocks_of(full):
+        if databases.is_maintainer(piece, name):
+            attributes = syntax.read_any(piece[:-1]).attributes
+            first = next(
+                place for place, attribute in enumerate(attributes) if attribute.name == b"auth"
+            )
+            kept = [
+                Attribute(b"auth", [value]) if place == first else attribute
+                for place, attribute in enumerate(attributes)
+                if place == first or attribute.name != b"auth"
+            ]
             piece = Paragraph(kept).text() + b"\n"
         yield piece
 
@@ -150,22 +206,33 @@ def ended(pieces: Iterator[bytes]) -> Iterator[bytes]:
 
 def made_of(settings: Settings, wanted: Path, work: Path) -> Path:
     """One file with the registry of a full dump, which gives that dump byte by byte."""
-    made, loadable, seen, single = Copy(work / "made", settings.text()), work / "loadable.rpsl", work / "seen.rpsl", work / "single.db"
-    files.put(loadable, stores.pressed(stores.blocks_of(wanted)), files.PRIVATE)
+    made, loadable, seen, single = (
+        Copy(work / "made", settings.text()),
+        work / "loadable.rpsl",
+        work / "seen.rpsl",
+        work / "single.db",
+    )
+    files.put(loadable, databases.pressed(databases.blocks_of(wanted)), files.PRIVATE)
     made.load(loadable)
-    stores.sqlite_copy(made.store, single, str(settings.store))
+    databases.sqlite_copy(made.store, single, str(settings.store))
     tried = Copy(work / "tried", settings.text())
-    stores.copied(single, tried.store)
+    databases.copied(single, tried.store)
     tried.dump(seen, full=True)
-    if not stores.same(wanted, seen):
-        raise Failure(str(settings.store), "the new registry has other objects than it should; nothing was changed, tell it as a "
-                      "fault of irr", DATABASE)
+    if not databases.same(wanted, seen):
+        raise Failure(
+            str(settings.store),
+            (
+                "the new registry has other objects than it should; nothing was changed, tell it as"
+                " a fault of irr"
+            ),
+            DATABASE,
+        )
     return single
 
 
 def put_in_place(settings: Settings, single: Path) -> None:
-    """Puts the new database into the place of the old one. The old log, which has nothing, goes first: it must not lie beside the new
-    one."""
+    """Puts the new database into the place of the old one. The old log, which has nothing, goes
+    first: it must not lie beside the new one."""
     was = settings.store.stat()
     with files.named(single), open(single, "r+b") as file:
         os.fchmod(file.fileno(), was.st_mode & 0o777)
@@ -177,5 +244,11 @@ def put_in_place(settings: Settings, single: Path) -> None:
     try:
         files.sync_folder(settings.store.parent)
     except OSError as error:
-        raise Failure(str(settings.store), f"the new auth is in it, but may not be on the disk: {system_words(error)}; look at the disk",
-                      DATABASE) from None
+        raise Failure(
+            str(settings.store),
+            (
+                f"the new auth is in it, but may not be on the disk: {system_words(error)}; look at"
+                " the disk"
+            ),
+            DATABASE,
+        ) from None

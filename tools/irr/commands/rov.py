@@ -1,13 +1,18 @@
-"""`irr rov FILE`: the registered routes held against validated ROAs (RFC 6811), as rpki-client and Routinator write them in JSON."""
+"""`irr rov FILE`: the registered routes held against validated ROAs (RFC 6811), as rpki-client and
+Routinator write them in JSON."""
 import argparse
 import calendar
 import json
+import math
 import time
-from typing import Iterable, NamedTuple
+from typing import Any, Iterable, NamedTuple
 
-from irr import answers, files, keys, server, texts
 from irr.errors import DONE, REFUSED, Failure, Unreadable
-from irr.keys import Prefix
+from irr.registry import answers, server
+from irr.rpsl import keys
+from irr.rpsl.keys import Prefix
+from irr.system import files
+from irr.terminal import texts
 
 EXAMPLES = """
 rpki-client -j /var/lib/rpki-client && irr rov /var/lib/rpki-client/json
@@ -23,18 +28,27 @@ MADE = "make it by `rpki-client -j` or `routinator vrps --format json`"
 
 class Roa(NamedTuple):
     """A validated ROA payload: the AS that may originate what lies in a prefix, up to a length."""
+
     prefix: Prefix
     most: int
     number: int
 
     def text(self) -> str:
-        return f"{self.prefix.text()} AS{self.number}" + (f" up to /{self.most}" if self.most != self.prefix.length else "")
+        return f"{self.prefix.text()} AS{self.number}" + (
+            f" up to /{self.most}" if self.most != self.prefix.length else ""
+        )
 
 
 def arguments(parser: argparse.ArgumentParser) -> None:
     server.add_options(parser)
-    parser.add_argument("--invalid", action="store_true", help="print the invalid routes, and not those without a ROA")
-    parser.add_argument("file", metavar="FILE", help="JSON of rpki-client or Routinator; - is standard input")
+    parser.add_argument(
+        "--invalid",
+        action="store_true",
+        help="print the invalid routes, and not those without a ROA",
+    )
+    parser.add_argument(
+        "file", metavar="FILE", help="JSON of rpki-client or Routinator; - is standard input"
+    )
 
 
 def run(options: argparse.Namespace) -> int:
@@ -53,8 +67,11 @@ def run(options: argparse.Namespace) -> int:
         if state == "invalid" or state == "not found" and not options.invalid:
             lines.append(f"{state}: {prefix.text()} AS{number}{why}")
     print(*lines, sep="\n", end="\n" if lines else "")
-    texts.note(f"irr rov: {texts.counted(sum(counts.values()), 'route')}, {len(roas):,} of IPv4 in {name}: "
-               + ", ".join(f"{count:,} {state}" for state, count in counts.items()))
+    texts.note(
+        f"irr rov: {texts.counted(sum(counts.values()), 'route')}, "
+        f"{len(roas):,} of IPv4 in {name}: "
+        + ", ".join(f"{count:,} {state}" for state, count in counts.items())
+    )
     return REFUSED if counts["invalid"] else DONE
 
 
@@ -63,11 +80,13 @@ def routes(pieces: Iterable[bytes], place: str) -> Iterable[tuple[Prefix, int]]:
     for key, _ in answers.dumped(pieces, place):
         if key.kind == "route":
             prefix, origin = key.text.split(" ")
-            yield keys.read_prefix(prefix), keys.read_as(origin)  # type: ignore[misc]
+            # The parts of a key are good.
+            yield keys.read_prefix(prefix), keys.read_as(origin)  # type: ignore[misc]  # see above
 
 
 def judged(prefix: Prefix, number: int, table: dict[Prefix, list[Roa]]) -> tuple[str, str]:
-    """What the ROAs say of a route (RFC 6811, 2), and why it is invalid. AS0 is nobody's (RFC 6483, 4)."""
+    """What the ROAs say of a route (RFC 6811, 2), and why it is invalid. AS0 is nobody's (RFC 6483,
+    4)."""
     covering = []
     for length in range(prefix.length + 1):
         covering += table.get(Prefix(prefix.first >> 32 - length << 32 - length, length), [])
@@ -81,25 +100,35 @@ def judged(prefix: Prefix, number: int, table: dict[Prefix, list[Roa]]) -> tuple
 
 
 def read_roas(text: bytes, place: str) -> set[Roa]:
-    """The ROAs of IPv4 in a file of either program."""
+    """The ROAs of IPv4 in a file of either program, but for those that have expired."""
     try:
         read = json.loads(text, object_pairs_hook=once)
     except Unreadable as fault:
         raise Failure(place, f"{fault}; {MADE}") from None
     except (ValueError, RecursionError) as error:
-        raise Failure(place, f"this is not JSON ({texts.shown_line(str(error))[:80]}); {MADE}") from None
+        raise Failure(
+            place, f"this is not JSON ({texts.shown_line(str(error))[:80]}); {MADE}"
+        ) from None
     listed = read.get("roas") if isinstance(read, dict) else None
     if not isinstance(listed, list):
         raise Failure(place, f"it has no list `roas`; {MADE}")
-    found = set()
+    found, expired, now = set(), 0, time.time()
     for number, entry in enumerate(listed, 1):
         try:
             if roa := read_roa(entry):
-                found.add(roa)
+                if expires(entry) > now:
+                    found.add(roa)
+                else:
+                    expired += 1
         except Unreadable as fault:
             raise Failure(place, f"element {number:,} of `roas`: {fault}; {MADE}") from None
     if not found:
-        raise Failure(place, "it has no ROA for IPv4: each route would be without one; make it anew")
+        what = "no ROA for IPv4" + (" that has not expired" if expired else "")
+        raise Failure(place, f"it has {what}: each route would be without one; make it anew")
+    if expired:
+        said = "has expired, and counts" if expired == 1 else "have expired, and count"
+        count = texts.counted(expired, "ROA")
+        texts.note(f"irr rov: {place}: {count} of IPv4 {said} as none; make it anew")
     if words := doubts(made_at(read.get("metadata"))):
         texts.note(f"irr rov: {place}: {words}; make it anew")
     return found
@@ -110,11 +139,18 @@ def doubts(made: int | None) -> str:
     if made is None:
         return "it does not say when it was made"
     age = int(time.time()) - made
-    return f"it is older than {OLD} hours" if age > OLD * 3_600 else "it was made in the future" if age < -AHEAD else ""
+    return (
+        f"it is older than {OLD} hours"
+        if age > OLD * 3_600
+        else "it was made in the future"
+        if age < -AHEAD
+        else ""
+    )
 
 
 def once(pairs: list[tuple[str, object]]) -> dict[str, object]:
-    """An object of JSON, each of whose keys stands in it once: Python takes the last one, and other programs another."""
+    """An object of JSON, each of whose keys stands in it once: Python takes the last one, and other
+    programs another."""
     found = dict(pairs)
     if len(found) < len(pairs):
         names = [name for name, _ in pairs]
@@ -138,20 +174,41 @@ def read_roa(entry: object) -> Roa | None:
     if length is None:
         raise Unreadable(f"its `prefix` is {shown(entry, 'prefix')}, which is not a prefix")
     if type(most) is not int or not length <= most <= (32 if prefix else 128):
-        raise Unreadable(f"its `maxLength` is {shown(entry, 'maxLength')}, which is not a length from {length} on")
+        raise Unreadable(
+            f"its `maxLength` is {shown(entry, 'maxLength')}, "
+            f"which is not a length from {length} on"
+        )
     return Roa(prefix, most, number) if prefix else None
+
+
+def expires(entry: dict[str, Any]) -> float:
+    """When an entry expires, in seconds of the epoch, as rpki-client says it; never, where it does
+    not say."""
+    if "expires" not in entry:
+        return math.inf
+    seconds = entry["expires"]
+    if type(seconds) is not int or seconds < 0:
+        raise Unreadable(
+            f"its `expires` is {shown(entry, 'expires')}, which is not a time in seconds"
+        )
+    return seconds
 
 
 def length_of_ipv6(text: object) -> int | None:
     """The length of a prefix of IPv6, of which no more is asked."""
     import ipaddress
+
     try:
-        return ipaddress.IPv6Network(text, strict=False).prefixlen if isinstance(text, str) and "/" in text else None
+        return (
+            ipaddress.IPv6Network(text, strict=False).prefixlen
+            if isinstance(text, str) and "/" in text
+            else None
+        )
     except ValueError:
         return None
 
 
-def shown(entry: dict, name: str) -> str:
+def shown(entry: dict[str, Any], name: str) -> str:
     """A value of an entry, on a line."""
     return texts.shown_line(json.dumps(entry[name])[:60]) if name in entry else "not there"
 
@@ -160,8 +217,9 @@ def made_at(metadata: object) -> int | None:
     """When a file was made, by what it says of itself."""
     if not isinstance(metadata, dict):
         return None
-    if type(metadata.get("generated")) is int:
-        return metadata["generated"]
+    generated = metadata.get("generated")
+    if type(generated) is int:
+        return generated
     try:
         return calendar.timegm(time.strptime(metadata["buildtime"], "%Y-%m-%dT%H:%M:%SZ"))
     except (KeyError, TypeError, ValueError):

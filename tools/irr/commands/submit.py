@@ -1,17 +1,27 @@
-"""`irr submit FILE..`: sends a submission, and says why items were refused; `--dry-run` only looks what would be answered."""
+"""`irr submit FILE..`: sends a submission, and says why items were refused; `--dry-run` only looks
+what would be answered."""
 import argparse
 import sys
 from itertools import chain
 from typing import Iterable
 
-from irr import asking, codes, keys, server, submissions, texts
 from irr.errors import ARGUMENTS, DONE, FAILED, REFUSED, Failure, system_words
-from irr.reasons import Reasons
-from irr.submissions import Item, Reported, Sender, Source
+from irr.registry import cautions, codes, server, submissions
+from irr.registry.refusals import Reasons, Registry
+from irr.registry.submissions import Gathered, Item, Reported, Sender, Source
+from irr.rpsl import keys
+from irr.terminal import prompts, texts
 
 # So many refusals are looked into by queries of their own.
 MOST_ASKED = 100
-COLOURS = {"unchanged": "", "added": texts.GREEN, "changed": texts.YELLOW, "deleted": texts.YELLOW, "refused": texts.RED}
+NOT_SENT = "it would not be sent; correct the text, or add --anyway if it is meant so"
+COLOURS = {
+    "unchanged": "",
+    "added": texts.GREEN,
+    "changed": texts.YELLOW,
+    "deleted": texts.YELLOW,
+    "refused": texts.RED,
+}
 EXAMPLES = """
 irr submit network.rpsl                          send a file
 irr submit --as EXAMPLE-MNT network.rpsl         the same, asked for the password
@@ -24,37 +34,95 @@ irr delegate ... | irr submit --as ROOT-MNT -     from another command
 
 def arguments(parser: argparse.ArgumentParser) -> None:
     server.add_options(parser)
-    parser.add_argument("--as", dest="names", action="append", default=[], metavar="MNT",
-                        help="ask for the password of this maintainer, which need not be in a file; may be given several times")
-    parser.add_argument("-n", "--dry-run", action="store_true",
-                        help="print what would be answered, from a copy of the registry; no password leaves this machine")
-    parser.add_argument("--whose", action="append", default=[], metavar="MNT[,MNT]",
-                        help="with --dry-run: whose the first `password:` of the files is; given again, the next one; `-` for nobody's; "
-                        "without it, that of each `mnt-by` in the files")
-    parser.add_argument("--raw", action="store_true", help="print the report alone, without words about refusals")
-    parser.add_argument("files", nargs="+", metavar="FILE", help="RPSL text, `-` for standard input; several are one submission")
+    parser.add_argument(
+        "--as",
+        dest="names",
+        action="append",
+        default=[],
+        metavar="MNT",
+        help="ask for the password of this maintainer, which need not be in a file; may be given "
+        "several times",
+    )
+    parser.add_argument(
+        "-n",
+        "--dry-run",
+        action="store_true",
+        help="print what would be answered, from a copy of the registry; no password leaves this "
+        "machine",
+    )
+    parser.add_argument(
+        "--whose",
+        action="append",
+        default=[],
+        metavar="MNT[,MNT]",
+        help="with --dry-run: whose the first `password:` of the files is; given again, the next "
+        "one; `-` for nobody's; without it, that of each `mnt-by` in the files",
+    )
+    parser.add_argument("--anyway", action="store_true", help=cautions.HELP)
+    parser.add_argument(
+        "--raw", action="store_true", help="print the report alone, without words about refusals"
+    )
+    parser.add_argument(
+        "files",
+        nargs="+",
+        metavar="FILE",
+        help="RPSL text, `-` for standard input; several are one submission",
+    )
 
 
 def run(options: argparse.Namespace) -> int:
     names = list(map(keys.need_maintainer, options.names))
-    whose = [[name if name == "-" else keys.need_maintainer(name) for name in group.split(",")] for group in options.whose]
+    whose = [
+        [name if name == "-" else keys.need_maintainer(name) for name in group.split(",")]
+        for group in options.whose
+    ]
     place = server.Server.from_options(options.server, options.plain)
     sources = [Source(path) for path in options.files]
     if len([path for path in options.files if path == "-"]) > 1:
         raise Failure("-", "standard input can be read once; give it once", ARGUMENTS)
-    if options.dry_run:
-        from irr import dryrun
-        return dryrun.run(place, sources, names, whose, lambda registry: Printer(registry, options.raw))
-    if whose:
+    if whose and not options.dry_run:
         raise Failure("--whose", "it goes with --dry-run; add that, or leave it out", ARGUMENTS)
-    front = [submissions.password_item(asking.ask(f"password of {name}: "), name) for name in names]
-    return send(Sender(place.submit), chain(front, *(source.items() for source in sources)), Printer(place, options.raw))
+    asked = [
+        (name, submissions.password_item(prompts.ask(f"password of {name}: "), name))
+        for name in names
+    ]
+    text = Gathered(chain.from_iterable(source.items() for source in sources))
+    front = [item for _, item in asked]
+    found = cautions.found(front, text, Reasons(place))
+    cautions.tell("submit", found)
+    refusal = cautions.grave(found, options.anyway)
+    if options.dry_run:
+        return try_out(place, asked, text, whose, options.raw, refusal)
+    if refusal:
+        raise refusal
+    return send(Sender(place.submit), chain(front, text), Printer(place, options.raw))
+
+
+def try_out(
+    place: server.Server,
+    asked: list[tuple[str, Item]],
+    text: Gathered,
+    whose: list[list[str]],
+    is_raw: bool,
+    refusal: Failure | None,
+) -> int:
+    """What would be answered; the status is that of a refusal too if it would not be sent."""
+    from irr.local import dry_run
+
+    if text.fault:
+        raise text.fault
+    status = dry_run.run(
+        place, asked, text.items, whose, lambda registry: Printer(registry, is_raw)
+    )
+    if refusal:
+        raise Failure(refusal.thing, NOT_SENT, REFUSED)
+    return status
 
 
 class Printer:
     """Prints a report item by item, and why what is refused was refused."""
 
-    def __init__(self, registry, raw: bool) -> None:
+    def __init__(self, registry: Registry, raw: bool) -> None:
         self.reasons, self.raw, self.is_coloured = Reasons(registry), raw, texts.has_colours()
         self.refused = 0
 
@@ -88,11 +156,17 @@ class Printer:
         sys.stdout.flush()
         if sender.end == "items":
             if not self.raw and self.refused > MOST_ASKED:
-                texts.note(f"irr submit: what decided was asked for the first {MOST_ASKED} refusals alone")
+                texts.note(
+                    f"irr submit: what decided was asked for the first {MOST_ASKED} refusals alone"
+                )
             return REFUSED if self.refused else DONE
         # It may have been found ahead of a part whose report ended otherwise.
         if sender.read_fault and sender.end == "read fault":
-            raise Failure(str(sender.read_fault.filename), f"it can't be read on: {system_words(sender.read_fault)}; {REST}", FAILED)
+            raise Failure(
+                str(sender.read_fault.filename),
+                f"it can't be read on: {system_words(sender.read_fault)}; {REST}",
+                FAILED,
+            )
         raise Failure("the report", END_WORDS.get(sender.end, CUT), FAILED)
 
 
@@ -100,7 +174,8 @@ CUT = f"it was cut off, so what came of later items is not known; {server.LOOK}"
 REST = "send what comes after the last item again, with the passwords before it"
 END_WORDS = {
     "read fault": f"the text did not arrive whole; {REST}",
-    "stopped": "the registry's database failed; tell its operator, and send the last item and the rest again later",
+    "stopped": "the registry's database failed; tell its operator, and send the last item and the "
+    "rest again later",
     "memory": "the server ran out of memory, and nothing was done; send it again later",
 }
 
@@ -126,6 +201,10 @@ def show(sender: Sender, items: Iterable[Item], printer: Printer) -> None:
             before = f"after {texts.counted(sender.count, 'item')}: " if sender.count else ""
             raise Failure(failure.thing, before + failure.what) from None
         if sender.count:
-            raise Failure(failure.thing, f"{failure.what}; {sender.count} items were decided, and later ones may be: "
-                          "send the whole text again, what is registered is `unchanged`", failure.status) from None
+            raise Failure(
+                failure.thing,
+                f"{failure.what}; {sender.count} items were decided, and later ones may be: "
+                "send the whole text again, what is registered is `unchanged`",
+                failure.status,
+            ) from None
         raise

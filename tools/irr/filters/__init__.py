@@ -1,0 +1,1 @@
+"""Filters of what sets and AS numbers stand for."""

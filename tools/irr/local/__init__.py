@@ -1,0 +1,1 @@
+"""Registries of this machine: databases, replicas, past states, temporary ones."""

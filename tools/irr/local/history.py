@@ -1,0 +1,294 @@
+"""The public states of a registry in a git repository without a working copy: a file for each
+object, a commit for each change."""
+import hashlib
+import os
+import re
+import subprocess
+from datetime import datetime, timezone
+from pathlib import Path
+from typing import Callable, Iterable, Iterator, NamedTuple
+
+from irr.errors import ARGUMENTS, Failure, reading
+from irr.registry import answers
+from irr.rpsl import keys, syntax
+from irr.rpsl.keys import CLASSES, Key
+from irr.terminal import texts
+
+BRANCH = "refs/heads/main"
+CHANGE = re.compile(rb":[0-7]{6} [0-7]{6} ([0-9a-f]{40}) ([0-9a-f]{40}) ([AMD])\t")
+WORDS = {"A": "added", "M": "changed", "D": "deleted"}
+WHO = "irr <irr@localhost>"
+
+
+class State(NamedTuple):
+    """A commit: its name, its time in seconds, and the digest of the public dump that it is of."""
+
+    commit: str
+    time: int
+    dump: str
+
+
+class Version(NamedTuple):
+    """What happened to an object: when, which word of added, changed and deleted, and its text
+    after it."""
+
+    time: int
+    word: str
+    text: bytes
+
+
+@reading("the history")
+def shown_time(seconds: float) -> str:
+    return datetime.fromtimestamp(int(seconds), timezone.utc).strftime("%Y-%m-%dT%H:%M:%SZ")
+
+
+@reading("the history")
+def read_time(text: str) -> int:
+    """A time as ISO 8601 writes it, in UTC if no zone is given."""
+    try:
+        found = datetime.fromisoformat(text)
+        return int((found if found.tzinfo else found.replace(tzinfo=timezone.utc)).timestamp())
+    except (ValueError, OverflowError):
+        raise Failure(
+            text, "this is not a time; write it as 2026-11-26 or 2026-11-26T12:00:00Z", ARGUMENTS
+        ) from None
+
+
+def path_of(key: Key) -> str:
+    """The file of an object. Folders of a hash keep each of them small."""
+    name = re.sub("[ /]", "_", key.text)
+    return f"{key.kind}/{hashlib.sha256(key.text.encode()).hexdigest()[:2]}/{name}"
+
+
+def blob_of(text: bytes) -> str:
+    """The name that git has for a file's bytes."""
+    return hashlib.sha1(b"blob %d\0" % len(text) + text).hexdigest()
+
+
+class Repository:
+    """The repository of a folder."""
+
+    def __init__(self, folder: Path) -> None:
+        self.folder, self.looked = folder, folder / "looked"
+
+    def git(self, *words: str, given: bytes | None = None) -> bytes:
+        """What a command of git prints. Settings of the user or the machine have no part in it."""
+        environment = {
+            name: value for name, value in os.environ.items() if not name.startswith("GIT_")
+        }
+        environment |= {
+            "GIT_CONFIG_NOSYSTEM": "1",
+            "GIT_CONFIG_GLOBAL": os.devnull,
+            "LC_ALL": "C",
+            "TZ": "UTC",
+        }
+        set_here = ("safe.directory=*", "core.hooksPath=/dev/null", "gc.autoDetach=false")
+        command = [
+            "git",
+            *(word for each in set_here for word in ("-c", each)),
+            f"--git-dir={self.folder}",
+            *words,
+        ]
+        try:
+            done = subprocess.run(
+                command,
+                input=given if given is not None else b"",
+                capture_output=True,
+                env=environment,
+                check=False,
+            )
+        except FileNotFoundError:
+            raise Failure("git", "it is not installed; install it") from None
+        if done.returncode:
+            said = (
+                " ".join(done.stderr.decode("utf-8", "replace").split())
+                or f"status {done.returncode}"
+            )
+            raise Failure(str(self.folder), f"git {words[0]}: {said}")
+        return done.stdout
+
+    @property
+    def is_there(self) -> bool:
+        return (self.folder / "HEAD").exists()
+
+    def begin(self) -> None:
+        """Makes the repository where there is none."""
+        if not self.is_there:
+            self.git("init", "--quiet", "--bare", "--object-format=sha1", "--initial-branch=main")
+
+    @reading("the history")
+    def state(self, before: int | None = None) -> State | None:
+        """The last commit, or the last one that is not after a time."""
+        found = self.git("for-each-ref", "--format=%(objectname)", BRANCH).decode().strip()
+        if not found:
+            return None
+        lines = (
+            self.git("log", "--format=%H %ct %(trailers:key=Dump,valueonly,separator=%x2C)", BRANCH)
+            .decode()
+            .splitlines()
+        )
+        states = (State(commit, int(time), dump) for commit, time, dump in map(str.split, lines))
+        return next((state for state in states if before is None or state.time <= before), None)
+
+    def first(self) -> int:
+        """The time of the first commit."""
+        return int(self.git("log", "--reverse", "--format=%ct", BRANCH).split()[0])
+
+    def blobs(self, state: State | None) -> dict[str, str]:
+        """The names of the objects' files at a commit, by their paths."""
+        if state is None:
+            return {}
+        lines = self.git("ls-tree", "-r", "-z", state.commit).decode().split("\0")[:-1]
+        return {path: head.split()[2] for head, _, path in (line.partition("\t") for line in lines)}
+
+    @reading("the history")
+    def texts(self, names: Iterable[str]) -> Iterator[bytes]:
+        """The bytes of files, in the order of their names."""
+        names = list(names)
+        out, place = (
+            self.git("cat-file", "--batch", given="".join(f"{name}\n" for name in names).encode()),
+            0,
+        )
+        for _ in names:
+            end = out.index(b"\n", place)
+            size = int(out[place:end].split()[2])
+            yield out[end + 1 : end + 1 + size]
+            place = end + size + 2
+
+    @reading("the history")
+    def record(
+        self,
+        blocks: Iterable[syntax.Block],
+        digest: Callable[[], str],
+        now: int,
+        name: str = "the dump",
+    ) -> str:
+        """Commits a public dump, whose digest is known once its blocks have been read. What was
+        changed in words, nothing where nothing was."""
+        self.begin()
+        last = self.state()
+        known, seen, changes, added = self.blobs(last), set(), [], 0
+        for block in blocks:
+            key = keys.key_of(answers.read(block.text, name))
+            if key is None:
+                raise Failure(
+                    name, "it has an object of no class or key of this irr; take a newer one"
+                )
+            path = path_of(key)
+            seen.add(path)
+            if known.get(path) != blob_of(block.text):
+                added += path not in known
+                changes.append(
+                    b'M 100644 inline "%s"\ndata %d\n%s\n'
+                    % (path.encode(), len(block.text), block.text)
+                )
+        gone = [path for path in known if path not in seen]
+        changed = len(changes) - added
+        changes += [b'D "%s"\n' % path.encode() for path in gone]
+        if not changes:
+            self.look(now)
+            return ""
+        counts = f"{added:,} added, {changed:,} changed, {len(gone):,} deleted"
+        message = f"{counts}\n\nObjects: {len(seen)}\nDump: {digest()}\n".encode()
+        time = max(now, last.time if last else 0)
+        if time > now:
+            texts.note(
+                f"irr history: {self.folder}: the state before is dated {shown_time(time)}, and the"
+                f" clock says {shown_time(now)}; this one gets the later time: look whether the"
+                " clock is right"
+            )
+        head = (
+            f"feature done\ncommit {BRANCH}\ncommitter {WHO} {time} +0000\n"
+            f"data {len(message)}\n".encode() + message + b"\n"
+        )
+        parent = f"from {last.commit}\n".encode() if last else b""
+        self.git(
+            "fast-import",
+            "--quiet",
+            "--date-format=raw",
+            given=b"".join([head, parent, *changes, b"\ndone\n"]),
+        )
+        self.git("gc", "--auto", "--quiet")
+        self.look(now)
+        return counts
+
+    def look(self, now: int) -> None:
+        """Notes when the dump was last fetched."""
+        self.looked.touch()
+        os.utime(self.looked, (now, now))
+
+    @reading("the history")
+    def versions(self, key: Key) -> Iterator[Version]:
+        """What happened to an object, the oldest first."""
+        if not self.state():
+            return
+        out = self.git(
+            "log",
+            "--reverse",
+            "--no-renames",
+            "--no-abbrev",
+            "--raw",
+            "--format=commit %ct",
+            BRANCH,
+            "--",
+            path_of(key),
+        )
+        found, time = [], 0
+        for line in out.split(b"\n"):
+            change = CHANGE.match(line)
+            if line.startswith(b"commit "):
+                time = int(line.split()[1])
+            elif change:
+                found.append((time, change[3].decode(), change[2].decode()))
+        bodies = self.texts(name for _, kind, name in found if kind != "D")
+        for time, kind, _ in found:
+            yield Version(time, WORDS[kind], next(bodies) if kind != "D" else b"")
+
+    @reading("the history")
+    def objects(self, state: State) -> Iterator[bytes]:
+        """The objects of a commit, each with an empty line after it, classes in the order of a
+        dump."""
+        blobs = self.blobs(state)
+        order = sorted(blobs, key=lambda path: (CLASSES.index(path.partition("/")[0]), path))
+        for text in self.texts(blobs[path] for path in order):
+            yield text + b"\n"
+
+
+@reading("the history")
+def read_keys(words: list[str]) -> list[Key]:
+    """The keys that words spell: one in the class that they begin with, otherwise one in each class
+    that reads them. A maintainer may be called as an AS number is."""
+    text, kinds = " ".join(words), list(CLASSES)
+    if words[0] in CLASSES and len(words) > 1:
+        kinds, words = [words[0]], words[1:]
+    found = [
+        keys.read_key(kind, *(words if kind == "route" else [" ".join(words)]))
+        for kind in kinds
+        if kind != "route" or len(words) == 2
+    ]
+    if any(found):
+        return [key for key in found if key]
+    raise Failure(
+        text,
+        (
+            "this is not a class and a key; write it as a report prints it, such as route"
+            " 192.0.2.0/24 AS64496"
+        ),
+        ARGUMENTS,
+    )
+
+
+@reading("the history")
+def told(version: Version) -> bytes:
+    """A version for people and programs: a line with its time, and the object."""
+    return f"% {shown_time(version.time)} {version.word}\n".encode() + version.text + b"\n"
+
+
+def note_of_age(repository: Repository, time: int) -> None:
+    """Says so if the dump was not fetched after a time that is asked about."""
+    looked = repository.looked.stat().st_mtime if repository.looked.exists() else 0
+    if time > looked:
+        texts.note(
+            f"irr history: the dump was last fetched at {shown_time(looked)}; what changed after"
+            " that is not known"
+        )

@@ -1,0 +1,1 @@
+"""Dumps of other registries made into one that irrdesk loads."""

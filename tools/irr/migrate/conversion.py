@@ -1,0 +1,403 @@
+"""Makes of foreign registries' dumps one that `irrdesk load` takes: reads them once, holds the
+keys, and writes the objects in the order of a dump from a temporary file."""
+import os
+import sys
+import tempfile
+import time
+from array import array
+from collections import Counter
+from typing import BinaryIO, Iterable, Iterator
+
+from irr.errors import ARGUMENTS, REFUSED, Failure, reading, system_words
+from irr.migrate import parting
+from irr.migrate.dumps import pieces_of
+from irr.migrate.items import name_of
+from irr.migrate.normalisation import (
+    AS_BLOCK,
+    AS_SET,
+    AUT_NUM,
+    INETNUM,
+    MNTNER,
+    NOBODY,
+    ROUTE,
+    ROUTE_SET,
+    Dropped,
+    LeftOut,
+    Mended,
+    Mender,
+    new_name,
+    not_mended,
+    renamed,
+    unscoped,
+)
+from irr.migrate.report import Place, Tally
+from irr.rpsl import keys, spans, syntax
+from irr.rpsl.syntax import Attribute, Paragraph
+from irr.terminal import texts
+
+# Of a paragraph so many bytes are looked at: one that is larger is not taken.
+MOST = 1 << 20
+PROGRESS_SECONDS, PROGRESS_EACH = 0.5, 1_000
+EVERYTHING = {AS_BLOCK: [(0, 65_535), (65_536, keys.TOP)], INETNUM: [(0, keys.TOP)]}
+# Why a scoped item is dropped.
+NOT_IMPORTED = "a registry that is not imported"
+OF_ANOTHER = "its name is that of a set of another registry"
+ALL_OF_ONE = "all of one registry of several"
+# Why an object is left out whose key was there before: it is the same, or of another registry,
+# whose objects name it.
+DUPLICATE, NAMESAKE = "duplicate", "a name of another registry"
+
+
+class Import:
+    """The objects that are taken, in the order in which they were read, and what is known of each.
+    Their texts are in a file. With `keeps_scoped` an item that names a registry which is not among
+    those imported stays, without it."""
+
+    def __init__(
+        self,
+        mender: Mender,
+        auths: dict[str, list[bytes]],
+        tally: Tally,
+        keeps_scoped: bool = False,
+    ) -> None:
+        self.mender, self.auths, self.tally = mender, auths, tally
+        self.keeps_scoped = keeps_scoped
+        self.off, self.root = mender.off, mender.root.decode()
+        self.paths: list[str] = []
+        self.taken: list[dict[int | str, int]] = [{} for _ in range(len(keys.CLASSES) + 1)]
+        self.starts, self.sizes, self.lines = array("Q"), array("L"), array("Q")
+        self.path_numbers, self.source_numbers = array("L"), array("L")
+        self.sources: dict[str, int] = {}
+        # Of the objects whose lists have lost items, or have scoped ones: the lost ones.
+        self.dropped: dict[int, tuple[Dropped, ...]] = {}
+        self.names: list[tuple[str, ...]] = []
+        self.kinds: list[frozenset[str]] = []
+        # Equal ones are held once.
+        self.shared_names: dict[tuple[str, ...], tuple[str, ...]] = {}
+        self.shared_kinds: dict[frozenset[str], frozenset[str]] = {}
+        self.spool = tempfile.TemporaryFile(prefix="irr-")
+        self.end = 0
+        self.shown = time.monotonic()
+
+    # Reading.
+
+    @reading("a file")
+    def read(self, paths: Iterable[str]) -> None:
+        """Reads all files, and settles what is taken of them."""
+        try:
+            for path in paths:
+                self.read_file(path)
+            self.spool.flush()
+        except OSError as error:
+            raise Failure(
+                "the temporary file",
+                f"{system_words(error)}; make room, or give another folder by TMPDIR",
+            ) from None
+        self.show_progress(is_last=True)
+        self.settle()
+
+    def read_file(self, path: str) -> None:
+        self.paths.append(path)
+        self.tally.files += 1
+        # The line after the last block: one that begins there was cut off from it.
+        after = 0
+        seam = parting.no_seam if "part" in self.off else parting.last_seam
+        for block in syntax.blocks(self.sized(pieces_of(path)), MOST, seam):
+            parts = parting.parts(block)
+            if len(parts) > 1 and "part" in self.off:
+                self.tally.read += 1
+                self.tally.leave_out(not_mended("part"), Place(path, block.line), block.text)
+                continue
+            for part in parts:
+                if part.line > block.line or part.line == after:
+                    self.tally.part(Place(path, part.line), part.text)
+                self.tally.read += 1
+                self.take(part, path)
+                if not self.tally.read % PROGRESS_EACH:
+                    self.show_progress()
+            after = block.line + block.text.count(b"\n")
+
+    def sized(self, pieces: Iterator[bytes]) -> Iterator[bytes]:
+        for piece in pieces:
+            self.tally.size += len(piece)
+            yield piece
+
+    def take(self, block: syntax.Block, path: str) -> None:
+        """Takes a paragraph, or leaves it out."""
+        place = Place(path, block.line)
+        try:
+            mended = self.mender.mend(block)
+            if mended.key in self.taken[mended.number]:
+                if "duplicate" in self.off:
+                    raise Failure(
+                        place.text(),
+                        "its key was there before; remove one of the two, or leave out "
+                        "--no-duplicate",
+                        REFUSED,
+                    )
+                raise LeftOut(self.cause_beside(mended))
+        except LeftOut as cause:
+            self.tally.leave_out(str(cause), place, block.text)
+            return
+        self.keep(mended, block.line)
+
+    def cause_beside(self, mended: Mended) -> str:
+        """Why an object is left out whose key was there before. Objects refer to maintainers and
+        sets by their names, which mean the first one from then on."""
+        first = self.source_numbers[self.taken[mended.number][mended.key]]
+        is_named = mended.number in (MNTNER, AS_SET, ROUTE_SET)
+        return NAMESAKE if is_named and self.sources.get(mended.source) != first else DUPLICATE
+
+    def keep(self, mended: Mended, line: int) -> None:
+        place = len(self.starts)
+        self.taken[mended.number][mended.key] = place
+        if mended.dropped or "scope" in mended.kinds:
+            self.dropped[place] = mended.dropped
+        self.spool.write(mended.text)
+        self.starts.append(self.end)
+        self.sizes.append(len(mended.text))
+        self.end += len(mended.text)
+        self.lines.append(line)
+        self.path_numbers.append(len(self.paths) - 1)
+        self.source_numbers.append(self.sources.setdefault(mended.source, len(self.sources)))
+        self.names.append(self.shared_names.setdefault(mended.names, mended.names))
+        self.kinds.append(self.shared_kinds.setdefault(mended.kinds, mended.kinds))
+
+    def show_progress(self, is_last: bool = False) -> None:
+        """How far it is, on a terminal."""
+        if texts.is_terminal(sys.stderr) and (
+            is_last or time.monotonic() > self.shown + PROGRESS_SECONDS
+        ):
+            self.shown = time.monotonic()
+            words = f"\r{self.tally.read:,} paragraphs, {self.tally.size / 1e6:,.0f} MB "
+            print(words, end="\n" if is_last else "", file=sys.stderr, flush=True)
+
+    # What only the whole tells.
+
+    @reading("a file")
+    def settle(self) -> None:
+        """Leaves out what can't stand beside the rest, and gives new names to maintainers."""
+        if "mntner" in self.off:
+            self.leave_out_nameless()
+        for number in (AS_BLOCK, INETNUM):
+            self.leave_out_crossing(number)
+        named = {name for names in {self.names[place] for place in self.places()} for name in names}
+        mntners = self.taken[MNTNER]
+        known = named | {str(name) for name in mntners} | {self.root}
+        self.new: dict[str, str] = {}
+        for old in sorted(name for name in known if not name_of(name.encode("latin-1"))[1]):
+            self.new[old] = new_name(old, known)
+            known.add(self.new[old])
+        self.new_names = {old: new.encode() for old, new in self.new.items()}
+        self.got_name = set(self.new.values())
+        self.auths = {self.new.get(name, name): values for name, values in self.auths.items()}
+        self.stubs = {self.new.get(name, name) for name in named if name not in mntners}
+        if "initial" not in self.off:
+            self.stubs -= {self.root}
+        elif self.stubs and self.root not in mntners:
+            # They name it.
+            self.stubs.add(self.root)
+        self.imported = {self.source_numbers[place] for place in self.places()}
+        self.note_dropped()
+        for name in self.auths:
+            if (
+                name not in self.stubs
+                and name not in mntners
+                and name != self.root
+                and name not in self.got_name
+            ):
+                raise Failure(name, "no object names this maintainer; correct --auth", ARGUMENTS)
+        self.count()
+
+    def places(self) -> Iterator[int]:
+        """The objects that are taken."""
+        for of_class in self.taken:
+            yield from of_class.values()
+
+    def note_dropped(self) -> None:
+        """Notes the items that the lists of what is taken have lost."""
+        for place, gone in self.dropped.items():
+            if "scope" in self.kinds[place]:
+                attributes = syntax.read_any(self.text_of(place)).attributes
+                gone = (*gone, *unscoped(attributes, self.refusal)[1])
+            for dropped in gone:
+                self.tally.drop(dropped, self.place_of(place), self.text_of(place))
+
+    def refusal(self, source: str, item: bytes) -> str:
+        """Why an item that names a registry is dropped; nothing where it stays without that."""
+        if self.keeps_scoped:
+            return ""
+        number = self.sources.get(source)
+        if number is None or number not in self.imported:
+            return NOT_IMPORTED
+        name = keys.read_set(item.partition(b"^")[0])
+        if name is None:
+            return ""
+        if name in ("AS-ANY", "RS-ANY"):
+            return ALL_OF_ONE if self.imported != {number} else ""
+        kind = AS_SET if keys.set_class(name) == "as-set" else ROUTE_SET
+        place = self.taken[kind].get(name)
+        return OF_ANOTHER if place is not None and self.source_numbers[place] != number else ""
+
+    def routes_beside(self) -> int:
+        """How many routes have an origin without an aut-num."""
+        known = self.taken[AUT_NUM]
+        return sum(int(key) & keys.TOP not in known for key in self.taken[ROUTE])
+
+    def count(self) -> None:
+        """What was taken and left out adds up to what was read."""
+        tally = self.tally
+        tally.taken = sum(map(len, self.taken))
+        if tally.taken + tally.causes.total() != tally.read:
+            raise Failure(
+                "the report",
+                f"{tally.read} paragraphs were read, and {tally.taken} and "
+                f"{tally.causes.total()} do not add up to that; this is a fault of irr: report it",
+            )
+        for kinds, count in Counter(self.kinds[place] for place in self.places()).items():
+            tally.mended.update(dict.fromkeys(kinds, count))
+        tally.mended["rename"], tally.mended["mntner"] = len(self.new), len(self.stubs)
+        tally.mended["duplicate"], tally.mended["crossing"] = (
+            tally.causes[DUPLICATE] + tally.causes[NAMESAKE],
+            tally.causes["crossing"],
+        )
+        tally.renamed = self.new
+
+    def drop(self, number: int, key: int | str, cause: str) -> None:
+        """Leaves out an object that was taken before."""
+        place = self.taken[number].pop(key)
+        self.dropped.pop(place, None)
+        self.tally.leave_out(cause, self.place_of(place), self.text_of(place))
+
+    def leave_out_nameless(self) -> None:
+        """Leaves out each object that names a maintainer without a mntner, until none is left."""
+        mntners, added, is_done = (
+            self.taken[MNTNER],
+            set() if "initial" in self.off else {self.root},
+            False,
+        )
+        while not is_done:
+            is_done = True
+            for number, of_class in enumerate(self.taken):
+                for key, place in list(of_class.items()):
+                    if any(name not in mntners and name not in added for name in self.names[place]):
+                        self.drop(number, key, "a maintainer without a mntner")
+                        is_done = is_done and number != MNTNER
+
+    def leave_out_crossing(self, number: int) -> None:
+        """Leaves out the spans of a class that cross one that was read before and stays."""
+        found = [(key >> 32, key & keys.TOP) for key in self.taken[number] if isinstance(key, int)]
+        for place in spans.crossing(found):
+            first, last = found[place]
+            key = first << 32 | last
+            if "crossing" in self.off:
+                raise Failure(
+                    self.place_of(self.taken[number][key]).text(),
+                    "it overlaps a range that was there before; cut one of the two, or leave out "
+                    "--no-crossing",
+                    REFUSED,
+                )
+            self.drop(number, key, "crossing")
+
+    def place_of(self, place: int) -> Place:
+        return Place(self.paths[self.path_numbers[place]], self.lines[place])
+
+    def text_of(self, place: int) -> bytes:
+        return os.pread(self.spool.fileno(), self.sizes[place], self.starts[place])
+
+    # Writing.
+
+    def objects(self) -> Iterator[bytes]:
+        """The texts of the registry in the order of a dump."""
+        for number in range(MNTNER, len(self.taken)):
+            taken, added = self.taken[number], self.added(number)
+            is_mntner = number == MNTNER
+            names = {key: self.new.get(str(key), str(key)) for key in [*taken, *added] if is_mntner}
+            order = names.get if is_mntner else None
+            # The keys of a class are all numbers, or all names.
+            for key in sorted([*taken, *added], key=order):  # type: ignore[arg-type]  # as said
+                if key in taken:
+                    yield self.final(taken[key], names.get(key, ""))
+                else:
+                    yield added[key].text()
+
+    def added(self, number: int) -> dict[int | str, Paragraph]:
+        """The objects of a class that were in no dump."""
+        if number == MNTNER:
+            has_root = self.root in self.taken[MNTNER] or "initial" in self.off
+            return {
+                name: self.stub(name) for name in self.stubs | (set() if has_root else {self.root})
+            }
+        if "initial" in self.off or number not in EVERYTHING:
+            return {}
+        taken = [(key >> 32, key & keys.TOP) for key in self.taken[number] if isinstance(key, int)]
+        wanted = EVERYTHING[number]
+        if number == AS_BLOCK and any(
+            keys.Span(*own).crosses(keys.Span(*other)) for own in taken for other in wanted
+        ):
+            wanted = [(0, keys.TOP)]
+        if (0, keys.TOP) in taken:
+            wanted = []
+        made: dict[int | str, Paragraph] = {}
+        for first, last in wanted:
+            if (first, last) not in taken:
+                span = keys.Span(first, last)
+                made[first << 32 | last] = self.made(
+                    number, span.text() if number == INETNUM else span.numbers_text()
+                )
+        return made
+
+    def made(self, number: int, key: str, by: str = "", auths: Iterable[bytes] = ()) -> Paragraph:
+        pairs = [
+            (keys.CLASSES[number - 1].encode(), key.encode()),
+            *((b"auth", value) for value in auths),
+            (b"mnt-by", (by or self.root).encode()),
+            (b"source", self.mender.source),
+        ]
+        return Paragraph([Attribute(name, [value]) for name, value in pairs])
+
+    def stub(self, name: str) -> Paragraph:
+        """A mntner: of its own where it has a password, otherwise of the root maintainer, which
+        lets nobody in by it."""
+        given = self.auths.get(name, [])
+        return self.made(MNTNER, name, name if given else self.root, given or [NOBODY])
+
+    def final(self, place: int, mntner: str) -> bytes:
+        """The text of an object that was taken, with new names and passwords, without scopes."""
+        text, names = self.text_of(place), self.names[place]
+        given = self.auths.get(mntner, []) if mntner else []
+        has_new_name = bool(self.new) and (
+            mntner in self.got_name or not self.new.keys().isdisjoint(names)
+        )
+        is_scoped = "scope" in self.kinds[place]
+        if not given and not has_new_name and not is_scoped:
+            return text
+        attributes = syntax.read_any(text).attributes
+        if is_scoped:
+            attributes, _ = unscoped(attributes, self.refusal)
+        if has_new_name:
+            attributes = renamed(attributes, self.new_names)
+        if given:
+            attributes = [attribute for attribute in attributes if attribute.name != b"auth"]
+            attributes[1:1] = [Attribute(b"auth", [value]) for value in given]
+        paragraph = Paragraph(attributes)
+        new = paragraph.text()
+        if len(new) > syntax.LARGEST:
+            new = b"".join(attribute.short_text() for attribute in attributes)
+        if len(new) > syntax.LARGEST:
+            raise Failure(
+                mntner or self.place_of(place).text(),
+                "its text is above 65,536 bytes with what is new in it; shorten it",
+            )
+        return new
+
+    @reading("a file")
+    def write(self, out: BinaryIO) -> None:
+        """Writes the dump, as `irrdesk dump --full` does."""
+        count = 0
+        for text in self.objects():
+            out.write(text + b"\n")
+            count += 1
+        out.write(b"%% end %d\n" % count)
+        self.tally.made = count - self.tally.taken
+        self.tally.mended["initial"] = self.tally.made - len(self.stubs)

@@ -1,0 +1,33 @@
+"""The ways in which what irrdesk does not take is mended, each of which an option turns off."""
+from typing import NamedTuple
+
+
+class Kind(NamedTuple):
+    """A way to mend: its name, which its option has too, and what it does."""
+
+    name: str
+    words: str
+
+
+KINDS = {
+    kind.name: kind
+    for kind in (
+        Kind("part", "a paragraph is parted where a class follows directly on `source`"),
+        Kind("source", "`source` is set to the registry's name, also where there is none"),
+        Kind("mp-members", "`mp-members` of a route-set becomes `members`, without IPv6"),
+        Kind("member-of", "names of as-sets are dropped from `member-of` of routes"),
+        Kind("ipv6", "IPv6 items are dropped from lists of IPv4"),
+        Kind("scope", "`RIPE::AS-X` becomes `AS-X`, or is dropped if RIPE is not imported"),
+        Kind("item", "other items that can't be read are dropped from lists"),
+        Kind("prefix", "a prefix such as 10.1/16 is written out"),
+        Kind("host-bits", "the bits of a prefix after its length become zero"),
+        Kind("rename", "maintainers whose names the rules refuse get another name"),
+        Kind("mnt-by", "an object without `mnt-by` gets the root maintainer"),
+        Kind("auth", "an `auth` that is missing, empty or can't be read authorises nobody"),
+        Kind("long", "a text above 65,536 bytes is written with as few blanks as can be"),
+        Kind("mntner", "a maintainer without a mntner gets one, which authorises nobody"),
+        Kind("duplicate", "of several objects with one key the first stays"),
+        Kind("crossing", "of ranges that overlap, neither inside the other, the first stays"),
+        Kind("initial", "root maintainer, and as-blocks and inetnum of everything, are added"),
+    )
+}

@@ -1,0 +1,463 @@
+"""What of a foreign registry's object irrdesk takes, and how the rest is mended: one paragraph at
+a time."""
+import re
+from typing import Callable, NamedTuple
+
+from irr.migrate import parting
+from irr.migrate.items import (
+    IPV6,
+    SCOPED,
+    TOKEN,
+    is_member,
+    is_range,
+    name_of,
+    source_of,
+    with_items,
+    without_host_bits,
+)
+from irr.rpsl import holders, keys, syntax
+from irr.rpsl.syntax import ITEM, Attribute, Paragraph
+
+NUMBERS = {kind.encode(): number for number, kind in enumerate(keys.CLASSES, 1)}
+MNTNER, AS_BLOCK, AUT_NUM, INETNUM, ROUTE, AS_SET, ROUTE_SET = range(1, 8)
+SETS = (AS_SET, ROUTE_SET)
+SHORT_PREFIX = re.compile(rb"([0-9]{1,3}(?:\.[0-9]{1,3}){0,2})\.?/([0-9]{1,2})")
+READ = frozenset(
+    b"""mnt-by mnt-lower mnt-routes member-of members mp-members mbrs-by-ref auth password
+    delete""".split()
+)
+# An `auth` of a password, one that lets nobody in, and the longest name of a maintainer.
+PASSWORD = re.compile(rb"SHA256-PW [A-Za-z0-9]{0,16}:[0-9A-Fa-f]{64}", re.I)
+NOBODY = b"FILTERED"
+LONGEST_NAME = 80
+# Why an item is taken out of a list.
+OTHER_KIND = "a set of the other kind"
+OPERATOR_AFTER = "an operator after it is apart from it"
+
+
+class LeftOut(Exception):
+    """Why a paragraph is not taken."""
+
+
+class Dropped(NamedTuple):
+    """An item that is taken out of a list: the name of the attribute, the item, and why."""
+
+    attribute: bytes
+    item: bytes
+    cause: str
+
+
+class Mended(NamedTuple):
+    """An object that irrdesk takes once the names of its maintainers are settled, and its scoped
+    items: its class's number, its key, which orders those of a class, the registry that it is of,
+    the maintainers that it names, its text, the kinds of what was mended, and the items that are
+    gone."""
+
+    number: int
+    key: int | str
+    source: str
+    names: tuple[str, ...]
+    text: bytes
+    kinds: frozenset[str]
+    dropped: tuple[Dropped, ...]
+
+
+class Mender:
+    """Mends the objects of foreign registries for the registry of a source and a root maintainer.
+    What is in `off` is not mended: an object that needs it is left out."""
+
+    def __init__(self, source: str, root: str, off: frozenset[str] = frozenset()) -> None:
+        self.source, self.root, self.off = source.encode(), root.encode(), off
+        self.kinds: set[str] = set()
+        self.drops: list[Dropped] = []
+        # The attribute whose items are looked at.
+        self.listing = b""
+
+    def mend(self, block: syntax.Block) -> Mended:
+        """The object that a block becomes; LeftOut with the cause where it becomes none. Scoped
+        items stay in its text."""
+        doubt = parting.doubt(block.text)
+        if doubt:
+            raise LeftOut(doubt)
+        name = block.text.partition(b":")[0].strip(syntax.BLANKS).lower()
+        if name in parting.FOREIGN:
+            raise LeftOut(f"class {name.decode()}")
+        if block.size > len(block.text):
+            raise LeftOut("above 65,536 bytes")
+        try:
+            attributes = syntax.read_any(block.text).attributes
+        except syntax.TextFault as fault:
+            raise LeftOut(f"text: {fault.sentence}") from None
+        number = NUMBERS.get(attributes[0].name) if attributes else None
+        if number is None:
+            raise LeftOut("a class that RPSL does not know")
+        self.kinds, self.drops = set(), []
+        key, attributes = self.keyed(number, attributes)
+        names, attributes = self.listed(number, attributes)
+        if parting.is_cut(block.text):
+            raise LeftOut(parting.CUT_OFF)
+        source, attributes = self.sourced(attributes)
+        text = self.written(names, attributes)
+        return Mended(number, key, source, names, text, frozenset(self.kinds), tuple(self.drops))
+
+    def use(self, kind: str) -> None:
+        """Notes that something of this kind is mended."""
+        if kind in self.off:
+            raise LeftOut(not_mended(kind))
+        self.kinds.add(kind)
+
+    def keyed(self, number: int, attributes: list[Attribute]) -> tuple[int | str, list[Attribute]]:
+        """The key of an object, and its attributes with a key that can be read."""
+        value = attributes[0].meaning()
+        origins = (
+            [attribute.meaning() for attribute in attributes if attribute.name == b"origin"]
+            if number == ROUTE
+            else []
+        )
+        if number == MNTNER:
+            if not value or ITEM.fullmatch(value) is None:
+                raise LeftOut("a key that can't be read")
+            return self.maintainer(value), attributes
+        full, key = value, ordered(number, value, origins)
+        if key is None and number in (INETNUM, ROUTE):
+            if IPV6.match(value):
+                raise LeftOut("IPv6")
+            short = SHORT_PREFIX.fullmatch(value)
+            if short:
+                full = short[1] + b".0" * (3 - short[1].count(b".")) + b"/" + short[2]
+                key = ordered(number, full, origins)
+        if key is None:
+            raise LeftOut("a key that can't be read")
+        if full != value:
+            self.use("prefix")
+        first, slash, _ = full.partition(b"/")
+        if slash and keys.read_address(first) != first_of(number, key):
+            full = self.zeroed(full)
+        if full == value:
+            return key, attributes
+        changed = with_items(attributes[0], ITEM, lambda _: full) or attributes[0]
+        return key, [changed, *attributes[1:]]
+
+    def listed(
+        self, number: int, attributes: list[Attribute]
+    ) -> tuple[tuple[str, ...], list[Attribute]]:
+        """The maintainers that an object names, and its attributes with lists that can be read."""
+        names: dict[str, None] = {}
+        kept: list[Attribute] = []
+        has_mnt_by = has_auth = False
+        grants = Grants(self, names)
+        for attribute in attributes:
+            name = attribute.name
+            changed: Attribute | None = attribute
+            if name not in READ:
+                kept.append(attribute)
+                continue
+            if name == b"mnt-by" or (name == b"mnt-lower" and number != MNTNER):
+                listed = ITEM.findall(attribute.meaning())
+                has_mnt_by |= name == b"mnt-by" and bool(listed)
+                for item in listed:
+                    names[self.maintainer(item)] = None
+            elif name == b"mnt-routes" and number in (AUT_NUM, INETNUM, ROUTE):
+                changed = self.changed(attribute, grants.token, TOKEN)
+            elif name == b"member-of" and number in (AUT_NUM, ROUTE):
+                changed = self.changed(attribute, lambda item: self.set_item(number, item))
+            elif name == b"members" and number in SETS:
+                changed = self.changed(attribute, lambda item: self.member(number, item))
+            elif name == b"mp-members" and number == ROUTE_SET:
+                changed = self.of_both_families(attribute)
+            elif name == b"mbrs-by-ref" and number in SETS:
+                for item in ITEM.findall(attribute.meaning()):
+                    if item.upper() != b"ANY" and not IPV6.fullmatch(item):
+                        names[self.maintainer(item)] = None
+                changed = self.changed(attribute, self.referrer)
+            elif name == b"auth" and number == MNTNER:
+                changed, has_auth = self.auth(attribute), True
+            elif name in (b"password", b"delete"):
+                raise LeftOut("`password` or `delete`")
+            if changed is not None:
+                kept.append(changed)
+        if grants.is_open:
+            raise LeftOut("a brace of `mnt-routes` that is not closed")
+        if not has_mnt_by:
+            self.use("mnt-by")
+            kept.insert(last_place(kept, b"source"), Attribute(b"mnt-by", [self.root]))
+            names[self.root.decode()] = None
+        if number == MNTNER and not has_auth:
+            self.use("auth")
+            kept.insert(1, Attribute(b"auth", [NOBODY]))
+        return tuple(names), kept
+
+    def changed(
+        self,
+        attribute: Attribute,
+        change: Callable[[bytes], bytes | None],
+        pattern: re.Pattern[bytes] = ITEM,
+    ) -> Attribute | None:
+        """The attribute with each item as `change` has it; the same one where none changes."""
+        items = pattern.findall(attribute.meaning())
+        self.listing = attribute.name
+        new: list[bytes | None] = []
+        for item, after in zip(items, [*items[1:], b""]):
+            if is_apart(item, after, pattern):
+                # Without its operator it would mean something else.
+                self.drop(item, "item", OPERATOR_AFTER)
+                new.append(None)
+            else:
+                new.append(change(item))
+        if new == items:
+            return attribute
+        rest = iter(new)
+        return with_items(attribute, pattern, lambda _: next(rest))
+
+    def of_both_families(self, attribute: Attribute) -> Attribute | None:
+        """`members` of what `mp-members` of a route-set has of IPv4 (RFC 4012, 4)."""
+        if not ITEM.search(attribute.meaning()):
+            return attribute
+        self.use("mp-members")
+        changed = self.changed(attribute, lambda item: self.member(ROUTE_SET, item))
+        return changed and changed._replace(name=b"members")
+
+    def maintainer(self, item: bytes) -> str:
+        name, is_good = name_of(item)
+        if not is_good:
+            self.use("rename")
+        return name
+
+    def zeroed(self, item: bytes) -> bytes:
+        """An item without host bits."""
+        new = without_host_bits(item)
+        if new != item:
+            self.use("host-bits")
+        return new
+
+    def drop(self, item: bytes, kind: str, cause: str) -> None:
+        self.use(kind)
+        self.drops.append(Dropped(self.listing, item, cause))
+
+    def drop_unread(self, item: bytes) -> None:
+        if IPV6.fullmatch(item):
+            self.drop(item, "ipv6", "IPv6")
+        else:
+            self.drop(item, "item", "an item that can't be read")
+
+    def referrer(self, item: bytes) -> bytes | None:
+        if IPV6.fullmatch(item):
+            self.drop_unread(item)
+            return None
+        return item
+
+    def set_item(self, number: int, item: bytes) -> bytes | None:
+        """An item of `member-of`, which names as-sets in an aut-num and route-sets in a route (RFC
+        2622, 5)."""
+        kept = self.scoped(item, lambda name: keys.read_set(name) is not None)
+        if kept is None or number != ROUTE:
+            return kept
+        name = keys.read_set(kept.rpartition(b"::")[2])
+        if name is None or keys.set_class(name) == "route-set":
+            return kept
+        self.drop(item, "member-of", OTHER_KIND)
+        return None
+
+    def member(self, number: int, item: bytes) -> bytes | None:
+        kept = self.scoped(item, lambda name: is_member(number, name))
+        if kept is None or b"/" not in kept:
+            return kept
+        scope, mark, name = kept.rpartition(b"::")
+        return scope + mark + self.zeroed(name)
+
+    def scoped(self, item: bytes, is_good: Callable[[bytes], bool]) -> bytes | None:
+        """An item that can be read once it has no registry before it; None if it can't."""
+        if is_good(item):
+            return item
+        found = SCOPED.fullmatch(item)
+        if found and is_good(found[2]):
+            self.use("scope")
+            return item
+        self.drop_unread(item)
+        return None
+
+    def auth(self, attribute: Attribute) -> Attribute:
+        words = attribute.meaning().split()
+        if words and (words[0].upper() != b"SHA256-PW" or PASSWORD.fullmatch(b" ".join(words))):
+            return attribute
+        self.use("auth")
+        return Attribute(b"auth", [NOBODY])
+
+    def sourced(self, attributes: list[Attribute]) -> tuple[str, list[Attribute]]:
+        """The registry that an object is of, and its attributes with `source` for this one."""
+        place = last_place(attributes, b"source")
+        found = attributes[place].meaning() if place < len(attributes) else b""
+        name = source_of(found)
+        if name is None:
+            raise LeftOut("a `source` that can't be read")
+        if found.upper() == self.source:
+            return name, attributes
+        self.use("source")
+        new = Attribute(b"source", [self.source])
+        return name, [*attributes[:place], new, *attributes[place + 1 :]]
+
+    def written(self, names: tuple[str, ...], attributes: list[Attribute]) -> bytes:
+        """The text of an object, which has room for new names."""
+        text = Paragraph(attributes).text()
+        room = 0
+        if "rename" in self.kinds and len(text) > syntax.LARGEST >> 1:
+            bad = [
+                name.encode("latin-1") for name in names if not name_of(name.encode("latin-1"))[1]
+            ]
+            room = LONGEST_NAME * sum(text.upper().count(name) for name in bad)
+        if len(text) + room > syntax.LARGEST:
+            text = b"".join(attribute.short_text() for attribute in attributes)
+            if len(text) + room > syntax.LARGEST:
+                raise LeftOut("above 65,536 bytes")
+            self.use("long")
+        return text
+
+
+class Grants:
+    """Reads the entries of `mnt-routes`, which may begin in one attribute and end in the next, and
+    drops what is no part of one."""
+
+    def __init__(self, mender: Mender, names: dict[str, None]) -> None:
+        self.mender, self.names, self.state = mender, names, "start"
+
+    @property
+    def is_open(self) -> bool:
+        return self.state in ("ranges", "lost")
+
+    def token(self, token: bytes) -> bytes | None:
+        """What a token becomes."""
+        kept = self.kept(token)
+        if kept is None:
+            self.mender.drop_unread(token)
+        return kept
+
+    def kept(self, token: bytes) -> bytes | None:
+        if self.state in ("ranges", "lost"):
+            is_lost = self.state == "lost"
+            if token == b"}":
+                self.state = "start"
+            elif not is_range(token):
+                return None
+            return None if is_lost else self.mender.zeroed(token)
+        if token == b"{" or token.upper() == b"ANY":
+            is_named = self.state == "named"
+            self.state = ("ranges" if is_named else "lost") if token == b"{" else "start"
+            return token if is_named else None
+        if token == b"}" or IPV6.fullmatch(token):
+            return None
+        self.state = "named"
+        self.names[self.mender.maintainer(token)] = None
+        return token
+
+
+def ordered(number: int, value: bytes, origins: list[bytes]) -> int | str | None:
+    """The key of an object as a value that orders those of its class as the registry does; None
+    where it can't be read."""
+    if number == AUT_NUM:
+        return keys.read_as(value)
+    if number == ROUTE:
+        prefix, origin = (
+            keys.read_prefix(value),
+            keys.read_as(origins[0]) if len(origins) == 1 else None,
+        )
+        return (
+            (prefix.first << 6 | prefix.length) << 32 | origin
+            if prefix and origin is not None
+            else None
+        )
+    if number in (INETNUM, AS_BLOCK):
+        span = keys.read_span(value) if number == INETNUM else keys.read_block(value)
+        return span.first << 32 | span.last if span else None
+    key = keys.read_key(keys.CLASSES[number - 1], value)
+    return key.text if key else None
+
+
+def is_apart(item: bytes, after: bytes, pattern: re.Pattern[bytes]) -> bool:
+    """Whether an item has lost its operator to the next one. In `mnt-routes` ranges alone have
+    some."""
+    return after.startswith(b"^") and (pattern is ITEM or is_range(item))
+
+
+def not_mended(kind: str) -> str:
+    """The cause where a way to mend is turned off."""
+    return f"not mended because of --no-{kind}"
+
+
+def first_of(number: int, key: int | str) -> int:
+    """The first address of an inetnum or a route by its key."""
+    return int(key) >> (38 if number == ROUTE else 32)
+
+
+def last_place(attributes: list[Attribute], name: bytes) -> int:
+    """The place of the first attribute of a name, otherwise the end."""
+    return next(
+        (place for place, attribute in enumerate(attributes) if attribute.name == name),
+        len(attributes),
+    )
+
+
+def unscoped(
+    attributes: list[Attribute], refusal: Callable[[str, bytes], str]
+) -> tuple[list[Attribute], list[Dropped]]:
+    """The attributes of an object whose scoped items have lost the registry, or are gone where
+    `refusal` has a cause for the registry and the item; and what is gone."""
+    kept: list[Attribute] = []
+    gone: list[Dropped] = []
+    for attribute in attributes:
+        if attribute.name not in (b"members", b"member-of") or b"::" not in attribute.meaning():
+            kept.append(attribute)
+            continue
+        name = attribute.name
+
+        def bare(item: bytes) -> bytes | None:
+            found = SCOPED.fullmatch(item)
+            cause = refusal(found[1].decode().upper(), found[2]) if found else ""
+            if cause:
+                gone.append(Dropped(name, item, cause))
+            return None if cause else found[2] if found else item
+
+        changed = with_items(attribute, ITEM, bare)
+        if changed is not None:
+            kept.append(changed)
+    return kept, gone
+
+
+def renamed(attributes: list[Attribute], new: dict[str, bytes]) -> list[Attribute]:
+    """The attributes of an object in which maintainers have new names where names of maintainers
+    are read."""
+    kind, is_inside = holders.kind(Paragraph(attributes)), False
+    kept: list[Attribute] = []
+    listed_in = {b"mnt-by"} | ({b"mnt-lower"} if kind in holders.LOWER_IN else set())
+
+    def name(item: bytes) -> bytes:
+        return new.get(name_of(item)[0], item)
+
+    def referrer(item: bytes) -> bytes:
+        return item if item.upper() == b"ANY" else name(item)
+
+    def grant(item: bytes) -> bytes:
+        nonlocal is_inside
+        was_inside, is_inside = is_inside, item == b"{" or (is_inside and item != b"}")
+        return item if was_inside or is_inside else referrer(item)
+
+    for place, attribute in enumerate(attributes):
+        changed: Attribute | None = attribute
+        if attribute.name in listed_in or (kind == "mntner" and place == 0):
+            changed = with_items(attribute, ITEM, name)
+        elif attribute.name == b"mnt-routes" and kind in holders.ROUTES_IN:
+            changed = with_items(attribute, TOKEN, grant)
+        elif attribute.name == b"mbrs-by-ref" and kind in holders.SETS:
+            changed = with_items(attribute, ITEM, referrer)
+        kept.append(changed or attribute)
+    return kept
+
+
+def new_name(old: str, taken: set[str]) -> str:
+    """A name that the rules take, for one that they refuse, and that nobody has."""
+    plain = re.sub("[^A-Z0-9_-]", "-", old).strip("-_")[: LONGEST_NAME - 12].rstrip("-_") or "X"
+    name = plain if keys.read_maintainer(plain) else f"MNT-{plain}"
+    place, tried = 1, name
+    while tried in taken:
+        place += 1
+        tried = f"{name}-{place}"
+    return tried

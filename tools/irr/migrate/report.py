@@ -1,0 +1,128 @@
+"""What an import read, took, mended and left out, and the report of it."""
+import re
+from collections import Counter
+from typing import BinaryIO, Iterator, NamedTuple
+
+from irr.migrate.kinds import KINDS
+from irr.migrate.normalisation import Dropped
+from irr.terminal import texts
+
+ORIGIN = re.compile(rb"^origin[ \t]*:[ \t]*([^ \t\r\n#]+)", re.I | re.M)
+SHOWN = 10
+LONGEST_SHOWN = 60
+
+
+class Place(NamedTuple):
+    """Where a paragraph stands."""
+
+    path: str
+    line: int
+
+    def text(self) -> str:
+        """The path as a line of a list can have it."""
+        return texts.shown_line(f"{self.path}:{self.line}").replace("\t", "\\x09")
+
+
+class Listed:
+    """The causes of what is listed, each with its number and its first entries."""
+
+    def __init__(self) -> None:
+        self.causes: Counter[str] = Counter()
+        self.first: dict[str, list[str]] = {}
+
+    def add(self, cause: str, words: str) -> None:
+        self.causes[cause] += 1
+        listed = self.first.setdefault(cause, [])
+        if len(listed) < SHOWN:
+            listed.append(words.replace("\t", "  "))
+
+    def lines(self, what: str) -> Iterator[str]:
+        """The most frequent cause first."""
+        for cause, count in sorted(self.causes.items(), key=lambda pair: (-pair[1], pair[0])):
+            yield f"{what}, {cause}: {count:,}"
+            yield from shown(self.first[cause], count)
+
+
+class Tally:
+    """Counts what happens to paragraphs and to items of their lists, and keeps the first ones of
+    each cause; all go to a file, if there is one."""
+
+    def __init__(self, file: BinaryIO | None = None) -> None:
+        self.file, self.read, self.files, self.size = file, 0, 0, 0
+        self.left_out, self.items = Listed(), Listed()
+        self.mended: Counter[str] = Counter()
+        self.parted: list[str] = []
+        self.renamed: dict[str, str] = {}
+        self.taken = self.made = 0
+
+    @property
+    def causes(self) -> Counter[str]:
+        """How many paragraphs are left out, by cause."""
+        return self.left_out.causes
+
+    def leave_out(self, cause: str, place: Place, text: bytes) -> None:
+        """Notes a paragraph that is not taken."""
+        self.note(self.left_out, cause, entry(place, text))
+
+    def drop(self, dropped: Dropped, place: Place, text: bytes) -> None:
+        """Notes an item that is taken out of a list of an object."""
+        words = [texts.shown_line(part) for part in (dropped.attribute, dropped.item)]
+        self.note(self.items, dropped.cause, "\t".join([entry(place, text), *words]))
+
+    def note(self, listed: Listed, cause: str, words: str) -> None:
+        listed.add(cause, words)
+        if self.file:
+            self.file.write(f"{cause}\t{words}\n".encode())
+
+    def part(self, place: Place, text: bytes) -> None:
+        """Notes a paragraph that begins without a blank line before it."""
+        self.mended["part"] += 1
+        if len(self.parted) < SHOWN:
+            self.parted.append(entry(place, text))
+
+    def lines(self) -> Iterator[str]:
+        """The report."""
+        left = self.causes.total()
+        yield (
+            f"{texts.counted(self.read, 'paragraph')} of {texts.counted(self.files, 'file')}: "
+            f"{self.taken:,} taken, {left:,} left out"
+        )
+        yield (
+            f"{texts.counted(self.taken + self.made, 'object')} written: {self.taken:,} taken, "
+            f"{self.made:,} added"
+        )
+        if any(self.mended.values()):
+            yield "mended:"
+            width = max(len(f"{count:,}") for count in self.mended.values())
+            yield from texts.columns(
+                [f"  {self.mended[name]:>{width},}", f"--no-{name}", kind.words]
+                for name, kind in KINDS.items()
+                if self.mended[name]
+            )
+        if self.parted:
+            yield "parted, with no blank line before:"
+            yield from shown([one.replace("\t", "  ") for one in self.parted], self.mended["part"])
+        if self.renamed:
+            yield "renamed:"
+            yield from shown(
+                texts.columns([old, new] for old, new in sorted(self.renamed.items())[:SHOWN]),
+                len(self.renamed),
+            )
+        yield from self.items.lines("dropped from lists")
+        yield from self.left_out.lines("left out")
+
+
+def shown(first: list[str], count: int) -> Iterator[str]:
+    """The first ones of so many."""
+    yield from (f"  {words}" for words in first)
+    if count > len(first):
+        yield f"  and {count - len(first):,} more"
+
+
+def entry(place: Place, text: bytes) -> str:
+    """Where a paragraph stands, and its first line, of a route with the origin."""
+    words = text.partition(b"\n")[0].split()
+    is_route = words[:1] and words[0].lower().startswith(b"route")
+    origin = ORIGIN.search(text) if is_route else None
+    line = texts.shown_line(b" ".join(words + ([origin[1]] if origin else [])))
+    return f"{place.text()}\t{line[:LONGEST_SHOWN]}"

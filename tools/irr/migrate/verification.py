@@ -1,0 +1,59 @@
+"""Whether `irrdesk` makes of a dump the registry that it is to be."""
+import subprocess
+from itertools import zip_longest
+from pathlib import Path
+from typing import BinaryIO, Iterator
+
+from irr.errors import Failure
+from irr.local.temporary import TemporaryRegistry, own_files, trouble
+from irr.rpsl import syntax
+from irr.rpsl.syntax import Attribute, Paragraph
+
+
+def public(source: BinaryIO) -> Iterator[bytes]:
+    """The texts that a public dump has of the objects of a full one."""
+    for paragraph in syntax.paragraphs(syntax.chunks(source)):
+        yield Paragraph(
+            [
+                Attribute(b"auth", [b"# filtered"]) if attribute.name == b"auth" else attribute
+                for attribute in paragraph.attributes
+            ]
+        ).text()
+
+
+def check(path: str | Path, source: str, root: str, auth: str, count: int) -> None:
+    """Loads a dump into a scratch registry and compares the public dump of that, object by object;
+    a Failure at the first difference."""
+    with TemporaryRegistry(source, root, auth) as scratch:
+        scratch.load(path, "the result")
+        dumped = scratch.folder / "public.rpsl"
+        with open(dumped, "wb") as out:
+            done = subprocess.run(
+                [scratch.program, "dump", "irr.toml"],
+                cwd=scratch.folder,
+                stdin=subprocess.DEVNULL,
+                stdout=out,
+                stderr=subprocess.PIPE,
+                check=False,
+                preexec_fn=own_files,
+            )
+        if done.returncode:
+            raise trouble(done, "the scratch registry")
+        with open(path, "rb") as wanted, open(dumped, "rb") as found:
+            place = 0
+            texts = (block.text for block in syntax.blocks(syntax.chunks(found)))
+            for place, (own, other) in enumerate(zip_longest(public(wanted), texts), 1):
+                if own != other:
+                    first = (own or other or b"").partition(b"\n")[0].decode("latin-1")
+                    raise Failure(
+                        "--check",
+                        f"object {place} of the registry differs from that of the result, "
+                        f"`{first}`; this is a fault of irr: report it",
+                    )
+            found.seek(-len(b"%% end %d\n" % count), 2)
+            if place != count or found.read() != b"% end " + str(count).encode() + b"\n":
+                raise Failure(
+                    "--check",
+                    f"the registry has {place:,} objects and not {count:,}; this is a fault of "
+                    "irr: report it",
+                )

@@ -1,0 +1,1 @@
+"""A registry asked over HTTP: its queries, answers, submissions and refusals."""

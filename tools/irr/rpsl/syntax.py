@@ -1,0 +1,237 @@
+"""RPSL text as the program reads it (RFC 2622, 2): blocks of lines between blank ones, the
+attributes of a block, and canonical text.
+
+All of it is bytes, since a registry's text is in no one encoding. Lines end in LF alone; a blank is
+a space, a tab or a CR.
+"""
+import re
+from typing import BinaryIO, Callable, Iterable, Iterator, NamedTuple
+
+from irr.errors import Unreadable
+
+BLANKS = b" \t\r"
+LARGEST = 65_536
+NAME = re.compile(rb"[A-Za-z][A-Za-z0-9_-]{0,63}")
+ITEM = re.compile(rb"[^, \t\r\n]+")
+BAD_BYTE = re.compile(rb"[\x00-\x08\x0b\x0c\x0e-\x1f\x7f]")
+# The end of a line with the lines of blanks after it.
+BETWEEN = re.compile(rb"\n[ \t\r]*\n(?:[ \t\r]*\n)*")
+# Whole lines that are skipped.
+SKIPPED = re.compile(rb"(?:[#%][^\n]*\n)+")
+CHUNK = 1 << 20
+# What a line begins with that goes on with the attribute before it.
+CONTINUED = (b" ", b"\t", b"\r", b"+")
+# The end of the last one of several objects in a text, at which it may be cut in two; 0 for none.
+Seam = Callable[[bytes], int]
+
+
+class TextFault(Unreadable):
+    """What keeps a block from being a paragraph: the code that the program gives it, a sentence,
+    and the line of the block, from 0."""
+
+    def __init__(self, code: str, sentence: str, line: int = 0) -> None:
+        super().__init__(sentence)
+        self.code, self.sentence, self.line = code, sentence, line
+
+
+class Attribute(NamedTuple):
+    """An attribute: its name in small letters, and the lines of its value, each trimmed."""
+
+    name: bytes
+    lines: list[bytes]
+
+    def meaning(self) -> bytes:
+        """What the value says: its lines without comments, joined by one space."""
+        if len(self.lines) == 1:
+            return self.lines[0].partition(b"#")[0].strip(BLANKS)
+        return b" ".join(line.partition(b"#")[0].strip(BLANKS) for line in self.lines).strip(BLANKS)
+
+    def text(self) -> bytes:
+        """Its canonical lines."""
+        first = self.name + b":"
+        if self.lines[0]:
+            first = first.ljust(15) + b" " + self.lines[0]
+        if len(self.lines) == 1:
+            return first + b"\n"
+        return b"".join(
+            line + b"\n"
+            for line in [first, *(b" " * 16 + line if line else b"+" for line in self.lines[1:])]
+        )
+
+    def short_text(self) -> bytes:
+        """Its lines with as few blanks as can be: what was read once never grows by it."""
+        lines = [
+            self.name + b":" + self.lines[0],
+            *(b" " + line if line else b"+" for line in self.lines[1:]),
+        ]
+        return b"".join(line + b"\n" for line in lines)
+
+
+class Block(NamedTuple):
+    """The lines of one paragraph as they came: the number of the first one in the text, their size
+    in bytes, and the lines with their ends, of which there may be fewer bytes than the size where
+    the reader was told to keep no more."""
+
+    line: int
+    size: int
+    text: bytes
+
+
+class Paragraph:
+    """The attributes of a paragraph."""
+
+    def __init__(self, attributes: list[Attribute]) -> None:
+        self.attributes = attributes
+
+    @property
+    def name(self) -> bytes:
+        """The name of the first attribute, which is the class of an object; nothing in a paragraph
+        without any."""
+        return self.attributes[0].name if self.attributes else b""
+
+    def has(self, name: bytes) -> bool:
+        return any(attribute.name == name for attribute in self.attributes)
+
+    def values(self, name: bytes) -> list[bytes]:
+        """What each attribute of a name says, in order."""
+        return [attribute.meaning() for attribute in self.attributes if attribute.name == name]
+
+    def value(self, name: bytes) -> bytes:
+        """What the first attribute of a name says; nothing where there is none."""
+        return next(iter(self.values(name)), b"")
+
+    def items(self, name: bytes) -> list[bytes]:
+        """The items of the list that all attributes of a name make together."""
+        return ITEM.findall(b" ".join(self.values(name)))
+
+    def without(self, *names: bytes) -> "Paragraph":
+        """The same without the attributes of these names."""
+        return Paragraph(
+            [attribute for attribute in self.attributes if attribute.name not in names]
+        )
+
+    def text(self) -> bytes:
+        """Canonical text."""
+        return b"".join([attribute.text() for attribute in self.attributes])
+
+
+def read(text: bytes) -> Paragraph:
+    """The paragraph that a block's lines are; raises TextFault with E07 or E01."""
+    if len(text) > LARGEST:
+        raise TextFault("E07", f"it is over {LARGEST:,} bytes")
+    return read_any(text)
+
+
+def read_any(text: bytes) -> Paragraph:
+    """The same of a block of any size, as answers and dumps have them: canonical text may be longer
+    than what was submitted."""
+    attributes: list[Attribute] = []
+    has_bad = BAD_BYTE.search(text)
+    for number, line in enumerate(text.removesuffix(b"\n").split(b"\n")):
+        if line[:1] in (b"#", b"%"):
+            continue
+        if has_bad and BAD_BYTE.search(line):
+            raise TextFault("E01", "it has a control character", number)
+        if line[:1] in CONTINUED:
+            if not attributes:
+                raise TextFault("E01", "it begins with a continuation line", number)
+            attributes[-1].lines.append(line[1:].strip(BLANKS))
+            continue
+        name, colon, value = line.partition(b":")
+        name = name.rstrip(BLANKS)
+        if not colon:
+            raise TextFault("E01", "it has a line without a colon", number)
+        if not NAME.fullmatch(name):
+            raise TextFault(
+                "E01", "it has a line whose name is not the name of an attribute", number
+            )
+        attributes.append(Attribute(name.lower(), [value.strip(BLANKS)]))
+    return Paragraph(attributes)
+
+
+def line_numbers(text: bytes) -> list[list[int]]:
+    """For each attribute of a block that can be read, the lines of the block on which it stands,
+    from 0."""
+    found: list[list[int]] = []
+    for number, line in enumerate(text.removesuffix(b"\n").split(b"\n")):
+        if line[:1] in (b"#", b"%"):
+            continue
+        if line[:1] in CONTINUED:
+            found[-1].append(number)
+        else:
+            found.append([number])
+    return found
+
+
+def chunks(source: BinaryIO) -> Iterator[bytes]:
+    """A file in pieces; what has come of a pipe is not waited with."""
+    read_some = getattr(source, "read1", source.read)
+    while chunk := read_some(CHUNK):
+        yield chunk
+
+
+def blocks(
+    source: Iterable[bytes],
+    most: int | None = None,
+    seam: Seam = lambda _: 0,
+) -> Iterator[Block]:
+    """The blocks of a text that comes in pieces (`chunks(file)`, `Server.dump()`, or `[text]`), in
+    memory that grows with one block.
+
+    Lines that are skipped (`#` or `%` first) stay in the block that they stand in, but for those
+    before its first other line. Of a block of more than `most` bytes the first `most` are kept,
+    unless `seam` has a place in them at which the block may be cut in two."""
+    # What is held begins with the LF before its first line, of which `line` were before it.
+    held, line, lost_bytes, lost_lines = bytearray(b"\n"), 0, 0, 0
+    for chunk in source:
+        # A line of blanks may have come in part: it begins after the last LF.
+        tail, start = held.rfind(b"\n"), 0
+        held += chunk
+        for found in BETWEEN.finditer(held, tail):
+            text = bytes(held[start + 1 : found.start() + 1])
+            yield from block_of(text, line + 1, lost_bytes, most, seam)
+            line += held.count(b"\n", start + 1, found.end()) + lost_lines
+            start, lost_bytes, lost_lines = found.end() - 1, 0, 0
+        del held[:start]
+        if most is not None and len(held) > most + CHUNK:
+            skipped = SKIPPED.match(held, 1)
+            if skipped:
+                line += held.count(b"\n", 1, skipped.end())
+                del held[1 : skipped.end()]
+            end = 0 if lost_bytes else seam(bytes(held[1:]))
+            if end:
+                yield Block(line + 1, end, bytes(held[1 : end + 1]))
+                line += held.count(b"\n", 1, end + 1)
+                del held[1 : end + 1]
+            tail = held.rfind(b"\n")
+            if tail > most + 1:
+                lost_bytes += tail - most - 1
+                lost_lines += held.count(b"\n", most + 1, tail)
+                del held[most + 1 : tail]
+    last = bytes(held[1:])
+    if not last[last.rfind(b"\n") + 1 :].strip(BLANKS):
+        last = last[: last.rfind(b"\n") + 1]
+    yield from block_of(last, line + 1, lost_bytes, most, seam)
+
+
+def block_of(text: bytes, line: int, lost: int, most: int | None, seam: Seam) -> Iterator[Block]:
+    """The block of these lines, if any of them is not skipped; or two of them."""
+    skipped = SKIPPED.match(text)
+    if skipped:
+        line += text.count(b"\n", 0, skipped.end())
+        text = text[skipped.end() :]
+    if most is not None and len(text) > most and not lost:
+        end = seam(text)
+        if end:
+            yield Block(line, end, text[:end])
+            line += text.count(b"\n", 0, end)
+            text = text[end:]
+    if text and text[:1] not in (b"#", b"%"):
+        yield Block(line, len(text) + lost, text if most is None else text[:most])
+
+
+def paragraphs(source: Iterable[bytes]) -> Iterator[Paragraph]:
+    """The paragraphs of a dump or an answer, which has no faults and may have paragraphs of any
+    size."""
+    for block in blocks(source):
+        yield read_any(block.text)

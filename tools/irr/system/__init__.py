@@ -1,0 +1,1 @@
+"""Files and connections of this machine."""

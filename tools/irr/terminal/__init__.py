@@ -1,0 +1,1 @@
+"""What people see: texts, passwords that are asked for, pictures."""

@@ -1,0 +1,124 @@
+"""One request to an upstream: a connection, what is sent, and all that comes until the other side
+ends it.
+
+It works on a socket that the event loop watches. A transport of asyncio for each would cost more
+than all else.
+"""
+
+import time
+import asyncio
+import contextlib
+import errno
+import socket
+from typing import Callable, Optional
+
+from irr.door.settings import Place
+
+# The first piece is mostly the whole answer; a long one comes in larger ones.
+FIRST, PIECE = 1 << 14, 1 << 18
+
+
+class Exchange:
+    """A request that is on its way. `take` gets each piece that comes, and may raise ValueError to
+    end it; `ended` is called once, with None at the end of the answer, else with why there is
+    none."""
+
+    __slots__ = ("loop", "socket", "rest", "take", "ended", "begun", "heard", "size", "is_over")
+
+    def __init__(
+        self,
+        loop: asyncio.AbstractEventLoop,
+        place: Place,
+        data: bytes,
+        take: Callable[[bytes], None],
+        ended: Callable[[Optional[str]], None],
+    ) -> None:
+        self.loop, self.take, self.ended, self.rest = loop, take, ended, data
+        self.begun = self.heard = time.monotonic()
+        self.size, self.is_over = 0, False
+        family = socket.AF_INET6 if ":" in place.host else socket.AF_INET
+        self.socket = socket.socket(family, socket.SOCK_STREAM | socket.SOCK_NONBLOCK)
+        code = self.socket.connect_ex((place.host, place.port))
+        if code not in (0, errno.EINPROGRESS):
+            # Whoever asked has still to learn that it is on its way.
+            loop.call_soon(self.end, errno.errorcode.get(code, "fault"))
+            return
+        # On one machine the connection stands by now: what is sent is sent at once.
+        if self.send():
+            loop.add_reader(self.socket.fileno(), self.receive)
+        elif not self.is_over:
+            loop.add_writer(self.socket.fileno(), self.write)
+
+    def send(self) -> bool:
+        """Sends what is left. Whether all of it went."""
+        try:
+            sent = self.socket.send(self.rest, socket.MSG_NOSIGNAL)
+        except (BlockingIOError, InterruptedError):
+            return False
+        except OSError as error:
+            if error.errno == errno.ENOTCONN:
+                return False
+            self.loop.call_soon(self.end, word_of(error))
+            return False
+        self.rest = self.rest[sent:]
+        return not self.rest
+
+    def write(self) -> None:
+        if self.is_over:
+            return
+        if self.send():
+            self.loop.remove_writer(self.socket.fileno())
+            self.loop.add_reader(self.socket.fileno(), self.receive)
+
+    def receive(self) -> None:
+        # The end has mostly come with the last piece.
+        for _ in range(8):
+            try:
+                piece = self.socket.recv(PIECE if self.size else FIRST)
+            except (BlockingIOError, InterruptedError):
+                return
+            except OSError as error:
+                self.end(word_of(error))
+                return
+            if not piece:
+                self.end(None)
+                return
+            self.heard = time.monotonic()
+            self.size += len(piece)
+            try:
+                self.take(piece)
+            except ValueError as error:
+                self.end(str(error))
+                return
+            if self.is_over:
+                return
+
+    def end(self, fault: Optional[str]) -> None:
+        """Ends it, once."""
+        if self.is_over:
+            return
+        self.close()
+        self.ended(fault)
+
+    def close(self) -> None:
+        """Lets go of the connection without a word to anybody."""
+        self.is_over = True
+        with contextlib.suppress(OSError, ValueError):
+            number = self.socket.fileno()
+            self.loop.remove_reader(number)
+            self.loop.remove_writer(number)
+        self.socket.close()
+
+
+def word_of(error: OSError) -> str:
+    return errno.errorcode.get(error.errno or 0, "fault")
+
+
+def listens(place: Place) -> bool:
+    """Whether somebody listens at a place of this machine now: one that was killed in an answer
+    does not."""
+    family = socket.AF_INET6 if ":" in place.host else socket.AF_INET
+    with socket.socket(family, socket.SOCK_STREAM | socket.SOCK_NONBLOCK) as probe:
+        if probe.connect_ex((place.host, place.port)) not in (0, errno.EINPROGRESS):
+            return False
+        return probe.getsockopt(socket.SOL_SOCKET, socket.SO_ERROR) == 0

@@ -1,0 +1,382 @@
+"""HTTP: queries, the dump and submissions, as a proxy in front hands them on; and the status, for
+this machine."""
+
+import time
+import asyncio
+from typing import Optional
+from urllib.parse import unquote_to_bytes, urlsplit
+
+from irr.door.budget import client_name
+from irr.door.collecting import Dump, InMemory
+from irr.door.dialects import outcome_of
+from irr.door.listener import LASTING, Connection, Door
+from irr.door.pool import DUMP, Refused
+from irr.door.queries import Asker
+from irr.door.status import Status
+from irr.door.submissions import Submissions, TooMuch
+from irr.rpsl import keys
+
+# The longest head, its most fields, and the bytes of it that name a path.
+HEAD, FIELDS = 8_192, 64
+IDLE = 60.0
+# Seconds for which a body is read, and not looked at, that was refused.
+LINGERING = 5.0
+REASONS = {
+    200: "OK",
+    400: "Bad Request",
+    403: "Forbidden",
+    404: "Not Found",
+    405: "Method Not Allowed",
+    411: "Length Required",
+    413: "Content Too Large",
+    422: "Unprocessable Content",
+    429: "Too Many Requests",
+    431: "Request Header Fields Too Large",
+    500: "Internal Server Error",
+    501: "Not Implemented",
+    503: "Service Unavailable",
+}
+# The status for what a query was refused for.
+STATUSES = {"budget": 429, "long": 422}
+DUMP_REQUEST = b"GET /dump HTTP/1.1\r\nHost: 127.0.0.1\r\nConnection: close\r\n\r\n"
+PLAIN = "text/plain"
+
+
+class Bad(Exception):
+    """A request that is answered by a status, after which its connection ends."""
+
+    def __init__(self, status: int, fields: str = "", text: str = "") -> None:
+        super().__init__(status)
+        self.status, self.fields, self.text = status, fields, text
+
+
+class Request:
+    """The head of a request."""
+
+    __slots__ = ("method", "path", "fields", "is_kept", "is_new", "length")
+
+    def __init__(self, head: bytes) -> None:
+        lines = head.decode("latin-1").split("\r\n")
+        words = lines[0].split(" ")
+        if len(words) != 3 or not words[2].startswith("HTTP/1."):
+            raise Bad(400)
+        self.method, self.path = words[0], words[1]
+        self.is_new = words[2] != "HTTP/1.0"
+        if len(lines) > FIELDS + 1:
+            raise Bad(431)
+        self.fields: dict[str, str] = {}
+        for line in lines[1:]:
+            name, colon, value = line.partition(":")
+            name, value = name.lower(), value.strip(" \t")
+            if (
+                not colon
+                or not name
+                or name != name.strip()
+                or (name == "content-length" and name in self.fields)
+            ):
+                raise Bad(400)
+            self.fields[name] = f"{self.fields[name]}, {value}" if name in self.fields else value
+        tokens = [word.strip().lower() for word in self.fields.get("connection", "").split(",")]
+        self.is_kept = "close" not in tokens if self.is_new else "keep-alive" in tokens
+        if "transfer-encoding" in self.fields:
+            raise Bad(501)
+        length = self.fields.get("content-length")
+        number = 0 if length is None else keys.read_number(length, 0, 10**15)
+        if number is None:
+            raise Bad(400)
+        self.length = number
+
+
+class Http(Connection):
+    """A connection over HTTP."""
+
+    __slots__ = ("request", "submissions")
+    port = "http"
+
+    def __init__(self, door: Door, submissions: Submissions) -> None:
+        super().__init__(door)
+        self.submissions = submissions
+        self.request: Optional[Request] = None
+
+    def is_believed(self, address: str) -> bool:
+        return self.door.trusts(address)
+
+    def refuse(self, line: bytes) -> None:
+        self.transport.write(reply_head(503, len(line), False) + line)
+        self.transport.close()
+
+    # Requests.
+
+    def pump(self) -> None:
+        while self.task is None and self.held is None and not self.is_ending:
+            try:
+                if self.request is None and not self.read_head():
+                    return
+                request = self.request
+                assert request is not None
+                if len(self.buffer) < request.length:
+                    if self.has_ended:
+                        raise Bad(400)
+                    return
+            except Bad as bad:
+                self.end(bad)
+                return
+            body, self.buffer = self.buffer[: request.length], self.buffer[request.length :]
+            self.request = None
+            self.read_on()
+            self.deadline = 0.0
+            self.task = self.door.loop.create_task(self.work(request, body))
+
+    def read_head(self) -> bool:
+        """Reads the head of a request, once it is there."""
+        head, mark, rest = self.buffer.partition(b"\r\n\r\n")
+        if not mark or len(head) > HEAD:
+            if len(self.buffer) > HEAD:
+                raise Bad(431)
+            if self.has_ended:
+                if self.buffer:
+                    raise Bad(400)
+                self.is_ending = True
+                self.transport.close()
+            return False
+        self.door.silent.pop(self, None)
+        self.deadline = time.monotonic() + LASTING
+        request = Request(head.lstrip(b"\r\n"))
+        self.buffer = rest
+        self.check(request)
+        if (
+            request.fields.get("expect", "").lower() == "100-continue"
+            and len(rest) < request.length
+        ):
+            self.transport.write(b"HTTP/1.1 100 Continue\r\n\r\n")
+        self.request = request
+        return True
+
+    def check(self, request: Request) -> None:
+        """Refuses by its head what nobody answers."""
+        path = request.path
+        allowed = (
+            "POST"
+            if path == "/submissions"
+            else "GET"
+            if path == "/dump" or path.startswith("/query/")
+            else ""
+        )
+        if not allowed:
+            raise Bad(404)
+        if request.method != allowed:
+            raise Bad(405, f"Allow: {allowed}\r\n")
+        if allowed == "GET":
+            if request.length > HEAD:
+                raise Bad(413)
+            return
+        if "content-length" not in request.fields:
+            raise Bad(411)
+        origin = request.fields.get("origin")
+        if (
+            origin is not None
+            and urlsplit(origin).netloc.lower() != request.fields.get("host", "").lower()
+        ):
+            # A browser names the site whose page sends a request. Pages of other sites may not
+            # submit.
+            raise Bad(403, text="% a page of another site may not submit here\n")
+        if request.length > self.door.settings.size:
+            raise Bad(413, text=str(TooMuch("size", request.length, self.door.settings.size)))
+
+    def end(self, bad: Bad) -> None:
+        """Answers what is no request, and ends the connection."""
+        self.door.counters.query("http", "error")
+        self.is_ending = True
+        self.door.silent.pop(self, None)
+        self.transport.write(failed(bad.status, bad.fields, bad.text, False))
+        if bad.status != 413 or self.has_ended:
+            self.transport.close()
+            return
+        # A proxy that still sends the body would take a closed connection for no reply.
+        self.transport.write_eof()
+        self.deadline = time.monotonic() + LINGERING
+
+    async def work(self, request: Request, body: bytes) -> None:
+        try:
+            client = self.door.pool.clients.of(
+                client_name(self.origin_of(request)), time.monotonic()
+            )
+            self.client = client
+            if request.path == "/submissions":
+                await self.submit(request, body)
+                return
+            if request.path == "/dump":
+                await self.dump(request)
+                return
+            query = unquote_to_bytes(request.path[7:])
+            answer = await Asker(self.door.pool, client).ask(query)
+            self.begin_reply("http", outcome_of(answer.text))
+            self.finish(
+                request,
+                reply_head(200, len(answer.text), request.is_kept),
+                InMemory(answer.text, answer),
+            )
+        except asyncio.CancelledError:
+            raise
+        except Refused as refused:
+            self.begin_reply("http", refused.word)
+            fields = f"Retry-After: {refused.seconds}\r\n" if refused.seconds else ""
+            status = STATUSES.get(refused.word, 503)
+            self.finish(request, failed(status, fields, f"% {refused.sentence}\n", request.is_kept))
+        except Exception as error:
+            self.door.counters.fault(f"{request.method} {request.path[:60]}", error)
+            self.begin_reply("http", "fault")
+            request.is_kept = False
+            self.finish(request, failed(500, "", "", False))
+
+    def origin_of(self, request: Request) -> str:
+        """The address of the client: that of the connection, or the one that the proxy names."""
+        peer = self.transport.get_extra_info("peername")
+        address: str = peer[0] if peer else "0.0.0.0"
+        if not self.is_trusted:
+            return address
+        for name in reversed(request.fields.get("x-forwarded-for", "").split(",")):
+            if name.strip():
+                address = name.strip()
+                if not self.door.trusts(address):
+                    break
+        return address
+
+    def begin_reply(self, dialect: str, outcome: str) -> None:
+        self.door.counters.query(dialect, outcome)
+        self.deadline = time.monotonic() + LASTING
+
+    def finish(
+        self, request: Request, head: bytes, source: "Optional[InMemory | Dump]" = None
+    ) -> None:
+        """Hands out the reply, and goes on with the next request, if the connection stays."""
+        self.task = None
+        if self.transport.is_closing():
+            return
+        self.is_ending = not request.is_kept or self.is_ending
+        if source is None:
+            self.transport.write(head)
+        elif isinstance(source, InMemory):
+            self.give(head, source.text, source.answer)
+        else:
+            self.hand(head, source)
+        if self.held is None:
+            self.given()
+
+    def given(self) -> None:
+        if self.is_ending:
+            self.transport.close()
+            return
+        self.deadline = time.monotonic() + IDLE
+        if self.task is None and (self.buffer or self.has_ended):
+            self.door.loop.call_soon(self.pump)
+
+    # What takes longer.
+
+    async def dump(self, request: Request) -> None:
+        """The public dump, out of a file that is made anew with each state."""
+        door = self.door
+        found: Optional[Dump] = door.dump()
+        if found is None:
+            found = await door.pool.ask(self.client, b"/dump", DUMP_REQUEST, DUMP)
+            door.keep_dump(found)
+        self.begin_reply("dump", "answered")
+        self.finish(request, reply_head(200, found.size(), request.is_kept), found)
+
+    async def submit(self, request: Request, body: bytes) -> None:
+        """Hands a submission on, and its report as it comes."""
+        user = request.fields.get("x-remote-user", "") if self.is_trusted else ""
+        has_begun = False
+
+        def told(text: bytes) -> None:
+            nonlocal has_begun
+            if self.transport.is_closing():
+                return
+            if not has_begun:
+                has_begun = True
+                self.begin_reply("submission", "answered")
+                self.transport.write(report_head(request))
+            self.transport.write(b"%x\r\n%s\r\n" % (len(text), text) if request.is_new else text)
+
+        try:
+            is_whole = await self.submissions.submit(
+                self.client.name, user, self.number, body, told
+            )
+        except TooMuch as too_much:
+            self.begin_reply("submission", "large")
+            self.finish(request, failed(413, "", str(too_much), request.is_kept))
+            return
+        self.task = None
+        if not is_whole or not has_begun:
+            # The report was cut: so is the reply.
+            self.abort()
+            return
+        if request.is_new:
+            self.transport.write(b"0\r\n\r\n")
+        self.is_ending = self.is_ending or not request.is_kept or not request.is_new
+        self.given()
+
+
+class StatusHttp(Http):
+    """A connection to the port that tells the state of the door."""
+
+    __slots__ = ("status",)
+    port = "status"
+
+    def __init__(self, door: Door, submissions: Submissions, status: Status) -> None:
+        super().__init__(door, submissions)
+        self.status = status
+
+    def is_believed(self, address: str) -> bool:
+        return True
+
+    def check(self, request: Request) -> None:
+        if request.path.partition("?")[0] not in ("/status", "/metrics"):
+            raise Bad(404)
+        if request.method != "GET":
+            raise Bad(405, "Allow: GET\r\n")
+        if request.length > HEAD:
+            raise Bad(413)
+
+    async def work(self, request: Request, body: bytes) -> None:
+        path, _, words = request.path.partition("?")
+        serves, kind = True, f"{PLAIN}; version=0.0.4"
+        if path == "/metrics":
+            text = self.status.metrics()
+        elif "json" in words or "json" in request.fields.get("accept", ""):
+            text, kind, serves = (
+                self.status.json(),
+                "application/json",
+                bool(self.door.pool.serving()),
+            )
+        else:
+            text, kind, serves = self.status.line(), PLAIN, bool(self.door.pool.serving())
+        self.deadline = time.monotonic() + LASTING
+        head = reply_head(200 if serves else 503, len(text), request.is_kept, kind)
+        self.finish(request, head, InMemory(text))
+
+
+def reply_head(
+    status: int, length: int, is_kept: bool, kind: str = PLAIN, fields: str = ""
+) -> bytes:
+    word = "keep-alive" if is_kept else "close"
+    return (
+        f"HTTP/1.1 {status} {REASONS[status]}\r\n"
+        f"Content-Type: {kind}\r\nContent-Length: {length}\r\n"
+        f"Connection: {word}\r\nX-Content-Type-Options: nosniff\r\n{fields}\r\n"
+    ).encode("latin-1")
+
+
+def report_head(request: Request) -> bytes:
+    """The head of a report, whose length is not known yet."""
+    word = "keep-alive" if request.is_kept and request.is_new else "close"
+    fields = "Transfer-Encoding: chunked\r\n" if request.is_new else ""
+    return (
+        f"HTTP/1.1 200 OK\r\nContent-Type: {PLAIN}\r\n{fields}Connection: {word}\r\n"
+        "X-Content-Type-Options: nosniff\r\n\r\n"
+    ).encode()
+
+
+def failed(status: int, fields: str, text: str, is_kept: bool) -> bytes:
+    body = (text or f"{status} {REASONS[status]}\n").encode()
+    return reply_head(status, len(body), is_kept, PLAIN, fields) + body

@@ -1,0 +1,171 @@
+"""The one layer that all dialects ask by: a query of the registry, and its whole answer, in words
+that a dialect can turn into its own."""
+
+import asyncio
+import re
+import time
+from typing import AsyncIterator, Iterator, Optional
+
+from irr.door.budget import Client
+from irr.door.cache import DEAR, Answer, Full
+from irr.door.pool import BEHIND, FULL, TOO_MUCH, Pool, Refused
+from irr.registry import queries
+from irr.rpsl import keys
+
+VERBS = (b"OBJECT", b"EXACT", b"CLOSEST", b"LESS", b"MORE", b"INVERSE", b"EXPAND", b"PREFIXES")
+NOTHING, EMPTY = b"% no entries\n", b"% empty\n"
+# The bytes of a kept answer that cost nothing, and the seconds that each byte of a longer one is
+# taken to cost.
+FREE, HANDING = 1 << 18, 0.02 / (1 << 20)
+# Bytes of an answer that are turned at once, while others wait: some milliseconds.
+PIECE = 1 << 17
+
+
+def normal(query: bytes) -> bytes:
+    """A query in the one spelling by which it is known: the registry heeds neither letter case nor
+    how many blanks there are."""
+    return b" ".join(queries.WORD.findall(query)).upper()
+
+
+def kind_of(key: bytes) -> str:
+    """The kind of a query, by which its cost is guessed."""
+    words = key.split(b" ", 2)
+    if len(words) == 1 or words[0] not in VERBS:
+        return "word"
+    if words[0] == b"INVERSE" and words[1] in (b"MNT", b"ORIGIN"):
+        return f"inverse {words[1].decode().lower()}"
+    return words[0].decode().lower()
+
+
+def is_native(line: bytes) -> bool:
+    """Whether a line of whois is for the registry itself: one of its queries, or one word that it
+    looks up."""
+    words = queries.WORD.findall(line)
+    if not words:
+        return True
+    if len(words) > 1:
+        return words[0].upper() in VERBS
+    return queries.one_word(words[0]).fits is not None
+
+
+class Asker:
+    """Asks for one client."""
+
+    __slots__ = ("pool", "client")
+
+    def __init__(self, pool: Pool, client: Client) -> None:
+        self.pool, self.client = pool, client
+
+    def kept(self, key: bytes) -> Optional[Answer]:
+        """An answer that is kept, which costs nothing."""
+        return self.pool.cache.get(key, time.monotonic())
+
+    async def ask(self, query: bytes) -> Answer:
+        """The answer to a query; Refused if there is none."""
+        if queries.BAD_BYTE.search(query) or len(query) > queries.LONGEST:
+            # The registry would answer the same, but a line with such a byte may be two.
+            text = b"% error 2\n" if len(query) > queries.LONGEST else b"% error 1\n"
+            return self.own(text)
+        key = normal(query)
+        found = self.kept(key)
+        if found is not None:
+            await self.pay(len(found.text))
+            return found
+        future = self.pool.ask(self.client, key, query + b"\r\n", kind_of(key))
+        try:
+            answer: Answer = await future
+            return answer
+        except asyncio.CancelledError:
+            self.pool.forget(future)
+            raise
+
+    async def pay(self, size: int) -> None:
+        """Has the client pay for a kept answer of this size, if that is long; it waits while it has
+        nothing left."""
+        if size <= FREE:
+            return
+        clients, now = self.pool.clients, time.monotonic()
+        wait = clients.wait(self.client, now)
+        if wait > BEHIND:
+            self.pool.count("budget")
+            raise Refused("budget", TOO_MUCH, int(wait) + 1)
+        clients.charge(self.client, size * HANDING, now)
+        if wait > 0:
+            await asyncio.sleep(wait)
+
+    def own(self, text: bytes, cost: float = 0.0) -> Answer:
+        """An answer that was made here."""
+        try:
+            return Answer(text, cost, self.pool.ledger)
+        except Full:
+            while self.pool.cache.shrink():
+                if self.pool.ledger.used + len(text) <= self.pool.ledger.most:
+                    return Answer(text, cost, self.pool.ledger)
+            raise Refused("full", FULL) from None
+
+    def keep(self, key: bytes, answer: Answer, state: int) -> None:
+        """Keeps what was made of an answer that cost enough."""
+        if answer.cost >= DEAR:
+            self.pool.cache.put(key, answer, state, time.monotonic())
+
+    async def pieces(self, text: bytes, end: bytes) -> AsyncIterator[bytes]:
+        """A long answer in pieces that end with `end`; others have their turn between them, and the
+        client pays for the time."""
+        begun = time.perf_counter()
+        for piece in cut(text, end):
+            yield piece
+            if len(piece) < len(text):
+                now = time.perf_counter()
+                self.pool.clients.charge(self.client, now - begun, time.monotonic())
+                await asyncio.sleep(0)
+                begun = time.perf_counter()
+
+
+def cut(text: bytes, end: bytes) -> Iterator[bytes]:
+    """A text in pieces, each up to an `end`."""
+    if len(text) <= PIECE:
+        yield text
+        return
+    place = 0
+    while place < len(text):
+        stop = text.find(end, place + PIECE)
+        stop = len(text) if stop < 0 else stop + len(end)
+        yield text[place:stop]
+        place = stop
+
+
+# What is in the answers.
+
+
+def is_objects(text: bytes) -> bool:
+    return text[:1] != b"%"
+
+
+def blocks(text: bytes) -> list[bytes]:
+    """The objects of an answer, each with its last line feed, without the empty line after it."""
+    return [block + b"\n" for block in text.removesuffix(b"\n\n").split(b"\n\n")] if text else []
+
+
+def class_of(block: bytes) -> bytes:
+    return block[: block.find(b":")]
+
+
+def error_of(text: bytes) -> int:
+    """The number of `% error n`; 0 for any other answer."""
+    found = ERROR.fullmatch(text)
+    return int(found[1]) if found else 0
+
+
+ERROR = re.compile(rb"% error ([0-9]+)\n")
+ATTRIBUTE = re.compile(rb"^([a-z][a-z0-9_-]*):[ \t]*([^\n]*(?:\n(?:[ ]|\+)[^\n]*)*)\n", re.M)
+
+
+def value_of(block: bytes, name: bytes) -> bytes:
+    """The first value of an attribute, as it stands on its line."""
+    found = re.search(rb"^" + name + rb":[ ]*([^\n#]*)", block, re.M)
+    return found[1].strip() if found else b""
+
+
+def prefix_of(block: bytes) -> Optional[keys.Prefix]:
+    """The prefix of a route."""
+    return keys.read_prefix(value_of(block, b"route"))

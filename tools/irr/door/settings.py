@@ -1,0 +1,184 @@
+"""The settings of the door: those of `door.toml`, whose keys are the names of the fields, and over
+them those of the command line."""
+
+import dataclasses
+import ipaddress
+import tomllib
+from typing import Any, NamedTuple, Union
+from urllib.parse import urlsplit
+
+from irr.errors import ARGUMENTS, SETTINGS, Failure
+from irr.rpsl import keys
+
+Network = Union[ipaddress.IPv4Network, ipaddress.IPv6Network]
+MEBIBYTE = 1 << 20
+
+
+class Place(NamedTuple):
+    """A numeric address, of version 4 or 6, and a port."""
+
+    host: str
+    port: int
+
+    def text(self) -> str:
+        return f"[{self.host}]:{self.port}" if ":" in self.host else f"{self.host}:{self.port}"
+
+
+@dataclasses.dataclass(frozen=True)
+class Settings:
+    """What an operator can set. Sizes are in bytes, times in seconds."""
+
+    # Where whois, HTTP, and the status for this machine are answered.
+    whois: tuple[str, ...] = ("[::]:43",)
+    http: tuple[str, ...] = ("127.0.0.1:4380",)
+    status: str = "127.0.0.1:4381"
+    # The registry, its replicas, and the agent of `irr mirror`, which tells their states, and which
+    # replicas there are if none is named.
+    registry: str = "http://127.0.0.1:4343"
+    replica: tuple[str, ...] = ()
+    agent: str = "127.0.0.1:4340"
+    # Addresses of proxies that are believed who their client is, and whether they say it by the
+    # PROXY protocol on whois.
+    trusted: tuple[str, ...] = ("127.0.0.1/32", "::1/128")
+    proxied: bool = False
+    # What a client may use of the registry's time: seconds a second, and at once.
+    refill: float = 0.5
+    burst: float = 3.0
+    connections: int = 1_000
+    of_client: int = 50
+    largest: int = 32 * MEBIBYTE
+    cache: int = 64 * MEBIBYTE
+    answers: int = 256 * MEBIBYTE
+    keep: float = 60
+    oldest: float = 600
+    # A submission: its bytes, its items, and its lines of passwords.
+    size: int = 262_144
+    items: int = 1_000
+    passwords: int = 32
+    # Whether a set that reaches one that is not registered is refused by IRRd's questions; else
+    # what is missing is skipped.
+    strict: bool = False
+    # Where a line goes for each item that was submitted: a file, or `-` for standard output. How
+    # large the file grows, how many before it are kept, and for how many days.
+    log: str = "-"
+    log_size: int = 16 * MEBIBYTE
+    log_files: int = 20
+    log_days: float = 180
+
+
+BOUNDS: dict[str, tuple[float, float]] = {
+    "refill": (0.001, 1_000),
+    "burst": (0.001, 10_000),
+    "connections": (1, 100_000),
+    "of_client": (1, 100_000),
+    "largest": (65_536, 1 << 32),
+    "cache": (0, 1 << 36),
+    "answers": (1 << 20, 1 << 36),
+    "keep": (0, 86_400),
+    "oldest": (1, 1e9),
+    "size": (1, MEBIBYTE),
+    "items": (1, 1_000_000),
+    "passwords": (1, 1_000_000),
+    "log_size": (4_096, 1 << 40),
+    "log_files": (0, 10_000),
+    "log_days": (0.001, 100_000),
+}
+
+
+def read(path: str | None, given: dict[str, Any]) -> Settings:
+    """The settings of a file, if one is named, with what is given beside it; a Failure for what is
+    none."""
+    values: dict[str, Any] = {}
+    if path is not None:
+        try:
+            with open(path, "rb") as file:
+                values = tomllib.load(file)
+        except (tomllib.TOMLDecodeError, UnicodeDecodeError) as error:
+            raise Failure(path, f"this is not TOML: {error}; correct it", SETTINGS) from None
+        except OSError as error:
+            raise Failure(path, f"it cannot be read: {error.strerror}", SETTINGS) from None
+    fields = {field.name: field for field in dataclasses.fields(Settings)}
+    for name, value in values.items():
+        if name not in fields:
+            raise Failure(f"{path}: {name}", "there is no such setting; see irr(1)", SETTINGS)
+        values[name] = checked(f"{path}: {name}", name, value, fields[name].default, SETTINGS)
+    for name, value in given.items():
+        if value not in (None, []):
+            values[name] = checked(f"--{name}", name, value, fields[name].default, ARGUMENTS)
+    settings = Settings(**values)
+    for name in "whois", "http":
+        for text in getattr(settings, name):
+            place(text)
+    for text in filter(None, (settings.status, settings.agent)):
+        place(text)
+    for text in (settings.registry, *settings.replica):
+        upstream(text)
+    networks(settings.trusted)
+    return settings
+
+
+def checked(thing: str, name: str, value: Any, default: Any, status: int) -> Any:
+    """A value of the kind that the default has, within its bounds."""
+    if isinstance(default, tuple):
+        value = [value] if isinstance(value, str) else value
+        is_good = isinstance(value, list) and all(isinstance(one, str) for one in value)
+        if not is_good:
+            raise Failure(thing, 'it takes a list of words, such as ["127.0.0.1:43"]', status)
+        return tuple(value)
+    if isinstance(default, bool) or isinstance(default, str):
+        if type(value) is not type(default):
+            wanted = "true or false" if isinstance(default, bool) else "a word"
+            raise Failure(thing, f"it takes {wanted}; correct it", status)
+        return value
+    low, high = BOUNDS[name]
+    is_number = isinstance(value, (int, float)) and not isinstance(value, bool)
+    if not is_number or not low <= value <= high:
+        raise Failure(thing, f"it takes a number from {low:,g} to {high:,.0f}; correct it", status)
+    return type(default)(value)
+
+
+def place(text: str) -> Place:
+    """The place that `ADDRESS:PORT` is; `*` and `localhost` are addresses too."""
+    host, _, digits = text.rpartition(":")
+    port = keys.read_number(digits, 0, 65_535)
+    host = {"localhost": "127.0.0.1", "*": "::"}.get(host, host.strip("[]"))
+    try:
+        return Place(str(ipaddress.ip_address(host)), port if port is not None else bad_port())
+    except ValueError:
+        raise Failure(
+            text, "this is not a place; write it as ADDRESS:PORT, such as 127.0.0.1:43", SETTINGS
+        ) from None
+
+
+def bad_port() -> int:
+    raise ValueError("port")
+
+
+def upstream(text: str) -> Place:
+    """The place of a registry or replica on this machine, which is named as
+    `http://ADDRESS:PORT`."""
+    parts = urlsplit(text)
+    if parts.scheme != "http" or parts.path.strip("/") or not parts.port:
+        raise Failure(
+            text,
+            "this is not a registry of this machine; write it as http://127.0.0.1:4343",
+            SETTINGS,
+        )
+    return place(
+        f"{parts.hostname}:{parts.port}"
+        if ":" not in str(parts.hostname)
+        else f"[{parts.hostname}]:{parts.port}"
+    )
+
+
+def networks(texts: tuple[str, ...]) -> tuple[Network, ...]:
+    """The networks that these name, each an address or a prefix."""
+    found: list[Network] = []
+    for text in texts:
+        try:
+            found.append(ipaddress.ip_network(text))
+        except ValueError:
+            raise Failure(
+                text, "this is not an address or prefix; correct `trusted`", SETTINGS
+            ) from None
+    return tuple(found)

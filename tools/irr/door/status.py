@@ -1,0 +1,200 @@
+"""What the door tells of itself: counters, `/metrics` in Prometheus's text, and `/status` in JSON
+and in lines for people."""
+
+import json
+import time
+import traceback
+from collections import Counter
+from typing import Any, Callable, Iterator, Mapping
+
+from irr import VERSION
+from irr.door.pool import Pool
+from irr.door.settings import Settings
+from irr.door.upstreams import Upstream
+from irr.terminal import texts
+
+
+class Counters:
+    """What is counted as it happens."""
+
+    def __init__(self) -> None:
+        self.queries: Counter[tuple[str, str]] = Counter()
+        self.connections: Counter[str] = Counter()
+        self.submissions: Counter[str] = Counter()
+        self.faults = 0
+        self.begun = time.time()
+
+    def query(self, dialect: str, outcome: str) -> None:
+        self.queries[dialect, outcome] += 1
+
+    def connection(self, what: str) -> None:
+        self.connections[what] += 1
+
+    def fault(self, what: str, error: Exception) -> None:
+        """A fault of the door itself, which the journal has with where it happened."""
+        self.faults += 1
+        frame = traceback.extract_tb(error.__traceback__)[-1]
+        where = f"{frame.filename.rpartition('/')[2]}:{frame.lineno}"
+        texts.note(f"irr door: {what}: {type(error).__name__}: {error} ({where}); report this")
+
+
+class Status:
+    """The state of a door."""
+
+    def __init__(
+        self,
+        settings: Settings,
+        pool: Pool,
+        counters: Counters,
+        connections: Callable[[], int],
+        waiting: Callable[[], int],
+    ) -> None:
+        self.settings, self.pool, self.counters = settings, pool, counters
+        # How many connections there are, and how many submissions wait.
+        self.connections, self.waiting = connections, waiting
+
+    def upstream(self, one: Upstream) -> dict[str, Any]:
+        age = one.age()
+        return {
+            "name": one.name,
+            "up": one.is_up,
+            "serves": one.serves(self.settings.oldest),
+            "draining": one.is_draining,
+            "state": one.state or None,
+            "age": None if age is None else round(age, 1),
+            "asked": one.asked,
+            "failed": one.failed,
+            "seconds": round(one.seconds, 3),
+            "why": one.why or None,
+        }
+
+    def faults(self) -> list[str]:
+        """What is wrong, in lines for people."""
+        found = [f"{one.name}: {one.why}" for one in self.pool.all() if not one.is_up]
+        for one in self.pool.replicas:
+            age = one.age()
+            if one.is_up and age is not None and age > self.settings.oldest:
+                found.append(f"{one.name}: its state is {texts.counted(int(age), 'second')} old")
+        if self.pool.told.get("fault"):
+            found.append(f"replicas are not renewed: {self.pool.told['fault']}")
+        return found
+
+    def all(self) -> dict[str, Any]:
+        pool, counters = self.pool, self.counters
+        return {
+            "version": VERSION,
+            "source": pool.source or None,
+            "well": not self.faults() and bool(pool.serving()),
+            "serves": bool(pool.serving()),
+            "faults": self.faults(),
+            "running": round(time.time() - counters.begun, 1),
+            "connections": self.connections(),
+            "waiting": pool.turns.count,
+            "submissions_waiting": self.waiting(),
+            "upstreams": [self.upstream(one) for one in pool.all()],
+            "answers_bytes": pool.ledger.used,
+            "cache": {
+                "answers": len(pool.cache.entries),
+                "bytes": pool.cache.size,
+                "hits": pool.cache.hits,
+                "misses": pool.cache.misses,
+            },
+            "refused": dict(pool.refused),
+        }
+
+    def json(self) -> bytes:
+        return json.dumps(self.all(), indent=2).encode() + b"\n"
+
+    def line(self) -> bytes:
+        """A line for people, and one for each fault."""
+        told = self.all()
+        word = "well" if told["well"] else "in part" if told["serves"] else "DOWN"
+        ages = [one["age"] for one in told["upstreams"] if one["age"] is not None]
+        up = sum(one["serves"] for one in told["upstreams"][1:])
+        first = (
+            f"{word}: {told['source'] or 'no registry'}, {texts.counted(up, 'replica')}"
+            + (f" at most {max(ages):.0f} s old" if ages else "")
+            + f", {texts.counted(told['connections'], 'connection')}, {told['waiting']} waiting"
+        )
+        return "".join(f"{texts.shown_line(line)}\n" for line in [first, *told["faults"]]).encode()
+
+    def metrics(self) -> bytes:
+        return "".join(f"{line}\n" for line in self.samples()).encode()
+
+    def samples(self) -> Iterator[str]:
+        """Each figure with what it is (the text format of Prometheus, 0.0.4)."""
+        pool, counters = self.pool, self.counters
+        ups = {f'upstream="{one.place.text()}"': one for one in pool.all()}
+        ages = {label: one.age() for label, one in ups.items()}
+        yield from family(
+            "queries_total",
+            "Queries by dialect and outcome.",
+            {
+                f'dialect="{dialect}",outcome="{outcome}"': count
+                for (dialect, outcome), count in sorted(counters.queries.items())
+            },
+        )
+        by_word: list[tuple[str, str, str, Mapping[str, float]]] = [
+            (
+                "registry_seconds_total",
+                "Seconds of upstreams by the kind of query.",
+                "kind",
+                pool.seconds,
+            ),
+            ("refused_total", "Queries that got no answer, by why.", "why", pool.refused),
+            (
+                "submissions_total",
+                "Items and submissions, by outcome.",
+                "outcome",
+                counters.submissions,
+            ),
+            (
+                "connections_total",
+                "Connections by port, refused, and late.",
+                "what",
+                counters.connections,
+            ),
+        ]
+        for name, what, label, found in by_word:
+            yield from family(
+                name, what, {f'{label}="{word}"': found[word] for word in sorted(found)}
+            )
+        for name, what, value in (
+            ("waiting", "Queries that wait for their turn.", pool.turns.count),
+            ("submissions_waiting", "Submissions that wait.", self.waiting()),
+            ("connections", "Connections now.", self.connections()),
+            ("cache_bytes", "Bytes of answers that are kept.", pool.cache.size),
+            ("cache_hits_total", "Queries answered by a kept answer.", pool.cache.hits),
+            ("answers_bytes", "Bytes of all answers in memory.", pool.ledger.used),
+            ("faults_total", "Faults of the door itself.", counters.faults),
+            (
+                "renewal_failed",
+                "Whether replicas can't be renewed.",
+                int(bool(pool.told.get("fault"))),
+            ),
+        ):
+            yield from family(name, what, {"": value})
+        yield from family(
+            "upstream_up",
+            "Whether an upstream answers.",
+            {label: int(one.is_up) for label, one in ups.items()},
+        )
+        yield from family(
+            "upstream_age_seconds",
+            "Seconds since the registry had the state that is served.",
+            {label: age for label, age in ages.items() if age is not None},
+        )
+        yield from family(
+            "upstream_seconds_total",
+            "Seconds for which an upstream was asked.",
+            {label: one.seconds for label, one in ups.items()},
+        )
+
+
+def family(name: str, what: str, samples: Mapping[str, float]) -> Iterator[str]:
+    """A figure with its name, its meaning and its samples; what ends in `_total` only grows."""
+    kind = "counter" if name.endswith("_total") else "gauge"
+    yield f"# HELP irrdesk_door_{name} {what}"
+    yield f"# TYPE irrdesk_door_{name} {kind}"
+    for labels, value in samples.items():
+        yield f"irrdesk_door_{name}{'{' + labels + '}' if labels else ''} {value:.10g}"

@@ -1,0 +1,118 @@
+"""The registry and its replicas: which of them answer, and of what state."""
+
+import asyncio
+import json
+import time
+from typing import Any, Callable, Optional
+
+from irr.door.exchange import Exchange
+from irr.door.settings import Place
+from irr.registry import answers
+from irr.rpsl import keys, syntax
+
+# The query that each is asked to see that it answers: one object, and the registry's name in it.
+PROBE, NOTHING = b"less 0.0.0.0/0\r\n", b"% no entries\n"
+# Seconds between two such looks at one that answers, and at one that does not; and for the answer
+# to come.
+EVERY, AGAIN, ANSWERING = 2.0, 0.5, 2.0
+# The most seconds that a look is taken to need.
+MOST_IDLE = 0.05
+# Seconds between two looks at what the agent of the replicas says, and for it to say it.
+ASKING, ASKING_AGAIN, AGENT = 1.0, 5.0, 2.0
+
+
+class Upstream:
+    """A registry or a replica at a place. It has one exchange at a time."""
+
+    def __init__(self, place: Place, is_registry: bool = False) -> None:
+        self.place, self.is_registry = place, is_registry
+        self.name = ("registry " if is_registry else "replica ") + place.text()
+        self.exchange: Optional[Exchange] = None
+        # What it is asked, if that is a query; whether a submission has it.
+        self.request: Any = None
+        self.is_held = False
+        # Whether what it does now is a dear query.
+        self.is_dear = False
+        self.is_up, self.is_draining, self.why = True, False, "not asked yet"
+        self.looked = 0.0
+        # The state that it serves, and when the registry was last seen to have that state, by the
+        # clock.
+        self.state, self.seen = "", 0.0
+        self.asked, self.failed, self.seconds = 0, 0, 0.0
+        # What a look at it takes, which nobody pays for: a machine that is busy makes all of it
+        # slower.
+        self.idle = 0.0
+
+    def age(self) -> Optional[float]:
+        """The seconds since the registry was seen in the state that is served; None if nobody
+        tells."""
+        return max(0.0, time.time() - self.seen) if self.seen else None
+
+    def serves(self, oldest: float) -> bool:
+        """Whether it may be asked."""
+        age = self.age()
+        return self.is_up and not self.is_draining and (age is None or age <= oldest)
+
+    def fall(self, why: str, now: float) -> None:
+        """Leaves it out until it answers again."""
+        self.is_up, self.why, self.looked = False, why, now
+
+    def look(
+        self,
+        loop: asyncio.AbstractEventLoop,
+        done: Callable[[], None],
+        found: Callable[[bytes], None],
+    ) -> None:
+        """Asks it whether it answers; `found` gets an object of it."""
+        parts: list[bytes] = []
+        now = time.monotonic()
+        self.looked = now
+
+        def ended(fault: Optional[str]) -> None:
+            self.exchange = None
+            text = b"".join(parts)
+            is_whole = answers.looks_like_objects(text) and text.endswith(b"\n\n")
+            if fault is None and (is_whole or text == NOTHING):
+                self.is_up, self.why = True, ""
+                self.idle = min(MOST_IDLE, (self.idle + time.monotonic() - now) / 2)
+                found(text)
+            else:
+                self.fall(why_of(fault), time.monotonic())
+            done()
+
+        exchange = Exchange(loop, self.place, PROBE, parts.append, ended)
+        if not exchange.is_over:
+            self.exchange = exchange
+
+
+def why_of(fault: Optional[str]) -> str:
+    """Why one is left out, in words."""
+    if fault == "ECONNREFUSED":
+        return "nobody listens there"
+    return f"it does not answer ({fault})" if fault else "its answer is none of a registry"
+
+
+def source_in(text: bytes) -> str:
+    """The registry's name in the first object of an answer; nothing if there is none."""
+    first = text.partition(b"\n\n")[0]
+    try:
+        source = keys.as_text(syntax.read_any(first).value(b"source")) if first[:1] != b"%" else ""
+    except syntax.TextFault:
+        return ""
+    return keys.read_source(source) or ""
+
+
+async def told_by(agent: Place) -> Optional[dict[str, Any]]:
+    """What the agent of `irr mirror` says of its replicas; None if there is none."""
+    try:
+        async with asyncio.timeout(AGENT):
+            reader, writer = await asyncio.open_connection(agent.host, agent.port)
+            try:
+                writer.write(b"state\n")
+                text = await reader.read(1 << 20)
+            finally:
+                writer.close()
+        found = json.loads(text)
+        return found if isinstance(found, dict) else None
+    except (OSError, ValueError, TimeoutError):
+        return None

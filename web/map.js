@@ -1,13 +1,16 @@
 // The map: the boxes of the prefix that was asked for, and the one prefix of it that is shown.
 import {
-    $, STRANGE, Trouble, Wire, addView, addressOf, around, blockOf, breather, counted, decimal, el, kindOf, lastOf, link, listing, mapLink,
+    $, STRANGE, Trouble, Wire, addView, addressOf, around, blockOf, breather, counted, decimal, el,
+    kindOf, lastOf, link, listing, mapLink,
     objectsOf, prefixOf, prefixText, shown, spanOf, wordsOf,
 } from './irr.js';
 
 const map = new Wire('map');
 const canvas = $('canvas');
 const isDark = matchMedia('(prefers-color-scheme: dark)');
-const space = {root: null, boxes: [], shown: null, inside: [], kinds: {}, chosen: -1, drawings: 0, picture: el('canvas')};
+const space =
+    {root: null, boxes: [], shown: null, inside: [], kinds: {}, chosen: -1, drawings: 0,
+    picture: el('canvas')};
 
 function hueOf(name) {
     let sum = 7;
@@ -19,7 +22,8 @@ const colourOf = name => `hsl(${hueOf(name)} ${isDark.matches ? '38% 27%' : '62%
 const isShown = object => space.kinds[object.kind];
 const isInetnum = object => object.kind === 'inetnum';
 
-// Where a prefix lies in the square of the root, of side 1: each bit halves the place, by height and by width in turn.
+// Where a prefix lies in the square of the root, of side 1: each bit halves the place, by height
+// and by width in turn.
 function placeOf(prefix, root) {
     let x = 0, y = 0, w = 1, h = 1;
     for (let bit = root.length; bit < prefix.length; bit += 1) {
@@ -90,19 +94,27 @@ async function boxesOf(objects, signal) {
     });
 }
 
-const namesOf = box => [...new Set(box.objects.filter(isShown).flatMap(object => object.kind === 'route' ? object.meaning('origin') : object.holders))].join(' ');
+const namesOf = box =>
+    [...new Set(box.objects.filter(isShown).flatMap(object => object.kind === 'route'
+    ? object.meaning('origin') : object.holders))].join(' ');
 
-const colours = () => isDark.matches ? {ink: '#e6e8ea', page: '#1e2125', edge: '#868d96', route: '#f3c76b'} : {ink: '#1c1e21', page: '#ffffff', edge: '#767c85', route: '#7a4b00'};
+const colours = () => isDark.matches
+    ? {ink: '#e6e8ea', page: '#1e2125', edge: '#868d96', route: '#f3c76b'}
+    : {ink: '#1c1e21', page: '#ffffff', edge: '#767c85', route: '#7a4b00'};
 const placesOf = box => box.blocks.map(block => placeOf(block, space.shown));
 
 const sizeOf = () => Math.round(canvas.clientWidth * (devicePixelRatio || 1));
 
-// Small boxes are put in as pixels, over the larger ones, which are drawn: the small ones may be a hundred thousand.
+// Small boxes are put in as pixels, over the larger ones, which are drawn: the small ones may be a
+// hundred thousand.
 async function draw(turn = space.drawings += 1) {
-    const breathe = breather({aborted: false}), scale = devicePixelRatio || 1, side = canvas.clientWidth;
+    const breathe = breather({aborted: false}), scale = devicePixelRatio || 1,
+        side = canvas.clientWidth;
     if (!side) return;
-    const pen = canvas.getContext('2d'), {ink, page, edge, route} = colours(), labels = [], known = new Map();
-    const size = canvas.width = canvas.height = space.picture.width = space.picture.height = sizeOf();
+    const pen = canvas.getContext('2d'), {ink, page, edge, route} = colours(), labels = [],
+        known = new Map();
+    const size = canvas.width = canvas.height = space.picture.width = space.picture.height =
+        sizeOf();
     const dots = pen.createImageData(size, size), pixels = new Uint32Array(dots.data.buffer);
     pen.scale(scale, scale);
     pen.font = '11px ui-monospace, "DejaVu Sans Mono", monospace';
@@ -112,31 +124,38 @@ async function draw(turn = space.drawings += 1) {
     const pixelOf = holder => {
         if (!known.has(holder)) {
             pen.fillStyle = colourOf(holder);
-            const [red, green, blue] = pen.fillStyle.match(/[0-9a-f]{2}/g).map(digits => parseInt(digits, 16));
+            const [red, green, blue] =
+                pen.fillStyle.match(/[0-9a-f]{2}/g).map(digits => parseInt(digits, 16));
             known.set(holder, new Uint32Array(new Uint8Array([red, green, blue, 255]).buffer)[0]);
         }
         return known.get(holder);
     };
     // Which box is seen in each square of 8 points: the last one drawn there.
-    const letter = pen.measureText('0').width, columns = Math.ceil(side / 8) + 1, seen = new Int32Array(columns * columns).fill(-1);
+    const letter = pen.measureText('0').width, columns = Math.ceil(side / 8) + 1,
+        seen = new Int32Array(columns * columns).fill(-1);
     const cells = (x, y, w, h) => [x, y, x + w, y + h].map(at => Math.floor(at / 8));
     const pixelAt = at => Math.floor(at * size);
     for (const [at, box] of space.inside.entries()) {
         if (at % 50 === 0) await breathe();
         if (turn !== space.drawings) return;
-        const holder = space.kinds.inetnum && box.objects.find(isInetnum), isRouted = space.kinds.route && !box.objects.every(isInetnum);
+        const holder = space.kinds.inetnum && box.objects.find(isInetnum),
+            isRouted = space.kinds.route && !box.objects.every(isInetnum);
         if (!holder && !isRouted) continue;
         const [fill] = (holder || box.objects[0]).holders;
         for (const place of placesOf(box)) {
             const x = place.x * side, y = place.y * side, w = place.w * side, h = place.h * side;
             if (Math.min(w, h) < 5) {
-                const left = pixelAt(place.x), right = Math.max(left + 1, pixelAt(place.x + place.w)), top = pixelAt(place.y), pixel = pixelOf(fill);
-                for (let row = top; row === top || row < pixelAt(place.y + place.h); row += 1) pixels.fill(pixel, row * size + left, row * size + right);
+                const left = pixelAt(place.x),
+                    right = Math.max(left + 1, pixelAt(place.x + place.w)), top = pixelAt(place.y),
+                    pixel = pixelOf(fill);
+                for (let row = top; row === top || row < pixelAt(place.y + place.h); row += 1)
+                    pixels.fill(pixel, row * size + left, row * size + right);
                 seen[Math.floor(y / 8) * columns + Math.floor(x / 8)] = at;
                 continue;
             }
             const [left, top, right, bottom] = cells(x, y, w - 1, h - 1);
-            for (let row = top; row <= bottom; row += 1) seen.fill(at, row * columns + left, row * columns + right + 1);
+            for (let row = top; row <= bottom; row += 1)
+                seen.fill(at, row * columns + left, row * columns + right + 1);
             pen.fillStyle = colourOf(fill);
             if (holder) pen.fillRect(x, y, w, h);
             pen.lineWidth = 1;
@@ -145,25 +164,36 @@ async function draw(turn = space.drawings += 1) {
             pen.lineWidth = 2;
             pen.strokeStyle = route;
             if (isRouted) pen.strokeRect(x + 2.5, y + 2.5, w - 5, h - 5);
-            if (w > 9 * letter && h > 19) labels.push({x: x + 5, y: y + 5, w: w - 10, end: y + h - 14, at, box});
+            if (w > 9 * letter && h > 19)
+                labels.push({x: x + 5, y: y + 5, w: w - 10, end: y + h - 14, at, box});
         }
     }
     space.picture.getContext('2d').putImageData(dots, 0, 0);
     pen.drawImage(space.picture, 0, 0, side, side);
-    // The smallest boxes are named first; a larger one in a line where nothing else is seen, or else in one without a name.
+    // The smallest boxes are named first; a larger one in a line where nothing else is seen, or
+    // else in one without a name.
     pen.fillStyle = ink;
     const taken = [];
-    const isFree = (x, y, right) => !taken.some(other => other.x < right && x < other.right && other.y < y + 13 && y < other.y + 13);
+    const isFree = (x, y, right) =>
+        !taken.some(other => other.x < right && x < other.right && other.y < y + 13
+        && y < other.y + 13);
     const isOwn = (x, y, right, at) => {
         const [left, top, end, bottom] = cells(x, y, right - x, 11);
-        for (let row = top; row <= bottom; row += 1) for (let column = left; column <= end; column += 1) if (seen[row * columns + column] !== at) return false;
+        for (let row = top; row <= bottom; row += 1)
+            for (let column = left; column <= end; column += 1)
+            if (seen[row * columns + column] !== at) return false;
         return true;
     };
-    for (const label of labels.sort((one, other) => one.w * (one.end - one.y) - other.w * (other.end - other.y))) {
-        const text = shown(`${label.box.objects[0].name} ${namesOf(label.box)}`).slice(0, Math.floor(label.w / letter)), right = label.x + text.length * letter;
+    for (const label of labels.sort((one, other) =>
+        one.w * (one.end - one.y) - other.w * (other.end - other.y))) {
+        const text =
+            shown(`${label.box.objects[0].name} ${namesOf(label.box)}`).slice(0,
+            Math.floor(label.w / letter)), right = label.x + text.length * letter;
         const lines = [];
         for (let y = label.y; y <= label.end && lines.length < 60; y += 13) lines.push(y);
-        const y = lines.find(line => isFree(label.x, line, right) && isOwn(label.x, line, right, label.at)) ?? lines.find(line => isFree(label.x, line, right));
+        const y = lines.find(line => isFree(label.x, line, right)
+            && isOwn(label.x, line, right, label.at))
+            ?? lines.find(line => isFree(label.x, line, right));
         if (y === undefined) continue;
         pen.lineWidth = 3;
         pen.strokeStyle = page;
@@ -178,37 +208,53 @@ async function draw(turn = space.drawings += 1) {
 // Points at a box: on the canvas, and in words.
 function point(box, isMarked) {
     if (isMarked) {
-        const pen = canvas.getContext('2d'), scale = devicePixelRatio || 1, side = canvas.width / scale;
+        const pen = canvas.getContext('2d'), scale = devicePixelRatio || 1,
+            side = canvas.width / scale;
         pen.setTransform(1, 0, 0, 1, 0, 0);
         pen.drawImage(space.picture, 0, 0);
         pen.scale(scale, scale);
         pen.lineWidth = 4;
         pen.strokeStyle = colours().ink;
-        for (const place of placesOf(box)) pen.strokeRect(place.x * side + 2, place.y * side + 2, Math.max(3, place.w * side - 4), Math.max(3, place.h * side - 4));
+        for (const place of placesOf(box))
+            pen.strokeRect(place.x * side + 2, place.y * side + 2, Math.max(3, place.w * side - 4),
+            Math.max(3, place.h * side - 4));
     }
-    $('pointed').textContent = box ? shown(box.objects.filter(isShown).map(object => `${object.kind} ${object.key}, ${object.holders.join(' ')}`).join('; ')) : '';
+    $('pointed').textContent = box
+        ? shown(box.objects.filter(isShown).map(object =>
+        `${object.kind} ${object.key}, ${object.holders.join(' ')}`).join('; ')) : '';
 }
 
 const isBoxShown = box => box.objects.some(isShown);
-const hit = event => addressAt(event.offsetX / canvas.clientWidth, event.offsetY / canvas.clientHeight, space.shown);
-const boxesAt = address => space.inside.filter(box => box.first <= address && address <= box.last && isBoxShown(box));
+const hit = event =>
+    addressAt(event.offsetX / canvas.clientWidth, event.offsetY / canvas.clientHeight, space.shown);
+const boxesAt = address =>
+    space.inside.filter(box => box.first <= address && address <= box.last && isBoxShown(box));
 const zoom = prefix => { location.hash = addressOf('map', prefixText(prefix)); };
 
-// To the largest box under the pointer, or to the sixteenth of the square that it lies in where it is small there.
+// To the largest box under the pointer, or to the sixteenth of the square that it lies in where it
+// is small there.
 function clicked(event) {
-    const address = hit(event), box = boxesAt(address).find(one => one.prefix.length > space.shown.length);
+    const address = hit(event),
+        box = boxesAt(address).find(one => one.prefix.length > space.shown.length);
     if (!box) return point(boxesAt(address).at(-1), false);
-    zoom(box.prefix.length <= space.shown.length + 8 ? box.prefix : blockOf(address, space.shown.length + 4));
+    zoom(box.prefix.length <= space.shown.length + 8 ? box.prefix
+        : blockOf(address, space.shown.length + 4));
 }
 
 function prefixesAround(prefix) {
-    const lengths = new Set([0, 8, 16, 24, ...space.boxes.filter(box => box.first <= prefix.first && lastOf(prefix) <= box.last).map(box => box.prefix.length)]);
-    return [...lengths].filter(length => length < prefix.length).sort((one, other) => one - other).map(length => blockOf(prefix.first, length));
+    const lengths =
+        new Set([0, 8, 16, 24,
+        ...space.boxes.filter(box => box.first <= prefix.first
+        && lastOf(prefix) <= box.last).map(box => box.prefix.length)]);
+    return [...lengths].filter(length => length < prefix.length).sort((one, other) =>
+        one - other).map(length => blockOf(prefix.first, length));
 }
 
 function keyed(event) {
-    const step = {ArrowRight: 1, ArrowDown: 1, ArrowLeft: -1, ArrowUp: -1}[event.key], boxes = space.inside.filter(isBoxShown);
-    if (event.key === 'Escape' && prefixesAround(space.shown).length) zoom(prefixesAround(space.shown).at(-1));
+    const step = {ArrowRight: 1, ArrowDown: 1, ArrowLeft: -1, ArrowUp: -1}[event.key],
+        boxes = space.inside.filter(isBoxShown);
+    if (event.key === 'Escape' && prefixesAround(space.shown).length)
+        zoom(prefixesAround(space.shown).at(-1));
     else if (event.key === 'Enter' && boxes[space.chosen]) zoom(boxes[space.chosen].prefix);
     else if (step && boxes.length) {
         space.chosen = space.chosen < 0 ? 0 : (space.chosen + step + boxes.length) % boxes.length;
@@ -218,7 +264,8 @@ function keyed(event) {
 }
 
 async function present(prefix) {
-    const turn = space.drawings += 1, breathe = breather({aborted: false}), last = lastOf(prefix), name = prefixText(prefix);
+    const turn = space.drawings += 1, breathe = breather({aborted: false}), last = lastOf(prefix),
+        name = prefixText(prefix);
     space.shown = prefix;
     space.chosen = -1;
     space.kinds = {inetnum: $('with-inetnums').checked, route: $('with-routes').checked};
@@ -232,23 +279,33 @@ async function present(prefix) {
         if (turn !== space.drawings) return;
     }
     const inetnums = objects.filter(isInetnum).length;
-    const words = objects.length ? `${counted(inetnums, 'inetnum')} and ${counted(objects.length - inetnums, 'route')} inside ${name}` : `Nothing is registered inside ${name}`;
+    const words = objects.length
+        ? `${counted(inetnums, 'inetnum')} and ${counted(objects.length - inetnums,
+        'route')} inside ${name}` : `Nothing is registered inside ${name}`;
     const largest = [...holders].sort((one, other) => other[1] - one[1]).slice(0, 12);
     $('legend').replaceChildren(el('ul', {class: 'legend'}, ...largest.map(([holder, number]) => {
         const swatch = el('span', {class: 'swatch'});
         swatch.style.background = colourOf(holder);
         return el('li', {}, swatch, link(holder), ` ${counted(number, 'inetnum')}`);
     })), ...holders.size > 12 ? [`and ${counted(holders.size - 12, 'other maintainer')}`] : []);
-    const head = el('tr', {}, ...['Prefix or range', 'Class', 'Origin', 'Maintainers', 'Addresses'].map(text => el('th', {scope: 'col'}, text)));
+    const head =
+        el('tr', {},
+        ...['Prefix or range', 'Class', 'Origin', 'Maintainers', 'Addresses'].map(text =>
+        el('th', {scope: 'col'}, text)));
     const row = object => {
         const span = spanOf(object.name), box = around(span);
-        return el('tr', {}, el('th', {scope: 'row'}, mapLink(box, shown(object.name))), el('td', {}, link(`object ${object.kind} ${object.key}`, object.kind)),
+        return el('tr', {}, el('th', {scope: 'row'}, mapLink(box, shown(object.name))),
+            el('td', {}, link(`object ${object.kind} ${object.key}`, object.kind)),
             el('td', {}, ...object.kind === 'route' ? [link(object.meaning('origin'))] : []),
-            el('td', {}, ...object.holders.flatMap(holder => [link(holder), ' '])), el('td', {class: 'number'}, decimal(span.last - span.first + 1)));
+            el('td', {}, ...object.holders.flatMap(holder => [link(holder), ' '])),
+                el('td', {class: 'number'}, decimal(span.last - span.first + 1)));
     };
     const [body, ...more] = listing(el('tbody'), objects, row);
-    $('listed').replaceChildren(el('table', {}, el('caption', {}, `${words}, in order of addresses.`), el('thead', {}, head), body), ...more);
-    $('above').replaceChildren(...prefixesAround(prefix).flatMap(around => [mapLink(around), ' › ']), el('b', {}, name));
+    $('listed').replaceChildren(el('table', {},
+        el('caption', {}, `${words}, in order of addresses.`), el('thead', {}, head), body),
+        ...more);
+    $('above').replaceChildren(...prefixesAround(prefix).flatMap(each =>
+        [mapLink(each), ' › ']), el('b', {}, name));
     canvas.setAttribute('aria-label', `Map of ${name}`);
     $('map-shown').hidden = false;
     point(null, false);
@@ -259,18 +316,21 @@ async function present(prefix) {
 function showMap(given, isAnew = false) {
     const prefix = prefixOf(given);
     $('prefix').value = given;
-    if (prefix && space.root && !isAnew && space.root.first <= prefix.first && lastOf(prefix) <= lastOf(space.root)) return present(prefix);
+    if (prefix && space.root && !isAnew && space.root.first <= prefix.first
+        && lastOf(prefix) <= lastOf(space.root)) return present(prefix);
     map.end();
     space.root = null;
     space.drawings += 1;
     delete canvas.dataset.drawn;
     $('map-shown').hidden = true;
-    map.say(given && !prefix ? 'This is not a prefix: write four numbers and a length, as 192.0.2.0/24.' : '', true);
+    map.say(given && !prefix
+        ? 'This is not a prefix: write four numbers and a length, as 192.0.2.0/24.' : '', true);
     if (!prefix) return $('prefix').focus();
     map.run(async signal => {
         const text = await map.query(signal, `more ${prefixText(prefix)}`), kind = kindOf(text);
         if (kind === 'error') throw new Trouble(wordsOf(text));
-        const boxes = kind === 'objects' ? await boxesOf(await objectsOf(text, signal), signal) : [];
+        const boxes = kind === 'objects' ? await boxesOf(await objectsOf(text, signal), signal)
+            : [];
         if (signal.aborted) return;
         Object.assign(space, {root: prefix, boxes});
         await present(prefix);
@@ -279,7 +339,10 @@ function showMap(given, isAnew = false) {
 
 canvas.addEventListener('click', clicked);
 canvas.addEventListener('keydown', keyed);
-canvas.addEventListener('pointermove', event => { if (space.inside.length) point(boxesAt(hit(event)).at(-1), false); });
-for (const place of [isDark, $('with-inetnums'), $('with-routes')]) place.addEventListener('change', () => { if (space.root) present(space.shown); });
-addEventListener('resize', () => { if (space.root && !$('map').hidden && canvas.width !== sizeOf()) draw(); });
+canvas.addEventListener('pointermove',
+    event => { if (space.inside.length) point(boxesAt(hit(event)).at(-1), false); });
+for (const place of [isDark, $('with-inetnums'), $('with-routes')])
+    place.addEventListener('change', () => { if (space.root) present(space.shown); });
+addEventListener('resize',
+    () => { if (space.root && !$('map').hidden && canvas.width !== sizeOf()) draw(); });
 addView('map', {show: showMap});

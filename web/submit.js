@@ -1,96 +1,171 @@
 // Submitting, by a form or as text.
 import {
-    $, CLASSES, KINDS, Trouble, UNKNOWN, Wire, addView, around, counted, el, isAs, isMaintainer, isSet, link, prefixOf, prefixText, shown,
-    spaceOf, spanOf, textOf,
+    $, CLASSES, KINDS, Trouble, UNKNOWN, Wire, addView, around, counted, el, isAs, isMaintainer,
+    isSet, kindOf, link, objectsOf, prefixOf, prefixText, shown, spaceOf, spanOf, textOf,
 } from './irr.js';
+import {allBlocks, closestSpan, decision, lowerNames, routeNames} from './deciding.js';
+import {blocksOf, cautionsOf, faultsOf, isUsable, mntnerOf} from './grammar.js';
 
-// From here on made of tools/irr/codes.py by `scripts/web --codes`.
+// From here on made of tools/irr/registry/codes.py by `python3 -m checks.web.tables`.
 const CODES = {
-    E01: ["The text of the paragraph has a fault.",
-        "Look for the first line that is neither `name: value` nor a continuation, which begins with a blank or `+`. Save the file as plain text."],
-    E02: ["The class is unknown, or `delete` is alone.",
-        "Put the class first, and leave out objects of other classes."],
-    E03: ["The key is bad; for a route also an `origin` that is missing, repeated or bad.",
-        "Write four numbers and a length, and name one `origin`."],
-    E04: ["An attribute that is required is missing or empty, or one that may be there once is repeated.",
-        "Compare the object with a registered one of its class, and put a blank line between objects."],
-    E05: ["An attribute that is read has a bad value.",
-        "Look at `mnt-by`, `mnt-lower`, `mnt-routes`, `members`, `mbrs-by-ref`, `member-of`, `auth` and `source`."],
-    E06: ["The `source` is not this registry's.",
-        "Write this registry's name as `source`."],
-    E07: ["The paragraph is over 65,536 bytes.",
-        "Put blank lines between objects, or split the object."],
-    E10: ["A maintainer that the object names is not registered.",
-        "Register the maintainer first, or correct its name."],
-    E11: ["No password given so far fits a maintainer in the `mnt-by` that applies: that of the registered object, or of the new one.",
-        "Give the password before the item. Make the `auth` line by `irr auth`."],
-    E12: ["Nothing covers the new object, or the parent of a set is not registered.",
-        "Register the parent first."],
-    E13: ["The object that covers the new one, or the parent of a set, does not authorise it.",
-        "Ask the holder to add it, or to name your maintainer in `mnt-lower`, for a route in `mnt-routes`."],
-    E14: ["The `origin` has no aut-num here.",
-        "Register the aut-num first."],
-    E15: ["The aut-num of the `origin` does not authorise the route.",
-        "Ask its holder to name your maintainer in `mnt-routes`."],
-    E16: ["The range overlaps another one of its class, and neither is inside the other.",
-        "Ask `less` for the first and for the last address: what contains exactly one of them overlaps. Cut the range there."],
-    E17: ["Other objects still name the maintainer that is to be deleted.",
-        "List them with `inverse mnt NAME`. Change or delete what is yours; the rest only its holders, or the registry's operator, can change."],
-    E18: ["There is no object of this class and key to delete.",
-        "Compare the key with that in an answer."],
-    E90: ["The server ran out of memory.",
-        "Send the item again later."],
-    E91: ["The server's database failed, and nothing after this item was read.",
-        "Tell the registry's operator, and send this item and the rest again later."],
+    E01: [
+        "The text of the paragraph has a fault.",
+        "Look for the first line that is neither `name: value` nor a continuation, " +
+            "which begins with a blank or `+`. Save the file as plain text.",
+    ],
+    E02: [
+        "The class is unknown, or `delete` is alone.",
+        "Put the class first, and leave out objects of other classes.",
+    ],
+    E03: [
+        "The key is bad; for a route also an `origin` that is missing, repeated or " +
+            "bad.",
+        "Write four numbers and a length, and name one `origin`.",
+    ],
+    E04: [
+        "An attribute that is required is missing or empty, or one that may be there " +
+            "once is repeated.",
+        "Compare the object with a registered one of its class, and put a blank line " +
+            "between objects.",
+    ],
+    E05: [
+        "An attribute that is read has a bad value.",
+        "Look at `mnt-by`, `mnt-lower`, `mnt-routes`, `members`, `mbrs-by-ref`, " +
+            "`member-of`, `auth` and `source`.",
+    ],
+    E06: [
+        "The `source` is not this registry's.",
+        "Write this registry's name as `source`.",
+    ],
+    E07: [
+        "The paragraph is over 65,536 bytes.",
+        "Put blank lines between objects, or split the object.",
+    ],
+    E10: [
+        "A maintainer that the object names is not registered.",
+        "Register the maintainer first, or correct its name.",
+    ],
+    E11: [
+        "No password given so far fits a maintainer in the `mnt-by` that applies: " +
+            "that of the registered object, or of the new one.",
+        "Give the password before the item. Make the `auth` line by `irr auth`.",
+    ],
+    E12: [
+        "Nothing covers the new object, or the parent of a set is not registered.",
+        "Register the parent first.",
+    ],
+    E13: [
+        "The object that covers the new one, or the parent of a set, does not " +
+            "authorise it.",
+        "Ask the holder to add it, or to name your maintainer in `mnt-lower`, for a " +
+            "route in `mnt-routes`.",
+    ],
+    E14: [
+        "The `origin` has no aut-num here.",
+        "Register the aut-num first.",
+    ],
+    E15: [
+        "The aut-num of the `origin` does not authorise the route.",
+        "Ask its holder to name your maintainer in `mnt-routes`.",
+    ],
+    E16: [
+        "The range overlaps another one of its class, and neither is inside the " +
+            "other.",
+        "Ask `less` for the first and for the last address: what contains exactly one" +
+            " of them overlaps. Cut the range there.",
+    ],
+    E17: [
+        "Other objects still name the maintainer that is to be deleted.",
+        "List them with `inverse mnt NAME`. Change or delete what is yours; the rest " +
+            "only its holders, or the registry's operator, can change.",
+    ],
+    E18: [
+        "There is no object of this class and key to delete.",
+        "Compare the key with that in an answer.",
+    ],
+    E90: [
+        "The server ran out of memory.",
+        "Send the item again later.",
+    ],
+    E91: [
+        "The server's database failed, and nothing after this item was read.",
+        "Tell the registry's operator, and send this item and the rest again later.",
+    ],
 };
 // As far as here.
 
 const BODY = 1 << 20;            // bytes of a submission that the registry takes in
+const MOST_LINES = 5, MOST_DECIDED = 20;
+const NOT_SENT = 'Nothing was sent: see above the button, and allow it there if it is meant so.';
+let source;                      // the registry's name
 
 // What the fields of the form take.
 const isPrefix = text => Boolean(prefixOf(text)) && text.includes('/');
-const isRange = text => /^[^^]+(?:\^(?:[+-]|\d{1,2}(?:-\d{1,2})?))?$/.test(text) && isPrefix(text.split('^')[0]);
-const isAuth = text => /^SHA256-PW\s+[a-z0-9]{0,16}:[0-9a-f]{64}$/i.test(text);
-const isGrants = text => /^name(?: any| \{(?: range)* \})?(?: name(?: any| \{(?: range)* \})?)*$/.test((text.match(/[{}]|[^\s,{}]+/g) || [])
-    .map(item => /[{}]/.test(item) ? item : /^any$/i.test(item) ? 'any' : isMaintainer(item) ? 'name' : isRange(item) ? 'range' : 'bad').join(' '));
-const isBound = item => !item.includes('^') || isRange(`0.0.0.0/0^${item.split('^').slice(1).join('^')}`);
+const isRange = text => /^[^^]+(?:\^(?:[+-]|\d{1,2}(?:-\d{1,2})?))?$/.test(text)
+    && isPrefix(text.split('^')[0]);
+const isGrants = text =>
+    /^name(?: any| \{(?: range)* \})?(?: name(?: any| \{(?: range)* \})?)*$/.test(
+    (text.match(/[{}]|[^\s,{}]+/g) || [])
+    .map(item => /[{}]/.test(item) ? item : /^any$/i.test(item) ? 'any' : isMaintainer(item)
+        ? 'name' : isRange(item) ? 'range' : 'bad').join(' '));
+const isBound = item => !item.includes('^')
+    || isRange(`0.0.0.0/0^${item.split('^').slice(1).join('^')}`);
 const each = check => text => text.split(/[\s,]+/).filter(Boolean).every(check);
 const ATTRIBUTES = {
-    'auth': ['a password\'s hash, one a line: SHA256-PW, a salt, a colon, 64 digits', text => text.split('\n').every(line => isAuth(line.trim()))],
+    'auth': ['a password\'s hash, one a line: SHA256-PW, a salt, a colon, 64 digits', text =>
+        text.split('\n').every(line => isUsable(line.trim()))],
     'origin': ['the AS that announces it, as AS64496', isAs],
-    'mbrs-by-ref': ['maintainers whose objects join by member-of, or ANY: whoever names one of these in mnt-by gets in', each(item => isMaintainer(item) || /^any$/i.test(item))],
+    'mbrs-by-ref': [
+        'maintainers whose objects join by member-of, or ANY: whoever names one of these in ' +
+        'mnt-by gets in', each(item => isMaintainer(item) || /^any$/i.test(item))],
     'member-of': ['sets that it wants to be in', each(item => isSet(item))],
-    'mnt-lower': ['maintainers who may add below it, in place of those in mnt-by', each(isMaintainer)],
-    'mnt-routes': ['maintainers who may add routes, in place of both; after a name {192.0.2.0/24^24-26} or ANY', isGrants],
+    'mnt-lower': ['maintainers who may add below it, in place of those in mnt-by',
+        each(isMaintainer)],
+    'mnt-routes': [
+        'maintainers who may add routes, in place of both; after a name {192.0.2.0/24^24-26} or ' +
+        'ANY', isGrants],
     'mnt-by': ['maintainers who may change and delete it', each(isMaintainer)],
     'source': ['this registry\'s name', text => /^[a-z](?:[a-z0-9_-]*[a-z0-9])?$/i.test(text)],
 };
 const asMember = item => isAs(item) || isSet(item, ['as-']) || /^as-any$/i.test(item);
 const isGroup = name => isAs(name) || isSet(name) || /^[ar]s-any$/i.test(name);
 const rangeMember = item => isRange(item) || (isGroup(item.split('^')[0]) && isBound(item));
-const PARENT = 'what its name says without the last part, as the aut-num AS64496; nothing if the name has one part, and then whoever comes first has it';
-// Of each class: a key, what is one, and whose word a new object needs; of sets what members are, in words and as a check.
+const PARENT =
+    'what its name says without the last part, as the aut-num AS64496; nothing if the name has ' +
+    'one part, and then whoever comes first has it';
+// Of each class: a key, what is one, and whose word a new object needs; of sets what members are,
+// in words and as a check.
 const FORMS = {
     'mntner': ['A-MNT', isMaintainer, ''],
-    'as-block': ['AS64496 - AS64511', text => /^\s*as\d+\s*-\s*as\d+\s*$/i.test(text) && text.split('-').every(part => isAs(part.trim())),
+    'as-block': ['AS64496 - AS64511', text => /^\s*as\d+\s*-\s*as\d+\s*$/i.test(text)
+        && text.split('-').every(part => isAs(part.trim())),
         'the closest block around it; it crosses no other block'],
     'aut-num': ['AS64496', isAs, 'the closest as-block around it'],
-    'inetnum': ['192.0.2.0 - 192.0.2.255, or 192.0.2.0/24', text => Boolean(spanOf(text)), 'the closest inetnum around it; it crosses no other inetnum'],
-    'route': ['192.0.2.0/24', isPrefix, 'the origin\'s aut-num, and the closest route around it or else the closest inetnum'],
-    'as-set': ['AS64496:AS-CUSTOMERS', text => isSet(text, ['as-']), PARENT, 'AS numbers, as-sets, AS-ANY', each(asMember)],
-    'route-set': ['AS64496:RS-OUT', text => isSet(text, ['rs-']), PARENT, 'ranges as 192.0.2.0/24^24-26, AS numbers, sets, each of these with one operator at most', each(rangeMember)],
+    'inetnum': ['192.0.2.0 - 192.0.2.255, or 192.0.2.0/24', text =>
+        Boolean(spanOf(text)), 'the closest inetnum around it; it crosses no other inetnum'],
+    'route': ['192.0.2.0/24', isPrefix,
+        'the origin\'s aut-num, and the closest route around it or else the closest inetnum'],
+    'as-set': ['AS64496:AS-CUSTOMERS', text =>
+        isSet(text, ['as-']), PARENT, 'AS numbers, as-sets, AS-ANY', each(asMember)],
+    'route-set': ['AS64496:RS-OUT', text =>
+        isSet(text, ['rs-']), PARENT,
+    'ranges as 192.0.2.0/24^24-26, AS numbers, sets, each of these with one operator at most',
+    each(rangeMember)],
 };
 
 // The form.
 const send = new Wire('submit');
 const fields = {};
-const isSafe = location.protocol === 'https:' || /^(?:localhost|127(?:\.\d{1,3}){3}|\[::1\])$/.test(location.hostname);
+const isSafe = location.protocol === 'https:'
+    || /^(?:localhost|127(?:\.\d{1,3}){3}|\[::1\])$/.test(location.hostname);
 const isText = () => $('by-text').checked;
 
 function passwordField() {
     const number = $('passwords').childElementCount + 1;
-    return el('div', {class: 'field tall'}, el('label', {for: `password-${number}`}, `Password ${number}`),
-        el('input', {id: `password-${number}`, type: 'password', autocomplete: 'off', spellcheck: 'false'}));
+    return el('div', {class: 'field tall'},
+        el('label', {for: `password-${number}`}, `Password ${number}`),
+        el('input', {id: `password-${number}`, type: 'password', autocomplete: 'off',
+            spellcheck: 'false'}));
 }
 
 const passwordInputs = () => [...$('passwords').querySelectorAll('input')];
@@ -103,10 +178,17 @@ function addPassword(password) {
 
 // The fields of a class: each with what it takes, and a line for what is wrong with it.
 function field(name, needs, about, check, isLong) {
-    const input = el(isLong ? 'textarea' : 'input', {id: `field-${name}`, 'aria-describedby': `about-${name} fault-${name}`, spellcheck: 'false', autocapitalize: 'none', ...isLong ? {rows: '3'} : {}});
-    fields[name] = {input, check, needs, fault: el('p', {id: `fault-${name}`, class: 'fault', hidden: true})};
+    const input =
+        el(isLong ? 'textarea'
+        : 'input', {id: `field-${name}`, 'aria-describedby': `about-${name} fault-${name}`,
+        spellcheck: 'false', autocapitalize: 'none', ...isLong ? {rows: '3'} : {}});
+    fields[name] =
+        {input, check, needs, fault: el('p', {id: `fault-${name}`, class: 'fault', hidden: true})};
     if (needs.startsWith('1')) input.setAttribute('aria-required', 'true');
-    return el('div', {class: 'field tall', 'data-name': name}, el('label', {for: `field-${name}`}, (name === 'other' ? 'other attributes' : name) + {'1': '', '1+': ' (one or more)', '0+': ' (if any)'}[needs]),
+    return el('div', {class: 'field tall', 'data-name': name},
+        el('label', {for: `field-${name}`},
+        (name === 'other' ? 'other attributes' : name)
+        + {'1': '', '1+': ' (one or more)', '0+': ' (if any)'}[needs]),
         input, el('p', {id: `about-${name}`, class: 'hint'}, about), fields[name].fault);
 }
 
@@ -114,48 +196,76 @@ function showClass() {
     const kind = $('class').value, [example, check, needs, ...members] = FORMS[kind];
     const before = Object.entries(fields).map(([name, {input}]) => [name, input.value]);
     for (const name of Object.keys(fields)) delete fields[name];
-    const rows = Object.entries(CLASSES[kind]).map(([name, need]) => field(name, need, ...ATTRIBUTES[name] ?? members, name === 'auth' || name === 'members'));
-    const other = field('other', '0+', 'Any other attributes, one a line, as "descr: Example Networks". They are kept as text, and shown to all.',
-        text => text.split('\n').every(line => /^(?:[a-z][\w-]{0,63}\s*:|[ \t+])/i.test(line) && !/^(?:password|delete)\s*:/i.test(line)), true);
-    $('class-needs').textContent = `A new one needs a password of its own mnt-by${needs && `, and the word of ${needs}`}.`;
-    $('attributes').replaceChildren(field(kind, '1', `as ${example}`, check), ...kind === 'mntner' ? [digestMaker()] : [], other, ...rows);
+    const rows =
+        Object.entries(CLASSES[kind]).map(([name, need]) =>
+        field(name, need, ...ATTRIBUTES[name] ?? members, name === 'auth' || name === 'members'));
+    const other =
+        field('other', '0+',
+        'Any other attributes, one a line, as "descr: Example Networks". They are kept as text, ' +
+        'and shown to all.',
+        text => text.split('\n').every(line => /^(?:[a-z][\w-]{0,63}\s*:|[ \t+])/i.test(line)
+            && !/^(?:password|delete)\s*:/i.test(line)), true);
+    $('class-needs').textContent =
+        `A new one needs a password of its own mnt-by${needs && `, and the word of ${needs}`}.`;
+    $('attributes').replaceChildren(field(kind, '1', `as ${example}`, check), ...kind === 'mntner'
+        ? [digestMaker()] : [], other, ...rows);
     // What was written for another class stays where this one has the same attribute.
-    for (const [name, value] of before) if (name in fields && name !== 'members') fields[name].input.value = value;
+    for (const [name, value] of before)
+        if (name in fields && name !== 'members') fields[name].input.value = value;
     preview();
+}
+
+async function digestOf(text) {
+    const digest = await crypto.subtle.digest('SHA-256', new TextEncoder().encode(text));
+    const bytes = Array.from(new Uint8Array(digest));
+    return bytes.map(byte => byte.toString(16).padStart(2, '0')).join('');
 }
 
 // Makes an auth line of a password, which stays in the password fields.
 function digestMaker() {
-    const input = el('input', {id: 'new-password', type: 'password', autocomplete: 'off', 'aria-describedby': 'about-new'});
+    const input =
+        el('input', {id: 'new-password', type: 'password', autocomplete: 'off',
+        'aria-describedby': 'about-new'});
     const make = async () => {
-        const salt = Array.from(crypto.getRandomValues(new Uint8Array(8)), byte => (byte % 16).toString(16)).join('');
-        const digest = await crypto.subtle.digest('SHA-256', new TextEncoder().encode(salt + input.value));
-        const line = `SHA256-PW ${salt}:${Array.from(new Uint8Array(digest), byte => byte.toString(16).padStart(2, '0')).join('')}`;
+        const salt =
+            Array.from(crypto.getRandomValues(new Uint8Array(8)), byte =>
+            (byte % 16).toString(16)).join('');
+        const line = `SHA256-PW ${salt}:${await digestOf(salt + input.value)}`;
         fields.auth.input.value = [fields.auth.input.value.trim(), line].filter(Boolean).join('\n');
         addPassword(input.value);
         input.value = '';
         send.say('The auth line is made, and the password is in a field below.');
         preview();
     };
-    return el('fieldset', {}, el('legend', {}, 'A new password for it'), el('div', {class: 'field tall'}, el('label', {for: 'new-password'}, 'New password'), input,
-        el('p', {id: 'about-new', class: 'hint'}, 'Its hash is made on this page. Take a long one, made by chance: others may try to guess it.')),
+    return el('fieldset', {}, el('legend', {}, 'A new password for it'),
+        el('div', {class: 'field tall'}, el('label', {for: 'new-password'}, 'New password'), input,
+        el('p', {id: 'about-new', class: 'hint'},
+            'Its hash is made on this page. Take a long one, made by chance: others may try to ' +
+            'guess it.')),
         el('button', {type: 'button', click: () => {
-            const fault = !isSafe ? 'Without TLS no password is taken.' : faultOf(input.value) || (input.value ? '' : 'Write the new password first.');
+            const fault = !isSafe ? 'Without TLS no password is taken.' : faultOf(input.value)
+                || (input.value ? '' : 'Write the new password first.');
             return fault ? send.say(fault, true) : make();
         }}, 'Make its auth line'));
 }
 
 const coded = text => text.split('`').map((part, place) => place % 2 ? el('code', {}, part) : part);
-const faultOf = password => password !== password.trim() ? 'A password has no blank at its ends: the registry takes these away.' :
+const faultOf = password => password !== password.trim()
+    ? 'A password has no blank at its ends: the registry takes these away.' :
     /[\x00-\x1f\x7f]/.test(password) ? 'A password has no control characters.' : '';
 const attributeLine = (name, value) => `${`${name}:`.padEnd(15)} ${value}`;
 
 function composed() {
-    const kind = $('class').value, values = name => (fields[name]?.input.value ?? '').split('\n').map(line => line.trimEnd()).filter(Boolean);
+    const kind = $('class').value,
+        values = name =>
+        (fields[name]?.input.value ?? '').split('\n').map(line => line.trimEnd()).filter(Boolean);
     const lines = name => values(name).map(value => attributeLine(name, value.trim()));
-    if ($('delete').checked) return [...lines(kind), ...lines('origin'), attributeLine('delete', 'yes')].join('\n') + '\n';
+    if ($('delete').checked)
+        return [...lines(kind), ...lines('origin'), attributeLine('delete', 'yes')].join('\n')
+        + '\n';
     const others = Object.keys(CLASSES[kind]).filter(name => name !== 'origin');
-    return [...lines(kind), ...lines('origin'), ...values('other'), ...others.flatMap(lines)].join('\n') + '\n';
+    return [...lines(kind), ...lines('origin'), ...values('other'),
+        ...others.flatMap(lines)].join('\n') + '\n';
 }
 
 const preview = () => { $('preview').textContent = composed(); };
@@ -164,8 +274,11 @@ const preview = () => { $('preview').textContent = composed(); };
 function faultyField() {
     const kind = $('class').value, isDeletion = $('delete').checked;
     for (const [name, {input, check, needs, fault}] of Object.entries(fields)) {
-        const value = input.value.trim(), isAsked = !isDeletion || name === kind || name === 'origin';
-        fault.textContent = !isAsked ? '' : !value ? needs.startsWith('1') ? `${name} is needed.` : '' : check(value) ? '' : `This is not what ${name === 'other' ? 'these attributes' : name} may have.`;
+        const value = input.value.trim(),
+            isAsked = !isDeletion || name === kind || name === 'origin';
+        fault.textContent = !isAsked ? '' : !value ? needs.startsWith('1') ? `${name} is needed.`
+            : '' : check(value) ? ''
+            : `This is not what ${name === 'other' ? 'these attributes' : name} may have.`;
         fault.hidden = !fault.textContent;
         input.setAttribute('aria-invalid', String(!fault.hidden));
     }
@@ -178,18 +291,10 @@ const PASSWORD = /^password[ \t\r]*:[ \t\r]*(.*)(?:\n|$)/gim;
 function lookAtText() {
     const found = [...$('text').value.matchAll(PASSWORD)];
     $('text-fault').hidden = $('move-passwords').hidden = !found.length;
-    $('text-fault').textContent = found.length ? `The text has ${counted(found.length, 'password')} in it, for all to read: move it into its field.` : '';
+    $('text-fault').textContent = found.length
+        ? `The text has ${counted(found.length,
+        'password')} in it, for all to read: move it into its field.` : '';
     return found;
-}
-
-// As the registry counts them: a line of blanks ends a paragraph, one that begins with # or % ends nothing.
-function paragraphsOf(text) {
-    const paragraphs = [[]];
-    for (const line of text.split('\n')) {
-        if (/^[ \t\r]*$/.test(line)) paragraphs.push([]);
-        else if (!/^[#%]/.test(line)) paragraphs.at(-1).push(line);
-    }
-    return paragraphs.filter(lines => lines.length).map(lines => lines.join('\n'));
 }
 
 // Puts an object below what the text has, and shows the text.
@@ -199,10 +304,14 @@ function addText(object) {
     showHow();
 }
 
+// Puts an object in place of what the text has, to be changed.
 function change(object) {
     const hides = object.attributes.some(given => given[0] === 'auth');
+    $('text').value = '';
     addText(object.text.split('\n').filter(line => !/^auth:/.test(line)).join('\n') + '\n');
-    send.say(hides ? 'Answers hide the auth lines: write all of them anew, or the registry refuses the mntner.' : 'Change the text, and give the password of its mnt-by.');
+    send.say(hides
+        ? 'Answers hide the auth lines: write all of them anew, or the registry refuses the mntner.'
+        : 'Change the text, and give the password of its mnt-by.');
 }
 
 function showHow() {
@@ -211,71 +320,212 @@ function showHow() {
     lookAtText();
 }
 
-const ITEM = /^(\d+) (?:(-)|([a-z-]+) (.+)): (?:(added|changed|unchanged|deleted)|refused (E\d\d))$/;
-const ENDS = [[/^% items (\d+)$/, ''], [/^% read fault after (\d+) items$/, 'The rest of the text did not arrive. Send what stands after this item again.'],
-    [/^% stopped after (\d+) items$/, 'The registry\'s database failed, and the rest was not read. Report it to the operator, and send that item and the rest again later.'],
-    [/^% memory after (0) items$/, 'The registry ran out of memory, and nothing was done. Send it again later.']];
+const ITEM =
+    /^(\d+) (?:(-)|([a-z-]+) (.+)): (?:(added|changed|unchanged|deleted)|refused (E\d\d))$/;
+const ENDS =
+    [[/^% items (\d+)$/, ''],
+    [/^% read fault after (\d+) items$/,
+    'The rest of the text did not arrive. Send what stands after this item again.'],
+    [/^% stopped after (\d+) items$/,
+        'The registry\'s database failed, and the rest was not read. Report it to the operator, ' +
+        'and send that item and the rest again later.'],
+    [/^% memory after (0) items$/,
+        'The registry ran out of memory, and nothing was done. Send it again later.']];
 
 // What to look at after a refusal, asked from the registry.
 function hints(code, kind, key) {
-    const span = spaceOf(kind, key?.split(' AS')[0]), block = span && prefixText(around(span)), parent = key?.split(':').slice(0, -1).join(':');
-    const queries = {E11: [`object ${kind} ${key}`], E12: [block && `closest ${block}`], E13: [block && `closest ${block}`, kind?.endsWith('-set') && parent], E15: [key?.split(' ')[1]],
-        E16: span ? [`less ${textOf(span.first)}`, `less ${textOf(span.last)}`] : [], E17: [`inverse mnt ${key}`], E18: [block && `exact ${block}`]}[code] ?? [];
+    const span = spaceOf(kind, key?.split(' AS')[0]), block = span && prefixText(around(span)),
+        parent = key?.split(':').slice(0, -1).join(':');
+    const queries =
+        {E11: [`object ${kind} ${key}`], E12: [block && `closest ${block}`],
+        E13: [block && `closest ${block}`, kind?.endsWith('-set') && parent],
+        E15: [key?.split(' ')[1]],
+        E16: span ? [`less ${textOf(span.first)}`, `less ${textOf(span.last)}`]
+            : [], E17: [`inverse mnt ${key}`], E18: [block && `exact ${block}`]}[code] ?? [];
     return key ? queries.filter(Boolean) : [];
 }
 
-function itemBox([, number, none, kind, key, word, code], paragraph) {
-    const [sentence, remedy] = CODES[code] ?? ['A refusal that this page does not know.', 'Ask the operator.'], queries = hints(code, kind, key);
-    return el('li', {class: word ?? 'refused'},
-        `${number}. `, ...none ? [] : [`${kind} `, link(`object ${kind} ${key}`, key), ': '], el('span', {class: 'word'}, word ?? `refused ${code}`),
-        ...none && paragraph ? [el('pre', {}, shown(paragraph.split('\n')[0].slice(0, 200)))] : [],
-        ...code ? [el('p', {}, ...coded(sentence)), el('p', {}, el('b', {}, 'What helps: '), ...coded(remedy))] : [],
-        ...queries.length ? [el('p', {}, 'Look at: ', ...queries.flatMap(query => [link(query), ' ']))] : []);
+// What looks like a mistake; what is grave is sent only once it is said to be meant.
+let meant = '';
+
+function showCautions(found, text) {
+    const box = $('cautions'), isGrave = found.some(one => one.isGrave);
+    const allow = el('input', {
+        type: 'checkbox', id: 'anyway', change: () => { meant = allow.checked ? text : ''; },
+    });
+    allow.checked = isGrave && meant === text;
+    box.hidden = !found.length;
+    box.replaceChildren(
+        el('ul', {}, ...found.map(one => el('li', {}, ...coded(shown(lineWords(one)))))),
+        ...isGrave ? [el('label', {class: 'check'}, allow, ' Send it all the same')] : []);
+    return isGrave && meant !== text;
 }
 
-function report(text, paragraphs) {
-    const lines = text.split('\n').slice(0, -1), last = lines.at(-1) ?? '', end = ENDS.find(([form]) => form.test(last)), items = lines.slice(0, end ? -1 : undefined).map(line => ITEM.exec(line));
-    if (items.some(item => !item)) throw new Trouble(`What answers is not a registry of this kind.${UNKNOWN}`);
-    const isWhole = end && text.endsWith('\n') && Number(end[0].exec(last)[1]) + (/stopped/.test(last) ? 1 : 0) === items.length && items.every((item, at) => Number(item[1]) === at + 1);
-    const isMatched = items.length === paragraphs.length;
-    const list = el('ol', {class: 'items'}, ...items.map((item, at) => itemBox(item, isMatched && paragraphs[at])));
-    const counts = ['added', 'changed', 'unchanged', 'deleted', 'refused'].map(word => [items.filter(item => (item[5] ?? 'refused') === word).length, word]).filter(pair => pair[0]);
-    const words = `${counted(items.length, 'item')}: ${counts.map(pair => pair.join(' ')).join(', ') || 'nothing was in the text'}.`;
-    const trouble = !isWhole ? `The report was cut off after ${counted(items.length, 'item')}.${UNKNOWN}` : end[1];
-    $('report').replaceChildren(el('h2', {tabindex: '-1'}, 'Report'), ...trouble ? [el('p', {class: 'warn'}, trouble)] : [], list);
-    send.say(trouble ? `${words} ${trouble}` : words, Boolean(trouble) || items.some(item => item[6]));
+const lineWords = ({line, attribute, words}) =>
+    `Line ${line}, \`${attribute}\`: ${words}${words.endsWith('?') ? '' : '.'}`;
+
+async function objectsAt(signal, query) {
+    const text = await send.query(signal, query);
+    return kindOf(text) === 'objects' ? objectsOf(text, signal) : [];
+}
+
+// The mntners of a text that change themselves so that no password given here would fit any more,
+// or that others alone could change them. What an item makes of one stands for those after it.
+async function lockouts(signal, blocks, passwords) {
+    const found = [], made = {};
+    for (const block of passwords.length ? blocks : []) {
+        const mntner = mntnerOf(block);
+        if (!mntner?.auths.length || faultsOf(block).length) continue;
+        const {name, line, holders} = mntner, earlier = made[name], isOwn = holders.includes(name);
+        made[name] = holders;
+        if (isOwn && await fits(mntner.auths, passwords)) continue;
+        const old = earlier ?? (await objectsAt(signal, `object mntner ${name}`))
+            .flatMap(object => object.holders.map(holder => holder.toUpperCase()));
+        if (!old.includes(name)) continue;
+        const others = holders.filter(holder => holder !== name);
+        const what = isOwn ? 'no password that is given here fits the new `auth`'
+            : 'it no longer maintains itself';
+        const rest = others.length ? `then ${others.join(', ')} alone may change it`
+            : 'give its new password too';
+        found.push({
+            line, attribute: 'mntner', words: `${what}; ${rest}`, isGrave: !others.length,
+        });
+    }
+    return found;
+}
+
+// Whether one of the passwords fits one of the hashes, each a salt, a colon and a digest.
+async function fits(auths, passwords) {
+    for (const auth of auths) {
+        const [salt, digest] = auth.split(':');
+        const digests = await Promise.all(passwords.map(word => digestOf(salt + word)));
+        if (digests.includes(digest.toLowerCase())) return true;
+    }
+    return false;
+}
+
+// What decided about items that were refused E13 or E15, as the registry is now.
+async function showDecisions(signal, items, boxes) {
+    const refused = items.map((item, at) => [item, boxes[at]])
+        .filter(([item]) => ['E13', 'E15'].includes(item[6]) && item[4]);
+    for (const [[, , , kind, key, , code], box] of refused.slice(0, MOST_DECIDED)) {
+        const found = await deciders(signal, code, kind, key).catch(() => []);
+        box.append(...found.map(words => el('p', {class: 'decides'}, shown(words))));
+    }
+}
+
+async function deciders(signal, code, kind, key) {
+    const [text, origin] = key.split(' AS'), ask = query => objectsAt(signal, query);
+    if (kind === 'route') {
+        const prefix = prefixOf(text), of = object => routeNames(object, prefix);
+        if (code === 'E15') {
+            return (await ask(`object aut-num AS${origin}`)).map(
+                found => decision(found, of(found), `a route ${text} of it`));
+        }
+        const near = (await ask(`closest ${text}`)).filter(found => found.key !== key);
+        const routes = near.filter(found => found.kind === 'route');
+        return (routes.length ? routes : near).map(
+            found => decision(found, of(found), `a route ${text}`));
+    }
+    const below = found => decision(found, lowerNames(found), 'below it');
+    if (kind.endsWith('-set')) return (await ask(key.split(':').slice(0, -1).join(':'))).map(below);
+    const near = kind === 'inetnum'
+        ? (await ask(`less ${textOf(spanOf(key).first)}`)).filter(found => found.kind === kind)
+        : await allBlocks(signal);
+    return closestSpan(near, kind, key).map(below);
+}
+
+function itemBox([, number, none, kind, key, word, code], block) {
+    const lines = code && block
+        ? faultsOf(block, source).filter(one => one.code === code).slice(0, MOST_LINES) : [];
+    const [sentence, remedy] = CODES[code]
+        ?? ['A refusal that this page does not know.', 'Ask the operator.'],
+        queries = hints(code, kind, key);
+    return el('li', {class: word ?? 'refused'},
+        `${number}. `, ...none ? []
+            : [`${kind} `, link(`object ${kind} ${key}`, key), ': '],
+        el('span', {class: 'word'}, word ?? `refused ${code}`),
+        ...none && block ? [el('pre', {}, shown(block.lines[0][1].slice(0, 200)))] : [],
+        ...lines.map(one => el('p', {class: 'fault'}, ...coded(shown(lineWords(one))))),
+        ...code ? [el('p', {}, ...coded(sentence)),
+            el('p', {}, el('b', {}, 'What helps: '), ...coded(remedy))] : [],
+        ...queries.length
+            ? [el('p', {}, 'Look at: ', ...queries.flatMap(query => [link(query), ' ']))] : []);
+}
+
+function report(signal, text, blocks) {
+    const lines = text.split('\n').slice(0, -1), last = lines.at(-1) ?? '',
+        end = ENDS.find(([form]) => form.test(last)),
+        items = lines.slice(0, end ? -1 : undefined).map(line => ITEM.exec(line));
+    if (items.some(item => !item))
+        throw new Trouble(`What answers is not a registry of this kind.${UNKNOWN}`);
+    const isWhole = end && text.endsWith('\n')
+        && Number(end[0].exec(last)[1]) + (/stopped/.test(last) ? 1 : 0) === items.length
+        && items.every((item, at) => Number(item[1]) === at + 1);
+    const isMatched = items.length === blocks.length;
+    const boxes = items.map((item, at) => itemBox(item, isMatched && blocks[at]));
+    const list = el('ol', {class: 'items'}, ...boxes);
+    const counts =
+        ['added', 'changed', 'unchanged', 'deleted', 'refused'].map(word =>
+        [items.filter(item => (item[5] ?? 'refused') === word).length, word]).filter(pair =>
+        pair[0]);
+    const words =
+        `${counted(items.length, 'item')}: ${counts.map(pair => pair.join(' ')).join(', ')
+        || 'nothing was in the text'}.`;
+    const trouble = !isWhole
+        ? `The report was cut off after ${counted(items.length, 'item')}.${UNKNOWN}` : end[1];
+    $('report').replaceChildren(el('h2', {tabindex: '-1'}, 'Report'), ...trouble
+        ? [el('p', {class: 'warn'}, trouble)] : [], list);
+    send.say(trouble ? `${words} ${trouble}` : words, Boolean(trouble)
+        || items.some(item => item[6]));
     $('report').firstChild.focus();
+    return showDecisions(signal, items, boxes);
 }
 
 function submit() {
     const passwords = passwordInputs().map(input => input.value).filter(Boolean);
     const stop = (words, place) => { send.say(words, true); place?.focus(); };
     if (!isSafe) return;
-    if (isText() ? lookAtText().length : false) return stop($('text-fault').textContent, $('move-passwords'));
+    if (isText() ? lookAtText().length : false)
+        return stop($('text-fault').textContent, $('move-passwords'));
     const wrong = isText() ? null : faultyField();
     if (wrong) return stop('A field is not as it has to be: see there.', wrong);
-    const text = isText() ? $('text').value.replaceAll('\r\n', '\n') : composed(), paragraphs = paragraphsOf(text);
-    if (!paragraphs.length) return stop('There is nothing to submit.', $('text'));
+    const text = isText() ? $('text').value.replaceAll('\r\n', '\n') : composed(),
+        blocks = blocksOf(text);
+    if (!blocks.length) return stop('There is nothing to submit.', $('text'));
     const fault = passwords.map(faultOf).find(Boolean);
     if (fault) return stop(fault, passwordInputs()[0]);
-    const body = passwords.map(password => `password: ${password}\n`).join('') + (passwords.length ? '\n' : '') + text;
-    if (new TextEncoder().encode(body).length > BODY) return stop('The text is over 1,048,576 bytes, which is more than the registry takes at once: send it in parts.', $('text'));
+    const body =
+        passwords.map(password => `password: ${password}\n`).join('')
+        + (passwords.length ? '\n' : '') + text;
+    if (new TextEncoder().encode(body).length > BODY)
+        return stop('The text is over 1,048,576 bytes, which is more than the registry takes at ' +
+        'once: send it in parts.', $('text'));
     $('report').replaceChildren();
     send.say('');
     $('send').disabled = true;
-    for (const input of passwordInputs()) input.value = '';
-    send.run(async signal => report((await send.ask(signal, '/submissions', body)).text, paragraphs)).finally(() => { $('send').disabled = !isSafe; });
+    send.run(async signal => {
+        const locked = await lockouts(signal, blocks, passwords);
+        const cautions = [...blocks.flatMap(cautionsOf), ...locked];
+        if (showCautions(cautions, text)) return stop(NOT_SENT, $('anyway'));
+        for (const input of passwordInputs()) input.value = '';
+        await report(signal, (await send.ask(signal, '/submissions', body)).text, blocks);
+    }).finally(() => { $('send').disabled = !isSafe; });
 }
 
 async function showSubmit() {
     const warning = $('without-tls');
     warning.hidden = isSafe;
-    if (!isSafe) warning.textContent = 'This page came without TLS from another machine, so anyone on the way could read your passwords, and could have changed this page. Nothing can be submitted from here: use the address with https.';
+    if (!isSafe)
+        warning.textContent =
+        'This page came without TLS from another machine, so anyone on the way could read your ' +
+        'passwords, and could have changed this page. Nothing can be submitted from here: use ' +
+        'the address with https.';
     $('send').disabled = !isSafe;
     if (fields.source.input.value) return;
     // The registry's name is that of the inetnum of all addresses.
     const found = await send.query(new AbortController().signal, 'exact 0.0.0.0/0').catch(() => '');
-    const source = /^source:[ \t]+(\S+)$/m.exec(found)?.[1];
+    source = /^source:[ \t]+(\S+)$/m.exec(found)?.[1]?.toUpperCase();
     if (source && !fields.source.input.value) fields.source.input.value = source;
     preview();
 }
@@ -292,7 +542,8 @@ $('move-passwords').addEventListener('click', () => {
     lookAtText();
     $('text').focus();
 });
-$('more-passwords').addEventListener('click', () => { $('passwords').append(passwordField()); passwordInputs().at(-1).focus(); });
+$('more-passwords').addEventListener('click',
+    () => { $('passwords').append(passwordField()); passwordInputs().at(-1).focus(); });
 $('passwords').append(passwordField());
 showClass();
 addView('submit', {show: showSubmit, change});

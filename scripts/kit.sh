@@ -1,5 +1,5 @@
-# Sourced by the scripts: stops in one line where the toolchain is missing, and says so where its logic is not that of the
-# one that the README names. Whichever it is proves the crates anew.
+# Sourced by the scripts: stops in one line where the toolchain is missing, and says so where its
+# logic is not that of the one that the README names. Whichever it is proves the crates anew.
 KIT='rattle-kit-13f logic dac8208d650f15bf'
 
 require_kit() {
@@ -9,6 +9,7 @@ require_kit() {
     fi
     found=$(rt version)
     if [ "${found#* logic }" != "${KIT#* logic }" ]; then
-        echo "irrdesk: this repository was proved with the toolchain '$KIT', and this one is '$found'" >&2
+        echo "irrdesk: this repository was proved with the toolchain '$KIT'," \
+            "and this one is '$found'" >&2
     fi
 }

@@ -1,0 +1,1 @@
+"""Words, settings, files and streams that the program is given, and how it ends."""

@@ -1,0 +1,37 @@
+"""What the program said in the checks of how commands end, beside docs/MESSAGES.md: each line is of
+the page, and each message of the page was said."""
+
+import hashlib
+from pathlib import Path
+
+import pytest
+
+from checks import messages
+from checks.running import TOP
+
+# It looks at what other modules kept, so it comes after them.
+pytestmark = pytest.mark.alone
+KEPT = ["test_statuses", "test_unusable"]
+
+
+@pytest.fixture(scope="module")
+def said(program):
+    """All lines that those modules heard of this program."""
+    digest = hashlib.sha256(Path(program).read_bytes()).hexdigest()
+    lines = []
+    for name in KEPT:
+        path = Path(TOP, "out/said", name.removeprefix("test_"))
+        of, *found = path.read_text(errors="replace").splitlines() if path.exists() else [""]
+        if of != digest:
+            pytest.fail(f"{path}: it is not of this program: run checks/.../{name}.py on it first")
+        lines += found
+    return lines
+
+
+def test_each_line_that_was_said_is_of_the_page(said):
+    assert not messages.unknown(said)
+
+
+def test_each_message_of_the_page_was_said(said, tell):
+    tell(f"{len(set(said))} lines")
+    assert not messages.unsaid(said)

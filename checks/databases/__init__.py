@@ -1,0 +1,1 @@
+"""Databases as other programs read and change them."""

@@ -1,0 +1,1 @@
+"""The door: dialects, fairness, submissions, what it tells, and what it costs."""

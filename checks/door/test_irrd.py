@@ -1,0 +1,220 @@
+"""IRRd's questions at the door: golden replies, kept connections, and IRRd's clients unchanged."""
+
+import shutil
+import socket
+import subprocess
+
+import pytest
+
+from checks.door import worlds
+from checks.door.opened import Opened, Registries, read_all
+from checks.running import expect
+from irr.door import irrd
+
+SECONDS = 30
+
+
+def data(text):
+    return b"A%d\n%s\nC\n" % (len(text) + 1, text)
+
+
+def joined(*objects):
+    return data(b"\n".join(objects)[:-1])
+
+
+RANGES = b"10.0.0.0/16^24-24 10.1.0.0/16^16-32"
+REPLIES = {
+    "!!": b"",
+    "!nclient": b"C\n",
+    "!t30": b"C\n",
+    "!gAS1": data(b"10.0.0.0/16 10.1.0.0/16"),
+    "!gas2": data(b"10.0.0.0/16 10.1.2.0/24"),
+    "!gAS9": b"D\n",
+    "!6AS1": b"D\n",
+    "!aAS-X": data(b"10.0.0.0/16 10.1.0.0/16 10.1.2.0/24"),
+    "!a4AS-Y": data(b"10.0.0.0/16 10.1.2.0/24"),
+    "!a6AS-Y": b"D\n",
+    "!aRS-X": data(RANGES),
+    "!aAS-EMPTY": b"D\n",
+    "!aAS-NONE": b"D\n",
+    "!a": b"F Missing required set name for A query\n",
+    "!iAS-X": data(b"AS1 AS-Y AS-GONE"),
+    "!iAS-X,1": data(b"AS1 AS2"),
+    "!iAS-REF": data(b"AS1"),
+    "!iAS-OPEN": data(b"AS1 AS2"),
+    "!iAS-OPEN,1": data(b"AS1 AS2"),
+    "!iAS-EMPTY": b"D\n",
+    "!iAS-NONE,1": b"D\n",
+    "!iRS-X": data(RANGES),
+    "!iRS-X,1": data(RANGES),
+    "!iRS-REF": data(b"10.1.0.0/16"),
+    "!iRS-OPEN": data(b"10.1.2.0/24"),
+    "!jTEST": data(b"TEST:N:-"),
+    "!j-*": data(b"TEST:N:-"),
+    "!jRIPE": data(b"RIPE:X:Database unknown"),
+    "!maut-num,AS1": joined(worlds.AS1),
+    "!maut-num,as9": b"D\n",
+    "!mroute,10.1.0.0/16AS1": joined(worlds.ONE),
+    "!mroute,10.1.0.0/16 AS1": joined(worlds.ONE),
+    "!minetnum,10.1.0.0 - 10.1.255.255": joined(worlds.TEN_ONE),
+    "!mas-set,AS-Y": joined(worlds.Y),
+    "!mmntner,A-MNT": joined(worlds.A_MNT),
+    "!mperson,X": b"D\n",
+    "!mfoo,X": b"F Invalid object class: foo\n",
+    "!maut-num": b"F Invalid argument for object lookup: aut-num\n",
+    "!oNONE-MNT": b"D\n",
+    "!r10.0.0.0/16": joined(worlds.ZERO_1, worlds.ZERO_2),
+    "!r10.0.0.0/16,o": data(b"AS1 AS2"),
+    "!r10.1.2.0/24,l": joined(worlds.ONE),
+    "!r10.1.2.0/24,L": joined(worlds.ONE, worlds.LONG),
+    "!r10.1.0.0/16,M": joined(worlds.LONG),
+    "!r10.9.0.0/16": b"D\n",
+    "!r2001:db8::/32": b"D\n",
+    "!rfoo": b"F Invalid input for route search: foo\n",
+    "!r10.0.0.0/16,x": b"F Invalid route search option: x\n",
+    "!s-lc": data(b"TEST"),
+    "!stest": b"C\n",
+    "!sTEST,RIPE": b"F One or more selected sources are unavailable: RIPE\n",
+    "!x": b"F Unrecognised command: x\n",
+    "!": b"F Missing IRRD command\n",
+    "!t0": b"F Invalid value for timeout: 0\n",
+    "!q": b"",
+}
+FORMATS = {
+    "plain": [],
+    "bird": ["-b"],
+    "openbgpd": ["-B"],
+    "json": ["-j"],
+    "junos": ["-J"],
+    "ios xr": ["-X"],
+    "nokia": ["-N"],
+    "huawei": ["-U"],
+    "eos": ["-e"],
+    "routeros": ["-K"],
+    "aggregated": ["-A"],
+    "more specific": ["-R", "24"],
+    "limited": ["-L", "3"],
+    "of a source": ["-S", "TEST"],
+    "without indirect ones": ["-T"],
+    "numbers": ["-f", "1"],
+    "a set of numbers": ["-t", "-b"],
+}
+
+
+@pytest.fixture(scope="module")
+def registries(trial):
+    with Registries(trial, "registries", worlds.DUMP) as made:
+        yield made
+
+
+@pytest.fixture(scope="module")
+def door(trial, registries):
+    with Opened(trial, "door", registries.words) as opened:
+        yield opened
+
+
+def test_each_question_has_its_reply(door, each):
+    for question, wanted in REPLIES.items():
+        with each(question):
+            expect(door.whois(question), wanted, question)
+            if wanted[:1] != b"F":
+                both = door.whois(b"!!\n" + question.encode() + b"\n!gAS1\n!q\n")
+                after = b"" if question == "!q" else REPLIES["!gAS1"]
+                expect(both, wanted + after, f"{question} in a kept connection")
+
+
+def test_objects_of_a_maintainer_come_in_one_reply(door):
+    reply = door.whois("!oA-MNT")
+    head, _, text = reply.partition(b"\n")
+    expect(reply.endswith(b"\nC\n") and int(head[1:]) == len(text) - 2, True, "the framing")
+    expect(text[:-2].count(b"source:"), 14, "objects that A-MNT maintains")
+    expect(b"AS2" in text.split(b"members")[0], False, "an object of another")
+
+
+def test_the_status_is_json_and_the_version_says_what_is_skipped(door):
+    expect(b'"authoritative": true' in door.whois("!J-*"), True, "!J")
+    expect(b"missing sets are skipped" in door.whois("!v"), True, "!v")
+
+
+def test_a_strict_door_refuses_what_lacks_a_set(trial, registries):
+    with Opened(trial, "strict", registries.words, "strict = true\n") as door:
+        for question in "!aAS-X", "!iAS-X,1":
+            expect(b"F AS-X: sets that it reaches" in door.whois(question), True, question)
+            expect(
+                door.whois(b"!!\n!nbgpq4\n" + question.encode() + b"\n!gAS1\n")[:4], b"C\n%\n", ""
+            )
+        expect(b"missing sets are refused" in door.whois("!v"), True, "!v")
+
+
+@pytest.mark.parametrize("name", FORMATS)
+@pytest.mark.parametrize("what", ["AS-X", "AS1", "RS-X"])
+def test_bgpq4_prints_what_the_registry_has(door, name, what):
+    if not shutil.which("bgpq4"):
+        pytest.skip("bgpq4 is not here")
+    words = ["bgpq4", "-h", f"127.0.0.1:{door.whois_port}", "-4", *FORMATS[name], what]
+    if what == "RS-X" and name in ("numbers", "a set of numbers"):
+        pytest.skip("a route-set has no numbers")
+    ran = subprocess.run(words, capture_output=True, text=True, timeout=60, check=False)
+    expect((ran.returncode, ran.stderr), (0, ""), " ".join(words))
+    expect("1" in ran.stdout and len(ran.stdout) > 10, True, ran.stdout)
+
+
+def test_bgpq3_and_peval_style_sessions_work(door):
+    if not shutil.which("bgpq3"):
+        pytest.skip("bgpq3 is not here")
+    words = ["bgpq3", "-h", f"127.0.0.1:{door.whois_port}", "-4", "-l", "N", "AS-X"]
+    ran = subprocess.run(words, capture_output=True, text=True, timeout=60, check=False)
+    expect(ran.returncode, 0, ran.stderr)
+    for prefix in "10.0.0.0/16", "10.1.0.0/16", "10.1.2.0/24":
+        expect(f"permit {prefix}" in ran.stdout, True, prefix)
+    session = b"!!\n!iAS-X,1\n!gas1\n!man,x\n!q\n"
+    expect(
+        door.whois(session),
+        REPLIES["!iAS-X,1"] + REPLIES["!gAS1"] + b"F Invalid object class: an\n",
+        "",
+    )
+
+
+def test_socat_keeps_a_connection(door):
+    if not shutil.which("socat"):
+        pytest.skip("socat is not here")
+    ran = subprocess.run(
+        ["socat", "-t5", "-", f"TCP4:127.0.0.1:{door.whois_port}"],
+        input=b"!!\n!gAS1\nAS1\n-K AS1\n!gAS2\n!q\n",
+        capture_output=True,
+        timeout=60,
+        check=False,
+    )
+    expect(ran.stdout.startswith(REPLIES["!gAS1"] + worlds.AS1 + b"\n"), True, "the first replies")
+    expect(ran.stdout.endswith(REPLIES["!gas2"]), True, "the last reply")
+
+
+def test_questions_that_come_in_one_piece_or_byte_by_byte_are_answered_in_order(door):
+    lines = [b"!gAS1", b"!gAS2", b"!iAS-X,1", b"!r10.1.0.0/16,o"]
+    wanted = b"".join(
+        REPLIES[line.decode().replace("AS2", "as2") if line == b"!gAS2" else line.decode()]
+        if line != b"!r10.1.0.0/16,o"
+        else data(b"AS1")
+        for line in lines
+    )
+    text = b"!!\r\n" + b"\r\n".join(lines * 20) + b"\r\n!q\r\n"
+    expect(door.whois(text), wanted * 20, "in one piece")
+    with socket.create_connection(("127.0.0.1", door.whois_port), 30) as peer:
+        for byte in b"!!\n!gAS1\n!q\n":
+            peer.sendall(bytes([byte]))
+        expect(read_all(peer), REPLIES["!gAS1"], "byte by byte")
+
+
+@pytest.mark.parametrize(
+    "item, text",
+    [
+        (b"AS02", "AS2"),
+        (b"as-x", "AS-X"),
+        (b"AS02:AS-C", "AS2:AS-C"),
+        (b"as02:rs-c^25", "AS2:RS-C^25"),
+        (b"AS02^+", "AS2^+"),
+    ],
+)
+def test_members_are_spelled_as_those_of_an_expansion(item, text):
+    """bgpq4's EXCEPT compares texts: `AS02` would not be taken out by `EXCEPT AS2`."""
+    assert irrd.member_text(item) == text

@@ -1,0 +1,108 @@
+"""Runs of the program in which calls of one kind fail, counted by failing.c."""
+
+import os
+import shutil
+import subprocess
+import tempfile
+from concurrent.futures import ThreadPoolExecutor
+
+from checks.running import TOP, Failure, expect, run, short
+
+# A number that no count comes to.
+NONE = 1 << 60
+NEVER_MADE = (b"there is no such database", b"the database has no registry that can be read")
+
+
+class Failing:
+    """The library of a script, and all that the program said under it."""
+
+    def __init__(self, trial):
+        self.trial, self.said = trial, set()
+        # Not in the script's folder: nothing in memory may be executed on some machines.
+        self.folder = tempfile.TemporaryDirectory(prefix="irrdesk-")
+        self.library = os.path.join(self.folder.name, "failing.so")
+        source = os.path.join(TOP, "checks", "failing.c")
+        subprocess.run(["gcc", "-O1", "-shared", "-fPIC", "-o", self.library, source], check=True)
+
+    def environment(self, kind, how, number, counted="/dev/null"):
+        return dict(
+            os.environ,
+            LD_PRELOAD=self.library,
+            FAILING=f"{kind}:{how}:{number}",
+            FAILING_COUNT=counted,
+        )
+
+    def run(self, folder, words, environment, **options):
+        ran = run([self.trial.program, *words], folder, environment=environment, **options)
+        self.said.add(ran.said)
+        return ran
+
+    def copied(self, base, name):
+        folder = os.path.join(self.trial.work, name)
+        shutil.copytree(base, folder)
+        return folder
+
+    def count(self, base, words, kind, how):
+        """How many calls of the kind the command makes where none fails, or how many bytes they
+        pass."""
+        folder = self.copied(base, "counted")
+        counted = os.path.join(self.trial.work, "count")
+        self.run(
+            folder, words, self.environment(kind, how if how == "take" else "once", NONE, counted)
+        )
+        shutil.rmtree(folder)
+        return number_in(counted)
+
+    def numbers(self, count, name, how, most):
+        """Which calls to take: all, or some by chance, the first and the last among them; and at
+        last none. The long form takes all but where every call from one on fails."""
+        if self.trial.long:
+            most = 400 if how == "on" else count
+        if count <= most:
+            return [*range(1, count + 1), NONE]
+        return sorted({1, count, *self.trial.chance(name).sample(range(1, count), most)}) + [NONE]
+
+    def rows_of(self, folder):
+        """The rows that stand, as they are dumped; nothing where no registry was made."""
+        ran = self.trial.run(folder, "dump", "s.toml", "--full")
+        if ran.status == 4 and any(words in ran.said for words in NEVER_MADE):
+            return None
+        if (ran.status, ran.said) != (0, b""):
+            raise Failure(f"the dump afterwards: {ran.status}, {short(ran.said)}")
+        return ran.printed
+
+    def sweep(self, base, words, kind, how, check, right, most=12):
+        """Fails each call of the kind in a copy of the folder, and checks how the command ended and
+        the rows that stand; where none failed these have to be what is right."""
+        count = self.count(base, words, kind, how)
+        if count == 0:
+            raise Failure(f"no call of the kind {kind} was met")
+        taken = self.numbers(count, f"{' '.join(words)}, {kind} {how}", how, most)
+
+        def one(number):
+            folder = self.copied(base, f"failing-{number}")
+            try:
+                ran = self.run(folder, words, self.environment(kind, how, number))
+                if ran.status < 0 or ran.status > 5 and ran.status != 137:
+                    raise Failure(f"status {ran.status}, {short(ran.said)}")
+                rows = self.rows_of(folder)
+                if number == NONE:
+                    expect(
+                        (ran.printed, rows),
+                        right,
+                        "what is printed and stands where no call failed",
+                    )
+                check(ran, rows, number)
+            except Failure as failure:
+                raise Failure(f"{kind}:{how}:{number} of {count}: {failure}") from failure
+            finally:
+                shutil.rmtree(folder)
+
+        with ThreadPoolExecutor(self.trial.pick(2, 1)) as pool:
+            list(pool.map(one, taken))
+        return f"{len(taken) - 1} of {count} {'bytes' if how == 'take' else 'calls'}"
+
+
+def number_in(path):
+    with open(path, encoding="ascii") as found:
+        return int(found.read())

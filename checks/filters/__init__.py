@@ -1,0 +1,1 @@
+"""Filters and lists, read by routers."""

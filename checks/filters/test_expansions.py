@@ -1,0 +1,185 @@
+"""Filters of registries by chance, by `irr filter` and by bgpq4 through the door, beside what the
+sets stand for by RFC 2622; BIRD and OpenBGPD say themselves what they take."""
+import argparse
+import contextlib
+import io
+import itertools
+import os
+import shutil
+
+import pytest
+from hypothesis import given, settings
+
+from checks import models
+from checks.filters import registries
+from checks.filters.registries import taken
+from checks.models import Expansion
+from checks.rpsl import Registry
+from irr.commands import filter as filters
+from irr.errors import DONE, REFUSED, Failure
+from irr.filters import lists
+from irr.registry.server import Server
+
+LONG = bool(os.environ.get("CHECKS_LONG"))
+# How bgpq4 writes a list that is called L0 for each router, with and without ranges on one line.
+ROUTERS = {
+    "bird": ["-b", "-l", "define L0"],
+    "frr": ["-l", "L0"],
+    "openbgpd": ["-B", "-E", "-l", "L0"],
+}
+OPTIONS: list[list[str]] = [
+    [],
+    ["-A"],
+    ["-A", "-T"],
+    ["-R", "26"],
+    ["-A", "-R", "28"],
+    ["-A", "-m", "26"],
+]
+DEEP = ["-L", "9"]
+
+
+def made(place: Server, *words: str) -> tuple[int, str]:
+    """The status of `irr filter` with these words, and what it prints."""
+    parser, printed = argparse.ArgumentParser(), io.StringIO()
+    filters.arguments(parser)
+    options = parser.parse_args(["-s", place.url, "--widest", "0", *words])
+    with contextlib.redirect_stdout(printed), contextlib.redirect_stderr(io.StringIO()):
+        try:
+            return filters.run(options), printed.getvalue()
+        except Failure as failure:
+            return failure.status, printed.getvalue()
+
+
+def names_of(model: Expansion) -> list[str]:
+    return [*model.sets, "AS-ANY", "RS-ANY"]
+
+
+def test_irr_filter_is_the_expansion(program: str) -> None:
+    seen = {"whole": 0, "missing": 0, "empty": 0}
+
+    @settings(max_examples=1_000 if LONG else 20, deadline=None)
+    @given(registries.registries())
+    def holds(registry: Registry) -> None:
+        model = Expansion(registry)
+        judged: list[tuple[str, int]] = []
+        with registries.served(program, registry) as place:
+            for name in names_of(model):
+                wanted, missing = model.prefixes(name), model.missing(name)
+                kind = "empty" if not wanted else "missing" if missing else "whole"
+                seen[kind] += 1
+                for router in "bird", "frr":
+                    status, _ = made(place, router, "X", name, "-")
+                    assert status == (DONE if kind == "whole" else REFUSED), name
+                    status, text = made(place, "-m", router, "X", name, "-")
+                    assert (status == DONE) == bool(wanted)
+                    assert taken(router, text) == wanted, (name, text)
+                    need_read(router, text, wanted)
+                    if router == "bird" and wanted:
+                        judged.append((text.replace(" X ", f" L{len(judged)} "), wanted))
+        if shutil.which("bird") and judged:
+            assert not registries.judged_by_bird(judged if LONG else judged[:2])
+
+    holds()
+    assert min(seen.values()) > 0, seen
+
+
+def need_read(router: str, text: str, wanted: int) -> None:
+    """That the guard against lists that shrink reads what the list takes."""
+    found = [((one.first, one.length), one.low, one.high) for one in lists.entries(router, text)]
+    assert models.bits_of(found) == wanted
+
+
+@pytest.mark.skipif(not shutil.which("bgpq4"), reason="bgpq4 is not here")
+def test_bgpq4_is_the_expansion(program: str) -> None:
+    seen = {"whole": 0, "refused": 0}
+    turns = itertools.cycle((router, options) for options in OPTIONS for router in ROUTERS)
+
+    @settings(max_examples=1_000 if LONG else 20, deadline=None)
+    @given(registries.registries())
+    def holds(registry: Registry) -> None:
+        model = Expansion(registry)
+        with registries.served(program, registry) as place, registries.bridge(place) as port:
+            names = list(model.sets)
+            for name in names if LONG else names[:3]:
+                router, options = next(turns)
+                wanted = refined(model.prefixes(name), options)
+                done = registries.bgpq4(port, *ROUTERS[router], *options, name)
+                if model.missing(name):
+                    assert done.returncode and not done.stdout and "not registered" in done.stderr
+                    seen["refused"] += 1
+                else:
+                    assert (done.returncode, done.stderr) == (0, ""), (name, options)
+                    need_taken(router, done.stdout, wanted)
+                    seen["whole"] += 1
+
+    holds()
+    assert min(seen.values()) > 3, seen
+
+
+@pytest.mark.skipif(not shutil.which("bgpq4"), reason="bgpq4 is not here")
+def test_bgpq4_by_steps_is_the_expansion_of_numbers(program: str) -> None:
+    """With -L bgpq4 asks for the members of each as-set, and for the routes of each AS: a route
+    that names an as-set by `member-of` is not in it then."""
+    seen = {"whole": 0, "refused": 0}
+
+    @settings(max_examples=1_000 if LONG else 20, deadline=None)
+    @given(registries.registries())
+    def holds(registry: Registry) -> None:
+        model = Expansion(registry)
+        with registries.served(program, registry) as place, registries.bridge(place) as port:
+            for held in registry.of("as-set")[: None if LONG else 2]:
+                done = registries.bgpq4(port, *ROUTERS["frr"], "-A", *DEEP, held.key)
+                reached = model.reached(held.key)
+                if model.missing(held.key) or "AS-ANY" in reached:
+                    assert done.returncode and not done.stdout, held.key
+                    seen["refused"] += 1
+                else:
+                    wanted = 0
+                    for number in model.expanded(held.key):
+                        wanted |= model.of_number(number)
+                    assert (done.returncode, done.stderr) == (0, "")
+                    need_taken("frr", done.stdout, wanted)
+                    seen["whole"] += 1
+
+    holds()
+    assert min(seen.values()) > 3, seen
+
+
+def refined(bits: int, options: list[str]) -> int:
+    """What bgpq4 makes of prefixes: with -R also those inside them up to a length, with -m none
+    that are longer."""
+    given_options = dict(zip(options, options[1:]))
+    if "-m" in given_options:
+        most = int(given_options["-m"])
+        return sum(1 << node for node in models.nodes_in(bits) if models.prefix_of(node)[1] <= most)
+    if "-R" not in given_options:
+        return bits
+    most, found = int(given_options["-R"]), bits
+    for node in models.nodes_in(bits):
+        found |= models.inside(node, models.prefix_of(node)[1], most)
+    return found
+
+
+def need_taken(router: str, text: str, wanted: int) -> None:
+    """That a list of bgpq4 takes this, as it is written and as its router reads it."""
+    assert taken(router, text) == wanted, text
+    need_read(router, text, wanted)
+    if not wanted:
+        return
+    if router == "openbgpd" and os.path.exists("/usr/sbin/bgpd"):
+        assert taken(router, registries.shown_by_openbgpd(text)) == wanted, text
+    elif router == "frr" and shutil.which("vtysh"):
+        assert not registries.read_by(["vtysh", "-C", "-f"], text)
+    elif router == "bird" and shutil.which("bird"):
+        assert not registries.judged_by_bird([(text, wanted)])
+
+
+def test_wrong_lists_are_found() -> None:
+    """The models, and BIRD as it is asked, tell wrong lists from right ones."""
+    assert models.operated("^24-25", 1 << 1) == models.inside(1, 24, 25) != models.inside(1, 24, 24)
+    assert taken("bird", "10.0.0.0/24{24,25}") == models.inside(4, 24, 25)
+    if shutil.which("bird"):
+        text = "define L0 = [ 10.0.0.0/24{24,25} ];"
+        assert not registries.judged_by_bird([(text, models.inside(4, 24, 25))])
+        assert registries.judged_by_bird([(text, models.inside(4, 24, 26))])
+        assert registries.judged_by_bird([(text, models.inside(4, 24, 24))])

@@ -1,0 +1,109 @@
+"""`irr rov` by chance, beside RFC 6811."""
+import json
+import os
+import time
+from collections.abc import Iterable
+
+import pytest
+from hypothesis import given, settings
+
+from checks import models, rpsl
+from checks.rpsl import Choices, Prefix
+from irr.commands import rov
+from irr.errors import Failure
+from irr.rpsl import keys
+
+LONG = bool(os.environ.get("CHECKS_LONG"))
+NUMBERS = (0, 64496, 64497, 64498, (1 << 32) - 1)
+WITHIN: Prefix = (10 << 24, 20)
+
+
+class Chance:
+    """ROAs, some of which have expired, and routes."""
+
+    def __init__(self, chance: Choices) -> None:
+        def any_prefix() -> Prefix:
+            return rpsl.any_prefix(chance, WITHIN, 28)
+
+        self.routes = [(any_prefix(), chance.of(NUMBERS)) for _ in range(12)]
+        self.routes += [((10 << 24, 20 + length), 64496) for length in range(13)]
+        self.roas: list[tuple[Prefix, int, int]] = []
+        self.expired: list[tuple[Prefix, int, int]] = []
+        for _ in range(1 + chance.below(10)):
+            prefix = any_prefix()
+            roa = prefix, prefix[1] + chance.below(33 - prefix[1]), chance.of(NUMBERS)
+            (self.expired if chance.one_in(4) else self.roas).append(roa)
+        self.is_rpki_client = bool(chance.below(2))
+
+    def text(self) -> bytes:
+        """The file of rpki-client or Routinator; this one does not say when a ROA expires."""
+        now = int(time.time())
+        entries = [self.entry(roa, now + 3_600) for roa in self.roas]
+        if self.is_rpki_client:
+            entries += [self.entry(roa, now - 60) for roa in self.expired]
+        entries.append({"asn": "AS64496", "prefix": "2001:db8::/32", "maxLength": 48, "ta": "x"})
+        return json.dumps({"metadata": {"generated": now}, "roas": entries}).encode()
+
+    def entry(self, roa: tuple[Prefix, int, int], end: int) -> dict[str, object]:
+        prefix, most, number = roa
+        found: dict[str, object] = {
+            "prefix": rpsl.prefix_text(prefix),
+            "maxLength": most,
+            "ta": "x",
+        }
+        if self.is_rpki_client:
+            return found | {"asn": number, "expires": end}
+        return found | {"asn": f"AS{number}"}
+
+
+def table_of(roas: Iterable[rov.Roa]) -> dict[keys.Prefix, list[rov.Roa]]:
+    table: dict[keys.Prefix, list[rov.Roa]] = {}
+    for roa in roas:
+        table.setdefault(roa.prefix, []).append(roa)
+    return table
+
+
+def test_a_roa_of_all_addresses_covers_all() -> None:
+    every = rov.Roa(keys.Prefix(0, 0), 8, 64496)
+    for prefix, number, wanted in [
+        (keys.Prefix(0, 0), 64496, "valid"),
+        (keys.Prefix(10 << 24, 8), 64496, "valid"),
+        (keys.Prefix(10 << 24, 9), 64496, "invalid"),
+        (keys.Prefix(255 << 24, 8), 64497, "invalid"),
+    ]:
+        assert rov.judged(prefix, number, table_of([every]))[0] == wanted
+
+
+@pytest.mark.parametrize("zone", ["UTC", "Asia/Tokyo", "America/Los_Angeles"])
+def test_times_are_in_utc(zone: str, monkeypatch: pytest.MonkeyPatch) -> None:
+    """Those of either program, wherever the machine stands."""
+    monkeypatch.setenv("TZ", zone)
+    time.tzset()
+    try:
+        assert rov.made_at({"buildtime": "2026-07-01T00:00:00Z"}) == 1_782_864_000
+        assert rov.made_at({"generated": 1_782_864_000}) == 1_782_864_000
+    finally:
+        monkeypatch.undo()
+        time.tzset()
+
+
+def test_states() -> None:
+    seen = {"valid": 0, "invalid": 0, "not found": 0}
+
+    @settings(max_examples=5_000 if LONG else 200, deadline=None)
+    @given(rpsl.drawn(Chance, 160))
+    def holds(chance: Chance) -> None:
+        if not chance.roas:
+            with pytest.raises(Failure, match="no ROA for IPv4"):
+                rov.read_roas(chance.text(), "x")
+            return
+        table = table_of(rov.read_roas(chance.text(), "x"))
+        for prefix, origin in chance.routes:
+            wanted = models.validity(prefix, origin, chance.roas)
+            state, why = rov.judged(keys.Prefix(*prefix), origin, table)
+            assert state == wanted
+            assert bool(why) == (state == "invalid")
+            seen[state] += 1
+
+    holds()
+    assert min(seen.values()) > 20, seen

@@ -1,0 +1,1 @@
+"""What chance, damage and strangers do to the program."""

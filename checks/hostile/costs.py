@@ -1,0 +1,545 @@
+"""What a stranger's text costs the program itself, in the processor's time and in memory, and what
+else it does."""
+
+import contextlib
+import os
+import socket
+import stat
+import subprocess
+import threading
+import time
+
+from checks.hostile import attacks
+from checks.hostile.attacks import PASSWORD, Registry, made, owned
+from checks.pace import pace
+from checks.running import DIGEST, TOP, Failure, expect, write, write_settings
+from checks.serving import read_all
+
+ROOT = f"mntner:ROOT-MNT\nauth:SHA256-PW a:{DIGEST}\nmnt-by:ROOT-MNT\nsource:TEST\n\n"
+TRIES = 5
+CASES = []
+
+
+def case(name, is_long=False):
+    """Registers a case, which gives words for its line."""
+
+    def register(function):
+        CASES.append((name, function, is_long))
+        return function
+
+    return register
+
+
+def at_most(found, most, what, unit="s"):
+    if found > most:
+        raise Failure(f"{what}: {found:.2f} {unit} and not at most {most:.2f}")
+
+
+def least(most, function):
+    """The least that a function gives of the processor's seconds, as they would be on the machine
+    of docs/OPEN.md: what else runs makes each try longer. It is called again only while that is
+    above the bound."""
+    found = []
+    for _ in range(TRIES):
+        before = pace()
+        found.append(function() / min(before, pace()))
+        if found[-1] <= most:
+            break
+    return min(found)
+
+
+# The processor.
+
+
+@case("secrets times salts")
+def secrets_times_salts(trial):
+    """The first trial of P secrets with S salts, which can't be cut: so a digest is to be no dearer
+    than it is."""
+    table = []
+    with Registry(trial, made(trial, "salts")) as registry:
+        for size in trial.pick([64], [64, 128, 256, 1024]):
+            body, digests = attacks.secrets_times_salts(size << 10)
+
+            def once(body=body):
+                report, seconds = registry.cost(registry.post, body)
+                expect(b"added" in report, False, "whether a stranger's mntner was added")
+                return seconds
+
+            most = 0.1 + digests * 0.6e-6
+            seconds = least(most, once)
+            at_most(seconds, most, f"{size} KB")
+            table.append(f"{size} KB {seconds:.2f} s")
+    return ", ".join(table)
+
+
+@case("items times lines of auth")
+def items_times_lines(trial):
+    """An item that names maintainers with many lines, once they were tried, takes a thirtieth of
+    what it took in 1.0.0, as CHANGELOG.md says."""
+    count, most = trial.pick(1_000, 4_000), 4.45 / 30
+
+    def cost(name, lines):
+        with Registry(trial, made(trial, name)) as registry:
+            registry.register(*attacks.many_lined(15, lines))
+            body = attacks.refused_items(count)
+
+            def once():
+                report, seconds = registry.cost(registry.post, body)
+                expect(report.count(b"refused E11"), count, "how many items were refused")
+                return seconds / count * 1e3
+
+            return least(most, once)
+
+    one, many = cost("lines1", 1), cost("lines750", 750)
+    at_most(
+        many,
+        most,
+        f"an item with 15 maintainers of 750 lines, where it takes {one:.3f} ms with one",
+        "ms",
+    )
+    return f"{many:.3f} ms an item at 15 maintainers of 750 lines, {one:.3f} at such of one"
+
+
+def walk(trial, sets, limit, most):
+    bodies = attacks.ring(sets, limit, attacks.OPERATORS)
+    with Registry(trial, made(trial, f"ring{sets}-{limit}", limit=limit)) as registry:
+        registry.register(attacks.stranger(), *bodies)
+
+        def once():
+            reply, seconds = registry.cost(registry.whois, "prefixes RS-0")
+            expect(
+                reply[:1] not in (b"", b"%"),
+                True,
+                f"whether ranges are answered, and not {reply[:30]!r}",
+            )
+            return seconds
+
+        seconds = least(most, once)
+    at_most(
+        seconds,
+        most,
+        (
+            f"{sets} sets that name one another under {len(attacks.OPERATORS)} operators, limit"
+            f" {limit}"
+        ),
+    )
+    return f"{sum(map(len, bodies)):,} bytes make a query of 15 bytes take {seconds:.2f} s"
+
+
+@case("references times pairs, limit 100,000")
+def ring_of_16(trial):
+    return walk(trial, 16, 100_000, 11.8 / 20)
+
+
+@case("references times pairs, limit 10,000")
+def ring_of_90(trial):
+    return walk(trial, 90, 10_000, 5.4 / 20)
+
+
+@case("peers that ask and go")
+def gone(trial):
+    """What was asked is computed all the same: the next peer waits for it."""
+    with Registry(trial, made(trial, "gone")) as registry:
+        registry.register(attacks.stranger(), *attacks.ring(16, 10_000, attacks.OPERATORS))
+
+        def asked():
+            for _ in range(5):
+                with contextlib.closing(registry.connect()) as peer:
+                    peer.sendall(b"prefixes RS-0\r\n")
+            registry.whois("ROOT-MNT")
+
+        worked = least(0.5, lambda: registry.cost(asked)[1])
+    at_most(worked, 0.5, "what the registry works before the next one is answered")
+    return (
+        f"after 5 peers that asked for the dearest expansion the registry works {worked:.2f} s"
+        " before the next one is answered"
+    )
+
+
+@case("guesses at a password")
+def guessed(trial):
+    """Without the door: nothing is changed, and what is answered tells whether one of the passwords
+    is right."""
+    count = 74_000
+    with Registry(trial, made(trial, "guesses")) as registry:
+        before = registry.whois("inverse mnt ROOT-MNT")
+        report, seconds = registry.cost(registry.post, attacks.guesses(count))
+        expect(report, b"1 mntner ROOT-MNT: refused E11\n% items 1\n", "where none is right")
+        report = registry.post(attacks.guesses(count, count - 5))
+        expect(report, b"1 mntner ROOT-MNT: refused E17\n% items 1\n", "where one is right")
+        expect(registry.whois("inverse mnt ROOT-MNT"), before, "what the root maintains")
+    return f"{count:,} tries in {seconds:.2f} s of the processor"
+
+
+# Memory.
+
+
+@case("memory of a paragraph of short lines")
+def crumbled(trial):
+    """A stored paragraph of lines like `a:b` takes at most 10 times its bytes."""
+    with Registry(trial, made(trial, "crumbs")) as registry:
+        registry.register(attacks.stranger(), attacks.crumbs_in("A"))
+        before, bodies = registry.resident(), [attacks.crumbs_in(mark) for mark in "BCD"]
+        registry.register(*bodies)
+        times = (registry.resident() - before) / sum(map(len, bodies))
+    at_most(times, 10, "the bytes in memory for each byte stored", "times")
+    return f"{times:.1f} times its bytes"
+
+
+def mixed(count):
+    """A dump of so many objects: of 100, 1 is a maintainer, 9 are aut-nums, 30 inetnums and 60
+    routes."""
+    parts = [ROOT]
+    for hundred in range(count // 100):
+        holder = f"H{hundred}-MNT"
+
+        def add(first, *lines, holder=holder):
+            parts.append(owned(first, *lines, maintainer=holder))
+
+        add(f"mntner: {holder}", f"auth: SHA256-PW a:{DIGEST}")
+        for n in range(9):
+            add(f"aut-num: AS{100_000 + 9 * hundred + n}", f"as-name: NETWORK{n}")
+        for n in range(30):
+            at = 30 * hundred + n
+            add(f"inetnum: 10.{at >> 8}.{at & 255}.0/24", f"netname: NETWORK{n}")
+        for n in range(60):
+            at = 60 * hundred + n
+            add(
+                f"route: 10.{at >> 9}.{at >> 1 & 255}.{(at & 1) << 7}/25",
+                f"origin: AS{100_000 + 9 * hundred + n % 9}",
+            )
+    return "".join(parts)
+
+
+@case("memory of an object")
+def weighed(trial):
+    """An object takes at most 900 bytes beside its canonical text."""
+    sizes, texts = [], []
+    counts = trial.pick([10_000, 30_000], [20_000, 200_000])
+    for count in counts:
+        folder = made(trial, f"objects{count}", dump=mixed(count))
+        ran = trial.run(folder, "dump", "s.toml", "--full", timeout=attacks.LONGEST)
+        texts.append(len(ran.printed))
+        with Registry(trial, folder) as registry:
+            sizes.append(registry.resident())
+    beside = (sizes[1] - sizes[0] - texts[1] + texts[0]) / (counts[1] - counts[0])
+    at_most(beside, 900, "the bytes of an object beside its text", "bytes")
+    return f"{beside:.0f} bytes beside its text"
+
+
+@case("opened within the memory that served it")
+def reopened(trial):
+    """Under each limit, a registry that took submissions until memory ran out is opened again
+    within a tenth more."""
+    told = []
+    for limit in trial.pick([64, 96], range(48, 400, 32)):
+        folder, count = made(trial, f"filled{limit}"), 0
+        with (
+            contextlib.suppress(Failure, OSError),
+            Registry(trial, folder, *within(limit << 20)) as registry,
+        ):
+            registry.register(attacks.stranger())
+            while count < 1_000:
+                registry.register(attacks.crumbs_in(f"{count}-", 200_000))
+                count += 1
+        expect(0 < count < 1_000, True, f"whether {count} submissions fill {limit} MB")
+        needed = next(
+            percent
+            for percent in range(60, 400, 10)
+            if opens(trial, folder, limit * percent << 20, count)
+        )
+        at_most(
+            needed / 100,
+            1.1,
+            f"filled under {limit} MB by {count} submissions it is opened within",
+            "times that",
+        )
+        told.append(f"{limit} MB: {needed} %")
+    return f"what opening takes of the limit under which it was filled: {', '.join(told)}"
+
+
+def within(memory):
+    return ["prlimit", f"--as={memory}"]
+
+
+def opens(trial, folder, hundredths, count):
+    """Whether a registry is opened in this memory, with what the last submission that was taken put
+    into it."""
+    copy = os.path.join(trial.work, f"copy{time.monotonic_ns()}")
+    subprocess.run(["cp", "-r", folder, copy], check=True)
+    try:
+        with Registry(trial, copy, *within(hundredths // 100)) as registry:
+            return registry.whois(f"AS-T{count - 1}-X0")[:6] == b"as-set"
+    except (Failure, OSError):
+        return False
+
+
+# What is stored.
+
+
+@case("files are their owner's alone")
+def modes(trial):
+    """`init`, `load` and `migrate` make what nobody else can read, whatever the umask; the log of
+    an older file is not widened."""
+    folder = trial.place("modes")
+
+    def run(*words, umask=0):
+        made_by = subprocess.run(
+            [trial.program, *words],
+            cwd=folder,
+            capture_output=True,
+            umask=umask,
+            timeout=60,
+            check=False,
+        )
+        expect((made_by.returncode, made_by.stderr), (0, b""), " ".join(words))
+
+    def others(name):
+        paths = [os.path.join(folder, path) for path in os.listdir(folder) if path.startswith(name)]
+        return [path for path in paths if stat.S_IMODE(os.stat(path).st_mode) & 0o77]
+
+    write(folder, "dump.rpsl", ROOT.encode())
+    for name in ["init.db", "load.db"]:
+        write_settings(folder, store=name)
+        run(name[:4], "s.toml", *(["dump.rpsl"] if name == "load.db" else []))
+        expect(others(name), [], f"what others may read after {name[:4]}")
+    subprocess.run(
+        ["sqlite3", "old.db"],
+        cwd=folder,
+        stdin=open(os.path.join(TOP, "examples", "version1.sql"), "rb"),
+        check=True,
+    )
+    os.chmod(os.path.join(folder, "old.db"), 0o600)
+    write_settings(folder, store="old.db")
+    run("migrate", "s.toml")
+    expect(others("old.db"), [], "what others may read after migrate")
+    return "init, load and migrate under umask 0"
+
+
+PRESSED = r"LC_ALL=C sed -E 's/^([a-z][a-z0-9_-]*:) +/\1/; s/^ {16}/ /' full.rpsl > small.rpsl"
+
+
+@case("a full dump that can't be loaded")
+def pressed(trial):
+    """One object whose canonical text is too long for a paragraph: `sed` takes out blanks that say
+    nothing, and the dump is loaded. An object of 65,536 bytes without its last line feed stays too
+    long by one."""
+    folder = made(trial, "pressed")
+    with Registry(trial, folder) as registry:
+        registry.register(attacks.stranger(), PASSWORD + attacks.crumbs("AS-LONG"))
+    loaded = load_pressed(trial, folder)
+    expect(
+        loaded,
+        (5, 0, True),
+        "load of the dump, of the pressed dump, and whether the registry is the same",
+    )
+    with Registry(trial, folder) as registry:
+        text = attacks.crumbs("AS-EDGE").rstrip("\n")
+        registry.register(PASSWORD + text + "b" * (attacks.MOST_PARAGRAPH - len(text)))
+    expect(
+        load_pressed(trial, folder)[:2], (5, 5), "load of both with an object of just 65,536 bytes"
+    )
+    return "loaded after sed; the object of just 65,536 bytes stays"
+
+
+def load_pressed(trial, folder):
+    """The statuses of `load` for a full dump, as it is and pressed, and whether what was loaded of
+    the second is the registry."""
+    full = trial.run(folder, "dump", "s.toml", "--full", timeout=60).printed
+    write(folder, "full.rpsl", full)
+    subprocess.run(PRESSED, shell=True, cwd=folder, check=True)
+    statuses = []
+    for name in ["full", "small"]:
+        with contextlib.suppress(FileNotFoundError):
+            os.remove(os.path.join(folder, f"{name}.db"))
+        write_settings(folder, store=f"{name}.db", name=f"{name}.toml")
+        statuses.append(
+            trial.run(folder, "load", f"{name}.toml", f"{name}.rpsl", timeout=60).status
+        )
+    same = (
+        statuses[1] == 0
+        and trial.run(folder, "dump", "small.toml", "--full", timeout=60).printed == full
+    )
+    return *statuses, same
+
+
+@case("members by reference, names of one component, and mnt-lower")
+def joined(trial):
+    """What anybody may do to a set of somebody else: the text of each set stays, what it expands to
+    does not."""
+    mine, holder = "password: mine\n\n", "A-MNT"
+    objects = [
+        owned("aut-num:AS64496", maintainer=holder),
+        owned("aut-num:AS64511"),
+        owned(
+            "as-set:AS64496:AS-REFERRED",
+            "members:AS64496",
+            f"mbrs-by-ref:{holder}",
+            maintainer=holder,
+        ),
+        owned("as-set:AS64496:AS-LISTED", "members:AS64496", maintainer=holder),
+        owned("route-set:AS64496:RS-OUT", "members:RS-PARTNER", maintainer=holder),
+    ]
+    joins = [
+        owned(
+            "aut-num:AS64511",
+            "member-of:AS64496:AS-REFERRED,AS64496:AS-LISTED",
+            maintainer=f"E-MNT,{holder}",
+        ),
+        owned("route-set:RS-PARTNER", "members:0.0.0.0/0^0-32"),
+        owned("as-set:AS-JUNK", f"mnt-lower:{holder}"),
+    ]
+    with Registry(trial, made(trial, "joined")) as registry:
+
+        def texts():
+            return [
+                registry.whois(name)
+                for name in ("AS64496:AS-REFERRED", "AS64496:AS-LISTED", "AS64496:RS-OUT")
+            ]
+
+        registry.register(
+            attacks.stranger(),
+            mine + owned(f"mntner:{holder}", f"auth:{attacks.auth('mine')}", maintainer=holder),
+            "password: bc\n\n" + mine + PASSWORD + "".join(objects),
+        )
+        before = texts()
+        registry.register(*(PASSWORD + text for text in joins))
+        expect(
+            registry.whois("expand AS64496:AS-REFERRED"),
+            b"AS64496\nAS64511\n",
+            "a set that takes members by reference",
+        )
+        expect(
+            registry.whois("expand AS64496:AS-LISTED"), b"AS64496\n", "a set that lists its members"
+        )
+        expect(
+            registry.whois("prefixes AS64496:RS-OUT"),
+            b"0.0.0.0/0^+\n",
+            "a set that lists a name of one component",
+        )
+        expect(texts(), before, "the texts of the sets")
+        refused = registry.post(mine + f"as-set:AS-JUNK\ndelete:x\n\nmntner:{holder}\ndelete:x\n")
+        expect(
+            refused,
+            b"1 as-set AS-JUNK: refused E11\n2 mntner A-MNT: refused E17\n% items 2\n",
+            "a mntner that others name",
+        )
+    return "joined by reference and by a name of one component; not by name"
+
+
+# Peers that wait, asked directly: what a proxy in front is for.
+
+
+def held(trial, text, most, closes=False, drips=False):
+    """How long another peer waits after one that sent this, which has to be at most so long; a
+    second of that is the machine's, and more where it is slower."""
+    most += pace(time.monotonic) - 1
+    with (
+        Registry(trial, made(trial, f"held{time.monotonic_ns()}")) as registry,
+        contextlib.closing(registry.connect()) as peer,
+    ):
+        peer.sendall(text)
+        if closes:
+            read_all(peer)
+        stop = threading.Event()
+        if drips:
+            threading.Thread(target=drip, args=(peer, stop), daemon=True).start()
+        time.sleep(0.2)
+        start = time.monotonic()
+        registry.whois("ROOT-MNT")
+        waited = time.monotonic() - start
+        stop.set()
+    at_most(waited, most, f"after {text[:20]!r} the next peer waits")
+    return f"the next peer waits {waited:.1f} s"
+
+
+def drip(peer, stop):
+    with contextlib.suppress(OSError):
+        while not stop.wait(5):
+            peer.sendall(b"a")
+
+
+@case("a silent peer, directly")
+def silent(trial):
+    return held(trial, b"", 12)
+
+
+@case("a peer that was answered and does not close, directly")
+def lingering(trial):
+    return held(trial, b"ROOT-MNT\r\n", 2, closes=True)
+
+
+@case("a peer that begins TLS, directly", is_long=True)
+def hello(trial):
+    return held(trial, bytes.fromhex("1603010040") + b"\x01" * 64, 12)
+
+
+@case("a dripping submission, directly", is_long=True)
+def dripping(trial):
+    return held(trial, b"POST /submissions HTTP/1.1\r\nContent-Length: 100\r\n\r\n", 65, drips=True)
+
+
+# What stands round the program.
+
+
+@case("the check restarts only what a restart mends")
+def checked(trial):
+    check = os.path.join(TOP, "units", "irrdesk-check")
+
+    def status(url, *more):
+        ran = subprocess.run(
+            [check, url, *more], capture_output=True, text=True, timeout=60, check=False
+        )
+        expect(bool(ran.stdout), ran.returncode != 0, "whether it says what it saw")
+        return ran.returncode
+
+    folder = made(trial, "checked")
+    with Registry(trial, folder) as registry:
+        url, place = (
+            f"http://127.0.0.1:{registry.port}/query/ROOT-MNT",
+            f"127.0.0.1:{registry.port}",
+        )
+        expect(status(url), 0, "a registry that answers")
+        expect(status(f"http://{place}/nothing"), 3, "another server's answer")
+        expect(status(url, "127.0.0.1:1"), 2, "a door that does not listen")
+        for word, wanted in ("well", 0), ("in part", 3), ("DOWN", 3):
+            with told(b"HTTP/1.0 200 OK\r\n\r\n%s: TEST\nwhy\n" % word.encode()) as door:
+                expect(status(url, door), wanted, f"a door that says `{word}`")
+        with told(b"HTTP/1.0 200 OK\r\n\r\nwell: TEST\n") as door:
+            for fault, wanted in ("", 0), ("x: other objects", 3):
+                with told(b'{"replicas": [], "fault": "%s"}\n' % fault.encode()) as agent:
+                    expect(status(url, door, "5", agent), wanted, f"an agent that says `{fault}`")
+            expect(status(url, door, "5", "127.0.0.1:1"), 3, "an agent that does not listen")
+        with contextlib.closing(registry.connect()):
+            expect(status(url, "", "2"), 1, "a registry that does not answer")
+    expect(status(url), 3, "a refused connection")
+    with Registry(trial, folder, "env", "--ignore-signal=XFSZ") as registry:
+        registry.register(attacks.stranger())
+        size = os.path.getsize(os.path.join(folder, "irr.db-wal"))
+        subprocess.run(["prlimit", f"--pid={registry.process.pid}", f"--fsize={size}"], check=True)
+        reply = registry.post(attacks.crumbs_in("X"))
+        expect(b"refused E91" in reply, True, "whether the database failed")
+        expect(
+            status(f"http://127.0.0.1:{registry.port}/query/ROOT-MNT"),
+            1,
+            "a registry whose database failed",
+        )
+    return "13 states"
+
+
+@contextlib.contextmanager
+def told(text):
+    """The place of a server that says this to whoever asks, while the block runs."""
+    listener = socket.create_server(("127.0.0.1", 0))
+
+    def serve():
+        with contextlib.suppress(OSError):
+            while True:
+                peer, _ = listener.accept()
+                with peer:
+                    peer.recv(4_096)
+                    peer.sendall(text)
+
+    threading.Thread(target=serve, daemon=True).start()
+    with listener:
+        yield f"127.0.0.1:{listener.getsockname()[1]}"

@@ -1,0 +1,1 @@
+"""A whole machine: systemd, timers, power cuts."""

@@ -1,0 +1,114 @@
+"""The package, its units and a registry in a whole machine: Debian with systemd, which qemu runs,
+and beside it some whose power is cut. The disk is made by debootstrap once, in out/machine or the
+folder of --image, and each run works on copies. With --container the same systemd runs in
+namespaces of this system's kernel: that is quick, and no power can be cut. The checks go on one
+after the other in one machine."""
+
+import os
+
+import pytest
+
+from checks.machine import guest
+from checks.machine.contained import Contained
+from checks.machine.outages import Fleet
+from checks.machine.sandbox import Sandbox
+from checks.machine.service import Service
+from checks.machine.timers import Timers
+from checks.package.packages import make_release, no_error
+from checks.running import TOP
+
+# It takes all of the machine.
+pytestmark = pytest.mark.alone
+IN_MEMORY = 4 << 30
+LONG = pytest.mark.long
+# What is done in the machine, in this order.
+STEPS = [
+    pytest.param("service", "boot", id="a boot"),
+    pytest.param("service", "installed", id="apt install"),
+    pytest.param("service", "removed_empty", id="a purge without a registry"),
+    pytest.param("service", "upgraded", id="an upgrade of what is served"),
+    pytest.param("service", "served", id="whois, HTTP and a submission"),
+    pytest.param("service", "stopped_midway", id="a restart in mid-submission"),
+    pytest.param("service", "counted", id="the end of the count"),
+    pytest.param("service", "wrong_settings", id="wrong settings"),
+    pytest.param("service", "held", id="a database that another process has"),
+    pytest.param("service", "disk_full", id="a full disk and the check"),
+    pytest.param("service", "checked", id="the timer of the check"),
+    pytest.param("service", "door", id="the door and 64 clients"),
+    pytest.param("service", "analysed", id="systemd-analyze"),
+    pytest.param("service", "rebooted", id="a reboot"),
+    pytest.param("sandbox", "outside", id="outside the sandbox", marks=LONG),
+    pytest.param("sandbox", "inside", id="inside the sandbox", marks=LONG),
+    pytest.param("timers", "dumped", id="the dump by its timer", marks=LONG),
+    pytest.param("timers", "backup", id="a backup by its timer", marks=LONG),
+    pytest.param("timers", "history", id="the history by its timer", marks=LONG),
+    pytest.param("timers", "mirror", id="replicas", marks=LONG),
+    pytest.param("timers", "filters", id="filters by their timer", marks=LONG),
+    pytest.param("timers", "untouched", id="what all this left", marks=LONG),
+    pytest.param("service", "taken_away", id="a removal, a purge and a new installation"),
+]
+
+
+@pytest.fixture(scope="module")
+def options(pytestconfig):
+    """The options of a run, if this system can run the machine in time."""
+    given = pytestconfig.option
+    if lacking := guest.lacking(given.container):
+        pytest.skip(lacking)
+    if not given.long and not given.count and len(os.sched_getaffinity(0)) < 4:
+        pytest.skip("with fewer than four processors it takes half an hour: give it --count 5")
+    return given
+
+
+@pytest.fixture(scope="module")
+def package(trial, options):
+    return make_release(trial.program, trial.place("package"))
+
+
+@pytest.fixture(scope="module")
+def image(options):
+    """The machine's disk."""
+    made = guest.Image(options.image or os.path.join(TOP, "out", "machine"))
+    made.told = made.make()
+    return made
+
+
+@pytest.fixture(scope="module")
+def fleet(trial, options, image, package):
+    """Machines whose power is cut meanwhile; none in a container."""
+    if options.container:
+        yield None
+        return
+    made = Fleet(trial, image, package, trial.pick(2, 1), trial.count or trial.pick(5, 100))
+    yield made
+    made.end()
+
+
+@pytest.fixture(scope="module")
+def parts(trial, options, image, package, fleet):
+    """The machine, and what is looked at in it."""
+    kind = Contained if options.container else guest.Guest
+    service = Service(trial, image, package, kind)
+    yield {"service": service, "sandbox": Sandbox(service), "timers": Timers(service)}
+    service.end()
+
+
+def test_lintian_finds_no_error_in_the_package(package, tell):
+    tell(no_error(package))
+
+
+def test_the_disk_of_the_machine_is_made(image, tell):
+    tell(image.told)
+
+
+@pytest.mark.parametrize("part, step", STEPS)
+def test_the_machine_does_as_it_should(parts, part, step, tell):
+    if step != "boot" and parts["service"].guest is None:
+        pytest.fail("there is no machine, because it did not boot")
+    tell(getattr(parts[part], step)())
+
+
+def test_what_was_told_stands_after_the_power_was_cut(fleet, tell):
+    if fleet is None:
+        pytest.skip("a container has no power")
+    tell(fleet.seen())

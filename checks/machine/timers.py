@@ -1,0 +1,145 @@
+"""What runs beside a registry by timers and sockets of its package, once round in one machine."""
+
+from checks.machine.service import AS_OWNER, SETTINGS, TRIGGERED
+from checks.running import expect
+from checks.sums import sum_of
+
+# The example's filter, of an AS that the registry has; its number is one for documentation, which
+# bgpq4 takes with -p.
+FILTERS = (
+    "sed -i 's/bgpq4 /bgpq4 -p /; s/ AS64496:AS-CUSTOMERS/ AS64496/' /etc/irrdesk/filters.toml"
+)
+SOON = "/run/systemd/system/irrdesk-backup.timer.d"
+
+
+class Timers:
+    """The units of the package that are started by a timer, or beside the server."""
+
+    def __init__(self, service):
+        self.service = service
+
+    def ran(self, unit):
+        """That a timer had its unit run, and with success."""
+        guest = self.service.guest
+        guest.until(TRIGGERED.format(unit), f"that the timer runs {unit}", seconds=400)
+        ended = (
+            f"systemctl show --property=ActiveState --value {unit} | grep -qx -e inactive -e failed"
+        )
+        guest.until(ended, f"the end of {unit}", seconds=600)
+        expect(
+            self.service.show(unit, "Result"),
+            "success",
+            f"{unit}: {self.service.journal(unit)[-400:]}",
+        )
+
+    def backup(self):
+        """A backup by its timer, at the next minute and not in the night, while the registry is
+        served."""
+        service, guest = self.service, self.service.guest
+        wanted = service.full_dump()
+        guest.done(
+            (
+                f"mkdir {SOON}; cat > {SOON}/trial.conf; systemctl daemon-reload; systemctl enable"
+                " --now irrdesk-backup.timer"
+            ),
+            given=b"[Timer]\nOnCalendar=\nOnCalendar=minutely\nRandomizedDelaySec=0\n",
+        )
+        self.ran("irrdesk-backup")
+        guest.done("systemctl stop irrdesk-backup.timer")
+        place = guest.done("ls -d /var/lib/irrdesk-backup/2* | head -n 1").strip()
+        expect(
+            guest.done(f"sqlite3 {place}/irr.db 'PRAGMA integrity_check'").strip(),
+            "ok",
+            "what sqlite3 says",
+        )
+        expect(
+            guest.done(f"cat {place}/dump.rpsl").encode("latin-1"), wanted, "the dump of the backup"
+        )
+        expect(
+            guest.done(f"stat -c '%U %a' {place} {place}/irr.db").split(),
+            ["irrdesk", "700", "irrdesk", "600"],
+            "who may read it",
+        )
+        service.serves("after the backup")
+        return f"{len(wanted)} bytes of dump"
+
+    def dumped(self):
+        service, guest = self.service, self.service.guest
+        guest.done("systemctl enable --now irrdesk-dump.timer")
+        self.ran("irrdesk-dump")
+        expect(
+            guest.done("cat /var/cache/irrdesk/dump").encode("latin-1") == service.dump(),
+            True,
+            "whether the file is the dump",
+        )
+        return "the dump as a file"
+
+    def history(self):
+        guest = self.service.guest
+        guest.done("systemctl enable --now irrdesk-history.timer")
+        self.ran("irrdesk-history")
+        commits = guest.done(
+            f"{AS_OWNER} git -C /var/lib/irrdesk-history log --oneline"
+        ).splitlines()
+        shown = guest.done("irr history show mntner ROOT-MNT", seconds=120)
+        expect((len(commits), "mntner:         ROOT-MNT" in shown), (1, True), "the history")
+        return commits[0]
+
+    def mirror(self):
+        """Replicas, which go on while the registry is stopped."""
+        service, guest = self.service, self.service.guest
+        wanted = service.dump()
+        guest.done("systemctl enable --now irrdesk-mirror")
+        ports = guest.done(
+            "systemctl cat irrdesk-mirror | grep -o -e '--port [0-9]*' | cut -d ' ' -f 2"
+        ).split()
+        for port in ports:
+            guest.until(
+                f"curl --silent --fail http://127.0.0.1:{port}/query/ROOT-MNT",
+                f"the replica at {port}",
+            )
+        guest.done("systemctl stop irrdesk")
+        for port in ports:
+            expect(
+                guest.done(f"curl --silent http://127.0.0.1:{port}/dump").encode("latin-1")
+                == wanted,
+                True,
+                f"the dump of {port}",
+            )
+        guest.done("systemctl start irrdesk")
+        service.serves("after the replicas")
+        return f"ports {' and '.join(ports)}"
+
+    def filters(self):
+        """Filters by bgpq4, through the door, while the replicas are there too."""
+        service, guest = self.service, self.service.guest
+        guest.done(
+            "cp /usr/share/doc/irrdesk/examples/filters.toml /etc/irrdesk; chmod 644"
+            f" /etc/irrdesk/filters.toml; {FILTERS}"
+        )
+        guest.done(
+            "systemctl enable --now irrdesk-door.socket irrdesk-door.service irrdesk-filter.timer"
+        )
+        self.ran("irrdesk-filter")
+        made = guest.done("cat /var/lib/irrdesk-filters/customers.conf")
+        expect("192.0.2.0/24" in made, True, f"whether the filter has the route: {made}")
+        expect(
+            service.show("irrdesk-mirror", "NRestarts"),
+            "0",
+            "how often the replicas were started again",
+        )
+        return f"{len(made.splitlines())} lines for BIRD"
+
+    def untouched(self):
+        """That nothing of all this changed the registry, or failed."""
+        service, guest = self.service, self.service.guest
+        expect(
+            sum_of(service.full_dump()), sum_of(service.registry.dump()), "the registry in the end"
+        )
+        expect(guest.ended("systemctl --failed --plain --no-legend").printed, "", "what has failed")
+        expect(
+            guest.done(f"{AS_OWNER} test ! -w {SETTINGS} && echo kept").strip(),
+            "kept",
+            "the settings",
+        )
+        return "the registry is as it was"

@@ -1,0 +1,1 @@
+"""The package, what is installed, and releases."""

@@ -1,0 +1,98 @@
+"""Debian packages of the program: the one of dist/ if it is of these sources, or one that is made
+for a trial."""
+import os
+import re
+import shutil
+import subprocess
+
+from irr import VERSION
+
+from checks.running import TOP, Failure, Skipped, expect, short
+
+DIST = os.path.join(TOP, "dist")
+
+
+def record(path):
+    with open(path, encoding="utf-8") as opened:
+        return dict(line.rstrip("\n").split(": ", 1) for line in opened)
+
+
+def package_of(folder):
+    return os.path.join(
+        folder, f"irrdesk_{record(os.path.join(folder, 'PROOF'))['Version']}_amd64.deb"
+    )
+
+
+def is_released(program):
+    """Whether the release in dist/ has this program, and is of these sources and of this tool."""
+    sources = subprocess.run(
+        [f"{TOP}/scripts/sources"], stdout=subprocess.PIPE, text=True, check=True
+    ).stdout.strip()
+    digest = subprocess.run(
+        ["sha256sum", program], stdout=subprocess.PIPE, text=True, check=True
+    ).stdout.split()[0]
+    proof = os.path.join(DIST, "PROOF")
+    found = record(proof) if os.path.exists(proof) else {}
+    wanted = {"Sources": sources, "Program": digest, "Version": VERSION}
+    return {key: found.get(key) for key in wanted} == wanted
+
+
+def make_release(program, folder):
+    made = subprocess.run(
+        [f"{TOP}/scripts/release", "--try", program, folder],
+        capture_output=True,
+        text=True,
+        check=False,
+    )
+    if made.returncode:
+        raise Failure(short(made.stderr))
+    return made.stdout.strip()
+
+
+def older_package(package, folder):
+    """The same package as of a version before, which differs in its program's file and in the
+    description of a unit."""
+    root = os.path.join(folder, "older")
+    subprocess.run(["dpkg-deb", "-R", package, root], check=True)
+    change(f"{root}/DEBIAN/control", r"(?m)^Version: (.*)$", r"Version: \1~before")
+    change(
+        f"{root}/usr/lib/systemd/system/irrdesk.service",
+        r"(?m)^Description=.*$",
+        "Description=as it was before",
+    )
+    with open(f"{root}/usr/bin/irrdesk", "ab") as out:
+        out.write(b"\n")
+    made = os.path.join(folder, "irrdesk_before_amd64.deb")
+    subprocess.run(
+        ["dpkg-deb", "--root-owner-group", "-Zgzip", "--build", root, made],
+        stdout=subprocess.DEVNULL,
+        check=True,
+    )
+    shutil.rmtree(root)
+    return made
+
+
+def change(path, pattern, words):
+    with open(path, encoding="utf-8") as opened:
+        text, count = re.subn(pattern, words, opened.read())
+    expect(count, 1, f"how often {pattern} stands in {path}")
+    with open(path, "w", encoding="utf-8") as out:
+        out.write(text)
+
+
+def no_error(package):
+    """That lintian finds no error in a package; warnings are told."""
+    if shutil.which("lintian") is None:
+        raise Skipped("lintian is not there")
+    made = subprocess.run(
+        ["lintian", "--allow-root", "--fail-on=error", package],
+        capture_output=True,
+        text=True,
+        check=False,
+    )
+    found = {
+        word: [line[3:] for line in made.stdout.splitlines() if line.startswith(f"{word}:")]
+        for word in "EW"
+    }
+    expect((made.returncode, found["E"]), (0, []), "what lintian finds")
+    return f"no error; warnings: {', '.join(found['W']) or 'none'}"

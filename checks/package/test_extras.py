@@ -1,0 +1,258 @@
+"""What stands round the program: the manual, scripts/install, and the units."""
+
+import contextlib
+import os
+import re
+import shutil
+import socket
+import subprocess
+
+import pytest
+
+from checks.running import TOP, Failure, expect, short, write, write_settings
+from checks.serving import free_port, read_all
+from checks.texts import item
+
+SECONDS = 50
+
+
+MANUAL = os.path.join(TOP, "man", "irrdesk.1")
+UNITS = os.path.join(TOP, "units")
+LIMIT = 10_000
+NOBODY = 65_534
+
+
+def done(command, **options):
+    """What a command prints that has to end with status 0."""
+    made = subprocess.run(
+        command, capture_output=True, text=True, timeout=120, check=False, **options
+    )
+    if made.returncode:
+        raise Failure(f"{command[0]}: status {made.returncode}, {short(made.stdout + made.stderr)}")
+    return made.stdout
+
+
+def working(*commands):
+    """Skips a check where one of these commands is not there, or may not do its work."""
+
+    def works(command):
+        if shutil.which(command[0]) is None:
+            return False
+        return subprocess.run(command, capture_output=True, check=False).returncode == 0
+
+    missing = [command[0] for command in commands if not works(command)]
+    return pytest.mark.skipif(bool(missing), reason=f"{' and '.join(missing)} does not work here")
+
+
+systemd = working(["systemd-analyze", "syscall-filter"])
+limiting = working(["strace", "-o", "/dev/null", "true"], ["setpriv", "true"], ["prlimit", "true"])
+
+
+# The manual.
+
+
+def test_mandoc_finds_nothing_in_the_manual(tell):
+    """That mandoc and groff find no fault in any page; which pages of others the index of manuals
+    lacks doesn't matter."""
+    pages = sorted(os.listdir(os.path.dirname(MANUAL)))
+    for name in pages:
+        path = os.path.join(os.path.dirname(MANUAL), name)
+        for command in ["mandoc", "-Tlint", path], ["groff", "-ww", "-mdoc", "-Tutf8", "-z", path]:
+            if shutil.which(command[0]):
+                made = subprocess.run(
+                    command, capture_output=True, text=True, timeout=60, check=False
+                )
+                told = [
+                    line
+                    for line in (made.stdout + made.stderr).splitlines()
+                    if "mandoc.db" not in line and "referenced manual not found" not in line
+                ]
+                expect(told, [], f"what {command[0]} says of {name}")
+    tell(f"mandoc -Tlint and groff of {len(pages)} pages")
+
+
+def test_the_manual_and_the_help_say_the_same(trial, tell):
+    """That the manual and the help name the same commands, and the manual each status."""
+    with open(MANUAL, encoding="ascii") as opened:
+        manual = opened.read()
+    listed = done([trial.program, "--help"]).partition("Commands:\n")[2].partition("\n\n")[0]
+    commands = set(re.findall(r"^  ([a-z]+) ", listed, re.MULTILINE)) - {"help"}
+    expect(
+        set(re.findall(r"^\.It Cm ([a-z]+) Ar settings", manual, re.MULTILINE)),
+        commands,
+        "the commands",
+    )
+    expect(re.findall(r"^\.It ([0-9])$", manual, re.MULTILINE), list("012345"), "the statuses")
+    tell(f"{len(commands)} commands")
+
+
+# scripts/install.
+
+
+def tree(folder):
+    return sorted(
+        os.path.relpath(os.path.join(path, name), folder)
+        for path, folders, names in os.walk(folder)
+        for name in [*folders, *names]
+    )
+
+
+def test_what_is_installed_works_and_is_taken_away_again(trial, tell):
+    """That what is put in place works from there, and is taken away to the last folder, and nothing
+    else."""
+    prefix, script = trial.place("prefix"), os.path.join(TOP, "scripts", "install")
+    os.makedirs(os.path.join(prefix, "share", "man"))
+    write(prefix, "bystander", b"kept\n")
+    before = tree(prefix)
+    for _ in range(2):
+        done([script, prefix, trial.program])
+    expect(
+        done([os.path.join(prefix, "bin", "irrdesk"), "--version"]),
+        done([trial.program, "--version"]),
+        "the version",
+    )
+    expect(
+        done([os.path.join(prefix, "bin", "irr"), "--help"]).splitlines()[0],
+        "usage: irr COMMAND [WORD ...]",
+        "the help of irr",
+    )
+    for shell, path in [
+        ("bash", "bash-completion/completions/irr"),
+        ("fish", "fish/vendor_completions.d/irr.fish"),
+        ("zsh", "zsh/site-functions/_irr"),
+    ]:
+        with open(os.path.join(prefix, "share", path), encoding="utf-8") as file:
+            expect(
+                file.read(),
+                done([os.path.join(prefix, "bin", "irr"), "completion", shell]),
+                f"what {shell} completes by",
+            )
+    count = len(tree(prefix))
+    done([script, "--undo", prefix])
+    expect(tree(prefix), before, "what is left")
+    again = subprocess.run([script, "--undo", prefix], capture_output=True, text=True, check=False)
+    expect(
+        (again.returncode, again.stderr),
+        (1, f"install: nothing is installed in {prefix}\n"),
+        "undone once more",
+    )
+    tell(f"{count} files and folders")
+
+
+# Units.
+
+
+@systemd
+def test_systemd_finds_no_fault_in_the_units(trial, tell):
+    """That systemd-analyze accepts the units, the programs that they start being in place."""
+    folder = trial.place("units")
+    units = [
+        name
+        for name in sorted(os.listdir(UNITS))
+        if name.endswith((".service", ".socket", ".timer"))
+    ]
+    for name in units:
+        with open(os.path.join(UNITS, name), encoding="ascii") as opened:
+            text = opened.read()
+        for installed, here in [
+            ("/usr/bin/irrdesk", trial.program),
+            ("/usr/bin/irr ", f"{packed(trial)} "),
+            ("/usr/lib/irrdesk", UNITS),
+        ]:
+            text = text.replace(installed, here)
+        write(folder, name, text.encode())
+    made = subprocess.run(
+        ["systemd-analyze", "verify", "--man=no", *units],
+        cwd=folder,
+        capture_output=True,
+        text=True,
+        timeout=60,
+        check=False,
+    )
+    told = [line for line in made.stderr.splitlines() if any(name in line for name in units)]
+    expect((made.returncode, told), (0, []), "what systemd-analyze says")
+    tell(f"{len(units)} units")
+
+
+def allowed_calls():
+    """The system calls that the unit's filter lets through."""
+    groups = {}
+    for line in done(["systemd-analyze", "syscall-filter"]).splitlines():
+        line = re.sub(r"\x1b\[[0-9;]*m", "", line)
+        if line.startswith("@"):
+            groups[line.strip()] = calls = set()
+        elif line.strip() and not line.strip().startswith("#"):
+            calls.add(line.strip())
+
+    def calls_of(group):
+        return set().union(
+            *(calls_of(call) if call.startswith("@") else {call} for call in groups[group])
+        )
+
+    return calls_of("@default") | calls_of("@system-service") - calls_of("@privileged") - calls_of(
+        "@resources"
+    )
+
+
+def unit_lines(name):
+    with open(os.path.join(UNITS, name), encoding="ascii") as opened:
+        return dict(
+            line.rstrip("\n").split("=", 1) for line in opened if re.match(r"[A-Z]\w+=", line)
+        )
+
+
+@systemd
+@limiting
+def test_the_command_of_the_unit_does_within_its_limits(trial, tell):
+    """The unit's command, as a user without capabilities and within the unit's limits: what it asks
+    of the system is allowed."""
+    folder = trial.place("unit")
+    os.chmod(folder, 0o777)
+    program = shutil.copy(trial.program, os.path.join(folder, "irrdesk"))
+    os.chmod(program, 0o755)
+    port = free_port()
+    write_settings(folder, limit=LIMIT)
+    command = unit_lines("irrdesk.service")["ExecStart"].split()
+    command = [
+        {"/etc/irrdesk/irr.toml": "s.toml", "4343": str(port), "1000000": "3"}.get(word, word)
+        for word in command[1:]
+    ]
+    user = (
+        [f"--reuid={NOBODY}", f"--regid={NOBODY}", "--clear-groups", "--bounding-set=-all"]
+        if os.geteuid() == 0
+        else []
+    )
+    within = ["prlimit", "--core=0", "setpriv", "--no-new-privs", "--inh-caps=-all", *user]
+    done([*within, program, "init", "s.toml"], cwd=folder, umask=0o077)
+    seen = os.path.join(folder, "seen")
+    traced = [*within, "strace", "-f", "-o", seen, program, *command]
+    process = subprocess.Popen(
+        traced, cwd=folder, stdout=subprocess.PIPE, stderr=subprocess.PIPE, umask=0o077
+    )
+    try:
+        expect(process.stdout.readline(), b"listening on 127.0.0.1:%d\n" % port, "its first line")
+        body = b"password: bc\n\n" + item(b"inetnum", b"10.0.0.0/8")
+        posted = b"POST /submissions HTTP/1.1\r\nContent-Length: %d\r\n\r\n" % len(body) + body
+        for text in [b"ROOT-MNT\n", b"GET /dump HTTP/1.1\r\n\r\n", posted]:
+            with contextlib.closing(socket.create_connection(("127.0.0.1", port), 30)) as peer:
+                peer.sendall(text)
+                expect(read_all(peer)[:1] in (b"m", b"H"), True, f"whether {text[:20]} is answered")
+        printed, said = process.communicate(timeout=30)
+        expect((process.returncode, printed, said), (0, b"served 3, failed 0\n", b""), "its end")
+    finally:
+        process.kill()
+    with open(seen, encoding="ascii") as opened:
+        calls = set(re.findall(r"^[0-9]+ +([a-z_0-9]+)\(", opened.read(), re.MULTILINE))
+    expect(sorted(calls - allowed_calls()), [], "calls that the unit refuses")
+    expect(
+        os.stat(os.path.join(folder, "irr.db")).st_mode & 0o077, 0, "who else may read the database"
+    )
+    tell(f"{len(calls)} calls of the system, all allowed")
+
+
+def packed(trial):
+    """The path of the tool, packed as it is installed."""
+    path = os.path.join(trial.work, "irr")
+    if not os.path.exists(path):
+        done([os.path.join(TOP, "tools", "build"), path])
+    return path

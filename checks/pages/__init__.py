@@ -1,0 +1,1 @@
+"""Pages, manuals and sources as they are written."""

@@ -1,0 +1,251 @@
+"""How the sources are written: widths, imports, types, format, what linters find; versions,
+subjects of commits, releases."""
+
+import os
+import re
+import shutil
+import subprocess
+from pathlib import Path
+
+import pytest
+
+from checks.running import TOP as FOLDER
+
+TOP = Path(FOLDER)
+COLUMNS, SUBJECT = 100, 72
+# The imports of definitions and proofs in the two kinds of files, and what is a comment in them.
+# Imports of the program are not looked at: of a trait the methods are used, not the name.
+USES = {
+    ".rt": (re.compile(r"^ *ghost use ([^;]*);", re.M), "//"),
+    ".antt": (re.compile(r"^use ([^\s{]+(?:\{[^}]*\})?(?: as \S+)?)", re.M), "--"),
+}
+# Where programs of Python and of sh stand.
+PLACES = ["scripts", "checks", "tools", "bench", "units", "dist/debian", ".ci"]
+# What is bound to a width besides the crates.
+WIDE = {".py", ".sh", ".js", ".css"}
+WIDE_PLACES = ["scripts", "checks", "tools", "units", "web", "dist/debian", ".ci"]
+# Packages of one version with several sets of bytes, from before a version was released once.
+RELEASED_AGAIN = {"irrdesk_1.1.0_amd64.deb", "irrdesk_1.2.0_amd64.deb"}
+
+
+def needed(command: str) -> str:
+    """The path of a command; without it the check is skipped."""
+    path = shutil.which(command)
+    if path is None:
+        pytest.skip(f"{command} is not here")
+    return path
+
+
+def printed(*command: str | Path) -> str:
+    made = subprocess.run(command, stdout=subprocess.PIPE, text=True, cwd=TOP, check=True)
+    return made.stdout.strip()
+
+
+def long_lines(paths: list[Path]) -> list[str]:
+    """The lines that are too long, by file and number."""
+    return [
+        f"{path.relative_to(TOP)}:{number}"
+        for path in paths
+        for number, line in enumerate(path.read_text(encoding="utf-8").split("\n"), 1)
+        if len(line) > COLUMNS
+    ]
+
+
+def imported(text: str) -> list[str]:
+    """The names that an import brings: `A.b.c`, `A.b as c` and `A.{b, c as d}` are its forms."""
+    head, _, names = text.partition("{")
+    parts = (
+        names.rstrip("} \n").split(",")
+        if names
+        else [re.split(r"[.:]+", head.strip())[-1] if " as " not in head else head]
+    )
+    return [part.split(" as ")[-1].strip() for part in parts if part.strip()]
+
+
+def unused_imports() -> list[str]:
+    """The names that a file of the crates imports for contracts or proofs and does not use, by
+    file."""
+    found = []
+    for path in sorted(
+        path
+        for part in ("src", "specs", "proofs")
+        for path in TOP.glob(f"crates/*/{part}/**/*")
+        if path.suffix in USES
+    ):
+        uses, comment = USES[path.suffix]
+        text = path.read_text(encoding="utf-8")
+        rest = re.sub(rf"{comment}.*", "", uses.sub("", text))
+        for name in (name for use in uses.findall(text) for name in imported(use)):
+            # An operator is used where all that stands between its places is.
+            words = [word for word in name.split("◌") if word]
+            if not all(
+                re.search(
+                    rf"(?<!\w){re.escape(word)}(?!\w)" if word[0].isalpha() else re.escape(word),
+                    rest,
+                )
+                for word in words
+            ):
+                found.append(f"{path.relative_to(TOP)}:{name}")
+    return found
+
+
+def programs_of(language: str) -> list[Path]:
+    """The files that name a language in their first line, and those whose name does."""
+    found = []
+    for place in PLACES:
+        for path in sorted((TOP / place).rglob("*")):
+            if not path.is_file() or "__pycache__" in path.parts:
+                continue
+            with open(path, "rb") as opened:
+                first = opened.readline().rstrip()
+            is_of = first.startswith(b"#!") and first.endswith(language.encode())
+            if is_of or language == "python3" and path.suffix == ".py":
+                found.append(path)
+    return found
+
+
+def judged(*command: str | Path) -> list[str]:
+    """What a command finds in files, a line each."""
+    # Where node is not Debian's, it does not look where Debian's modules are.
+    environment = {**os.environ, "NODE_PATH": "/usr/share/nodejs"}
+    made = subprocess.run(
+        command,
+        stdout=subprocess.PIPE,
+        stderr=subprocess.STDOUT,
+        text=True,
+        cwd=TOP,
+        env=environment,
+        check=False,
+    )
+    lines = [line.replace(f"{TOP}/", "") for line in made.stdout.splitlines() if line.strip()]
+    return (lines or [f"status {made.returncode}"]) if made.returncode else []
+
+
+# The crates.
+
+
+def test_no_line_of_the_crates_is_too_wide():
+    parts = ("src", "specs")
+    paths = [path for part in parts for path in TOP.glob(f"crates/*/{part}/**/*") if path.is_file()]
+    assert not long_lines(sorted(paths))
+
+
+def test_the_crates_use_what_they_import_for_contracts_and_proofs():
+    assert not unused_imports()
+
+
+# The rest.
+
+
+def test_no_line_of_python_shell_scripts_or_styles_is_too_wide():
+    paths = {
+        path
+        for place in WIDE_PLACES
+        for path in (TOP / place).rglob("*")
+        if path.suffix in WIDE and "__pycache__" not in path.parts
+    }
+    programs = {*programs_of("python3"), *programs_of("/bin/sh")}
+    paths |= {path for path in programs if path.parts[len(TOP.parts)] != "bench"}
+    assert not long_lines(sorted(paths))
+
+
+def test_pyflakes_finds_nothing(tell):
+    files = programs_of("python3")
+    tell(f"{len(files)} files")
+    assert not judged(needed("pyflakes3"), *files)
+
+
+def test_mypy_finds_nothing_in_the_tool():
+    assert not judged(needed("mypy"), "tools/irr")
+
+
+def test_black_would_change_nothing(tell):
+    files = [path for path in programs_of("python3") if path.parts[len(TOP.parts)] != "bench"]
+    tell(f"{len(files)} files")
+    assert not judged(needed("black"), "--check", "-q", *files)
+
+
+def test_what_mypy_is_told_to_pass_over_has_its_reason_beside_it():
+    silent = re.compile(r"# type: ignore(?!\[[\w, -]+\]  ?# \S)")
+    assert not [
+        f"{path.relative_to(TOP)}:{number}"
+        for path in programs_of("python3")
+        if path != Path(__file__)
+        for number, line in enumerate(path.read_text(encoding="utf-8").splitlines(), 1)
+        if silent.search(line)
+    ]
+
+
+def test_shellcheck_finds_nothing(tell):
+    files = programs_of("/bin/sh")
+    tell(f"{len(files)} files")
+    assert not judged(needed("shellcheck"), "-x", *files)
+
+
+def test_eslint_finds_nothing():
+    assert not judged(needed("eslint"), "web", "checks/web")
+
+
+# Versions and commits.
+
+
+def test_the_program_is_of_the_version_of_the_tool_or_unchanged_since_its_release():
+    places = {
+        "crates/rr_arguments/src/grammar.rt": r'^const VERSION: &str = "([^ "]+)',
+        "tools/irr/__init__.py": r'^VERSION = "([^"]+)"$',
+    }
+    texts = {name: (TOP / name).read_text(encoding="utf-8") for name in places}
+    program, tool = (re.search(places[name], text, re.M)[1] for name, text in texts.items())
+    released = re.search(r"^Sources: (.*)$", (TOP / "dist/PROOF").read_text("utf-8"), re.M)[1]
+    assert program == tool or released == printed(TOP / "scripts/sources")
+
+
+def history() -> None:
+    """Skips a check where there is no history to look at."""
+    if shutil.which("git") is None or not (TOP / ".git").exists():
+        pytest.skip("there is no history here")
+    if printed("git", "rev-parse", "--is-shallow-repository") == "true":
+        pytest.skip("the history here is cut off")
+
+
+def test_the_subjects_of_commits_since_the_release_are_short():
+    history()
+    last = printed("git", "log", "-1", "--format=%H", "--", "dist/PROOF")
+    subjects = printed("git", "log", "--no-merges", "--format=%s", f"{last}..HEAD").splitlines()
+    assert not [subject for subject in subjects if len(subject) > SUBJECT]
+
+
+def test_a_version_is_released_once():
+    """A package of one version has had the same bytes in all of the history."""
+    history()
+    seen: dict[str, set[str]] = {}
+    lines = printed("git", "log", "--format=", "--raw", "--no-abbrev", "--", "dist/*.deb")
+    for line in lines.splitlines():
+        *_, made, kind, path = line.split()
+        if kind != "D":
+            seen.setdefault(Path(path).name, set()).add(made)
+    assert not [name for name in seen if len(seen[name]) > 1 and name not in RELEASED_AGAIN]
+
+
+def test_the_release_is_whole_and_in_the_changelog():
+    """dist/ has one package, its sums fit, and CHANGELOG has a section of its version."""
+    proof = dict(
+        line.split(": ", 1) for line in (TOP / "dist/PROOF").read_text("utf-8").splitlines()
+    )
+    packages = [path.name for path in TOP.glob("dist/*.deb")]
+    assert packages == [f"irrdesk_{proof['Version']}_amd64.deb"]
+    assert not judged("sh", "-c", "cd dist && sha256sum --check --quiet SHA256SUMS")
+    versions = re.findall(r"^## \[(.+?)\]", (TOP / "CHANGELOG.md").read_text("utf-8"), re.M)
+    assert proof["Version"] in versions
+    assert versions == sorted(versions, key=lambda one: [*map(int, one.split("."))], reverse=True)
+
+
+def test_the_tag_of_the_release_is_that_of_its_commit():
+    """A tag `vVERSION`, if it is there, names a commit whose dist/PROOF is of that version."""
+    history()
+    bad = []
+    for tag in printed("git", "tag", "--list", "v*").splitlines():
+        text = printed("git", "show", f"{tag}:dist/PROOF")
+        if f"Version: {tag.removeprefix('v')}" not in text.splitlines():
+            bad.append(tag)
+    assert not bad

@@ -1,0 +1,154 @@
+"""What the pages and the tool's messages say: words, sentences, links, names and numbers."""
+
+import ast
+import re
+
+import pytest
+
+from checks.pages.text import (
+    CODE,
+    LINK,
+    MANUAL,
+    PAGES,
+    TOP,
+    USER,
+    anchors_of,
+    prose_of,
+    sentences_of,
+    text_of,
+)
+
+# What no page says, outside code, and what stands in its place.
+WORDS = {
+    r"behind (it|them|that|this|these|each|the "
+    r"(first|last|query|settings|members|end|head|item|request|blank))": "after",
+    r"(?<![Tt]here )\b(is|are) no(?! (longer|more|less|other|one|rule))\b": "is not a",
+    r", since\b": "because",
+    r"(^|[.;:,] )Else\b|[.;:,] else\b": "otherwise",
+    r"\bwhoever\b": "the name of the actor",
+    r"\bhas the word of\b": "needs permission from",
+    r"\bis wanting\b|\bwas wanting\b|\bwant of memory\b": "runs out, lack of",
+    r"\bjudged anew\b|\bjudges? anew\b": "re-evaluate",
+    r"\bof two and four octets\b|\bof (two|four) octets\b": "16-bit, 32-bit",
+    r" \.\.(?![.\w/])": "... or nothing",
+    r"\bto be had\b": "available",
+}
+# The same of pages for users and of the manual.
+USER_WORDS = {
+    r"\bpeers?\b": "client",
+    r"\b(a|the|each|every|its|your|his|of|with|whose|hashed|one) secrets?\b": "password",
+    r"\bdigests?\b": "hash",
+    r"\bspans?\b": "range",
+    r"\bcross(es)?\b": "overlap",
+    r"\bopening objects\b": "initial objects",
+    r"\bsets? of one (part|name)\b": "set with a name of one component",
+    r"\bnobody in\b": "authorises nobody",
+    r"\blets? (in|you|it|him|them) in\b": "allows, authorises",
+    r"\bstands\b(?! for)": "is, appears, remains",
+    r"\b(is|are) told\b": "is reported, printed",
+    r"\bregistry's desk\b|\bthe desk\b": "the registry",
+}
+# The words of a sentence that are many, and the most that one may have.
+MANY, MOST = 30, 60
+NUMBERS = re.compile(r"\bAS(\d+)\b")
+# Where files name pages.
+PLACES = "bench", "checks", "dist", "examples", "scripts", "tools", "units", "web", "crates", ".ci"
+
+
+@pytest.mark.parametrize("name", [*PAGES, *MANUAL])
+def test_a_page_has_no_word_that_the_house_avoids(name):
+    forbidden = WORDS | (USER_WORDS if name in USER or name in MANUAL else {})
+    text = prose_of(name)
+    found = [
+        f"line {text.count(chr(10), 0, found.start()) + 1}: '{found[0].strip()}'; write '{instead}'"
+        for pattern, instead in forbidden.items()
+        for found in re.finditer(pattern, text, re.M)
+    ]
+    assert not found
+
+
+def test_what_the_tool_prints_has_no_word_that_the_house_avoids():
+    """Its texts, but for those that only its authors read."""
+    bad = []
+    for path in sorted((TOP / "tools/irr").rglob("*.py")):
+        tree = ast.parse(path.read_text(encoding="utf-8"))
+        inner = [
+            node.body[0]
+            for node in ast.walk(tree)
+            if isinstance(node, (ast.Module, ast.FunctionDef, ast.ClassDef)) and node.body
+        ]
+        silent = {id(first.value) for first in inner if isinstance(first, ast.Expr)}
+        for node in ast.walk(tree):
+            if not isinstance(node, ast.Constant) or not isinstance(node.value, str):
+                continue
+            if " " in node.value and id(node) not in silent:
+                for pattern, instead in (WORDS | USER_WORDS).items():
+                    if found := re.search(pattern, node.value, re.M):
+                        place = f"{path.relative_to(TOP)}:{node.lineno}"
+                        bad.append(f"{place}: '{found[0].strip()}'; write '{instead}'")
+    assert not bad
+
+
+@pytest.mark.parametrize("name", PAGES)
+def test_the_sentences_of_a_page_are_short(name, tell):
+    counts = sorted(sentences_of(name), reverse=True)
+    many = sum(count > MANY for count, _ in counts)
+    tell(f"{len(counts)} sentences, {many} of over {MANY} words; the longest has {counts[0][0]}")
+    assert not [f"{count} words: {text}" for count, text in counts if count > MOST]
+
+
+@pytest.mark.parametrize("name", [*PAGES, "bench/README.md", "checks/README.md"])
+def test_the_links_of_a_page_lead_to_files_and_headings(name):
+    bad = []
+    for target in LINK.findall(CODE.sub("", text_of(name))):
+        if re.match(r"[a-z]+:", target):
+            continue
+        path, _, anchor = target.partition("#")
+        page = (TOP / name).parent / path if path else TOP / name
+        if not page.exists():
+            bad.append(f"{target}: there is no such file")
+        elif anchor and anchor not in anchors_of(str(page.resolve().relative_to(TOP))):
+            bad.append(f"{target}: the page has no such heading")
+    assert not bad
+
+
+def test_pages_that_files_name_are_there():
+    bad = []
+    for place in PLACES:
+        for path in sorted((TOP / place).rglob("*")):
+            if path.is_file() and path.suffix not in {".deb", ".pyc"} and "out" not in path.parts:
+                text = path.read_text(encoding="utf-8", errors="replace")
+                for page in re.findall(r"\bdocs/[A-Z]+\.md\b", text):
+                    if not (TOP / page).exists():
+                        bad.append(f"{path.relative_to(TOP)}: {page}")
+    assert not bad
+
+
+@pytest.mark.parametrize("name", MANUAL)
+def test_manuals_that_a_manual_names_are_there(name):
+    named = re.findall(r"\.Xr (irr\S*) (\d)", text_of(name))
+    assert not [f"{page}({of})" for page, of in named if not (TOP / f"man/{page}.{of}").exists()]
+
+
+@pytest.mark.parametrize("name", [*USER, *MANUAL])
+def test_a_page_for_users_has_as_numbers_for_documentation_alone(name):
+    """RFC 5398 has those for documentation."""
+    found = sorted(set(map(int, NUMBERS.findall(text_of(name)))))
+    known = {0, 65_536, 4_294_967_295}
+    assert not [
+        number for number in found if not 64_496 <= number <= 65_551 and number not in known
+    ]
+
+
+def test_each_file_of_definitions_is_named_below_the_heading_of_its_crate():
+    named: dict[str, set[str]] = {}
+    for section in text_of("docs/DEFINITIONS.md").split("\n## ")[1:]:
+        heading, _, body = section.partition("\n")
+        for crate in re.findall(r"crates/(\w+)/specs", heading):
+            named.setdefault(crate, set()).update(re.findall(r"`(\w+)`", body))
+    missing = []
+    for folder in sorted(TOP.glob("crates/*/specs")):
+        crate = folder.parent.name
+        files = {path.stem for path in folder.rglob("*.antt")} - {"Lib", "Private"}
+        missing += [f"crates/{crate}/specs/{name}.antt" for name in files - named.get(crate, set())]
+    assert not sorted(missing)

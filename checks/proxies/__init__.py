@@ -1,0 +1,1 @@
+"""Replicas and proxies beside a registry."""

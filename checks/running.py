@@ -1,0 +1,237 @@
+"""Runs of the program, and the words and cases of a script."""
+
+import contextlib
+import os
+import random
+import resource
+import signal
+import subprocess
+import tempfile
+import time
+
+import pytest
+
+TOP = os.path.dirname(os.path.dirname(os.path.abspath(__file__)))
+Skipped = pytest.skip.Exception
+DIGEST = "ba7816bf8f01cfea414140de5dae2223b00361a396177a9cb410ff61f20015ad"
+AUTH = f"SHA256-PW a:{DIGEST}"
+# The most seconds that a run may take that takes a hundredth of one where the machine is idle.
+PATIENCE = 900
+# The least bytes that a folder in memory has to have free.
+MEMORY_ROOM = 1 << 28
+SETTINGS = f"""source = "TEST"
+root = "ROOT-MNT"
+auth = "{AUTH}"
+limit = {{limit}}
+store = "{{store}}"
+"""
+
+
+class Failure(AssertionError):
+    """What a case found."""
+
+
+class Ran:
+    """How a run of the program ended: its status, negative for a signal, what it printed and said,
+    the seconds of the processor that it took, and the most memory in KiB that it was seen to
+    hold."""
+
+    def __init__(self, status, printed, said, seconds, memory):
+        self.status, self.printed, self.said, self.seconds, self.memory = (
+            status,
+            printed,
+            said,
+            seconds,
+            memory,
+        )
+
+
+class Trial:
+    """What a module of checks has in common: the program, a folder of its own, and chance that
+    comes from the run's seed."""
+
+    def __init__(self, options, program, folder):
+        self.program, self.work = program, folder
+        self.long, self.seed, self.count = options.long, options.seed, options.count
+
+    def pick(self, short, long):
+        """What the short form takes, or the long one."""
+        return long if self.long else short
+
+    def chance(self, name):
+        """A source of chance for one case, the same in each run of a seed."""
+        return random.Random(f"{self.seed} {name}")
+
+    def place(self, name):
+        """A new folder for a case."""
+        path = os.path.join(self.work, name)
+        os.makedirs(path)
+        return path
+
+    def run(self, folder, *words, **options):
+        return run([self.program, *words], folder, **options)
+
+
+def cases_of(table):
+    """The rows of a table of cases, `(name, function, is_long)`, as parameters of a check."""
+    return [
+        pytest.param(function, id=name, marks=[pytest.mark.long] if is_long else [])
+        for name, function, is_long in table
+    ]
+
+
+def memory_folder(room=MEMORY_ROOM):
+    """A folder in memory, where no write waits for a disk; nothing where there is none with room,
+    or TMPDIR names another one."""
+    folder = "/dev/shm"
+    if "TMPDIR" in os.environ or not os.access(folder, os.W_OK):
+        return None
+    found = os.statvfs(folder)
+    return folder if found.f_bavail * found.f_frsize >= room else None
+
+
+def limited(most_bytes=None, most_files=None, stack=None, user=None, closed=()):
+    """Sets limits in a process that is about to become the program."""
+
+    def set_limits():
+        if most_bytes is not None:
+            signal.signal(signal.SIGXFSZ, signal.SIG_IGN)
+            resource.setrlimit(resource.RLIMIT_FSIZE, (most_bytes, most_bytes))
+        if most_files is not None:
+            resource.setrlimit(resource.RLIMIT_NOFILE, (most_files, most_files))
+        if stack is not None:
+            resource.setrlimit(resource.RLIMIT_STACK, (stack, stack))
+        if user is not None:
+            os.setgroups([])
+            os.setgid(user)
+            os.setuid(user)
+        for stream in closed:
+            os.close(stream)
+
+    return set_limits
+
+
+def run(command, folder, stdin=None, timeout=PATIENCE, limits=None, output=None, environment=None):
+    """Runs the program to its end. The input is bytes, or a file."""
+    with (
+        tempfile.TemporaryFile() as printed,
+        tempfile.TemporaryFile() as said,
+        tempfile.TemporaryFile() as given,
+    ):
+        if isinstance(stdin, bytes):
+            given.write(stdin)
+            given.seek(0)
+        source = given if stdin is None or isinstance(stdin, bytes) else stdin
+        process = subprocess.Popen(
+            command,
+            cwd=folder,
+            stdin=source,
+            stdout=output or printed,
+            stderr=said,
+            env=environment,
+            preexec_fn=limited(**limits) if limits else None,
+        )
+        memory, status, seconds = watched(process, timeout)
+        printed.seek(0)
+        said.seek(0)
+        return Ran(status, printed.read(), said.read(), seconds, memory)
+
+
+def run_in_pieces(command, folder, text, sizes, timeout=PATIENCE):
+    """Runs the program with an input that it reads in pieces of just these sizes, over and over."""
+    reader, writer = os.pipe2(os.O_DIRECT | os.O_CLOEXEC)
+    with tempfile.TemporaryFile() as printed, tempfile.TemporaryFile() as said:
+        process = subprocess.Popen(command, cwd=folder, stdin=reader, stdout=printed, stderr=said)
+        os.close(reader)
+        with contextlib.suppress(BrokenPipeError):
+            send_pieces(writer, text, sizes)
+        os.close(writer)
+        memory, status, seconds = watched(process, timeout)
+        printed.seek(0)
+        said.seek(0)
+        return Ran(status, printed.read(), said.read(), seconds, memory)
+
+
+def send_pieces(writer, text, sizes):
+    place, turn = 0, 0
+    while place < len(text):
+        size = sizes[turn % len(sizes)]
+        os.write(writer, text[place : place + size])
+        place, turn = place + size, turn + 1
+
+
+def watched(process, timeout):
+    """Waits for a process, and looks at its memory now and then. One that outlasts its time is
+    ended, and that is a failure."""
+    end, memory, pause = time.monotonic() + timeout, 0, 0.0005
+    while True:
+        memory = peak_memory(process.pid) or memory
+        found, status, usage = os.wait4(process.pid, os.WNOHANG)
+        if found:
+            process.returncode = os.waitstatus_to_exitcode(status)
+            return memory, process.returncode, usage.ru_utime + usage.ru_stime
+        if time.monotonic() > end:
+            process.kill()
+            process.wait()
+            raise Failure(
+                f"it was not done within {timeout} s: {' '.join(map(str, process.args[1:]))}"
+            )
+        time.sleep(pause)
+        pause = min(pause * 1.3, 0.01)
+
+
+def peak_memory(number):
+    """The most memory that a process held so far, in KiB; nothing where it has ended."""
+    try:
+        with open(f"/proc/{number}/status", encoding="ascii") as lines:
+            return next((int(line.split()[1]) for line in lines if line.startswith("VmHWM")), None)
+    except OSError:
+        return None
+
+
+def write_settings(folder, store="irr.db", limit=10_000, name="s.toml"):
+    with open(os.path.join(folder, name), "w", encoding="ascii") as out:
+        out.write(SETTINGS.format(store=store, limit=limit))
+
+
+def write(folder, name, text):
+    path = os.path.join(folder, name)
+    with open(path, "wb") as out:
+        out.write(text)
+    return path
+
+
+def expect(found, wanted, what):
+    if found != wanted:
+        raise Failure(f"{what}: {short(found)} and not {short(wanted)}")
+
+
+def short(value):
+    text = repr(value)
+    return text if len(text) <= 600 else f"{text[:300]} .. {text[-300:]}"
+
+
+def is_fault(ran):
+    """Whether it ended as at a fault: with a status of one, and one line on standard error that
+    says so."""
+    is_line = ran.said.startswith(b"irrdesk: ") and ran.said.find(b"\n") == len(ran.said) - 1
+    return ran.status in (2, 3, 4, 5) and is_line
+
+
+def is_answer(ran):
+    return ran.status in (0, 1) and ran.said == b""
+
+
+def expect_ended(ran, what):
+    """That it ended by itself, with an answer or with one line that tells a fault."""
+    if not is_fault(ran) and not is_answer(ran):
+        raise Failure(f"{what}: status {ran.status}, saying {short(ran.said)}")
+
+
+def difference(found, wanted):
+    """The first line in which two texts differ."""
+    ours, theirs = found.split(b"\n"), wanted.split(b"\n")
+    for number, (one, other) in enumerate(zip(ours, theirs), 1):
+        if one != other:
+            return f"line {number}: {short(one)} and not {short(other)}"
+    return f"{len(ours)} lines and not {len(theirs)}"

@@ -1,0 +1,819 @@
+"""The program over real connections, asked by stock clients and by peers that behave badly. The
+cases run beside each other, since most wait, each on files and a port of its own."""
+
+import concurrent.futures
+import contextlib
+import os
+import select
+import shutil
+import socket
+import struct
+import subprocess
+import time
+
+import pytest
+
+from checks.running import DIGEST, SETTINGS, Failure, cases_of, expect, write_settings
+from checks.serving import GIVEN, Serving, free_port, read_all
+from checks.worked import DISK_FAILED, SERVED_IN_VAIN
+
+SECONDS = 200
+
+INETNUM = "inetnum: {}\nmnt-by: ROOT-MNT\nsource: TEST\n"
+ROOT = (
+    "mntner:         ROOT-MNT\nauth:           # filtered\nmnt-by:         ROOT-MNT\nsource:       "
+    "  TEST\n\n"
+)
+UNWRITTEN = "irrdesk: standard output: the write failed: {}\n"
+TEN = "inetnum:        10.0.0.0/8\nmnt-by:         ROOT-MNT\nsource:         TEST\n\n"
+GIVEN_HEAD = GIVEN.decode()
+BODY_SIZE = 1_048_576
+LONGEST = 180
+CASES = []
+
+
+def expect_within(found, least, most, what):
+    if not least <= found <= most:
+        raise Failure(f"{what}: {found:.1f} s and not {least} to {most} s")
+
+
+def case(name, store="small", is_long=False):
+    """Registers a case, which gets the program and a folder with settings and a registry of its
+    own."""
+
+    def register(function):
+        CASES.append((name, (store, function), is_long))
+        return function
+
+    return register
+
+
+# The program.
+
+
+def run(program, folder, *words, stdin=None):
+    made = subprocess.run(
+        [program, *words],
+        cwd=folder,
+        stdin=stdin or subprocess.DEVNULL,
+        capture_output=True,
+        text=True,
+        timeout=LONGEST,
+        check=False,
+    )
+    return made.returncode, made.stdout, made.stderr
+
+
+class Server(Serving):
+    """The program while it serves so many connections, and its peers."""
+
+    def __init__(self, program, folder, count, **given):
+        super().__init__([program], folder, count, **given)
+
+    def end(self, said=""):
+        """The last line, once it has served all, and said this."""
+        printed, found = (text.decode() for text in self.process.communicate(timeout=LONGEST))
+        expect((self.process.returncode, found), (0, said), "status and standard error of serve")
+        return printed
+
+    def expect_end(self, served, failed, said=""):
+        expect(self.end(said), f"served {served}, failed {failed}\n", "the last line")
+
+    def connect(self, window=None):
+        peer = socket.socket()
+        peer.settimeout(LONGEST)
+        if window:
+            peer.setsockopt(socket.SOL_SOCKET, socket.SO_RCVBUF, window)
+        peer.connect(("127.0.0.1", self.port))
+        return peer
+
+    def ask(self, text, ends=False):
+        """What a peer is answered that sends this, and then no more where `ends`. A reset is a
+        failure of the case."""
+        with contextlib.closing(self.connect()) as peer:
+            peer.sendall(text.encode() if isinstance(text, str) else text)
+            if ends:
+                peer.shutdown(socket.SHUT_WR)
+            return read_all(peer).decode()
+
+
+def reset(peer):
+    """Closes a connection by a reset."""
+    peer.setsockopt(socket.SOL_SOCKET, socket.SO_LINGER, struct.pack("ii", 1, 0))
+    peer.close()
+
+
+def post(body, fields=""):
+    return (
+        "POST /submissions HTTP/1.1\r\nHost: localhost\r\nContent-Length:"
+        f" {len(body)}\r\n{fields}\r\n".encode() + body
+    )
+
+
+def refusal(status, allow=None):
+    allowed = f"Allow: {allow}\r\n" if allow else ""
+    return (
+        f"HTTP/1.1 {status}\r\nContent-Type: text/plain\r\nContent-Length:"
+        f" {len(status) + 1}\r\nConnection: close\r\n{allowed}\r\n{status}\n"
+    )
+
+
+def curl(server, path, *options):
+    """The head's first line and the body that curl gets."""
+    made = subprocess.run(
+        [
+            "curl",
+            "-sS",
+            "--noproxy",
+            "*",
+            "--max-time",
+            "60",
+            "-i",
+            *options,
+            f"http://127.0.0.1:{server.port}{path}",
+        ],
+        capture_output=True,
+        timeout=LONGEST,
+        check=False,
+    )
+    expect((made.returncode, made.stderr.decode()), (0, ""), f"curl's status and words at {path}")
+    head, _, body = made.stdout.decode().rpartition("\r\n\r\n")
+    return head.split("\r\n\r\n")[-1].split("\r\n")[0], body
+
+
+def whois(server, query):
+    made = subprocess.run(
+        ["whois", "-h", "127.0.0.1", "-p", str(server.port), "--", query],
+        capture_output=True,
+        text=True,
+        timeout=LONGEST,
+        check=False,
+    )
+    expect(made.returncode, 0, f"whois' status at {query}")
+    return made.stdout
+
+
+def skipped_lines(size):
+    """A submission of so many bytes without an item."""
+    line = b"% " + b"x" * 61 + b"\n"
+    return (line * (size // len(line) + 1))[: size - 1] + b"\n"
+
+
+# Stock clients.
+
+
+@case("whois")
+def stock_whois(program, folder):
+    with Server(program, folder, 3) as server:
+        expect(whois(server, "root-mnt"), ROOT, "the answer to a name")
+        expect(whois(server, "closest 10.1.0.0/16"), TEN, "the answer to a prefix")
+        expect(whois(server, "C-MNT"), "% no entries\n", "the answer to what is not there")
+        server.expect_end(3, 0)
+
+
+@case("curl, each page and each refusal")
+def stock_curl(program, folder):
+    with Server(program, folder, 9) as server:
+        ok = "HTTP/1.1 200 OK"
+        expect(curl(server, "/query/ROOT-MNT"), (ok, ROOT), "a query")
+        expect(curl(server, "/query/exact%2010.0.0.0%2F8"), (ok, TEN), "a query with escapes")
+        expect(curl(server, "/query/%2E"), (ok, "% error 1\n"), "a bad query")
+        status, dump = curl(server, "/dump")
+        expect(
+            (status, dump.endswith("\n\n% end 5\n"), dump.count("# filtered"), DIGEST in dump),
+            (ok, True, 1, False),
+            "a dump",
+        )
+        expect(curl(server, "/nothing"), ("HTTP/1.1 404 Not Found", "404 Not Found\n"), "no page")
+        refused = ("HTTP/1.1 405 Method Not Allowed", "405 Method Not Allowed\n")
+        expect(curl(server, "/dump", "-X", "PUT"), refused, "PUT")
+        expect(curl(server, "/submissions"), refused, "GET of a submission")
+        expect(curl(server, "/dump", "--head")[0], refused[0], "HEAD")
+        chunked = curl(
+            server, "/submissions", "-H", "Transfer-Encoding: chunked", "--data-binary", "x"
+        )
+        expect(chunked[0], "HTTP/1.1 501 Not Implemented", "chunks")
+        server.expect_end(9, 0)
+
+
+@case("curl submits a file, with Expect and without")
+def stock_submission(program, folder):
+    path = os.path.join(folder, "new.rpsl")
+    with open(path, "w", encoding="ascii") as out:
+        out.write(
+            "password: bc\n\n" + INETNUM.format("11.0.0.0/8") + "\n" + INETNUM.format("11.0.0.0/40")
+        )
+    with Server(program, folder, 3) as server:
+        report = curl(server, "/submissions", "--data-binary", f"@{path}")
+        expect(
+            report,
+            (
+                "HTTP/1.1 200 OK",
+                "1 inetnum 11.0.0.0 - 11.255.255.255: added\n2 -: refused E03\n% items 2\n",
+            ),
+            "the report",
+        )
+        report = curl(
+            server, "/submissions", "-H", "Expect: 100-continue", "--data-binary", f"@{path}"
+        )
+        expect(
+            report[1],
+            "1 inetnum 11.0.0.0 - 11.255.255.255: unchanged\n2 -: refused E03\n% items 2\n",
+            "the same again",
+        )
+        expect(
+            whois(server, "exact 11.0.0.0/8").split("\n")[0],
+            "inetnum:        11.0.0.0/8",
+            "what was added",
+        )
+        server.expect_end(3, 0)
+
+
+@case("curl sends a body of 1 MiB, and one of a byte more")
+def stock_large_bodies(program, folder):
+    path = os.path.join(folder, "large.rpsl")
+    with Server(program, folder, 4) as server:
+        for size, wanted in [
+            (BODY_SIZE, ("HTTP/1.1 200 OK", "% items 0\n")),
+            (BODY_SIZE + 1, ("HTTP/1.1 413 Payload Too Large", "413 Payload Too Large\n")),
+        ]:
+            with open(path, "wb") as out:
+                out.write(skipped_lines(size))
+            for fields in ["Expect:", "Expect: 100-continue"]:
+                expect(
+                    curl(server, "/submissions", "-H", fields, "--data-binary", f"@{path}"),
+                    wanted,
+                    f"{size} bytes, {fields}",
+                )
+        server.expect_end(4, 0)
+
+
+# Bytes as they are written.
+
+
+@case("queries by hand: without LF, of no bytes, too long, refused")
+def bare_queries(program, folder):
+    with Server(program, folder, 6) as server:
+        expect(server.ask("root-mnt\r\n"), ROOT, "CR LF")
+        expect(server.ask("root-mnt", ends=True), ROOT, "no LF")
+        expect(server.ask("", ends=True), "% error 1\n", "no bytes")
+        expect(server.ask("root-mnt" + " " * 1_017 + "\n"), "% error 2\n", "1,025 bytes")
+        expect(server.ask("x" * 8_192), "% error 2\n", "8,192 bytes without LF")
+        expect(server.ask("object\n"), "% no entries\n", "a maintainer named object")
+        server.expect_end(6, 0)
+
+
+@case("heads by hand: each status, byte for byte")
+def bare_heads(program, folder):
+    with Server(program, folder, 11) as server:
+        expect(server.ask("GET /query/root-mnt HTTP/1.0\r\n\r\n"), GIVEN_HEAD + ROOT, "200")
+        expect(
+            server.ask("GET /dump HTTP/1.1\nHost:x\n\n")[: len(GIVEN_HEAD)],
+            GIVEN_HEAD,
+            "200 with bare LFs",
+        )
+        expect(
+            server.ask("POST /submissions HTTP/1.1\r\n\r\n"), refusal("411 Length Required"), "411"
+        )
+        expect(
+            server.ask("POST /submissions HTTP/1.1\r\nContent-Length: 1048577\r\n\r\n"),
+            refusal("413 Payload Too Large"),
+            "413",
+        )
+        expect(
+            server.ask("POST /submissions HTTP/1.1\r\nContent-Length: +1\r\n\r\n"),
+            refusal("400 Bad Request"),
+            "400",
+        )
+        expect(
+            server.ask("GET /dump HTTP/1.1\r\nHost", ends=True),
+            refusal("400 Bad Request"),
+            "400 of a head cut short",
+        )
+        expect(server.ask("GET /nothing HTTP/1.1\r\n\r\n"), refusal("404 Not Found"), "404")
+        expect(
+            server.ask("PUT /dump HTTP/1.1\r\n\r\n"),
+            refusal("405 Method Not Allowed", "GET"),
+            "405 of a page to get",
+        )
+        expect(
+            server.ask("GET /submissions HTTP/1.1\r\n\r\n"),
+            refusal("405 Method Not Allowed", "POST"),
+            "405 of a page to post",
+        )
+        expect(
+            server.ask("GET /dump HTTP/1.1\r\nTransfer-Encoding: chunked\r\n\r\n"),
+            refusal("501 Not Implemented"),
+            "501",
+        )
+        expect(
+            server.ask("GET /dump HTTP/1.1\r\nA: " + "x" * 8_192),
+            refusal("431 Request Header Fields Too Large"),
+            "431",
+        )
+        server.expect_end(11, 0)
+
+
+@case(
+    (
+        "two requests on one connection: the first is answered, and the connection ends "
+        "without a reset"
+    ),
+)
+def two_requests(program, folder):
+    with Server(program, folder, 1) as server:
+        request = "GET /query/root-mnt HTTP/1.1\r\nHost: localhost\r\n\r\n"
+        expect(server.ask(request * 2), GIVEN_HEAD + ROOT, "the reply")
+        server.expect_end(1, 0)
+
+
+@case("bytes behind a body are not read as a part of it, and lose no reply")
+def bytes_behind_a_body(program, folder):
+    body = ("password: bc\n\n" + INETNUM.format("11.0.0.0/8")).encode()
+    added = "1 inetnum 11.0.0.0 - 11.255.255.255: added\n% items 1\n"
+    with Server(program, folder, 2) as server:
+        expect(
+            server.ask(post(body) + b"\n" + INETNUM.format("12.0.0.0/8").encode() * 2_000),
+            GIVEN_HEAD + added,
+            "the report",
+        )
+        expect(server.ask("exact 12.0.0.0/8\n"), "% no entries\n", "what stood behind the body")
+        server.expect_end(2, 0)
+
+
+@case("a refused body of 1 MiB that is sent whole loses no reply")
+def refused_body(program, folder):
+    with Server(program, folder, 2) as server:
+        expect(
+            server.ask(post(skipped_lines(BODY_SIZE + 1))),
+            refusal("413 Payload Too Large"),
+            "a byte too many",
+        )
+        expect(
+            server.ask(b"PUT /dump HTTP/1.1\r\n\r\n" + skipped_lines(BODY_SIZE)),
+            refusal("405 Method Not Allowed", "GET"),
+            "PUT",
+        )
+        server.expect_end(2, 0)
+
+
+@case("a body that ends too soon: its complete paragraphs count, and it is served")
+def short_body(program, folder):
+    body = (
+        "password: bc\n\n" + INETNUM.format("11.0.0.0/8") + "\n" + INETNUM.format("12.0.0.0/8")
+    ).encode()
+    with Server(program, folder, 2) as server:
+        reply = server.ask(post(body + b"x")[:-1], ends=True)
+        expect(
+            reply,
+            GIVEN_HEAD + "1 inetnum 11.0.0.0 - 11.255.255.255: added\n% read fault after 1 items\n",
+            "the report",
+        )
+        expect(
+            server.ask("exact 12.0.0.0/8\n"),
+            "% no entries\n",
+            "the paragraph that was not complete",
+        )
+        server.expect_end(2, 0)
+
+
+# Peers that go away.
+
+
+@case("a reset in mid-body: the connection failed, and the next is served")
+def reset_in_a_body(program, folder):
+    with Server(program, folder, 2) as server:
+        peer = server.connect()
+        peer.sendall(post(b"password: bc\n\n" + b"x" * 100_000)[:50_000])
+        time.sleep(0.5)
+        reset(peer)
+        expect(server.ask("root-mnt\n"), ROOT, "the next answer")
+        server.expect_end(1, 1)
+
+
+@case("a reset before the first line is whole: the connection failed, and the next is served")
+def reset_in_a_line(program, folder):
+    with Server(program, folder, 2) as server:
+        peer = server.connect()
+        peer.sendall(b"root-")
+        time.sleep(0.5)
+        reset(peer)
+        expect(server.ask("root-mnt\n"), ROOT, "the next answer")
+        server.expect_end(1, 1)
+
+
+@case("a hundred resets leave no connection open: a program that may have 24 files goes on")
+def many_resets(program, folder):
+    with Server(program, folder, 101, most_files=24) as server:
+        for turn in range(100):
+            peer = server.connect()
+            peer.sendall(
+                [b"root-", b"POST /submissions HTTP/1.1\r\nContent-Length: 9\r\n\r\nx"][turn % 2]
+            )
+            time.sleep(0.02)
+            reset(peer)
+        expect(server.ask("root-mnt\n"), ROOT, "the next answer")
+        server.expect_end(1, 100)
+
+
+@case("peers that reset the connection once they have asked: the program goes on", store="large")
+def reset_while_answered(program, folder):
+    with Server(program, folder, 4) as server:
+        peer = server.connect()
+        peer.sendall(b"root-mnt\n")
+        reset(peer)
+        for wanted in [1, 100_000]:
+            peer = server.connect()
+            peer.sendall(b"GET /dump HTTP/1.1\r\n\r\n")
+            while wanted > 0:
+                wanted -= len(peer.recv(wanted))
+            reset(peer)
+        expect(server.ask("root-mnt\n"), ROOT, "the next answer")
+        last = server.end()
+        expect(
+            last in ("served 2, failed 2\n", "served 1, failed 3\n"),
+            True,
+            f"the last line, {last!r}",
+        )
+
+
+# Peers that wait.
+
+
+@case("a peer that says nothing is cut off after 10 seconds, and another one is served then")
+def silent_peer(program, folder):
+    with Server(program, folder, 2) as server:
+        start = time.monotonic()
+        with contextlib.closing(server.connect()) as silent:
+            expect(server.ask("root-mnt\n"), ROOT, "the other one's answer")
+            expect_within(time.monotonic() - start, 9, 30, "until it was answered")
+            expect(silent.recv(1), b"", "what the silent one got")
+        server.expect_end(1, 1)
+
+
+@case(
+    (
+        "a peer that sends a byte at a time is cut off after 60 seconds, and another one "
+        "is served then"
+    ),
+)
+def dripping_peer(program, folder):
+    with Server(program, folder, 2) as server:
+        start = time.monotonic()
+        with (
+            contextlib.closing(server.connect()) as slow,
+            contextlib.closing(server.connect()) as other,
+        ):
+            other.sendall(b"root-mnt\n")
+            while not select.select([other], [], [], 3)[0] and time.monotonic() - start < LONGEST:
+                with contextlib.suppress(OSError):
+                    slow.sendall(b"a")
+            expect(read_all(other).decode(), ROOT, "the other one's answer")
+            expect_within(time.monotonic() - start, 58, 74, "until it was answered")
+        server.expect_end(1, 1)
+
+
+@case(
+    (
+        "a body that comes too slowly: what stands of it is told after 60 seconds, and "
+        "the reply is not lost to a reset"
+    ),
+)
+def slow_body(program, folder):
+    body = ("password: bc\n\n" + INETNUM.format("11.0.0.0/8") + "\n").encode()
+    with Server(program, folder, 2) as server:
+        start = time.monotonic()
+        with contextlib.closing(server.connect()) as slow:
+            slow.sendall(post(body + b"%" * 1_000)[:-1_000])
+            while not select.select([slow], [], [], 0.2)[0] and time.monotonic() - start < LONGEST:
+                slow.sendall(b"%")
+            # What it still sends meets a program that has answered.
+            with contextlib.suppress(OSError):
+                for _ in range(5):
+                    slow.sendall(b"%")
+                    time.sleep(0.05)
+            reply = read_all(slow).decode()
+        expect(
+            reply,
+            GIVEN_HEAD + "1 inetnum 11.0.0.0 - 11.255.255.255: added\n% read fault after 1 items\n",
+            "the reply",
+        )
+        expect_within(time.monotonic() - start, 58, 74, "until it was answered")
+        expect(server.ask("exact 11.0.0.0/8\n"), TEN.replace("10.", "11."), "what stands")
+        server.expect_end(1, 1)
+
+
+@case(
+    (
+        "a peer that takes nothing of a long reply is cut off after 60 to 100 seconds, "
+        "and another one is served then"
+    ),
+    store="large",
+)
+def peer_that_takes_nothing(program, folder):
+    with Server(program, folder, 2) as server:
+        start = time.monotonic()
+        with contextlib.closing(server.connect(window=4_096)) as stuck:
+            stuck.sendall(b"GET /dump HTTP/1.1\r\n\r\n")
+            expect(server.ask("root-mnt\n"), ROOT, "the other one's answer")
+            expect_within(time.monotonic() - start, 59, 120, "until it was answered")
+        server.expect_end(1, 1)
+
+
+@case(
+    (
+        "a peer that stops in the middle of a long reply is cut off after 90 seconds, "
+        "and another one is served then"
+    ),
+    store="large",
+)
+def peer_that_stops(program, folder):
+    with Server(program, folder, 2) as server:
+        with contextlib.closing(server.connect(window=65_536)) as stopped:
+            stopped.sendall(b"GET /dump HTTP/1.1\r\n\r\n")
+            taken = 0
+            while taken < 4_000_000:
+                taken += len(stopped.recv(65_536))
+            start = time.monotonic()
+            expect(server.ask("root-mnt\n"), ROOT, "the other one's answer")
+            expect_within(time.monotonic() - start, 85, 120, "until it was answered")
+        server.expect_end(1, 1)
+
+
+@case("a reader of 32 KiB a second gets a dump of 4 MB whole", store="medium")
+def steady_reader(program, folder):
+    with Server(program, folder, 1) as server:
+        with contextlib.closing(server.connect(window=16_384)) as slow:
+            slow.sendall(b"GET /dump HTTP/1.1\r\n\r\n")
+            head, _, dump = read_all(slow, step=16_384, pause=0.5).decode().partition("\r\n\r\n")
+        expect(
+            (head + "\r\n\r\n", dump.endswith("\n\n% end 68\n")),
+            (GIVEN_HEAD, True),
+            "the dump's head, and whether it is whole",
+        )
+        server.expect_end(1, 0)
+
+
+@case(
+    "a reader of 4 KiB a second is cut off in a long dump, and another one is served then",
+    store="large",
+    is_long=True,
+)
+def dripping_reader(program, folder):
+    with Server(program, folder, 2) as server:
+        start, taken = time.monotonic(), 0
+        with (
+            contextlib.closing(server.connect(window=4_096)) as slow,
+            contextlib.closing(server.connect()) as other,
+        ):
+            slow.sendall(b"GET /dump HTTP/1.1\r\n\r\n")
+            slow.settimeout(1)
+            other.sendall(b"root-mnt\n")
+            while not select.select([other], [], [], 0.25)[0] and time.monotonic() - start < 600:
+                with contextlib.suppress(OSError):
+                    taken += len(slow.recv(1_024))
+            waited = time.monotonic() - start
+            expect(read_all(other).decode(), ROOT, "the other one's answer")
+        expect_within(waited, 75, 450, "until it was answered")
+        expect(
+            taken < 4_000_000,
+            True,
+            f"whether the {taken} bytes that it took are a small part of the dump",
+        )
+        server.expect_end(1, 1)
+
+
+@case("a slow reader gets a long dump whole", store="large")
+def slow_reader(program, folder):
+    with Server(program, folder, 2) as server:
+        with contextlib.closing(server.connect(window=65_536)) as slow:
+            slow.sendall(b"GET /dump HTTP/1.1\r\n\r\n")
+            head, _, dump = read_all(slow, step=65_536, pause=0.05).decode().partition("\r\n\r\n")
+        expect(
+            (head + "\r\n\r\n", dump.endswith("\n\n% end 204\n")),
+            (GIVEN_HEAD, True),
+            "the dump's head, and whether it is whole",
+        )
+        expect(len(dump) > 12_000_000, True, f"whether its {len(dump)} bytes are many")
+        expect(server.ask("root-mnt\n"), ROOT, "the next answer")
+        server.expect_end(2, 0)
+
+
+@case("a peer that never ends its side after the reply does not hold the port")
+def peer_that_never_ends(program, folder):
+    with Server(program, folder, 2) as server:
+        with contextlib.closing(server.connect()) as first:
+            first.sendall(b"root-mnt\n")
+            expect(read_all(first).decode(), ROOT, "its answer")
+            start = time.monotonic()
+            expect(server.ask("root-mnt\n"), ROOT, "the next answer")
+            expect_within(time.monotonic() - start, 0, 9, "until the next one was answered")
+        server.expect_end(2, 0)
+
+
+@case("a hundred peers at once are served one after the other")
+def many_peers(program, folder):
+    with Server(program, folder, 100) as server:
+        peers = [server.connect() for _ in range(100)]
+        for peer in reversed(peers):
+            peer.sendall(b"root-mnt\n")
+            peer.shutdown(socket.SHUT_WR)
+        for peer in peers:
+            expect(read_all(peer).decode(), ROOT, "an answer")
+            peer.close()
+        server.expect_end(100, 0)
+
+
+# The desk, and the ends of the program.
+
+
+@case("a server that is started again at once listens on the port that it had")
+def started_again(program, folder):
+    port = None
+    for _ in range(2):
+        with Server(program, folder, 1, port=port) as server:
+            port = server.port
+            expect(server.ask("root-mnt\n"), ROOT, "an answer")
+            server.expect_end(1, 0)
+
+
+@case(
+    (
+        "a desk that its disk stops answers `% error 6` and 503, and its program says so "
+        "and ends as ever"
+    ),
+)
+def stopped_desk(program, folder):
+    items = "\n".join(
+        INETNUM.format(f"11.{n}.0.0/16") + "descr: " + "x" * 50_000 + "\n" for n in range(20)
+    )
+    with Server(program, folder, 6, most_bytes=600_000) as server:
+        report = (
+            server.ask(post(("password: bc\n\n" + items).encode()))
+            .partition("\r\n\r\n")[2]
+            .splitlines()
+        )
+        added = len(report) - 2
+        expect(0 < added < 20, True, f"whether {added} of 20 items were added")
+        stop = f"{added + 1} inetnum 11.{added}.0.0 - 11.{added}.255.255: refused E91"
+        expect(report[-2:], [stop, f"% stopped after {added} items"], "the end of the report")
+        expect(server.ask("root-mnt\n"), "% error 6\n", "a query")
+        expect(server.ask("x" * 2_000 + "\n"), "% error 2\n", "a query that is too long")
+        for request in ["GET /query/root-mnt HTTP/1.1\r\n\r\n", "GET /dump HTTP/1.1\r\n\r\n"]:
+            expect(server.ask(request), refusal("503 Service Unavailable"), request)
+        expect(server.ask(post(b"x")), refusal("503 Service Unavailable"), "a submission")
+        server.expect_end(6, 0, SERVED_IN_VAIN.format(DISK_FAILED))
+    status, printed, _ = run(program, folder, "probe", "s.toml")
+    expect((status, printed), (0, ROOT), "the registry opened again")
+
+
+@case("probe prints the root maintainer")
+def probe_root(program, folder):
+    expect(run(program, folder, "probe", "s.toml"), (0, ROOT, ""), "status and streams")
+
+
+@case("probe of a root that is not registered prints that there are no entries")
+def probe_missing_root(program, folder):
+    with open(os.path.join(folder, "s.toml"), "w", encoding="ascii") as out:
+        out.write(SETTINGS.format(limit=10_000, store="irr.db").replace("ROOT-MNT", "OTHER-MNT"))
+    expect(run(program, folder, "probe", "s.toml"), (0, "% no entries\n", ""), "status and streams")
+
+
+@case("a port that is taken: status 5")
+def taken_port(program, folder):
+    with socket.socket() as taken:
+        taken.bind(("127.0.0.1", 0))
+        taken.listen()
+        port = taken.getsockname()[1]
+        said = (
+            f"irrdesk: 127.0.0.1:{port}: it cannot listen: the address is in use: take another"
+            " port\n"
+        )
+        expect(
+            run(program, folder, "serve", "s.toml", "--port", str(port), "--count", "1"),
+            (5, "", said),
+            "status and streams",
+        )
+
+
+@case("standard output that cannot be written: status 5, and nobody is served")
+def no_output(program, folder):
+    with open("/dev/full", "w", encoding="ascii") as full:
+        made = subprocess.run(
+            [program, "serve", "s.toml", "--port", str(free_port()), "--count", "1"],
+            cwd=folder,
+            stdout=full,
+            stdin=subprocess.DEVNULL,
+            stderr=subprocess.PIPE,
+            text=True,
+            timeout=LONGEST,
+            check=False,
+        )
+    expect(
+        (made.returncode, made.stderr),
+        (5, UNWRITTEN.format("the disk is full: make room")),
+        "status and words",
+    )
+
+
+@case("standard output that nobody reads at the end: status 5, and no signal ends the program")
+def closed_output(program, folder):
+    with Server(program, folder, 1) as server:
+        server.process.stdout.close()
+        # The children of other cases hold the stream until they become the program.
+        time.sleep(5)
+        expect(server.ask("root-mnt\n"), ROOT, "an answer")
+        said = server.process.stderr.read().decode()
+        status = server.process.wait(LONGEST)
+        expect(
+            (status, said),
+            (5, UNWRITTEN.format("its reader has ended: let it read to the end")),
+            "status and words",
+        )
+
+
+@case("wrong words: status 2; wrong settings: 3; no database: 4; each before the port is looked at")
+def wrong_words(program, folder):
+    port = str(free_port())
+    for words in [
+        ["serve"],
+        ["serve", "s.toml"],
+        ["serve", "s.toml", "--port", port],
+        ["serve", "s.toml", "--count", "1"],
+        ["serve", "s.toml", "--port", "0", "--count", "1"],
+        ["serve", "s.toml", "--port", "65536", "--count", "1"],
+        ["serve", "s.toml", "--port", "+80", "--count", "1"],
+        ["serve", "s.toml", "--port", port, "--count", "0"],
+        ["serve", "s.toml", "--port", port, "--count", "1000001"],
+        ["serve", "s.toml", "--port", port, "--count", "x"],
+        ["serve", "s.toml", "t.toml", "--port", port, "--count", "1"],
+        ["probe"],
+        ["probe", "s.toml", "t.toml"],
+    ]:
+        status, printed, said = run(program, folder, *words)
+        expect(
+            (status, printed, said.startswith("irrdesk: "), said.count("\n")),
+            (2, "", True, 1),
+            " ".join(words),
+        )
+    for words in [["serve", "none.toml", "--port", port, "--count", "1"], ["probe", "none.toml"]]:
+        expect(run(program, folder, *words)[:2], (3, ""), " ".join(words))
+    for name in os.listdir(folder):
+        if name.startswith("irr.db"):
+            os.remove(os.path.join(folder, name))
+    for words in [["serve", "s.toml", "--port", port, "--count", "1"], ["probe", "s.toml"]]:
+        expect(run(program, folder, *words)[:2], (4, ""), " ".join(words))
+
+
+# The run.
+
+
+def make_registry(program, folder, submission):
+    os.mkdir(folder)
+    write_settings(folder)
+    with open(os.path.join(folder, "first.rpsl"), "w", encoding="ascii") as out:
+        out.write("password: bc\n\n" + submission)
+    for words in [["init", "s.toml"], ["submit", "s.toml", "first.rpsl"]]:
+        status, printed, said = run(program, folder, *words)
+        if status != 0:
+            raise Failure(f"{' '.join(words)} ended with {status}: {said}{printed[-300:]}")
+
+
+# Each in a thread of its own: most of them wait.
+
+
+@pytest.fixture(scope="module")
+def running(request, trial):
+    """What became of each case that was chosen, once it is done: all of them run at once."""
+    missing = [command for command in ("whois", "curl") if shutil.which(command) is None]
+    if missing:
+        pytest.skip(f"{' and '.join(missing)} is not here")
+    large = [INETNUM.format(f"10.{n}.0.0/16") + "descr: " + "x" * 60_000 + "\n" for n in range(200)]
+    stores = {
+        "small": INETNUM.format("10.0.0.0/8"),
+        "medium": "\n".join(large[:64]),
+        "large": "\n".join(large),
+    }
+    for store, text in stores.items():
+        make_registry(trial.program, os.path.join(trial.work, store), text)
+    chosen = [
+        item.callspec.params["check"]
+        for item in request.session.items
+        if item.module is request.module
+    ]
+    with concurrent.futures.ThreadPoolExecutor(max_workers=len(chosen)) as pool:
+        yield {
+            function: pool.submit(
+                function,
+                trial.program,
+                shutil.copytree(
+                    os.path.join(trial.work, store), trial.place(f"of-{number}"), dirs_exist_ok=True
+                ),
+            )
+            for number, (store, function) in enumerate(chosen)
+        }
+
+
+@pytest.mark.parametrize("check", cases_of(CASES))
+def test_peers_get_what_they_should(running, check):
+    running[check[1]].result()

@@ -1,0 +1,130 @@
+"""The program while it serves, and what peers send to it and get from it."""
+import contextlib
+import itertools
+import os
+import socket
+import subprocess
+import time
+
+from checks.running import Failure, expect, limited, peak_memory
+
+GIVEN = b"HTTP/1.1 200 OK\r\nContent-Type: text/plain\r\nConnection: close\r\n\r\n"
+LONGEST = 700
+
+
+# The ports of each worker of a run, below those that Linux gives to whoever asks for none: what a
+# case was given stays its own until it listens there.
+FIRST, EACH = 10_000, 1_000
+worker = int(os.environ.get("PYTEST_XDIST_WORKER", "gw20")[2:])
+ports = itertools.cycle(range(FIRST + worker % 21 * EACH, FIRST + (worker % 21 + 1) * EACH))
+
+
+def free_port():
+    """A port of this worker that nobody has, and that no case was given lately."""
+    for port in itertools.islice(ports, EACH):
+        with socket.socket() as probe, contextlib.suppress(OSError):
+            probe.bind(("127.0.0.1", port))
+            return port
+    raise Failure("every port of this worker is taken")
+
+
+class Listening:
+    """A port that nobody else can listen on: this one, or any."""
+
+    def __init__(self, port=0):
+        self.port, self.taken = port, None
+
+    def __enter__(self):
+        # A port that another process has, or that may not be had, is as good.
+        with contextlib.suppress(OSError):
+            self.taken = socket.create_server(("127.0.0.1", self.port))
+        return self.port or self.taken.getsockname()[1]
+
+    def __exit__(self, *_):
+        if self.taken:
+            self.taken.close()
+
+
+class Serving:
+    """The program, started by these words, while it serves so many connections; ended by force
+    where a case ends before it."""
+
+    def __init__(self, words, folder, count, port=None, **limits):
+        self.port, self.count = port or free_port(), count
+        self.process = subprocess.Popen(
+            [*words, "serve", "s.toml", "--port", str(self.port), "--count", str(count)],
+            cwd=folder,
+            stdin=subprocess.DEVNULL,
+            stdout=subprocess.PIPE,
+            stderr=subprocess.PIPE,
+            preexec_fn=limited(**limits) if any(limits.values()) else None,
+        )
+        first = self.process.stdout.readline()
+        if first != b"listening on 127.0.0.1:%d\n" % self.port:
+            said = b"" if first else self.process.stderr.read()
+            self.__exit__()
+            raise Failure(f"the first line of serve: {first!r}, saying {said!r}")
+
+    def __enter__(self):
+        return self
+
+    def __exit__(self, *_):
+        if self.process.poll() is None:
+            self.process.kill()
+        self.process.communicate()
+
+
+class Server(Serving):
+    """The same, and what it is asked by peers that send no more then."""
+
+    def __init__(self, program, folder, count, stack=None, patience=LONGEST):
+        super().__init__([program], folder, count, stack=stack)
+        self.patience, self.memory, self.slowest = patience, 0, 0.0
+
+    def ask(self, text, cuts=()):
+        """What a peer is answered that sends this, cut at these places, and then no more."""
+        start = time.monotonic()
+        with contextlib.closing(
+            socket.create_connection(("127.0.0.1", self.port), self.patience)
+        ) as peer:
+            peer.setsockopt(socket.IPPROTO_TCP, socket.TCP_NODELAY, 1)
+            places = [0, *sorted(cuts), len(text)]
+            for begin, end in zip(places, places[1:]):
+                peer.sendall(text[begin:end])
+                if end < len(text):
+                    time.sleep(0.0005)
+            peer.shutdown(socket.SHUT_WR)
+            reply = read_all(peer)
+        self.slowest = max(self.slowest, time.monotonic() - start)
+        return reply
+
+    def page(self, path, cuts=()):
+        """The body of a page, whose status has to be 200."""
+        reply = self.ask(b"GET %s HTTP/1.1\r\nHost: localhost\r\n\r\n" % path, cuts)
+        expect(reply[: len(GIVEN)], GIVEN, f"the head of {path!r}")
+        return reply[len(GIVEN) :]
+
+    def expect_end(self, failed=0):
+        """That it ends by itself, once it has served all."""
+        printed, said = self.process.communicate(timeout=LONGEST)
+        wanted = b"served %d, failed %d\n" % (self.count - failed, failed)
+        expect((self.process.returncode, printed, said), (0, wanted, b""), "how serve ended")
+
+    def ended(self):
+        """The seconds of the processor that it took, once it has ended by itself with status 0."""
+        _, status, usage = os.wait4(self.process.pid, 0)
+        self.process.returncode = os.waitstatus_to_exitcode(status)
+        expect(self.process.returncode, 0, "the status of serve")
+        return usage.ru_utime + usage.ru_stime
+
+    def look(self):
+        """Notes the most memory that it held so far."""
+        self.memory = max(self.memory, peak_memory(self.process.pid) or 0)
+
+
+def read_all(peer, step=65_536, pause=0.0):
+    parts = []
+    while part := peer.recv(step):
+        parts.append(part)
+        time.sleep(pause)
+    return b"".join(parts)

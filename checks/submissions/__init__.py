@@ -1,0 +1,1 @@
+"""Submissions: what `irr` says of them beside what the program decides."""

@@ -1,0 +1,86 @@
+"""The tool in forks of this process, which has its modules already: for calls by the thousand.
+Other cases run the packed file."""
+import os
+import signal
+import socket
+import sys
+import tempfile
+import traceback
+
+from irr.main import main
+from checks.running import Ran
+
+
+def begun(words, environment, streams):
+    """The number of a fork that does what `irr` does with these words, with these files as its
+    standard streams."""
+    number = os.fork()
+    if number:
+        return number
+    status = 70
+    try:
+        for place, stream in enumerate(streams):
+            os.dup2(stream, place)
+        sys.stdout, sys.stderr = open(1, "w", closefd=False), open(
+            2, "w", buffering=1, closefd=False
+        )
+        signal.signal(signal.SIGCHLD, signal.SIG_DFL)
+        os.environ.clear()
+        os.environ.update(environment)
+        tempfile.tempdir = None
+        status = main(words)
+    except SystemExit as ended:
+        status = ended.code
+    except BaseException:
+        traceback.print_exc()
+    finally:
+        os._exit(status)
+
+
+def run_forked(tool, *words):
+    """How it ends."""
+    with tempfile.TemporaryFile() as printed, tempfile.TemporaryFile() as said, open(
+        os.devnull, "rb"
+    ) as nothing:
+        number = begun(
+            list(words), tool.environment, [nothing.fileno(), printed.fileno(), said.fileno()]
+        )
+        _, status = os.waitpid(number, 0)
+        printed.seek(0)
+        said.seek(0)
+        return Ran(os.waitstatus_to_exitcode(status), printed.read(), said.read(), 0, 0)
+
+
+class Forks:
+    """The port at which each connection is handed to a fork, as the socket unit hands it to a
+    command, while a `with` block runs."""
+
+    def __init__(self, tool, words):
+        self.tool, self.words = tool, words
+        self.listener = socket.create_server(("127.0.0.1", 0), backlog=64)
+
+    def __enter__(self):
+        self.number = os.fork()
+        if not self.number:
+            try:
+                self.serve()
+            finally:
+                os._exit(1)
+        return self.listener.getsockname()[1]
+
+    def serve(self):
+        signal.signal(signal.SIGCHLD, signal.SIG_IGN)
+        with open(os.devnull, "wb") as nothing:
+            while True:
+                peer, _ = self.listener.accept()
+                with peer:
+                    begun(
+                        self.words,
+                        self.tool.environment,
+                        [peer.fileno(), peer.fileno(), nothing.fileno()],
+                    )
+
+    def __exit__(self, *_):
+        os.kill(self.number, signal.SIGKILL)
+        os.waitpid(self.number, 0)
+        self.listener.close()

@@ -1,0 +1,70 @@
+"""Imports of dumps in a test: what a paragraph becomes, and what files become."""
+import io
+import os
+import tempfile
+
+from irr.migrate import conversion
+from irr.migrate.normalisation import LeftOut, Mender
+from irr.migrate.report import Tally
+from irr.rpsl import syntax
+
+AUTH = "SHA256-PW a:" + "0" * 64
+
+
+def mended(text, off=()):
+    """The text that a paragraph becomes and the kinds of what was mended, or why it is left out."""
+    (block,) = syntax.blocks([text])
+    try:
+        found = Mender("TEST", "ROOT-MNT", frozenset(off)).mend(block)
+    except LeftOut as cause:
+        return str(cause)
+    return found.text, set(found.kinds)
+
+
+def made(*texts, off=(), auths=None, left_out=None, keeps_scoped=False):
+    """What an import of files with these texts writes, and its tally."""
+    with tempfile.TemporaryDirectory() as folder:
+        paths = []
+        for number, text in enumerate(texts):
+            paths.append(os.path.join(folder, str(number)))
+            with open(paths[-1], "wb") as out:
+                out.write(text)
+        tally = Tally(left_out)
+        found = conversion.Import(
+            Mender("TEST", "ROOT-MNT", frozenset(off)),
+            {"ROOT-MNT": [AUTH.encode()]} | (auths or {}),
+            tally,
+            keeps_scoped,
+        )
+        out = io.BytesIO()
+        with found.spool:
+            found.read(paths)
+            found.write(out)
+        return out.getvalue(), tally
+
+
+def obj(*lines):
+    return "".join(line + "\n" for line in lines).encode("latin-1") + b"\n"
+
+
+def keys_of(dump):
+    return [
+        block.text.partition(b"\n")[0].partition(b":")[2].strip().decode("latin-1")
+        for block in syntax.blocks([dump])
+    ]
+
+
+def left_out(*texts, **more):
+    """The lines of the list of what is left out."""
+    out = io.BytesIO()
+    made(*texts, left_out=out, **more)
+    return out.getvalue().decode().splitlines()
+
+
+def texts_of(dump, *kinds):
+    """The texts of the objects of some classes."""
+    return [
+        block.text.decode("latin-1")
+        for block in syntax.blocks([dump])
+        if block.text.decode("latin-1").partition(":")[0] in kinds
+    ]

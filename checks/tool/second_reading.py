@@ -1,0 +1,374 @@
+"""A second reading of dumps, from the rules that docs/MOVING.md has and nothing of the tool: which
+lines are one object, why one is left out, and what each item of its lists becomes."""
+import ipaddress
+import re
+from typing import Iterator, NamedTuple
+
+CLASSES = "mntner as-block aut-num inetnum route as-set route-set".split()
+OTHERS = """person role route6 inet6num inet-rtr filter-set peering-set rtr-set key-cert domain
+    repository dictionary irt organisation organization poem poetic-form limerick as-macro community
+    dom-prefix ipv6-site""".split()
+BLANKS = " \t\r"
+NAME = re.compile(r"[A-Za-z](?:[A-Za-z0-9_-]{0,78}[A-Za-z0-9])?")
+RESERVED = set(
+    """any as-any rs-any peeras and or not atomic from to at action accept announce except refine
+    networks into inbound outbound""".split()
+)
+# Which attributes are lists, in which classes.
+LISTS = {
+    "mnt-by": CLASSES,
+    "mnt-lower": CLASSES[1:],
+    "mnt-routes": ["aut-num", "inetnum", "route"],
+    "member-of": ["aut-num", "route"],
+    "members": ["as-set", "route-set"],
+    "mp-members": ["route-set"],
+    "mbrs-by-ref": ["as-set", "route-set"],
+}
+Attributes = list[tuple[str, list[str]]]
+
+
+class Piece(NamedTuple):
+    """A paragraph, or what it is parted into: the number of its first line, its attributes, and
+    whether a line of it is none, which has no name here."""
+
+    line: int
+    attributes: Attributes
+    is_broken: bool
+
+    @property
+    def names(self) -> list[str]:
+        return [name for name, _ in self.attributes]
+
+    @property
+    def kind(self) -> str:
+        return self.names[0] if self.attributes else ""
+
+    def values(self, name: str) -> list[str]:
+        return [meaning(lines) for found, lines in self.attributes if found == name]
+
+
+def meaning(lines: list[str]) -> str:
+    return " ".join(line.partition("#")[0].strip(BLANKS) for line in lines).strip(BLANKS)
+
+
+def pieces(dump: bytes) -> list[Piece]:
+    """All that a dump has, in order."""
+    found: list[Piece] = []
+    held: list[tuple[int, str]] = []
+    lines = dump.decode("latin-1").split("\n")
+    for number, line in enumerate([*lines, ""], 1):
+        if line.strip(BLANKS):
+            if held or line[0] not in "#%":
+                held.append((number, line))
+            continue
+        found += parted(held)
+        held = []
+    return found
+
+
+def parted(held: list[tuple[int, str]]) -> Iterator[Piece]:
+    """A paragraph's lines as one piece, or as several: one begins with a class line whose attribute
+    before is a `source` that is not the first one."""
+    line, attributes, is_broken = 0, [], False  # type: int, Attributes, bool
+    # What the attribute before is called: nothing where a line is none.
+    before, count = "", 0
+    for number, text in held:
+        if text[0] in "#%":
+            continue
+        name, colon, value = text.partition(":")
+        name = name.rstrip(BLANKS).lower()
+        is_known = bool(colon) and text[0] not in " \t\r+"
+        if is_known and name in CLASSES + OTHERS and before == "source" and count > 1:
+            yield Piece(line, attributes, is_broken)
+            line, attributes, is_broken, before, count = 0, [], False, "", 0
+        line = line or number
+        count += 1
+        is_broken |= bool(re.search(r"[\x00-\x08\x0b\x0c\x0e-\x1f\x7f]", text))
+        if text[0] in " \t\r+":
+            if attributes:
+                attributes[-1][1].append(text[1:].strip(BLANKS))
+                count -= 1
+            else:
+                attributes.append(("", [text]))
+                is_broken = True
+        elif not colon or not re.fullmatch("[a-z][a-z0-9_-]{0,63}", name):
+            attributes.append(("", [text]))
+            is_broken, before = True, ""
+        else:
+            attributes.append((name, [value.strip(BLANKS)]))
+            before = name
+    if held:
+        yield Piece(line, attributes, is_broken)
+
+
+# Keys.
+
+
+def number_of(text: str) -> int | None:
+    found = re.fullmatch("as([0-9]{1,10})", text, re.I)
+    return int(found[1]) if found and int(found[1]) < 1 << 32 else None
+
+
+def network(text: str) -> ipaddress.IPv4Network | None:
+    if not re.fullmatch(r"[0-9.]+/[0-9]{1,2}", text):
+        return None
+    try:
+        return ipaddress.IPv4Network(text, strict=False)
+    except ValueError:
+        return None
+
+
+def written_out(text: str) -> str:
+    """A prefix with all four numbers, where it has fewer."""
+    front, slash, length = text.partition("/")
+    numbers = front.removesuffix(".").split(".")
+    return ".".join(numbers + ["0"] * (4 - len(numbers))) + slash + length
+
+
+def span_of(text: str) -> tuple[int, int] | None:
+    held = network(written_out(text))
+    if held:
+        return int(held[0]), int(held[-1])
+    try:
+        first, last = (int(ipaddress.IPv4Address(end.strip(BLANKS))) for end in text.split("-"))
+    except ValueError:
+        return None
+    return (first, last) if first <= last else None
+
+
+def set_name(text: str) -> tuple[str, str] | None:
+    """The class of a set and its name as names are compared."""
+    parts, kinds = [], set()
+    if text.upper() in ("AS-ANY", "RS-ANY"):
+        return ("as-set" if text[0] in "Aa" else "route-set"), text.upper()
+    for part in text.split(":"):
+        number = number_of(part)
+        is_name = NAME.fullmatch(part) and part.lower() not in RESERVED
+        if number is None and not (is_name and part.upper()[:3] in ("AS-", "RS-")):
+            return None
+        parts.append(part.upper() if number is None else f"AS{number}")
+        kinds |= {part.upper()[0]} if number is None else set()
+    kind = {"A": "as-set", "R": "route-set"}.get("".join(kinds))
+    return (kind, ":".join(parts)) if kind else None
+
+
+def key_of(piece: Piece) -> object | None:
+    """What tells an object from others of its class; None where it can't be read."""
+    value, kind = meaning(piece.attributes[0][1]), piece.kind
+    if kind == "mntner":
+        return value.upper() if re.fullmatch(r"[^, \t\r]+", value) else None
+    if kind == "aut-num":
+        return number_of(value)
+    if kind == "as-block":
+        ends = [number_of(end.strip(BLANKS)) for end in value.split("-")]
+        first, last = ends if len(ends) == 2 else (None, None)
+        return (first, last) if first is not None and last is not None and first <= last else None
+    if kind == "inetnum":
+        return span_of(value)
+    if kind == "route":
+        held, origins = network(written_out(value)), piece.values("origin")
+        origin = number_of(origins[0]) if len(origins) == 1 else None
+        return (held, origin) if held and origin is not None else None
+    name = set_name(value)
+    return name[1] if name and name[0] == kind and not name[1].endswith("-ANY") else None
+
+
+def refusal(piece: Piece) -> str:
+    """A word of the cause for which a piece by itself is left out; nothing where it is taken."""
+    if any(name in CLASSES + OTHERS for name in piece.names[1:]):
+        return "class again"
+    if piece.names[1:].count("source") > 1:
+        return "`source` twice"
+    if piece.kind in OTHERS:
+        return f"class {piece.kind}"
+    if piece.is_broken:
+        return "text"
+    if piece.kind not in CLASSES:
+        return "does not know"
+    if piece.kind in ("inetnum", "route") and ":" in meaning(piece.attributes[0][1]):
+        return "IPv6"
+    if key_of(piece) is None:
+        return "key"
+    if "password" in piece.names or "delete" in piece.names:
+        return "`delete`"
+    if piece.kind in LISTS["mnt-routes"]:
+        braces = re.findall("[{}]", " ".join(piece.values("mnt-routes")))
+        if (braces or ["}"])[-1] == "{":
+            return "brace"
+    source = "".join(piece.values("source"))
+    return "`source` that" if source and not NAME.fullmatch(source) else ""
+
+
+# Items of lists.
+
+
+def is_good(kind: str, attribute: str, item: str) -> bool:
+    """Whether an item of a list, without a registry before it, is one that irrdesk reads there.
+    Braces and ANY of `mnt-routes` are no matter of one item."""
+    if attribute in ("mnt-by", "mnt-lower", "mbrs-by-ref"):
+        return "::" not in item
+    if attribute == "member-of":
+        name = set_name(item)
+        return name is not None and (kind, name[0]) != ("route", "as-set")
+    if attribute == "mnt-routes":
+        return is_range(item) or (NAME.match(item) is not None and ":" not in item)
+    if kind == "as-set":
+        return number_of(item) is not None or (set_name(item) or "x")[0] == "as-set"
+    front, hat, operator = item.partition("^")
+    named = number_of(front) is not None or set_name(front) is not None
+    return is_range(item) or named and is_range("0.0.0.0/0" + hat + operator)
+
+
+def is_range(item: str) -> bool:
+    front, hat, operator = item.partition("^")
+    ends = re.fullmatch("([0-9]{1,2})(?:-([0-9]{1,2}))?", operator)
+    least, most = (int(ends[1]), int(ends[2] or ends[1])) if ends else (33, 0)
+    is_operator = not hat or operator in ("+", "-") or least <= most <= 32
+    return network(front) is not None and is_operator
+
+
+def without_host_bits(item: str) -> str:
+    front, hat, operator = item.partition("^")
+    held = network(front)
+    return f"{held}{hat}{operator}" if held else item
+
+
+def tokens_of(attribute: str, text: str) -> list[str]:
+    return re.findall(r"[{}]|[^, \t\r{}]+" if attribute == "mnt-routes" else r"[^, \t\r]+", text)
+
+
+def grants(values: list[list[str]]) -> list[list[bool]]:
+    """Which tokens of the attributes `mnt-routes` of an object stay: an entry is a name, and ANY or
+    ranges in braces."""
+    found: list[list[bool]] = []
+    is_after_name, inside = False, ""
+    for tokens in values:
+        kept: list[bool] = []
+        for token in tokens:
+            if inside:
+                kept.append(inside == "granted" and (token == "}" or is_range(token)))
+                inside = "" if token == "}" else inside
+            elif token == "{" or token.upper() == "ANY":
+                kept.append(is_after_name)
+                inside = ("granted" if is_after_name else "lost") if token == "{" else ""
+                is_after_name = False
+            else:
+                kept.append(token != "}" and ":" not in token)
+                is_after_name |= kept[-1]
+        found.append(kept)
+    return found
+
+
+class Registry:
+    """What an import has to make of dumps: each object as its attributes, a list as its items; why
+    pieces are left out, by line; and the items that are gone, each with its line and attribute."""
+
+    def __init__(self, dump: bytes, source: str, root: str) -> None:
+        self.source, self.root = source, root
+        self.pieces = pieces(dump)
+        self.causes: dict[int, str] = {}
+        self.gone: list[tuple[int, str, str]] = []
+        taken: dict[tuple[str, object], Piece] = {}
+        end = re.split(r"\n[ \t\r]*\n", "\n" + dump.decode("latin-1"))[-1].split("\n")
+        has_end = not end[-1].strip(BLANKS) or all(line[:1] in ("", "#", "%") for line in end)
+        for piece in self.pieces:
+            is_whole = has_end or piece is not self.pieces[-1] or "source" in piece.names[1:]
+            cause = refusal(piece) or ("" if is_whole else "cut off")
+            first = taken.get((piece.kind, key_of(piece))) if not cause else None
+            if first:
+                sources = {"".join(one.values("source")).upper() for one in (first, piece)}
+                is_named = piece.kind in ("mntner", "as-set", "route-set")
+                both = is_named and len(sources) > 1
+                cause = "a name of another registry" if both else "duplicate"
+            if cause:
+                self.causes[piece.line] = cause
+            else:
+                taken[piece.kind, key_of(piece)] = piece
+        for kind in "as-block", "inetnum":
+            self.leave_out_crossing(taken, kind)
+        self.sources = {
+            place: "".join(piece.values("source")).upper() for place, piece in taken.items()
+        }
+        self.objects = {place: self.object_of(piece) for place, piece in taken.items()}
+
+    def leave_out_crossing(self, taken: dict[tuple[str, object], Piece], kind: str) -> None:
+        stay: list[tuple[int, int]] = []
+        for place, piece in list(taken.items()):
+            if place[0] == kind and isinstance(place[1], tuple):
+                first, last = place[1]
+                if any(a < first <= b < last or first < a <= last < b for a, b in stay):
+                    self.causes[piece.line] = "crossing"
+                    del taken[place]
+                else:
+                    stay.append((first, last))
+
+    def object_of(self, piece: Piece) -> list[tuple[str, list[str]]]:
+        """The attributes of an object: the lines of each, or the items of a list."""
+        kind, found = piece.kind, []  # type: str, list[tuple[str, list[str]]]
+        routes = iter(
+            grants([tokens_of("mnt-routes", value) for value in piece.values("mnt-routes")])
+        )
+        for place, (name, lines) in enumerate(piece.attributes):
+            if not place and kind in ("inetnum", "route") and "/" in meaning(lines):
+                found.append((name, [without_host_bits(written_out(meaning(lines)))]))
+            elif not place:
+                found.append((name, [meaning(lines)]))
+            elif kind in LISTS.get(name, []):
+                found += self.listed(
+                    piece, name, lines, next(routes) if name == "mnt-routes" else []
+                )
+            elif name == "auth" and kind == "mntner":
+                words = meaning(lines).split()
+                is_bad = (
+                    not words
+                    or words[0].upper() == "SHA256-PW"
+                    and (not re.fullmatch("[A-Za-z0-9]{0,16}:[0-9A-Fa-f]{64}", "".join(words[1:])))
+                )
+                found.append((name, ["FILTERED"] if is_bad else lines))
+            elif name == "source" and meaning(lines).upper() != self.source:
+                found.append((name, [self.source]))
+            else:
+                found.append((name, lines))
+        end = next((at for at, one in enumerate(found) if one[0] == "source"), len(found))
+        if not any(items for name, items in found if name == "mnt-by"):
+            found.insert(end, ("mnt-by", [self.root]))
+        if "source" not in piece.names:
+            found.append(("source", [self.source]))
+        if kind == "mntner" and "auth" not in piece.names:
+            found.insert(1, ("auth", ["FILTERED"]))
+        return found
+
+    def listed(
+        self, piece: Piece, name: str, lines: list[str], granted: list[bool]
+    ) -> list[tuple[str, list[str]]]:
+        """A list with the items that stay; nothing where none does, and no comment."""
+        items = tokens_of(name, meaning(lines))
+        kept = []
+        for place, item in enumerate(items):
+            scope, mark, bare = item.rpartition("::")
+            is_scoped = bool(mark) and name in ("members", "mp-members", "member-of")
+            bare = bare if is_scoped else item
+            if name == "mnt-routes":
+                stays = granted[place]
+            elif is_scoped and NAME.fullmatch(scope):
+                stays = is_good(piece.kind, name, bare) and self.is_imported(scope.upper(), bare)
+            else:
+                stays = is_good(piece.kind, name, item)
+            follows = (items + [""])[place + 1]
+            if follows[:1] == "^" and (name != "mnt-routes" or is_range(item)):
+                stays = False
+            if stays:
+                kept.append(without_host_bits(bare))
+            else:
+                self.gone.append((piece.line, name, item))
+        has_lost_all = items and not kept and not any("#" in line for line in lines)
+        new = "members" if name == "mp-members" and items else name
+        return [] if has_lost_all else [(new, kept)]
+
+    def is_imported(self, scope: str, item: str) -> bool:
+        """Whether what is named with a registry is that registry's."""
+        named = set_name(item.partition("^")[0])
+        if named in ("AS-ANY", "RS-ANY"):
+            return set(self.sources.values()) == {scope}
+        own = self.sources.get(named, scope) if named else scope
+        return own == scope and scope in self.sources.values()

@@ -1,0 +1,94 @@
+"""What a query and a long submission cost."""
+
+import os
+import sys
+import tempfile
+import time
+
+from checks.running import expect, run, write
+from checks.worlds import World, items
+
+IN_MEMORY = True
+
+
+# What a figure may take: a query beside a local server, and a submission beside that of the program
+# itself.
+QUERY_SECONDS, QUERY_TIMES, SUBMIT_TIMES, ITEM_TIMES = 0.15, 1.8, 1.2, 1 / 800
+
+
+def test_a_query_and_a_long_submission_take_no_longer_than_they_may(trial, tool, tell):
+    """What a query takes beside a local server, and a long submission beside that of the program.
+    In the long form by the clock, on a disk, for which the machine is to be idle; in the short one
+    by the processor's time, against that of Python for the modules that a query can't do
+    without."""
+    with tempfile.TemporaryDirectory(
+        prefix="irrdesk-", dir=None if trial.long else trial.work
+    ) as folder:
+        tell(measured(tool, trial, folder))
+
+
+def measured(tool, trial, folder):
+    with World(trial, tool, os.path.join(folder, "query")) as world:
+        clock, processor, least = [], [], []
+        for _ in range(trial.pick(8, 40)):
+            start = time.monotonic()
+            ran = run(
+                [sys.executable, tool.path, "query", "AS64496"],
+                world.folder,
+                environment=world.tool.environment,
+            )
+            expect((ran.status, ran.said), (0, b""), "a query")
+            clock.append(time.monotonic() - start)
+            processor.append(ran.seconds)
+            least.append(
+                run([sys.executable, "-c", "import argparse, http.client"], world.folder).seconds
+            )
+        if trial.long:
+            expect(
+                min(clock) < QUERY_SECONDS,
+                True,
+                f"whether a query takes {min(clock):.3f} s of {QUERY_SECONDS}",
+            )
+        expect(
+            min(processor) < QUERY_TIMES * min(least),
+            True,
+            f"whether {min(processor):.3f} s are {QUERY_TIMES} times {min(least):.3f} s at most",
+        )
+    told = (
+        f"a query takes {1_000 * min(clock):.0f} ms by the clock, {1_000 * min(processor):.0f} of"
+        " the processor"
+    )
+    world = World(trial, tool, os.path.join(folder, "served"))
+    plain_folder = world.copy(os.path.join(folder, "plain"))
+    text = b"password: bc\n\n" + b"\n".join(items(trial.pick(3_000, 100_000)))
+    path = write(world.folder, "long.rpsl", text)
+    start = time.monotonic()
+    wanted = trial.run(plain_folder, "submit", "s.toml", path, timeout=3_600)
+    alone_seconds = time.monotonic() - start
+    with world:
+        start = time.monotonic()
+        ran = run(
+            [sys.executable, tool.path, "submit", path],
+            folder,
+            environment=world.tool.environment,
+            timeout=3_600,
+        )
+        seconds = time.monotonic() - start
+    expect((ran.status, ran.printed == wanted.printed), (0, True), "the report")
+    each = (ran.seconds - min(processor)) / text.count(b"source")
+    if not trial.long:
+        expect(
+            each < ITEM_TIMES * min(least),
+            True,
+            f"whether an item takes {1_000_000 * each:.0f} us of the processor",
+        )
+    else:
+        expect(
+            seconds < SUBMIT_TIMES * alone_seconds,
+            True,
+            f"whether {seconds:.1f} s are {SUBMIT_TIMES} times {alone_seconds:.1f} s at most",
+        )
+    return (
+        f"{told}; {text.count(b'source'):,} items {seconds:.2f} s, {ran.seconds:.2f} of the"
+        f" processor; by irrdesk submit {alone_seconds:.2f} s"
+    )

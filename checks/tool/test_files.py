@@ -1,0 +1,400 @@
+"""Files put in place, folders held, dumps made loadable, and maps drawn."""
+import os
+import shutil
+import tempfile
+import unittest
+from pathlib import Path
+from types import SimpleNamespace
+from unittest import mock
+
+from irr.errors import Failure
+from irr.local import temporary
+from irr.registry import hilbert
+from irr.registry.server import Server, shown_url
+from irr.rpsl import hashes, syntax
+from irr.rpsl.keys import Prefix
+from irr.system import files
+
+
+class Files(unittest.TestCase):
+    def setUp(self):
+        self.temporary = tempfile.TemporaryDirectory()
+        self.folder = Path(self.temporary.name)
+
+    def tearDown(self):
+        self.temporary.cleanup()
+
+    def test_put(self):
+        path = self.folder / "file"
+        files.put(path, [b"a", b"b"], files.PRIVATE)
+        self.assertEqual((path.read_bytes(), path.stat().st_mode & 0o777), (b"ab", 0o600))
+        files.put(path, b"c")
+        # A file that is replaced gives no more rights than before.
+        self.assertEqual((path.read_bytes(), path.stat().st_mode & 0o777), (b"c", 0o600))
+        files.put(self.folder / "other", b"d")
+        self.assertEqual((self.folder / "other").stat().st_mode & 0o777, 0o644)
+
+    def test_put_fails(self):
+        path = self.folder / "file"
+        path.write_bytes(b"kept")
+
+        def pieces():
+            yield b"new"
+            raise Failure("x", "cut off")
+
+        self.assertRaises(Failure, files.put, path, pieces())
+        self.assertEqual((path.read_bytes(), os.listdir(self.folder)), (b"kept", ["file"]))
+        self.assertRaises(Failure, files.put, self.folder / "none" / "file", b"x")
+        (self.folder / "taken").mkdir()
+        self.assertRaises(Failure, files.put, self.folder / "taken", b"x")
+
+    def test_put_in_place_of_no_file(self):
+        pipe, link = self.folder / "pipe", self.folder / "link"
+        os.mkfifo(pipe)
+        link.symlink_to(pipe)
+        for path in pipe, link, self.folder:
+            with self.assertRaisesRegex(Failure, "not a file that can be replaced; give"):
+                files.put(path, b"x")
+        # Where it is a link to a file it is not replaced either.
+        self.assertRaises(Failure, files.put, "/dev/stdout", b"x")
+        self.assertEqual(sorted(os.listdir(self.folder)), ["link", "pipe"])
+        self.assertTrue(pipe.is_fifo() and link.is_symlink())
+
+    def test_put_through_links(self):
+        """A link stays, and what it leads to is replaced in one step, also where that is not there
+        yet."""
+        there, here = self.folder / "there", self.folder / "here"
+        for folder in there, here:
+            folder.mkdir()
+        link, second = here / "link", here / "second"
+        link.symlink_to("../there/file")
+        second.symlink_to("link")
+        for path, text in (link, b"a"), (second, b"b"):
+            files.put(path, text)
+            self.assertEqual((path.is_symlink(), (there / "file").read_bytes()), (True, text))
+        beside = []
+
+        def pieces():
+            beside.append([len(os.listdir(there)), len(os.listdir(here))])
+            yield b"c"
+
+        files.put(link, pieces())
+        self.assertEqual((beside, os.listdir(there)), ([[2, 2]], ["file"]))
+        (here / "loop").symlink_to("loop")
+        with self.assertRaisesRegex(Failure, "not a file that can be replaced; give"):
+            files.put(here / "loop", b"x")
+        self.assertTrue((here / "loop").is_symlink())
+
+    def test_need_own(self):
+        """A link is followed where the kernel follows it too: of the user or the folder's owner, if
+        it is in a sticky folder of all."""
+        me = os.geteuid()
+        for mode, owner, user, is_followed in [
+            (0o1777, me + 1, me + 2, False),
+            (0o1777, me, me + 1, False),
+            (0o1777, me + 1, me + 1, True),
+            (0o1777, me + 1, me, True),
+            (0o1775, me + 1, me + 2, True),
+            (0o777, me + 1, me + 2, True),
+        ]:
+            folder, link = SimpleNamespace(st_mode=mode, st_uid=owner), SimpleNamespace(st_uid=user)
+            with mock.patch("os.stat", return_value=folder), mock.patch(
+                "os.lstat", return_value=link
+            ):
+                if is_followed:
+                    files.need_own(Path("/x/link"), "/x/link")
+                else:
+                    with self.assertRaisesRegex(
+                        Failure,
+                        (
+                            "^/y: /x/link is another user's link, in a folder where anybody may put"
+                            " one; give"
+                        ),
+                    ):
+                        files.need_own(Path("/x/link"), "/y")
+
+    def test_put_through_planted_links(self):
+        """Wherever on the way the link of another user is, what it leads to stays as it was."""
+        folder, real = self.folder / "of-all", self.folder / "file"
+        folder.mkdir()
+        real.write_bytes(b"kept")
+        (folder / "link").symlink_to(real)
+        (folder / "up").symlink_to("..")
+        with mock.patch("irr.system.files.need_own", side_effect=Failure("x", "planted")) as asked:
+            for path, link in (
+                (folder / "link", "link"),
+                (folder / "up/file", "up"),
+                (folder / "up/other", "up"),
+            ):
+                self.assertRaisesRegex(Failure, "planted", files.put, path, b"x")
+                self.assertEqual(asked.call_args.args[0].name, link)
+        self.assertEqual(
+            (real.read_bytes(), sorted(os.listdir(self.folder))), (b"kept", ["file", "of-all"])
+        )
+
+    def test_put_in_place_of_what_is_open(self):
+        """A name of what is open is not the name of the file that it was opened as."""
+        log, link, gone = self.folder / "log", self.folder / "so", self.folder / "gone"
+        link.symlink_to("//dev/stdout")
+        with open(log, "wb") as out, open(gone, "wb") as removed:
+            gone.unlink()
+            for number in out.fileno(), removed.fileno():
+                for path in (
+                    f"/dev/fd/{number}",
+                    f"/proc/self/fd/{number}",
+                    f"/proc/{os.getpid()}/fd/{number}",
+                    link,
+                    f"/dev/../dev/fd/{number}",
+                ):
+                    with self.assertRaisesRegex(Failure, "not a file that can be replaced; give"):
+                        files.put(path, b"x")
+        self.assertEqual((log.read_bytes(), sorted(os.listdir(self.folder))), (b"", ["log", "so"]))
+        for path in "/dev/null", "/dev/none", "/proc/none":
+            self.assertRaises(Failure, files.put, path, b"x")
+            self.assertRaises(Failure, files.put_new, path, b"x")
+
+    def test_followed(self):
+        """Links lead where the system takes them."""
+        there, here = self.folder / "there", self.folder / "here"
+        for folder in there, there / "deep", here:
+            folder.mkdir()
+        for link, lead in [
+            ("here/a", "../there/deep"),
+            ("here/b", there),
+            ("here/c", "a/../x"),
+            ("here/d", "none"),
+            ("here/e", "./b//./y"),
+        ]:
+            (self.folder / link).symlink_to(lead)
+        for path in (
+            "here/a/../z",
+            "here/b/z",
+            "here/c",
+            "here/d",
+            "here/e",
+            "here/../there/deep/..",
+            "here/a",
+        ):
+            self.assertEqual(
+                str(files.followed(self.folder / path)), os.path.realpath(self.folder / path)
+            )
+        self.assertEqual(str(files.followed("x/../y")), os.path.realpath("x/../y"))
+
+    def test_put_new(self):
+        """Nothing is replaced or followed, and what fails leaves nothing."""
+        path, link = self.folder / "file", self.folder / "link"
+        files.put_new(str(path), b"a")
+        self.assertEqual((path.read_bytes(), path.stat().st_mode & 0o777), (b"a", 0o600))
+        link.symlink_to("other")
+        for taken in path, link, self.folder, "/dev/stdout":
+            with self.assertRaisesRegex(
+                Failure, "there is such a file; take another name"
+            ) as raised:
+                files.put_new(str(taken), b"b")
+            self.assertEqual(raised.exception.status, 2)
+        for call in "os.fsync", "irr.system.files.sync_folder":
+            with mock.patch(call, side_effect=OSError(5, "Input/output error")):
+                with self.assertRaisesRegex(
+                    Failure, "new: it cannot be written: input/output error; make room"
+                ):
+                    files.put_new(str(self.folder / "new"), b"c")
+        with self.assertRaisesRegex(
+            Failure, "none/new: it cannot be written: no such file or directory; look at its folder"
+        ):
+            files.put_new(str(self.folder / "none" / "new"), b"c")
+        self.assertRaisesRegex(Failure, "is empty; give its path", files.put_new, "", b"c")
+        self.assertEqual(
+            (path.read_bytes(), sorted(os.listdir(self.folder))), (b"a", ["file", "link"])
+        )
+
+    def test_remove(self):
+        """A link is removed, and what it leads to is not."""
+        (self.folder / "real").mkdir()
+        (self.folder / "real" / "file").write_bytes(b"x")
+        (self.folder / "link").symlink_to("real")
+        files.remove(self.folder / "link")
+        self.assertEqual(os.listdir(self.folder / "real"), ["file"])
+        files.remove(self.folder / "real" / "file")
+        files.remove(self.folder / "real")
+        self.assertEqual(os.listdir(self.folder), [])
+
+    def test_named(self):
+        for given, wanted in (None, "/x"), ("/y", "/y"):
+            with self.assertRaises(OSError) as raised, files.named("/x"):
+                raise OSError(28, "No space left on device", given)
+            self.assertEqual(raised.exception.filename, wanted)
+
+    def test_put_nowhere(self):
+        with self.assertRaisesRegex(
+            Failure, "^the name of the file to write is empty; give its path$"
+        ) as raised:
+            files.put("", b"x")
+        self.assertEqual(raised.exception.status, 2)
+
+    def test_locked(self):
+        with files.locked(self.folder):
+            with self.assertRaises(Failure), files.locked(self.folder):
+                pass
+        with files.locked(self.folder):
+            pass
+
+    def test_keep_last(self):
+        for name in "a", "b", "c":
+            (self.folder / name).write_bytes(b"")
+        self.assertEqual([path.name for path in files.keep_last(self.folder.iterdir(), 2)], ["a"])
+        self.assertEqual(sorted(os.listdir(self.folder)), ["b", "c"])
+
+
+class Loadable(unittest.TestCase):
+    MNTNER = (
+        b"mntner:         A-MNT # x\nauth:           # filtered\nauth:           #"
+        b" filtered\nmnt-by:         A-MNT\nsource:         T\n\n"
+    )
+
+    def test_auths(self):
+        other = (
+            b"mntner:         B-MNT\nauth:           # filtered\nremarks:        auth: #"
+            b" filtered\n\n"
+        )
+        text = b"".join(
+            temporary.loadable(
+                [self.MNTNER + other + b"% end 2\n"], {"A-MNT": [b"one", b"two \\1"]}
+            )
+        )
+        self.assertEqual(
+            text,
+            b"mntner:         A-MNT # x\nauth:           one\nauth:           two \\1\nauth:       "
+            b"    FILTERED\nmnt-by:         A-MNT\nsource:         T\n\n"
+            + other.replace(b"auth:           # filtered", b"auth:           FILTERED"),
+        )
+
+    def test_long_objects(self):
+        lines = b"".join(
+            b"a%d:" % number + b" " * (14 - len(str(number))) + b"x\n" for number in range(5_000)
+        )
+        text = self.MNTNER[:-1] + lines + b"\n"
+        made = b"".join(temporary.loadable([text]))
+        self.assertLess(len(made), syntax.LARGEST)
+        self.assertEqual(
+            syntax.read(made.removesuffix(b"\n")).text(),
+            text.replace(b"# filtered", b"x").removesuffix(b"\n"),
+        )
+
+
+class Programs(unittest.TestCase):
+    def test_folder(self):
+        with mock.patch.dict(os.environ, {"IRRDESK": "/usr"}):
+            self.assertRaisesRegex(
+                Failure,
+                "^/usr: it is a folder; give the program's path by IRRDESK$",
+                temporary.find_program,
+            )
+
+    def test_no_report(self):
+        """Of a program that is not irrdesk, which says nothing or something else."""
+        for name in "true", "echo":
+            program = shutil.which(name)
+            with (
+                mock.patch.dict(os.environ, {"IRRDESK": program}),
+                temporary.TemporaryRegistry("TEST") as registry,
+            ):
+                self.assertRaisesRegex(
+                    Failure,
+                    f"^{program}: the program answers no report; give .* IRRDESK$",
+                    registry.submit,
+                    b"mntner: A\n",
+                )
+
+
+class Hashes(unittest.TestCase):
+    def test_auth(self):
+        self.assertEqual(
+            hashes.auth_of(b"one good secret", "k3"),
+            "SHA256-PW k3:ccda736dc82df011aa4a1a69307e8691d784c89481923035847c51743d3da2ca",
+        )
+        self.assertRegex(hashes.new_password(), r"^[a-z2-7]{5}(-[a-z2-7]{5}){3}$")
+        self.assertRegex(hashes.new_salt(), r"^[A-Za-z0-9]{16}$")
+        self.assertEqual(len({hashes.new_password() for _ in range(100)}), 100)
+
+
+class Maps(unittest.TestCase):
+    def test_boxes(self):
+        top = Prefix(10 << 24, 8)
+        for length in range(8, 17):
+            inside = [
+                Prefix((10 << 24) + (number << 32 - length), length)
+                for number in range(1 << length - 8)
+            ]
+            boxes = [hilbert.box(prefix, top) for prefix in inside]
+            area = hilbert.SIDE**2 / len(boxes)
+            self.assertTrue(
+                all(abs(width * height - area) < 1e-6 * area for _, _, width, height in boxes),
+                length,
+            )
+            self.assertEqual(len({(x, y) for x, y, _, _ in boxes}), len(boxes))
+            for (x, y, width, height), (left, upper, wide, high) in zip(boxes, boxes[1:]):
+                touches = (
+                    max(x, left) <= min(x + width, left + wide) + 1e-6
+                    and max(y, upper) <= min(y + height, upper + high) + 1e-6
+                )
+                self.assertTrue(touches, "that neighbours stand beside one another")
+        self.assertEqual(hilbert.box(Prefix(10 << 24, 32), top)[2:], (0.25, 0.25))
+
+
+class Addresses(unittest.TestCase):
+    def test_urls(self):
+        for url in [
+            "http://127.0.0.1:4343",
+            "http://localhost/irr/",
+            "https://irr.example.net",
+            "http://127.8.9.1",
+        ]:
+            self.assertTrue(Server(url).is_private)
+        self.assertEqual(
+            (Server("https://irr.example.net/x/").path, Server("https://irr.example.net").port),
+            ("/x", 443),
+        )
+        for url in [
+            "",
+            "irr.example.net",
+            "http://",
+            "ftp://x",
+            "http://u:p@127.0.0.1",
+            "http://127.0.0.1/?x",
+            "http://[::1",
+            "http://x:y",
+            "http://irr.example.net",
+            "http://127.0.0.1.example.net",
+        ]:
+            self.assertRaises(Failure, Server, url)
+        self.assertFalse(Server("http://irr.example.net", plain=True).is_private)
+
+    def test_empty(self):
+        """An empty address is not one that was not given."""
+        environment = {name: value for name, value in os.environ.items() if name != "IRR_SERVER"}
+        for given, variable, wanted in [
+            (None, None, "http://127.0.0.1:4343"),
+            (None, "http://127.0.0.2", "http://127.0.0.2"),
+            ("http://127.0.0.3", "", "http://127.0.0.3"),
+            ("", "http://127.0.0.2", "-s"),
+            ("", None, "-s"),
+            (None, "", "IRR_SERVER"),
+        ]:
+            set_here = {} if variable is None else {"IRR_SERVER": variable}
+            with mock.patch.dict(os.environ, environment | set_here, clear=True):
+                if wanted.startswith("http"):
+                    self.assertEqual(Server.from_options(given).url, wanted)
+                else:
+                    with self.assertRaisesRegex(
+                        Failure, f"^{wanted}: the address is empty; give one"
+                    ) as raised:
+                        Server.from_options(given)
+                    self.assertEqual(raised.exception.status, 2)
+
+    def test_shown(self):
+        self.assertEqual(shown_url("https://u:p@irr.example.net/x?y"), "https://irr.example.net/x")
+        self.assertEqual(shown_url("https://u:p/q@irr.example.net/x"), "https://irr.example.net/x")
+
+
+if __name__ == "__main__":
+    unittest.main()

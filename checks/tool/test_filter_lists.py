@@ -1,0 +1,117 @@
+"""What lists of routers take, and how much of an older list a new one has lost."""
+import pytest
+
+from irr.filters.lists import entries, loss
+
+PREFIXES = {
+    "bird": "define X = [ 10.0.0.0/24, 10.0.1.0/24{24,26}, 10.0.2.0/23+ ];",
+    "frr": "ip prefix-list X seq 5 permit 10.0.0.0/24\nip prefix-list X permit 10.0.1.0/24 le 26\n"
+    "ip prefix-list X permit 10.0.2.0/23 ge 23 le 32\nip prefix-list X deny any\n",
+    "openbgpd": "prefix-set X {\n\t10.0.0.0/24\n\t10.0.1.0/24 prefixlen 24 - 26\n"
+    "\t10.0.2.0/23 or-longer\n}\n",
+}
+# The same prefixes, or some of them, and how many of the three entries are lost.
+OTHERS = [
+    ("10.0.0.0/24, 10.0.1.0/24{24,26}, 10.0.2.0/23{23,32}", 0),
+    ("10.0.0.0/16{16,32}", 0),
+    ("10.0.0.0/24, 10.0.1.0/24{24,25}, 10.0.2.0/23{23,32}", 1),
+    ("10.0.0.0/23{24,32}, 10.0.2.0/23{23,32}", 0),
+    ("10.0.0.0/23{24,32}, 10.0.2.0/24{24,32}, 10.0.3.0/24{24,32}", 1),
+    ("10.0.0.0/23{24,32}, 10.0.2.0/23, 10.0.2.0/24{24,32}, 10.0.3.0/24{24,32}", 0),
+    ("10.0.0.0/24, 10.0.1.0/24, 10.0.1.0/25{25,26}, 10.0.1.128/25, 10.0.2.0/23+", 1),
+    # A prefix inside one that is there already takes nothing away.
+    ("10.0.0.0/22{23,32}, 10.0.0.0/24, 10.0.1.0/25{25,25}, 10.0.2.0/24{24,32}", 0),
+    ("10.0.0.0/23", 3),
+    ("", 3),
+]
+
+
+@pytest.mark.parametrize("router", list(PREFIXES))
+@pytest.mark.parametrize(("new", "lost"), OTHERS)
+def test_loss(router: str, new: str, lost: int) -> None:
+    text = f"define X = [ {new} ];"
+    if router == "bird":
+        assert loss("bird", PREFIXES["bird"], text) == (lost, 3)
+    # The old list in another syntax takes the same.
+    assert loss(router, PREFIXES[router], PREFIXES[router]) == (0, 3)
+
+
+def test_syntaxes_say_the_same() -> None:
+    assert len({frozenset(entries(router, text)) for router, text in PREFIXES.items()}) == 1
+
+
+def test_comments_and_refusals_take_nothing() -> None:
+    assert loss("bird", "# 10.0.0.0/8\n/* 10.1.0.0/16\n*/ define X = [ 10.2.0.0/16 ];", "") == (
+        1,
+        1,
+    )
+    frr = "! 10.0.0.0/8\nno ip prefix-list X\nip prefix-list X deny 0.0.0.0/0\n"
+    assert loss("frr", frr, "") == (0, 0)
+
+
+def test_ipv6() -> None:
+    old = "ipv6 prefix-list X permit 2001:db8::/32 le 48\nipv6 prefix-list X permit 2001:db9::/32\n"
+    assert loss("frr", old, "ipv6 prefix-list X permit 2001:db8::/31 ge 32 le 48\n") == (0, 2)
+    assert loss("frr", old, "ip prefix-list X permit 0.0.0.0/0 le 32\n") == (2, 2)
+
+
+def test_numbers_where_there_are_no_prefixes() -> None:
+    assert loss("bird", "define O = [ 64496, 64497 ];", "define O = [ 64497, 64498 ];") == (1, 2)
+    old = "ip as-path access-list O permit ^64496(_[0-9]+)*_(64497|64498)$\n"
+    # What stands for any number is none.
+    assert loss("frr", old, old.replace("|64498", "")) == (1, 3)
+
+
+MANY = {
+    "bird": "define A = [ 10.0.0.0/8{8,24} ];\ndefine B = [\n 10.1.0.0/16,\n 10.2.0.0/16\n];\n",
+    "frr": "ip prefix-list A permit 10.0.0.0/8 le 24\nip prefix-list B seq 1 permit 10.1.0.0/16\n"
+    "ip prefix-list B\n    seq 2 permit 10.2.0.0/16\n",
+    "openbgpd": "prefix-set A {\n\t10.0.0.0/8 maxlen 24\n}\n"
+    'prefix-set "B" { 10.1.0.0/16, 10.2.0.0/16 }\n',
+}
+
+
+@pytest.mark.parametrize("router", list(MANY))
+def test_each_list_of_a_file(router: str) -> None:
+    """What one list has lost is not made up for by another one, nor by one of another name."""
+    old = MANY[router]
+    assert loss(router, old, old) == (0, 3)
+    assert loss(router, old, old.replace("A", "C")) == (1, 3)
+    for place in "10.1.0.0/16", "10.2.0.0/16":
+        assert loss(router, old, old.replace(place, "10.3.0.0/16")) == (1, 3)
+    without = MANY[router].partition("define B" if router == "bird" else 'prefix-set "B')[0]
+    if router == "frr":
+        without = old.partition("\n")[0] + "\nip prefix-list B deny any\n"
+    assert loss(router, old, without) == (2, 3)
+    for other in MANY:
+        assert sorted(entries(other, MANY[other])) == sorted(entries(router, old))
+
+
+@pytest.mark.parametrize(
+    ("text", "takes"),
+    [
+        ("10.0.0.0/24 ge 26", "10.0.0.0/24{26,32}"),
+        ("10.0.0.0/24 ge 26 le 28", "10.0.0.0/24{26,28}"),
+        ("10.0.0.0/24 le 28", "10.0.0.0/24{24,28}"),
+        ("10.0.0.1/24", "10.0.0.0/24{24,24}"),
+    ],
+)
+def test_lengths_of_frr(text: str, takes: str) -> None:
+    frr = f"ip prefix-list X seq 5 permit {text}\n"
+    assert list(entries("frr", frr)) == list(entries("bird", takes))
+
+
+@pytest.mark.parametrize(
+    ("text", "takes"),
+    [
+        ("10.0.0.0/24 maxlen 26", "10.0.0.0/24{24,26}"),
+        ("10.0.0.0/24 prefixlen = 26", "10.0.0.0/24{26,26}"),
+        ("10.0.0.0/24 prefixlen 25 - 26", "10.0.0.0/24{25,26}"),
+        ("10.0.0.0/24 prefixlen >= 30", "10.0.0.0/24{30,32}"),
+        ("10.0.0.0/24 prefixlen > 30", "10.0.0.0/24{31,32}"),
+        ("10.0.0.0/24 prefixlen <= 26", "10.0.0.0/24{24,26}"),
+        ("10.0.0.0/24 prefixlen < 26", "10.0.0.0/24{24,25}"),
+    ],
+)
+def test_lengths_of_openbgpd(text: str, takes: str) -> None:
+    assert list(entries("openbgpd", text)) == list(entries("bird", takes))

@@ -1,0 +1,69 @@
+"""Which ranges a filter takes, and how routers are told their lengths."""
+import argparse
+
+import pytest
+
+from irr.commands import filter as command
+from irr.errors import DONE, REFUSED, Failure
+from irr.registry.answers import Answer
+from irr.registry.server import Server
+
+
+class Lines(Server):
+    """A registry in which every set has these ranges."""
+
+    def __init__(self, *ranges: str) -> None:
+        super().__init__("http://127.0.0.1:1")
+        self.text = "".join(f"{one}\n" for one in ranges).encode()
+
+    def query(self, *words: str | bytes) -> Answer:
+        return Answer(self.text, " ".join(map(str, words)))
+
+
+def made(place: Server, monkeypatch: pytest.MonkeyPatch, *words: str) -> int:
+    monkeypatch.setattr(Server, "from_options", lambda *_: place)
+    parser = argparse.ArgumentParser()
+    command.arguments(parser)
+    return command.run(parser.parse_args([*words, "X", "AS1:RS-A", "-"]))
+
+
+@pytest.mark.parametrize(
+    ("one", "widest", "is_taken"),
+    [
+        ("10.0.0.0/8^24", "8", True),
+        ("10.0.0.0/7^24", "8", False),
+        ("0.0.0.0/0^24", "8", False),
+        ("0.0.0.0/0^24-32", "1", False),
+        ("0.0.0.0/0^24", "0", True),
+        ("10.0.0.0/8", "9", False),
+    ],
+)
+def test_the_prefix_of_a_range_is_no_wider(
+    one: str, widest: str, is_taken: bool, monkeypatch: pytest.MonkeyPatch
+) -> None:
+    """Whatever its lengths are: of all addresses even the longest ones let anything in."""
+    if is_taken:
+        assert made(Lines(one), monkeypatch, "--widest", widest, "bird") == DONE
+        return
+    with pytest.raises(Failure, match=f"wider than /{widest}") as raised:
+        made(Lines(one), monkeypatch, "--widest", widest, "bird")
+    assert raised.value.status == REFUSED
+
+
+def test_lengths(monkeypatch: pytest.MonkeyPatch, capsys: pytest.CaptureFixture[str]) -> None:
+    place = Lines("10.0.0.0/16", "10.1.0.0/16^24", "10.2.0.0/16^16-24", "10.3.0.0/16^20-32")
+    assert made(place, monkeypatch, "frr") == DONE
+    assert capsys.readouterr().out.split("\n")[1:-1] == [
+        "ip prefix-list X seq 5 permit 10.0.0.0/16",
+        "ip prefix-list X seq 10 permit 10.1.0.0/16 ge 24 le 24",
+        "ip prefix-list X seq 15 permit 10.2.0.0/16 le 24",
+        "ip prefix-list X seq 20 permit 10.3.0.0/16 ge 20 le 32",
+        "ip prefix-list X seq 25 deny any",
+    ]
+    assert made(place, monkeypatch, "bird") == DONE
+    assert [line.strip(" ,") for line in capsys.readouterr().out.split("\n")[2:-2]] == [
+        "10.0.0.0/16{16,16}",
+        "10.1.0.0/16{24,24}",
+        "10.2.0.0/16{16,24}",
+        "10.3.0.0/16{20,32}",
+    ]

@@ -1,0 +1,148 @@
+"""The settings of filters: what a command says, what is no filter, and the guard against a list
+that shrinks."""
+import os
+import shlex
+import sys
+import time
+from pathlib import Path
+
+import pytest
+
+from irr.errors import DONE, REFUSED, SETTINGS, Failure
+from irr.filters import settings
+from irr.filters.settings import SHRUNK
+
+LIST = "define X = [\n" + ",\n".join(f"    10.0.{n}.0/24" for n in range(10)) + "\n];\n"
+SHORTER = "define X = [\n" + ",\n".join(f"    10.0.{n}.0/24" for n in range(6)) + "\n];\n"
+
+
+@pytest.fixture(autouse=True)
+def _no_router(monkeypatch: pytest.MonkeyPatch) -> None:
+    """What routers read is tried elsewhere."""
+    monkeypatch.setattr(settings, "look", lambda router, new: None)
+
+
+def command(out: str = "", said: str = "", status: int = 0) -> str:
+    """A command that prints and says these, and ends so. Of ~ it makes half a million letters."""
+    program = (
+        f"import sys; sys.stdout.write({out!r}.replace('~', 'x' * 500_000)); "
+        f"sys.stderr.write({said!r}.replace('~', 'x' * 500_000)); sys.exit({status})"
+    )
+    return shlex.join([sys.executable, "-c", program])
+
+
+def made(
+    folder: Path, *makes: str, router: str = "bird", more: str = "", accepts: bool = False
+) -> int:
+    """The status of making filters 0, 1, .. of a folder by these commands."""
+    tables = [
+        f"[[filter]]\nfile = '{folder}/{n}'\nrouter = '{router}'\nmake = '''{make}'''\n"
+        for n, make in enumerate(makes)
+    ]
+    path = folder / "filters.toml"
+    path.write_text(more + "".join(tables), encoding="utf-8")
+    return settings.make_all(str(path), accepts)
+
+
+@pytest.mark.parametrize(
+    "said",
+    [
+        "ERROR:Invalid AS number: 64512\n",
+        "warning: slow\n" * 10 + "ERROR:Invalid AS number: 64512\n",
+        "Debug: ~\nERROR:Invalid AS number: 64512\nDebug: more\n",
+        "FATAL ERROR: Invalid AS number: 64512",
+    ],
+)
+def test_error_is_seen_wherever_it_stands(
+    tmp_path: Path, said: str, capsys: pytest.CaptureFixture[str]
+) -> None:
+    for make in command(LIST, said), command(LIST + said):
+        (tmp_path / "0").write_text("old\n")
+        assert made(tmp_path, make) == REFUSED
+        assert (tmp_path / "0").read_text() == "old\n"
+        line = capsys.readouterr().err
+        assert "Invalid AS number: 64512" in line and line.count("\n") == 1 and len(line) < 1_000
+
+
+def test_names_are_no_errors(tmp_path: Path) -> None:
+    assert made(tmp_path, command(LIST.replace("X", "ERROR"), "Notice: no ERR\n")) == DONE
+
+
+@pytest.mark.parametrize(
+    ("router", "text"),
+    [
+        ("bird", "# Made by nobody\n"),
+        ("bird", "/* nothing\n * here */\n  # or here\n\n"),
+        ("frr", "! nothing\n# nothing\n"),
+        ("frr", "! nothing\nno ip prefix-list X\n!\n"),
+        ("openbgpd", "  # nothing\n\n"),
+        ("bird", "\n\n"),
+    ],
+)
+def test_comments_alone_are_no_filter(
+    tmp_path: Path, router: str, text: str, capsys: pytest.CaptureFixture[str]
+) -> None:
+    (tmp_path / "0").write_text("old\n")
+    assert made(tmp_path, command(text), router=router) == REFUSED
+    assert (tmp_path / "0").read_text() == "old\n"
+    assert "comments" in capsys.readouterr().err
+
+
+def test_two_filters_of_one_file(tmp_path: Path) -> None:
+    path = tmp_path / "filters.toml"
+    (tmp_path / "link").symlink_to(tmp_path / "x")
+    for first, second in [("x", "x"), ("x", "./x"), ("y/../x", "x"), ("link", "x")]:
+        path.write_text(
+            "".join(
+                f"[[filter]]\nfile = '{tmp_path}/{name}'\nrouter = 'bird'\nmake = 'true'\n"
+                for name in (first, second)
+            )
+        )
+        with pytest.raises(Failure, match="two filters") as raised:
+            settings.make_all(str(path))
+        assert raised.value.status == SETTINGS
+
+
+def test_list_that_shrinks_is_kept_back(tmp_path: Path, capsys: pytest.CaptureFixture[str]) -> None:
+    assert made(tmp_path, command(LIST)) == DONE
+    assert made(tmp_path, command(SHORTER), command(LIST)) == SHRUNK
+    said = capsys.readouterr().err
+    assert (tmp_path / "0").read_text() == LIST and (tmp_path / "1").read_text() == LIST
+    assert all(
+        words in said for words in ("4 of the old one's 10 entries", "--accept", "stays as it was")
+    )
+    assert made(tmp_path, command(SHORTER), more="shrink = 40\n") == DONE
+    assert made(tmp_path, command(LIST)) == DONE
+    assert made(tmp_path, command(SHORTER), accepts=True) == DONE
+    assert (tmp_path / "0").read_text() == SHORTER
+
+
+def test_a_list_at_the_bound_is_taken(tmp_path: Path) -> None:
+    ten, seven = LIST, LIST.replace("10.0.7.", "10.1.7.").replace("10.0.8.", "10.1.8.")
+    seven = seven.replace("10.0.9.", "10.1.9.")
+    assert made(tmp_path, command(ten)) == DONE
+    assert made(tmp_path, command(seven)) == DONE
+    assert made(tmp_path, command(LIST.replace("10.0.", "10.9."))) == SHRUNK
+
+
+def test_a_list_that_is_as_it_was_has_the_time_of_its_last_making(tmp_path: Path) -> None:
+    """Otherwise one that rarely changes would be called stale while it is made each hour."""
+    assert made(tmp_path, command(LIST)) == DONE
+    os.utime(tmp_path / "0", (0, 0))
+    assert made(tmp_path, command(LIST)) == DONE
+    assert time.time() - os.stat(tmp_path / "0").st_mtime < 600
+    assert settings.age(str(tmp_path / "0"), 1) == ""
+
+
+def test_guard_and_failure_together(tmp_path: Path) -> None:
+    assert made(tmp_path, command(LIST), command(LIST)) == DONE
+    assert made(tmp_path, command(SHORTER), command("", "gone", 1)) == SHRUNK
+    assert made(tmp_path, command("", "gone", 1), command(SHORTER)) == SHRUNK
+    assert made(tmp_path, command("", "gone", 1), command(LIST)) == REFUSED
+
+
+@pytest.mark.parametrize("value", ["-1", "101", "true", "'x'", "nan", "inf"])
+def test_bad_shrink(tmp_path: Path, value: str) -> None:
+    with pytest.raises(Failure, match="`shrink`") as raised:
+        made(tmp_path, command(LIST), more=f"shrink = {value}\n")
+    assert raised.value.status == SETTINGS

@@ -1,0 +1,216 @@
+"""The files that `irr import` reads and writes."""
+import bz2
+import gzip
+import io
+import lzma
+import os
+import stat
+import subprocess
+import sys
+import zipfile
+from pathlib import Path
+
+import pytest
+
+from checks.tool.importing import AUTH, obj
+from irr import main
+from irr.errors import FAILED, REFUSED
+from irr.migrate import dumps
+
+TOOLS = Path(__file__).resolve().parents[2] / "tools"
+GOOD = obj("aut-num: AS1", "mnt-by: A-MNT", "source: RIPE")
+WORDS = ["--source", "TEST", "--root", "ROOT-MNT", "--auth", AUTH]
+HTML = b"<!DOCTYPE html>\n<html>\n<head><title>404</title></head>\n<body>\nno\n</body>\n</html>\n"
+
+
+@pytest.fixture(autouse=True)
+def folder(tmp_path, monkeypatch):
+    monkeypatch.chdir(tmp_path)
+    return tmp_path
+
+
+def run(*words):
+    """The status of an import."""
+    return main.main(["import", *map(str, words), *WORDS])
+
+
+def packed_by_zip(text):
+    out = io.BytesIO()
+    with zipfile.ZipFile(out, "w") as made:
+        made.writestr(zipfile.ZipInfo("ripe.db"), text)
+    return out.getvalue()
+
+
+@pytest.mark.parametrize(
+    "content, said",
+    [
+        (bz2.compress(GOOD), "it is packed by bzip2; unpack it, or pack it by gzip"),
+        (lzma.compress(GOOD), "it is packed by xz; "),
+        (packed_by_zip(GOOD), "it is packed by zip; "),
+        (gzip.compress(bz2.compress(GOOD), mtime=0), "it is packed by bzip2; "),
+        (GOOD.decode().encode("utf-16"), "it is not text; "),
+        (gzip.compress(bytes(512) + GOOD, mtime=0), "it is not text; "),
+        (b"\x7fELF\x02\x01\x01" + bytes(64), "it is not text; "),
+    ],
+    ids=["bzip2", "xz", "zip", "bzip2 in gzip", "UTF-16", "tar", "a program"],
+)
+def test_what_is_not_text_ends_by_one_line(content, said, folder, capsys):
+    Path("dump").write_bytes(content)
+    Path("full").write_bytes(b"before")
+    assert run("dump", "-o", "full", "--left-out", "list") == FAILED
+    out, lines = capsys.readouterr()
+    assert out == "" and lines.count("\n") == 1 and lines.startswith(f"irr import: dump: {said}")
+    assert Path("full").read_bytes() == b"before"
+    assert sorted(os.listdir()) == ["dump", "full"]
+
+
+def test_a_control_character_costs_one_paragraph(capsys):
+    Path("dump").write_bytes(GOOD + GOOD.replace(b"AS1", b"AS2 \x07"))
+    assert run("dump", "-o", "full") == 0
+    assert "left out, text: it has a control character: 1" in capsys.readouterr().err
+
+
+@pytest.mark.parametrize(
+    "content",
+    [b"", b"% no objects\n", HTML, b"person: Jo\nsource: RIPE\n"],
+    ids=["nothing", "a comment", "HTML", "another class"],
+)
+def test_nothing_taken_replaces_nothing(content, capsys):
+    Path("dump").write_bytes(content)
+    for name in ("full", "list", "names"):
+        Path(name).write_bytes(b"before")
+    words = ["-o", "full", "--left-out", "list", "--renamed", "names"]
+    for more in [], ["--check"]:
+        assert run("dump", *words, *more) == REFUSED
+        out, said = capsys.readouterr()
+        last = said.splitlines()[-1]
+        assert out == "" and last.startswith(
+            "irr import: no object was taken, so nothing is written;"
+        )
+        assert "0 taken" in said.splitlines()[0]
+    assert {name: Path(name).read_bytes() for name in ("full", "list", "names")} == {
+        "full": b"before",
+        "list": b"before",
+        "names": b"before",
+    }
+
+
+class Drops(io.RawIOBase):
+    """A stream that gives a byte at a read."""
+
+    def __init__(self, content):
+        self.rest = io.BytesIO(content)
+
+    def readable(self):
+        return True
+
+    def readinto(self, buffer):
+        found = self.rest.read(1)
+        buffer[: len(found)] = found
+        return len(found)
+
+
+@pytest.mark.parametrize(
+    "content",
+    [gzip.compress(GOOD, mtime=0), dumps.MARK + GOOD, GOOD, b"", b"%"],
+    ids=["gzip", "a byte order mark", "plain", "nothing", "one byte"],
+)
+def test_reads_of_one_byte(content, monkeypatch):
+    plain = b"".join(whole(content))
+    monkeypatch.setattr(
+        dumps.files, "opened", lambda _: io.BufferedReader(Drops(content), buffer_size=16)
+    )
+    assert b"".join(dumps.pieces_of("-")) == plain == whole_text(content)
+
+
+def whole(content):
+    Path("whole").write_bytes(content)
+    return dumps.pieces_of("whole")
+
+
+def whole_text(content):
+    text = gzip.decompress(content) if content[:2] == dumps.ZIPPED else content
+    return text.removeprefix(dumps.MARK)
+
+
+@pytest.mark.parametrize(
+    "content", [gzip.compress(GOOD, mtime=0), dumps.MARK + GOOD], ids=["gzip", "a byte order mark"]
+)
+def test_a_pipe_whose_first_read_is_one_byte(content, folder):
+    """The real thing: a pipe that has one byte at first."""
+    words = [sys.executable, "-m", "irr", "import", "-", *WORDS]
+    with subprocess.Popen(
+        words,
+        stdin=subprocess.PIPE,
+        stdout=subprocess.PIPE,
+        stderr=subprocess.PIPE,
+        env={**os.environ, "PYTHONPATH": str(TOOLS)},
+    ) as child:
+        child.stdin.write(content[:1])
+        child.stdin.flush()
+        with pytest.raises(subprocess.TimeoutExpired):
+            child.wait(0.5)
+        child.stdin.write(content[1:])
+        out, said = child.communicate(timeout=60)
+    assert (child.returncode, b"aut-num:        AS1\n" in out) == (0, True), said
+
+
+def test_gzip_of_two_members():
+    Path("dump").write_bytes(
+        gzip.compress(GOOD, mtime=0) + gzip.compress(GOOD.replace(b"AS1", b"AS2"))
+    )
+    assert b"".join(dumps.pieces_of("dump")) == GOOD + GOOD.replace(b"AS1", b"AS2")
+
+
+def test_a_file_name_that_is_not_utf8(folder, capsys):
+    name = os.fsdecode(b"caf\xe9\t.db")
+    Path(name).write_bytes(GOOD + obj("person: Jo") + obj("as-set: AS-X", "members: ::/0"))
+    assert run(name, "-o", "full", "--left-out", "list") == 0
+    assert (
+        "left out, class person: 1\n  caf\\xe9\\x09.db:5  person: Jo\n" in capsys.readouterr().err
+    )
+    assert Path("list").read_text().splitlines() == [
+        "class person\tcaf\\xe9\\x09.db:5\tperson: Jo",
+        "IPv6\tcaf\\xe9\\x09.db:7\tas-set: AS-X\tmembers\t::/0",
+    ]
+
+
+@pytest.mark.parametrize("mask, mode", [(0o077, 0o600), (0o022, 0o644), (0o027, 0o640)])
+def test_lists_heed_the_umask(mask, mode, folder):
+    Path("dump").write_bytes(GOOD)
+    before = os.umask(mask)
+    try:
+        assert run("dump", "-o", "full", "--left-out", "list", "--renamed", "names") == 0
+    finally:
+        os.umask(before)
+    modes = {name: stat.S_IMODE(os.stat(name).st_mode) for name in ("full", "list", "names")}
+    assert modes == {"full": 0o600, "list": mode, "names": mode}
+
+
+def test_routes_without_an_aut_num_are_told(capsys):
+    Path("dump").write_bytes(
+        GOOD
+        + obj("route: 10.0.0.0/8", "origin: AS1", "source: RIPE")
+        + obj("route: 10.0.0.0/8", "origin: AS2", "source: RIPE")
+        + obj("route: 11.0.0.0/8", "origin: AS2", "source: RIPE")
+    )
+    assert run("dump", "-o", "full") == 0
+    assert (
+        "2 routes have an origin without an aut-num: `AS-ANY`, which is the registered aut-nums, "
+        "does not have them\n"
+    ) in capsys.readouterr().err
+
+
+def test_scopes_are_kept_by_an_option():
+    Path("dump").write_bytes(obj("as-set: AS-X", "members: RADB::AS-Y", "source: RIPE"))
+    for more, kept in ([], False), (["--keep-scoped"], True):
+        assert run("dump", "-o", "full", *more) == 0
+        assert (b"members:        AS-Y\n" in Path("full").read_bytes()) is kept
+
+
+def test_the_help_says_what_an_object_is(capsys):
+    assert main.main(["import", "--help"]) == 0
+    words = " ".join(capsys.readouterr().out.split())
+    assert (
+        "A paragraph is not an object if the name of a class comes again after its first" in words
+    )

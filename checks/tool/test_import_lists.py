@@ -1,0 +1,325 @@
+"""What an import makes of lists: nothing is gone from one that is not told."""
+import pytest
+
+from checks.tool.importing import left_out, made, mended, obj, texts_of
+from irr.rpsl import syntax
+
+SET = ("as-set: AS-X", "mnt-by: A-MNT", "source: RIPE")
+
+
+def lists_of(text, off=()):
+    """The lines of the lists that a paragraph has in the end, and what was mended."""
+    new, kinds = mended(text, off)
+    found = syntax.read(new).attributes
+    names = (b"members", b"mp-members", b"member-of", b"mnt-routes", b"mp-import", b"mp-export")
+    return [(one.name, one.lines) for one in found if one.name in names], kinds
+
+
+def rest(*lines):
+    return obj(*lines, "mnt-by: A-MNT", "source: TEST")
+
+
+# Both families (RFC 4012).
+
+
+def test_mp_members_of_ipv4_are_members():
+    found = lists_of(
+        rest(
+            "route-set: RS-MP",
+            "members: 10.0.0.0/8",
+            "mp-members: 192.0.2.0/24, 2001:db8::/32^+, 198.51.100.0/24^24-25, # both",
+            "+ AS64496, RS-B^-",
+        )
+    )
+    assert found == (
+        [
+            (b"members", [b"10.0.0.0/8"]),
+            (b"members", [b"192.0.2.0/24, 198.51.100.0/24^24-25 # both", b"AS64496, RS-B^-"]),
+        ],
+        {"mp-members", "ipv6"},
+    )
+
+
+def test_mp_members_of_ipv6_alone_are_gone():
+    text = rest("route-set: RS-MP", "mp-members: 2001:db8::/32, ::/0")
+    assert lists_of(text) == ([], {"mp-members", "ipv6"})
+    assert [line.split("\t")[:1] + line.split("\t")[2:] for line in left_out(text)] == [
+        ["IPv6", "route-set: RS-MP", "mp-members", "2001:db8::/32"],
+        ["IPv6", "route-set: RS-MP", "mp-members", "::/0"],
+    ]
+
+
+def test_mp_members_elsewhere_are_text():
+    for lines in (
+        ["as-set: AS-X", "mp-members: 2001:db8::/32, AS1"],
+        ["route-set: RS-X", "mp-members:"],
+    ):
+        text = rest(*lines)
+        assert mended(text) == (syntax.read(text[:-1]).text(), set())
+
+
+def test_policies_of_both_families_are_text():
+    text = rest(
+        "aut-num: AS1",
+        "mp-import: afi ipv6.unicast from AS2 accept 2001:db8::/32",
+        "mp-export: afi any to AS2 announce AS1",
+        "mp-default: to AS2",
+    )
+    assert mended(text) == (syntax.read(text[:-1]).text(), set())
+
+
+# `member-of` (RFC 2622, 5): of a route it names route-sets.
+
+
+def test_a_route_is_in_no_as_set():
+    text = rest("route: 10.0.0.0/8", "origin: AS1", "member-of: AS-X, RS-X, AS1:AS-Y, RIPE::AS-Z")
+    assert lists_of(text)[0] == [(b"member-of", [b"RS-X"])]
+    assert "member-of" in lists_of(text)[1]
+    assert [line.split("\t")[0] for line in left_out(text)] == ["a set of the other kind"] * 3
+    alone = rest("route: 10.0.0.0/8", "origin: AS1", "member-of: as-x # theirs")
+    assert lists_of(alone) == ([(b"member-of", [b"# theirs"])], {"member-of"})
+    assert mended(alone, ["member-of"]) == "not mended because of --no-member-of"
+    assert lists_of(rest("aut-num: AS1", "member-of: AS-X"))[1] == set()
+
+
+# Scopes.
+
+
+def members(dump, name="AS-X"):
+    (text,) = [text for text in texts_of(dump, "as-set") if text.split()[1] == name]
+    return syntax.read(text.encode()).items(b"members")
+
+
+def of(source, *lines):
+    return obj(*lines, "mnt-by: A-MNT", f"source: {source}")
+
+
+def test_a_scope_that_is_not_imported():
+    text = of("RIPE", "as-set: AS-X", "members: AS1, RADB::AS-Y, ripe::AS-Z, RIPE::AS2, RADB::AS3")
+    text += of("RIPE", "as-set: AS-Y", "members: AS666")
+    dump, tally = made(text)
+    assert members(dump) == [b"AS1", b"AS-Z", b"AS2"]
+    assert (tally.mended["scope"], tally.items.causes) == (
+        1,
+        {"a registry that is not imported": 2},
+    )
+    assert [line.split("\t")[2:] for line in left_out(text)] == [
+        ["as-set: AS-X", "members", "RADB::AS-Y"],
+        ["as-set: AS-X", "members", "RADB::AS3"],
+    ]
+    report = list(tally.lines())
+    place = report.index("dropped from lists, a registry that is not imported: 2")
+    assert report[place + 1].endswith("as-set: AS-X  members  RADB::AS-Y")
+
+
+def test_kept_scopes():
+    text = of("RIPE", "as-set: AS-X", "members: RADB::AS-Y")
+    dump, tally = made(text, keeps_scoped=True)
+    assert (members(dump), tally.items.causes.total()) == ([b"AS-Y"], 0)
+    assert made(text, off=["scope"])[1].taken == 0
+
+
+def test_a_scope_that_is_imported_later():
+    text = of("RIPE", "as-set: AS-X", "members: RADB::AS-Y, RADB::AS-Z")
+    dump, _ = made(text, of("radb # x", "as-set: AS-Y", "members: AS1"))
+    assert members(dump) == [b"AS-Y", b"AS-Z"]
+
+
+def test_a_name_that_another_registry_has():
+    """RIPE's AS-Y came first, so RADB's is left out, and `RADB::AS-Y` must not become RIPE's."""
+    text = of("RIPE", "as-set: AS-X", "members: RADB::AS-Y, RIPE::AS-Y, AS-Y")
+    text += of("RIPE", "as-set: AS-Y", "members: AS1")
+    text += of("RADB", "as-set: AS-Y", "members: AS2") + of("RADB", "aut-num: AS2")
+    dump, tally = made(text)
+    assert members(dump) == [b"AS-Y", b"AS-Y"]
+    assert tally.items.causes == {"its name is that of a set of another registry": 1}
+
+
+def test_a_name_with_an_operator_that_another_registry_has():
+    """The operator after a scoped name does not hide whose set it is."""
+    text = of("RIPE", "route-set: RS-X", "members: RADB::RS-Y^+, RADB::RS-Y, RIPE::RS-Y^24")
+    text += of("RIPE", "route-set: RS-Y", "members: 10.0.0.0/8")
+    text += of("RADB", "route-set: RS-Y", "members: 192.0.2.0/24") + of("RADB", "aut-num: AS2")
+    dump, tally = made(text)
+    (own,) = [one for one in texts_of(dump, "route-set") if one.split()[1] == "RS-X"]
+    assert syntax.read(own.encode()).items(b"members") == [b"RS-Y^24"]
+    assert tally.items.causes == {"its name is that of a set of another registry": 2}
+
+
+def test_a_registry_of_which_nothing_is_taken():
+    text = of("RIPE", "as-set: AS-X", "members: RADB::AS-Y") + obj("person: Jo", "source: RADB")
+    assert members(made(text)[0]) == []
+    text += of("RIPE", "inetnum: 10.0.0.0 - 10.0.0.9")
+    crossing = of("RADB", "inetnum: 10.0.0.5 - 10.0.0.12")
+    assert members(made(text, crossing)[0]) == []
+    assert members(made(crossing, text)[0]) == [b"AS-Y"]
+
+
+def test_scopes_with_operators_and_new_names():
+    text = obj(
+        "route-set: RS-X",
+        "members: RIPE::RS-Y^+, RIPE::AS1^24, RIPE::10.0.0.1/8^+ # one",
+        "members: RADB::RS-Z^- # two",
+        "mnt-by: 1-MNT",
+        "source: RIPE",
+    )
+    dump, _ = made(text)
+    assert texts_of(dump, "route-set") == [
+        "route-set:      RS-X\nmembers:        RS-Y^+, AS1^24, 10.0.0.0/8^+ # one\n"
+        "members:        # two\nmnt-by:         MNT-1-MNT\nsource:         TEST\n"
+    ]
+
+
+# Host bits.
+
+
+@pytest.mark.parametrize(
+    "lines, wanted",
+    [
+        (["route: 192.0.2.1/24 # a", "origin: AS1"], "route:          192.0.2.0/24 # a\n"),
+        (["inetnum: 192.0.2.1/24"], "inetnum:        192.0.2.0/24\n"),
+        (
+            ["route-set: RS-X", "members: 192.0.2.1/24^+, AS1"],
+            "members:        192.0.2.0/24^+, AS1",
+        ),
+        (["route-set: RS-X", "mp-members: 10.0.0.1/8"], "members:        10.0.0.0/8\n"),
+        (
+            ["aut-num: AS1", "mnt-routes: A-MNT {192.0.2.1/24^25}"],
+            "mnt-routes:     A-MNT {192.0.2.0/24^25}\n",
+        ),
+    ],
+)
+def test_host_bits(lines, wanted):
+    text, kinds = mended(rest(*lines))
+    assert wanted in text.decode()
+    assert kinds - {"mp-members"} == {"host-bits"}
+    assert mended(rest(*lines), ["host-bits"]) == "not mended because of --no-host-bits"
+
+
+def test_prefixes_that_are_whole():
+    for lines in (
+        ["route: 192.0.2.0/24", "origin: AS1"],
+        ["inetnum: 192.0.2.1 - 192.0.2.9"],
+        ["route-set: RS-X", "members: 192.0.2.1/32, 0.0.0.0/0^+, 010.0.0.0/8"],
+    ):
+        assert mended(rest(*lines))[1] == set(), lines
+
+
+def test_a_short_prefix_keeps_its_comment():
+    text, kinds = mended(rest("inetnum: 10.1/8 # ten"))
+    assert (text.partition(b"\n")[0], kinds) == (
+        b"inetnum:        10.0.0.0/8 # ten",
+        {"prefix", "host-bits"},
+    )
+
+
+# An operator by itself.
+
+
+@pytest.mark.parametrize(
+    ("kind", "attribute", "items", "kept"),
+    [
+        ("route-set: RS-X", "members", "10.0.0.0/8 ^24, 10.1.0.0/16", ["10.1.0.0/16"]),
+        ("route-set: RS-X", "mp-members", "AS1,\n ^+ AS2", ["AS2"]),
+        ("as-set: AS-X", "members", "AS1 ^24, AS2", ["AS2"]),
+        ("inetnum: 10.0.0.0/8", "mnt-routes", "A-MNT {10.0.0.0/8 ^24}", ["A-MNT", "{}"]),
+    ],
+)
+def test_what_stands_before_an_operator_is_dropped_with_it(kind, attribute, items, kept):
+    """`10.0.0.0/8` alone would be another list than `10.0.0.0/8 ^24`."""
+    text = obj(kind, f"{attribute}: {items}", "mnt-by: A-MNT", "source: TEST")
+    ((_, lines),), kinds = lists_of(text)
+    found = b" ".join(lines).decode().replace(",", " ").split()
+    assert (found, "item" in kinds) == (kept, True)
+    causes = [line.split("\t") for line in left_out(text)]
+    assert [(cause[0], cause[-1][:1]) for cause in causes] == [
+        ("an operator after it is apart from it", items.split("{")[-1][:1]),
+        ("an item that can't be read", "^"),
+    ]
+
+
+# A file that ends too early.
+
+
+@pytest.mark.parametrize("end", ["members: AS1, AS64", "members: AS1,\n AS64", "mnt-by: A-MNT"])
+def test_the_last_object_of_a_file_that_was_cut_off(end):
+    """`AS64` may have been `AS64496`: without an end of the line, and without a `source`."""
+    whole = obj("as-set: AS-Y", "mnt-by: A-MNT", "source: RIPE")
+    text = whole + f"as-set: AS-X\n{end}".encode()
+    (line,) = left_out(text)
+    assert line.startswith("cut off at the end of the file\t") and line.endswith("as-set: AS-X")
+    assert b"AS-X" not in made(text)[0]
+    # Other ends are none.
+    for good in text + b"\n", text + b"\nsource: RIPE", whole.rstrip(b"\n"), whole + b"# end":
+        assert left_out(good) == []
+
+
+# Names that two registries have.
+
+
+def test_all_of_one_registry_of_several_is_dropped():
+    """`AS-ANY` here is the aut-nums of all registries that are imported."""
+    sets = obj("route-set: RS-X", "members: RADB::AS-ANY^+, RADB::rs-any, AS1", *SET[1:])
+    other = obj("as-set: AS-Z", "mnt-by: A-MNT", "source: RADB")
+    cause = "all of one registry of several"
+    assert [line.split("\t")[0] for line in left_out(sets + other)] == [cause] * 2
+    assert texts_of(made(sets + other)[0], "route-set")[0].split("\n")[1].split()[1:] == ["AS1"]
+    assert left_out(sets + other, keeps_scoped=True) == []
+    alone = sets.replace(b"RIPE", b"RADB") + other
+    assert left_out(alone) == []
+    assert b"AS-ANY^+, rs-any, AS1" in made(alone)[0]
+
+
+def test_names_of_two_registries():
+    """What of another registry has the name of a maintainer or a set is no mere duplicate."""
+    for kind in "mntner: A-MNT", "as-set: AS-X", "route-set: RS-X":
+        one = obj(kind, "mnt-by: A-MNT", "source: RIPE")
+        other = one.replace(b"RIPE", b"RADB")
+        for texts, causes in [
+            ((one, other), ["a name of another registry"]),
+            ((one, one), ["duplicate"]),
+            ((one, other, one), ["a name of another registry", "duplicate"]),
+        ]:
+            _, tally = made(b"".join(texts))
+            assert sorted(tally.causes.elements()) == causes
+            assert tally.mended["duplicate"] == len(causes)
+    route = obj("route: 10.0.0.0/8", "origin: AS1", "mnt-by: A-MNT", "source: RIPE")
+    _, tally = made(route + route.replace(b"RIPE", b"RADB"))
+    assert dict(tally.causes) == {"duplicate": 1}
+
+
+# The list of what is left out.
+
+
+def test_items_of_what_is_left_out_are_not_listed():
+    """A duplicate, and a range that crosses another, is listed as a whole."""
+    one = obj("as-set: AS-X", "members: x!", "mnt-by: A-MNT", "source: RIPE")
+    lines = left_out(one + one + obj("as-set: RS-X", "members: y!"))
+    assert sorted(line.split("\t")[0] for line in lines) == [
+        "a key that can't be read",
+        "an item that can't be read",
+        "duplicate",
+    ]
+    text = obj("inetnum: 10.0.0.0 - 10.0.0.9", "mnt-routes: A-MNT {::/0}", "source: RIPE")
+    lines = left_out(text + text.replace(b"10.0.0.0 ", b"10.0.0.5 ").replace(b"0.9", b"0.12"))
+    assert [line.split("\t")[0] for line in lines] == ["crossing", "IPv6"]
+
+
+def test_each_reason_is_listed_with_object_attribute_and_item():
+    lines = left_out(
+        obj(
+            "as-set: AS-X",
+            "members: AS1, caf\xe9, ::/0",
+            "mbrs-by-ref: 2001:db8::/32",
+            "mnt-by: A-MNT",
+            "source: RIPE",
+        )
+        + obj("route: 10.0.0.0/8", "mnt-routes: ANY, A-MNT {x}", "origin: AS1", "source: RIPE")
+    )
+    assert [line.split("\t")[:1] + line.split("\t")[2:] for line in lines] == [
+        ["an item that can't be read", "as-set: AS-X", "members", "caf\xe9"],
+        ["IPv6", "as-set: AS-X", "members", "::/0"],
+        ["IPv6", "as-set: AS-X", "mbrs-by-ref", "2001:db8::/32"],
+        ["an item that can't be read", "route: 10.0.0.0/8 AS1", "mnt-routes", "ANY"],
+        ["an item that can't be read", "route: 10.0.0.0/8 AS1", "mnt-routes", "x"],
+    ]

@@ -1,0 +1,154 @@
+"""What of a dump is one object: paragraphs that hold several are parted, or left out."""
+import pytest
+
+from checks.tool.importing import left_out, made, mended, obj, texts_of
+from irr.migrate import conversion
+from irr.rpsl import syntax
+
+A = ("as-set: AS-A", "members: AS1", "mnt-by: A-MNT", "source: RIPE")
+B = ("route-set: RS-B", "members: 10.0.0.0/8", "mnt-by: EVIL-MNT", "source: RIPE")
+# The classes of RFC 2622, 2725, 2726 and 4012, of RIPE and of IRRd, all but `route-set`.
+CLASSES = """mntner as-block aut-num inetnum route as-set person role route6 inet6num inet-rtr
+    filter-set peering-set rtr-set key-cert domain repository dictionary irt organisation poem
+    poetic-form limerick as-macro community dom-prefix ipv6-site organization""".split()
+
+
+def test_parted_after_a_source():
+    dump, tally = made(obj(*A, *B))
+    assert texts_of(dump, "as-set", "route-set") == [
+        "as-set:         AS-A\nmembers:        AS1\nmnt-by:         A-MNT\n"
+        "source:         TEST\n",
+        "route-set:      RS-B\nmembers:        10.0.0.0/8\nmnt-by:         EVIL-MNT\n"
+        "source:         TEST\n",
+    ]
+    assert (tally.read, tally.taken, tally.mended["part"]) == (2, 2, 1)
+    assert "  1  --no-part" in "\n".join(tally.lines())
+    assert [line.partition(":")[2] for line in tally.parted] == ["5\troute-set: RS-B"]
+
+
+def test_not_parted_where_that_is_turned_off():
+    _, tally = made(obj(*A, *B), off=["part"])
+    assert (tally.read, dict(tally.causes)) == (1, {"not mended because of --no-part": 1})
+
+
+@pytest.mark.parametrize(
+    "between",
+    [
+        ["# a comment", "%", "#"],
+        [" more"],
+        ["+", "# x", "\t"],
+    ],
+)
+def test_what_may_stand_before_the_class(between):
+    """Skipped lines are no attributes; lines that continue `source` are part of it."""
+    source = [A[-1]] if between[0][0] in "#%+" else ["source:"]
+    lines = [*A[:-1], *source, *between, *B]
+    dump, tally = made(obj(*(line if line != " more" else " RIPE" for line in lines)))
+    assert (tally.read, tally.taken) == (2, 2)
+    assert b"EVIL-MNT" not in dump.partition(b"AS-A")[2].partition(b"\n\n")[0]
+
+
+def test_ends_of_lines_and_spellings():
+    text = obj(*A, *B).replace(b"source:", b"SOURCE \t:").replace(b"route-set:", b"Route-Set :")
+    assert made(text)[1].taken == 2
+    assert made(text.replace(b"\n", b"\r\n"))[1].taken == 2
+
+
+def test_many_in_one_paragraph():
+    text = obj(*(line for number in range(50) for line in (f"as-set: AS-{number}", *A[1:])))
+    _, tally = made(text + obj("person: Jo", "nic-hdl: J", "source: RIPE", *B))
+    assert (tally.read, tally.taken, tally.causes["class person"]) == (52, 51, 1)
+    assert (tally.mended["part"], len(tally.parted)) == (50, 10)
+
+
+@pytest.mark.parametrize("name", CLASSES)
+def test_a_class_after_the_first_line(name):
+    """Where no `source` stands before it, nobody knows where the first object ends."""
+    cause = "a class again after the first line"
+    for lines in (
+        ("route-set: RS-B", f"{name}: X", "mnt-by: A-MNT", "source: RIPE"),
+        ("route-set: RS-B", "mnt-by: A-MNT", "source: RIPE", "descr: x", f"{name.upper()} : X"),
+        (f"{name}: X", "descr: x", "route-set: RS-B", "mnt-by: A-MNT", "source: RIPE"),
+        ("x-unknown: X", f"{name}: X", "source: RIPE"),
+    ):
+        assert mended(obj(*lines)) == cause, lines
+
+
+def test_names_that_are_no_class():
+    """An attribute that only begins or ends as a class, a value, a comment, and `advisory`, which
+    routes of RADB have."""
+    text = obj(
+        "route: 10.0.0.0/8",
+        "origin: AS1",
+        "descr: route: 10.0.0.0/8",
+        "# route: 10.0.0.0/8",
+        " route: 10.0.0.0/8",
+        "x-route: y",
+        "routes: y",
+        "advisory: AS690 1:701",
+        "mnt-by: A-MNT",
+        "source: TEST",
+    )
+    assert mended(text)[1] == set()
+
+
+def test_two_sources():
+    for lines in (
+        ("aut-num: AS1", "source: RIPE", "mnt-by: A-MNT", "source: RIPE"),
+        ("aut-num: AS1", "mnt-by: A-MNT", "source: TEST", "source: TEST"),
+        ("aut-num: AS1", "source:", "mnt-by: A-MNT", "SOURCE : TEST"),
+        ("person: Jo", "source: RIPE", "source: RIPE"),
+    ):
+        assert mended(obj(*lines)) == "`source` twice", lines
+
+
+def test_a_source_that_is_none():
+    """Where a dump without a line end stands before another one, the class is in the value."""
+    seam = obj(*A).rstrip() + obj("route-set: RS-B", "mnt-by: EVIL-MNT")
+    assert mended(seam) == "a `source` that can't be read"
+    assert mended(obj("aut-num: AS1", "mnt-by: A-MNT", "source: RIPE", " mnt-by: B-MNT")) == (
+        "a `source` that can't be read"
+    )
+    assert mended(obj("aut-num: AS1", "mnt-by: A-MNT", "source: ")) == (
+        b"aut-num:        AS1\nmnt-by:         A-MNT\nsource:         TEST\n",
+        {"source"},
+    )
+
+
+def test_a_source_in_the_first_line_ends_no_object():
+    _, tally = made(obj("source: RIPE", *B[:-1]))
+    assert (tally.read, tally.taken) == (1, 0)
+
+
+def test_each_part_that_is_left_out_is_listed_by_its_own_line():
+    lines = left_out(b"\n" + obj(*A, "person: Jo", "source: RIPE", *B, *B))
+    assert [line.split("\t")[:1] + line.rsplit(":", 2)[1:] for line in lines] == [
+        ["class person", "6\tperson", " Jo"],
+        ["duplicate", "12\troute-set", " RS-B"],
+    ]
+
+
+def test_a_part_with_a_fault_costs_no_other():
+    dump, tally = made(obj(*A, "route-set: RS-C", "no colon", "source: RIPE", *B))
+    assert (tally.taken, dict(tally.causes)) == (2, {"text: it has a line without a colon": 1})
+    assert b"RS-B" in dump and b"RS-C" not in dump
+
+
+def test_a_dump_without_blank_lines_loses_nothing(monkeypatch):
+    """Also where it is larger than what is kept of a paragraph."""
+    monkeypatch.setattr(conversion, "MOST", 1_000)
+    monkeypatch.setattr(syntax, "CHUNK", 700)
+    lines = [line for number in range(99) for line in (f"as-set: AS-{number}", *A[1:], "# x")]
+    lines[4 * 50 + 50 : 4 * 50 + 50] = ["person: Jo", "source: RIPE"]
+    dump, tally = made(obj(*lines, "person: Jo"))
+    assert (tally.taken, dict(tally.causes)) == (99, {"class person": 2})
+    assert [line.split("\t")[1].rpartition(":")[2] for line in left_out(obj(*lines))] == ["251"]
+    assert tally.mended["part"] == 100
+
+
+def test_what_is_too_large_and_has_no_seam(monkeypatch):
+    monkeypatch.setattr(conversion, "MOST", 1_000)
+    monkeypatch.setattr(syntax, "CHUNK", 700)
+    text = obj("as-set: AS-A", *["x: y"] * 1_000, *A[1:]) + obj(*B)
+    assert left_out(text)[0].startswith("above 65,536 bytes\t")
+    assert made(text)[1].taken == 1

@@ -1,0 +1,101 @@
+"""A maintainer's lost password."""
+
+import os
+import re
+import subprocess
+import sys
+
+from checks.running import expect, short, write
+from checks.worlds import World, expect_line
+
+
+def test_a_lost_password_is_reset_and_nothing_else(trial, tool, tell):
+    """A maintainer gets another password and nothing else is changed; what can't be done changes
+    nothing."""
+    with World(trial, tool, "resets") as world:
+        settings = os.path.join(world.folder, "s.toml")
+        expect_line(
+            tool(
+                "reset",
+                "A-MNT",
+                "--settings",
+                settings,
+                "--save",
+                os.path.join(world.folder, "p"),
+                folder=world.folder,
+            ),
+            4,
+            ".*in use, most likely by the running server.*",
+            "a registry that is served",
+        )
+    folder = world.folder
+    before = trial.run(folder, "dump", "s.toml", "--full").printed
+    for status, pattern, *words in [
+        (2, ".*no such maintainer.*", "C-MNT", "--save", "p"),
+        (2, ".*not a maintainer's name.*", "AS-A"),
+        (2, ".*not an auth line.*", "A-MNT", "--auth", "NONE"),
+        (2, ".*no terminal.*", "A-MNT"),
+    ]:
+        ran = subprocess.run(
+            [sys.executable, tool.path, "reset", "--settings", settings, *words],
+            cwd=folder,
+            capture_output=True,
+            env=tool.environment,
+            stdin=subprocess.DEVNULL,
+            start_new_session=True,
+            check=False,
+        )
+        is_line = bool(re.fullmatch(rf"irr reset[^\n]*{pattern}\n", ran.stderr.decode()))
+        expect((ran.returncode, is_line), (status, True), f"{words}: {ran.stderr!r}")
+    expect(
+        trial.run(folder, "dump", "s.toml", "--full").printed,
+        before,
+        "the registry after resets that failed",
+    )
+    os.chmod(os.path.join(folder, "irr.db"), 0o640)
+    if os.geteuid() == 0:
+        os.chown(os.path.join(folder, "irr.db"), 12_345, 12_345)
+    was = os.stat(os.path.join(folder, "irr.db"))
+    # What a reset leaves that is killed.
+    os.mkdir(left := os.path.join(folder, ".irr.db.irr-reset-abcdefgh"))
+    write(left, "full.rpsl", before)
+    ran = tool(
+        "reset", "A-MNT", "--settings", settings, "--save", os.path.join(folder, "p"), folder=folder
+    )
+    expect((ran.status, ran.said), (0, b""), f"a reset: {ran.printed!r}")
+    now = os.stat(os.path.join(folder, "irr.db"))
+    expect(
+        (now.st_mode, now.st_uid, now.st_gid),
+        (was.st_mode, was.st_uid, was.st_gid),
+        "the owner of the database",
+    )
+    expect(os.stat(os.path.join(folder, "p")).st_mode & 0o777, 0o600, "the rights of the password")
+    expect(sorted(name for name in os.listdir(folder) if "irr-reset" in name), [], "what is left")
+    after = trial.run(folder, "dump", "s.toml", "--full").printed
+    changed = [
+        (old, new) for old, new in zip(before.split(b"\n"), after.split(b"\n")) if old != new
+    ]
+    expect(
+        (len(changed), changed[0][0].startswith(b"auth:  "), before.count(b"\n")),
+        (1, True, after.count(b"\n")),
+        short(changed),
+    )
+    with open(os.path.join(folder, "p"), "rb") as file:
+        password = file.read()
+    change_it = b"\ninetnum: 192.0.2.0/24\ndescr: %s\nmnt-by: A-MNT\nsource: TEST\n"
+    for text, word in [
+        (b"password: one good secret\n" + change_it % b"old", b"refused E11"),
+        (password + change_it % b"new", b"changed"),
+    ]:
+        ran = trial.run(folder, "submit", "s.toml", write(folder, "t.rpsl", text))
+        expect(word in ran.printed, True, f"{word!r}: {ran.printed!r}")
+    line = "SHA256-PW Xq3:3d72452d508755b8fcf01dfbb10b3a37d4cb2debb0312934b5f2b447595c927e"
+    expect(
+        tool("reset", "a-mnt", "--settings", settings, "--auth", line, folder=folder).status,
+        0,
+        "a reset by a line of its holder",
+    )
+    text = b"password: the root secret of this page\n" + change_it % b"third"
+    ran = trial.run(folder, "submit", "s.toml", write(folder, "t.rpsl", text))
+    expect(b"changed" in ran.printed, True, f"by the holder's password: {ran.printed!r}")
+    tell("2 resets")

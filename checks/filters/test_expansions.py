@@ -24,7 +24,7 @@ LONG = bool(os.environ.get("CHECKS_LONG"))
 # How bgpq4 writes a list that is called L0 for each router, with and without ranges on one line.
 ROUTERS = {
     "bird": ["-b", "-l", "define L0"],
-    "frr": ["-l", "L0"],
+    "frr": ["-s", "-l", "L0"],
     "openbgpd": ["-B", "-E", "-l", "L0"],
 }
 OPTIONS: list[list[str]] = [

@@ -164,14 +164,15 @@ def test_gzip_of_two_members():
 
 def test_a_file_name_that_is_not_utf8(folder, capsys):
     name = os.fsdecode(b"caf\xe9\t.db")
-    Path(name).write_bytes(GOOD + obj("person: Jo") + obj("as-set: AS-X", "members: ::/0"))
+    last = obj("as-set: AS-X", "members: ::/0", "source: RIPE")
+    Path(name).write_bytes(GOOD + obj("person: Jo") + last)
     assert run(name, "-o", "full", "--left-out", "list") == 0
     assert (
         "left out, class person: 1\n  caf\\xe9\\x09.db:5  person: Jo\n" in capsys.readouterr().err
     )
     assert Path("list").read_text().splitlines() == [
-        "class person\tcaf\\xe9\\x09.db:5\tperson: Jo",
-        "IPv6\tcaf\\xe9\\x09.db:7\tas-set: AS-X\tmembers\t::/0",
+        "left out\tclass person\tcaf\\xe9\\x09.db:5\tperson: Jo",
+        "dropped from lists\tIPv6\tcaf\\xe9\\x09.db:7\tas-set: AS-X\tmembers\t::/0",
     ]
 
 

@@ -4,10 +4,11 @@ from checks.machine.service import AS_OWNER, SETTINGS, TRIGGERED
 from checks.running import expect
 from checks.sums import sum_of
 
-# The example's filter, of an AS that the registry has; its number is one for documentation, which
-# bgpq4 takes with -p.
+# The example's filter by bgpq4, of an AS that the registry has; its number is one for
+# documentation, which bgpq4 takes with -p.
 FILTERS = (
-    "sed -i 's/bgpq4 /bgpq4 -p /; s/ AS64496:AS-CUSTOMERS/ AS64496/' /etc/irrdesk/filters.toml"
+    'sed -i \'/^make/d; s/^# make = "bgpq4 /make = "bgpq4 -p /;'
+    " s/ AS64496:AS-CUSTOMERS/ AS64496/' /etc/irrdesk/filters.toml"
 )
 SOON = "/run/systemd/system/irrdesk-backup.timer.d"
 

@@ -56,8 +56,8 @@ def seen(text: str, registered: str = "") -> tuple[list[tuple[str, bool]], int]:
         (mntner("MD5-PW x", "PGPKEY-1", by="ROOT-MNT"), "f: line 2, `auth`", "no password", True),
         ("aut-num: AS1\npasword: x\n", "f: line 2, `pasword`", "shown to all", True),
         ("Passwrd: x\n", "f: line 1, `passwrd`", "shown to all", True),
-        ("aut-num: AS1\npasswd: x\n", "f: line 2, `passwd`", "reads as a secret", True),
-        ("OVERRIDE : x\naut-num: AS1\n", "f: line 1, `override`", "reads as a secret", True),
+        ("aut-num: AS1\npasswd: x\n", "f: line 2, `passwd`", "reads as a password", True),
+        ("OVERRIDE : x\naut-num: AS1\n", "f: line 1, `override`", "reads as a password", True),
         *(
             (f"aut-num: AS1\n{name}: x\n", f"f: line 2, `{name}`", "write `password`", True)
             for name in grammar.SECRETS

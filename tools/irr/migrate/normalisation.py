@@ -22,8 +22,8 @@ NUMBERS = {kind.encode(): number for number, kind in enumerate(keys.CLASSES, 1)}
 MNTNER, AS_BLOCK, AUT_NUM, INETNUM, ROUTE, AS_SET, ROUTE_SET = range(1, 8)
 SETS = (AS_SET, ROUTE_SET)
 SHORT_PREFIX = re.compile(rb"([0-9]{1,3}(?:\.[0-9]{1,3}){0,2})\.?/([0-9]{1,2})")
-# The attributes that are read in each class, by its number, but those of keys and `source`; and what
-# becomes one of them, or is none of an object.
+# The attributes that are read in each class, by its number, but those of keys and `source`; and
+# what becomes one of them, or is none of an object.
 READ = [
     frozenset[bytes](),
     *(

@@ -119,7 +119,7 @@ def of_name(item: Item, one: Placed) -> Iterator[Caution]:
     """An attribute that is one letter off another one, or reads as a secret."""
     meant = misspelt(one.name)
     if is_secret(one.name):
-        words = "it reads as a secret, and would be shown to all as a text; write `password`"
+        words = "it reads as a password, and would be shown to all as a text; write `password`"
         yield Caution(at(item, one, one.numbers[0]), words, True)
     elif meant == "password":
         words = "it is one letter off `password`, and would be shown to all as a text"

@@ -202,8 +202,8 @@ INTERPRETED = tuple(
 )
 
 
-# What reads as a secret, and is more than a letter off `password`. `override` and `api-key` are those
-# of other registries.
+# What reads as a secret, and is more than a letter off `password`. `override` and `api-key` are
+# those of other registries.
 SECRETS = tuple(
     """pass pass-word pass_word passcode passphrase passw passwd paswd paswrd psswd
     pw pwd secret override api-key apikey""".split()

@@ -152,7 +152,7 @@ class Mender:
         names: dict[str, None] = {}
         kept: list[Attribute] = []
         has_mnt_by = has_auth = False
-        grants = Grants(self, names)
+        grants: Grants | None = None
         for attribute in attributes:
             name = attribute.name
             changed: Attribute | None = attribute
@@ -165,6 +165,7 @@ class Mender:
                 for item in listed:
                     names[self.maintainer(item)] = None
             elif name == b"mnt-routes":
+                grants = grants or Grants(self, names)
                 changed = self.changed(attribute, grants.token, TOKEN)
             elif name == b"member-of":
                 changed = self.changed(attribute, lambda item: self.set_item(number, item))
@@ -183,11 +184,11 @@ class Mender:
                 raise LeftOut("`password` or `delete`")
             if changed is not None:
                 kept.append(changed)
-        if grants.is_open:
+        if grants and grants.is_open:
             raise LeftOut("a brace of `mnt-routes` that is not closed")
         if not has_mnt_by:
             self.use("mnt-by")
-            kept.insert(last_place(kept, b"source"), Attribute(b"mnt-by", [self.root]))
+            kept.insert(source_place(kept), Attribute(b"mnt-by", [self.root]))
             names[self.root.decode()] = None
         if number == MNTNER and not has_auth:
             self.use("auth")
@@ -292,7 +293,7 @@ class Mender:
 
     def sourced(self, attributes: list[Attribute]) -> tuple[str, list[Attribute]]:
         """The registry that an object is of, and its attributes with `source` for this one."""
-        place = last_place(attributes, b"source")
+        place = source_place(attributes)
         found = attributes[place].meaning() if place < len(attributes) else b""
         name = source_of(found)
         if name is None:
@@ -302,8 +303,8 @@ class Mender:
         if not name and "source" in self.off:
             raise LeftOut(f"{NO_SOURCE}, {not_mended('source')}")
         self.use("source")
-        new = Attribute(b"source", [self.source])
-        return name, [*attributes[:place], new, *attributes[place + 1 :]]
+        attributes[place : place + 1] = [Attribute(b"source", [self.source])]
+        return name, attributes
 
     def written(self, names: tuple[str, ...], attributes: list[Attribute]) -> bytes:
         """The text of an object, which has room for new names."""
@@ -397,12 +398,12 @@ def first_of(number: int, key: int | str) -> int:
     return int(key) >> (38 if number == ROUTE else 32)
 
 
-def last_place(attributes: list[Attribute], name: bytes) -> int:
-    """The place of the first attribute of a name, otherwise the end."""
-    return next(
-        (place for place, attribute in enumerate(attributes) if attribute.name == name),
-        len(attributes),
-    )
+def source_place(attributes: list[Attribute]) -> int:
+    """The place of `source`, of which there is one at most, otherwise the end."""
+    for place in range(len(attributes) - 1, 0, -1):
+        if attributes[place].name == b"source":
+            return place
+    return len(attributes)
 
 
 def unscoped(

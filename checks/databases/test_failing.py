@@ -6,7 +6,7 @@ import urllib.request
 
 from checks.commands import within
 from checks.databases.spoilt import LARGE
-from checks.running import limited
+from checks.running import PATIENCE, limited
 from checks.serving import free_port
 
 SECONDS = 20
@@ -37,7 +37,7 @@ def serve_three(case, port, closed=()):
         except urllib.error.HTTPError as error:
             reply = error
         replies.append(reply.read().decode())
-    rest = process.communicate(timeout=60)[0]
+    rest = process.communicate(timeout=PATIENCE)[0]
     case.ended(process.returncode, (first + rest).decode(), case.read("said"))
     return "".join(replies)
 

@@ -7,6 +7,7 @@ import time
 
 import pytest
 
+from checks.running import PATIENCE
 from checks.commands import within
 from checks.databases.spoilt import LARGE, dumped
 from checks.serving import Listening, free_port
@@ -36,11 +37,11 @@ def modes(case, name, wanted, store):
         [case.program, "submit", "s.toml", "waiting"], cwd=case.folder, stdout=subprocess.DEVNULL
     )
     with open(waiting, "wb"):
-        end = time.monotonic() + 60
+        end = time.monotonic() + PATIENCE
         while not log.exists() and time.monotonic() < end:
             time.sleep(0.05)
         found = [f"{os.stat(path).st_mode & 0o777:o}" for path in (case.folder / store, log)]
-    running.wait(60)
+    running.wait(PATIENCE)
     case.check(f"{name}: permissions {wanted}", " ".join(found) == wanted)
 
 
@@ -426,7 +427,7 @@ def test_files_limits_and_other_processes_are_told(case):
         "",
     )
     held.close()
-    holder.wait(60)
+    holder.wait(PATIENCE)
     with Listening() as port:
         case.run("serve", "s.toml", "--port", str(port), "--count", "1").gives(
             "a port that is taken",

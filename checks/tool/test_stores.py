@@ -11,6 +11,7 @@ from pathlib import Path
 from types import SimpleNamespace
 from unittest import mock
 
+from checks.running import PATIENCE
 from checks.tool.stores import TEXT, Folder, limited, program
 from irr.commands import backup
 from irr.errors import DATABASE, SETTINGS, Failure
@@ -423,7 +424,7 @@ class Stores(Folder):
         return server
 
     def wait_until_it_goes_on(self, server):
-        end = time.monotonic() + 20
+        end = time.monotonic() + PATIENCE
         while databases.is_still(server.pid):
             self.assertLess(time.monotonic(), end, "the server was left still")
             time.sleep(0.01)

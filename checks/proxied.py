@@ -12,7 +12,7 @@ import sys
 import time
 from pathlib import Path
 
-from checks.running import TOP, Failure, write
+from checks.running import PATIENCE, TOP, Failure, write
 from checks.serving import free_port, read_all
 
 HOST = "irr.example.net"
@@ -106,7 +106,7 @@ class Door:
             stdout=open(os.path.join(self.folder, "log"), "wb"),
             stderr=subprocess.STDOUT,
         )
-        end = time.monotonic() + 60
+        end = time.monotonic() + PATIENCE
         while not self.listens():
             if self.process.poll() is not None or time.monotonic() > end:
                 self.__exit__()

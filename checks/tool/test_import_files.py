@@ -12,6 +12,7 @@ from pathlib import Path
 
 import pytest
 
+from checks.running import PATIENCE
 from checks.tool.importing import AUTH, obj
 from irr import main
 from irr.errors import FAILED, REFUSED
@@ -151,7 +152,7 @@ def test_a_pipe_whose_first_read_is_one_byte(content, folder):
         with pytest.raises(subprocess.TimeoutExpired):
             child.wait(0.5)
         child.stdin.write(content[1:])
-        out, said = child.communicate(timeout=60)
+        out, said = child.communicate(timeout=PATIENCE)
     assert (child.returncode, b"aut-num:        AS1\n" in out) == (0, True), said
 
 

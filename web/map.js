@@ -1,11 +1,12 @@
 // The map: the boxes of the prefix that was asked for, and the one prefix of it that is shown.
 import {
-    $, STRANGE, Trouble, Wire, addView, addressOf, around, blockOf, breather, counted, decimal, el,
-    kindOf, lastOf, link, listing, mapLink,
-    objectsOf, prefixOf, prefixText, shown, spanOf, wordsOf,
-} from './irr.js';
+    Client, STRANGE, Trouble, breather, kindOf, objectsOf, wordsOf,
+} from './lib/client.js';
+import {$, addressOf, counted, decimal, el, link, listing, mapLink, shown} from './lib/nodes.js';
+import {around, blockOf, lastOf, prefixOf, prefixText, spanOf} from './lib/rpsl.js';
+import {addView} from './page.js';
 
-const map = new Wire('map');
+const map = new Client('map');
 const canvas = $('canvas');
 const isDark = matchMedia('(prefers-color-scheme: dark)');
 const space =

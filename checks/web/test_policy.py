@@ -1,26 +1,21 @@
-"""What the page may do, and the table that it has of the tool."""
+"""What the page may do, and the tables that it has of the tool."""
 
 import os
 import re
-from pathlib import Path
 
 from checks.running import TOP, Skipped, expect
 from checks.web.browsing import POLICY, expect_in
-from checks.web.tables import FILES, TABLED, WEB, page_parts
+from checks.web.tables import FILES, TABLES, WEB, tables
 from irr.registry.codes import TABLE
 
 IN_MEMORY = True
 
 
 def test_the_tables_are_those_of_the_tool(tell):
-    for name, (_, block) in TABLED.items():
-        expect(
-            page_parts(name)[1],
-            block(),
-            f"the table in web/{name} (python3 -m checks.web.tables writes it)",
-        )
+    found = TABLES.read_text(encoding="utf-8")
+    expect(found, tables(), "web/lib/tables.js (python3 -m checks.web.tables writes it)")
     text = "".join(
-        Path(WEB, name).read_text(encoding="utf-8") for name in FILES if name.endswith(".js")
+        (WEB / name).read_text(encoding="utf-8") for name in FILES if name.endswith(".js")
     )
     expect(
         re.findall(

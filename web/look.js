@@ -120,7 +120,7 @@ function expansion(query, text) {
     }
     if (members.length)
         parts.push(el('div', {class: 'buttons'}, ...buttons),
-        ...listing(el('ul', {class: 'list'}), members, member =>
+        ...listing(el('ul', {class: 'list', role: 'list'}), members, member =>
         el('li', {}, link(member.split('^')[0], member))));
     return [`${counted(members.length, what)}${missing.length
         ? `, ${counted(missing.length, 'set')} not registered` : ''}.`, parts];
@@ -139,9 +139,10 @@ function grouped(objects) {
 }
 
 function showLook(query) {
-    const isInside = $('answer').contains(document.activeElement)
-        || document.activeElement === document.body;
+    const isInside = [$('answer'), $('look-title')].some(
+        one => one.contains(document.activeElement)) || document.activeElement === document.body;
     $('words').value = query;
+    $('words').setAttribute('aria-invalid', 'false');
     $('answer').replaceChildren();
     $('queries').open = !query;
     look.say('');
@@ -149,7 +150,10 @@ function showLook(query) {
     if (!query) return;
     look.run(async signal => {
         const text = await look.query(signal, query), kind = kindOf(text);
-        if (kind === 'none' || kind === 'error') return look.say(wordsOf(text), kind === 'error');
+        if (kind === 'none' || kind === 'error') {
+            $('words').setAttribute('aria-invalid', String(/^% error [12]/.test(text)));
+            return look.say(wordsOf(text), kind === 'error');
+        }
         const [words, parts] = kind === 'expansion' ? expansion(query, text)
             : grouped(await objectsOf(text, signal));
         if (signal.aborted) return;

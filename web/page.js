@@ -28,6 +28,7 @@ function show(isAnew = false) {
     const view = SECTIONS[name] ?? 'look';
     let given = rest;
     try { given = decodeURIComponent(rest); } catch { /* It stays as it was written. */ }
+    const isMoved = Object.values(SECTIONS).some(id => id !== view && !$(id).hidden);
     for (const section of Object.values(SECTIONS)) $(section).hidden = section !== view;
     for (const at of document.querySelectorAll('[data-view]')) {
         if (at.dataset.view === view) at.setAttribute('aria-current', 'page');
@@ -36,6 +37,7 @@ function show(isAnew = false) {
     document.title =
         `${view === 'look' ? shown(given) || 'Look up' : view === 'map' ? `Map ${shown(given)}`
         : 'Submit'} · routing registry`;
+    if (isMoved) $(`${view}-title`).focus();
     if (view in views) views[view].show(given, isAnew);
     else if (!areAllHere) $(`${view}-said`).textContent = COMING;
     else $(view).replaceChildren($(`${view}-title`),

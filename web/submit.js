@@ -76,12 +76,26 @@ const isSafe = location.protocol === 'https:'
     || /^(?:localhost|127(?:\.\d{1,3}){3}|\[::1\])$/.test(location.hostname);
 const isText = () => $('by-text').checked;
 
+// What is wrong with a field stands below it: a line that is empty until then. `mark` gives
+// whether it is wrong.
+const faultLine = id => el('p', {id: `fault-${id}`, class: 'fault', hidden: true});
+
+function mark(input, words) {
+    const line = $(`fault-${input.id}`);
+    line.textContent = words;
+    line.hidden = !words;
+    input.setAttribute('aria-invalid', String(Boolean(words)));
+    return Boolean(words);
+}
+
 function passwordField() {
     const number = $('passwords').childElementCount + 1;
     return el('div', {class: 'field tall'},
         el('label', {for: `password-${number}`}, `Password ${number}`),
-        el('input', {id: `password-${number}`, type: 'password', autocomplete: 'off',
-            spellcheck: 'false'}));
+        el('input', {id: `password-${number}`, type: 'password',
+            autocomplete: 'current-password', spellcheck: 'false',
+            'aria-describedby': `fault-password-${number}`}),
+        faultLine(`password-${number}`));
 }
 
 const passwordInputs = () => [...$('passwords').querySelectorAll('input')];
@@ -96,16 +110,15 @@ function addPassword(password) {
 function field(name, needs, about, check, isLong) {
     const input =
         el(isLong ? 'textarea'
-        : 'input', {id: `field-${name}`, 'aria-describedby': `about-${name} fault-${name}`,
+        : 'input', {id: `field-${name}`, 'aria-describedby': `about-${name} fault-field-${name}`,
         spellcheck: 'false', autocapitalize: 'none', ...isLong ? {rows: '3'} : {}});
-    fields[name] =
-        {input, check, needs, fault: el('p', {id: `fault-${name}`, class: 'fault', hidden: true})};
+    fields[name] = {input, check, needs};
     if (needs.startsWith('1')) input.setAttribute('aria-required', 'true');
     return el('div', {class: 'field tall', 'data-name': name},
         el('label', {for: `field-${name}`},
         (name === 'other' ? 'other attributes' : name)
         + {'1': '', '1+': ' (one or more)', '0+': ' (if any)'}[needs]),
-        input, el('p', {id: `about-${name}`, class: 'hint'}, about), fields[name].fault);
+        input, el('p', {id: `about-${name}`, class: 'hint'}, about), faultLine(`field-${name}`));
 }
 
 function showClass() {
@@ -140,8 +153,8 @@ async function digestOf(text) {
 // Makes an auth line of a password, which stays in the password fields.
 function digestMaker() {
     const input =
-        el('input', {id: 'new-password', type: 'password', autocomplete: 'off',
-        'aria-describedby': 'about-new'});
+        el('input', {id: 'new-password', type: 'password', autocomplete: 'new-password',
+        'aria-describedby': 'about-new fault-new-password'});
     const make = async () => {
         const salt =
             Array.from(crypto.getRandomValues(new Uint8Array(8)), byte =>
@@ -157,11 +170,13 @@ function digestMaker() {
         el('div', {class: 'field tall'}, el('label', {for: 'new-password'}, 'New password'), input,
         el('p', {id: 'about-new', class: 'hint'},
             'Its hash is made on this page. Take a long one, made by chance: others may try to ' +
-            'guess it.')),
+            'guess it.'), faultLine('new-password')),
         el('button', {type: 'button', click: () => {
             const fault = !isSafe ? 'Without TLS no password is taken.' : faultOf(input.value)
                 || (input.value ? '' : 'Write the new password first.');
-            return fault ? send.say(fault, true) : make();
+            if (!mark(input, fault)) return make();
+            send.say(fault, true);
+            input.focus();
         }}, 'Make its auth line'));
 }
 
@@ -189,16 +204,14 @@ const preview = () => { $('preview').textContent = composed(); };
 // Marks each field that has a fault, and gives the first one.
 function faultyField() {
     const kind = $('class').value, isDeletion = $('delete').checked;
-    for (const [name, {input, check, needs, fault}] of Object.entries(fields)) {
+    const wrong = Object.entries(fields).filter(([name, {input, check, needs}]) => {
         const value = input.value.trim(),
             isAsked = !isDeletion || name === kind || name === 'origin';
-        fault.textContent = !isAsked ? '' : !value ? needs.startsWith('1') ? `${name} is needed.`
+        return mark(input, !isAsked ? '' : !value ? needs.startsWith('1') ? `${name} is needed.`
             : '' : check(value) ? ''
-            : `This is not what ${name === 'other' ? 'these attributes' : name} may have.`;
-        fault.hidden = !fault.textContent;
-        input.setAttribute('aria-invalid', String(!fault.hidden));
-    }
-    return Object.values(fields).find(one => !one.fault.hidden)?.input;
+            : `This is not what ${name === 'other' ? 'these attributes' : name} may have.`);
+    });
+    return wrong[0]?.[1].input;
 }
 
 const PASSWORD = /^password[ \t\r]*:[ \t\r]*(.*)(?:\n|$)/gim;
@@ -206,10 +219,9 @@ const PASSWORD = /^password[ \t\r]*:[ \t\r]*(.*)(?:\n|$)/gim;
 // A text has no passwords in it, since everybody near may read a text.
 function lookAtText() {
     const found = [...$('text').value.matchAll(PASSWORD)];
-    $('text-fault').hidden = $('move-passwords').hidden = !found.length;
-    $('text-fault').textContent = found.length
+    $('move-passwords').hidden = !mark($('text'), found.length
         ? `The text has ${counted(found.length,
-        'password')} in it, for all to read: move it into its field.` : '';
+        'password')} in it, for all to read: move it into its field.` : '');
     return found;
 }
 
@@ -380,7 +392,7 @@ function report(signal, text, blocks) {
         && items.every((item, at) => Number(item[1]) === at + 1);
     const isMatched = items.length === blocks.length;
     const boxes = items.map((item, at) => itemBox(item, isMatched && blocks[at]));
-    const list = el('ol', {class: 'items'}, ...boxes);
+    const list = el('ol', {class: 'items', role: 'list'}, ...boxes);
     const counts =
         ['added', 'changed', 'unchanged', 'deleted', 'refused'].map(word =>
         [items.filter(item => (item[5] ?? 'refused') === word).length, word]).filter(pair =>
@@ -403,14 +415,14 @@ function submit() {
     const stop = (words, place) => { send.say(words, true); place?.focus(); };
     if (!isSafe) return;
     if (isText() ? lookAtText().length : false)
-        return stop($('text-fault').textContent, $('move-passwords'));
+        return stop($('fault-text').textContent, $('move-passwords'));
     const wrong = isText() ? null : faultyField();
     if (wrong) return stop('A field is not as it has to be: see there.', wrong);
     const text = isText() ? $('text').value.replaceAll('\r\n', '\n') : composed(),
         blocks = blocksOf(text);
     if (!blocks.length) return stop('There is nothing to submit.', $('text'));
-    const fault = passwords.map(faultOf).find(Boolean);
-    if (fault) return stop(fault, passwordInputs()[0]);
+    const [bad] = passwordInputs().filter(input => mark(input, faultOf(input.value)));
+    if (bad) return stop(faultOf(bad.value), bad);
     const body =
         passwords.map(password => `password: ${password}\n`).join('')
         + (passwords.length ? '\n' : '') + text;
@@ -426,7 +438,10 @@ function submit() {
         if (showCautions(cautions, text)) return stop(NOT_SENT, $('anyway'));
         for (const input of passwordInputs()) input.value = '';
         await report(signal, (await send.ask(signal, '/submissions', body)).text, blocks);
-    }).finally(() => { $('send').disabled = !isSafe; });
+    }).finally(() => {
+        $('send').disabled = !isSafe;
+        if (document.activeElement === document.body) $('send').focus();
+    });
 }
 
 async function showSubmit() {

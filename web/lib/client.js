@@ -43,7 +43,10 @@ export class Client {
         this.said = $(`${name}-said`);
         this.stop = $(`${name}-stop`);
         this.current = null;
-        this.stop.addEventListener('click', () => this.current?.abort());
+        this.stop.addEventListener('click', () => {
+            this.said.focus();
+            this.current?.abort();
+        });
     }
 
     say(words, bad = false) {

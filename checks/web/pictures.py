@@ -11,10 +11,11 @@ from pathlib import Path
 from types import SimpleNamespace
 
 from checks.running import TOP, Trial
+from checks.web.browsing import HOST
 from checks.web.staging import Stage
 
 PLACE = Path(TOP, "docs/pictures")
-WIDTH, HEIGHT = 960, 700
+WIDTH, HEIGHT = 1120, 800
 MAP = "#map=10.0.0.0/8"
 LOOK = "#q=10.1.2.3"
 ROUTE = {"route": "10.1.2.0/24", "origin": "AS64496", "mnt-by": "A-MNT"}
@@ -77,6 +78,7 @@ def chunk(kind: bytes, body: bytes) -> bytes:
 def take(stage: Stage, name: str) -> None:
     """Keeps what is seen of the page, from its top."""
     clip = {"x": 0, "y": 0, "width": WIDTH, "height": HEIGHT, "scale": 1}
+    stage.browser.js("scrollTo(0, 0)")
     made = stage.browser.call("Page.captureScreenshot", clip=clip)["data"]
     (PLACE / f"{name}.png").write_bytes(packed(base64.b64decode(made)))
 
@@ -87,6 +89,7 @@ def main() -> None:
         stage = Stage(Trial(options, str(Path(sys.argv[1]).resolve()), folder))
         try:
             stage.begin(0)
+            stage.home = stage.nginx.address("tls", HOST)
             browser = stage.browser
             browser.call(
                 "Emulation.setDeviceMetricsOverride",

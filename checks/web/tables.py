@@ -54,6 +54,7 @@ def grammar_block() -> str:
             ),
             "];\n",
             listed("INTERPRETED", grammar.INTERPRETED),
+            listed("SECRETS", grammar.SECRETS),
             listed("RESERVED", sorted(keys.RESERVED)),
         ]
     )

@@ -1,7 +1,7 @@
 // What is wrong with an object, line by line, as `irr` tells it; and what looks like a mistake. It
 // says nothing where it finds another fault than the registry.
 import {NAME, asNumber, isAs, isMaintainer, setKind} from './rpsl.js';
-import {FORMS, HINTS, INTERPRETED, KEY_WORDS, TABLE, WORDS} from './tables.js';
+import {FORMS, HINTS, INTERPRETED, KEY_WORDS, SECRETS, TABLE, WORDS} from './tables.js';
 
 const PSEUDO = ['password', 'delete'], LONGEST_SHOWN = 60, LARGEST = 65536;
 const ATTRIBUTE = /^[a-z][a-z0-9_-]{0,63}$/i;
@@ -292,7 +292,10 @@ export function cautionsOf(block) {
     const kind = ownOf(attributes)[0]?.name;
     for (const one of attributes) {
         const near = misspelt(one.name);
-        if (near) {
+        if (SECRETS.includes(one.name)) {
+            caution(firstOf(one), one.name,
+                'it reads as a password, and would be shown to all as a text; give it below', true);
+        } else if (near) {
             caution(firstOf(one), one.name, near === 'password' ?
                 'it is one letter off `password`, and would be shown to all as a text' :
                 `it is one letter off \`${near}\`, and would be kept as a text without meaning`,

@@ -105,6 +105,10 @@ export const INTERPRETED = (
     "auth mnt-by source mnt-lower member-of mnt-routes origin members mbrs-by-ref " +
     "password delete"
 ).split(' ');
+export const SECRETS = (
+    "pass pass-word pass_word passcode passphrase passw passwd paswd paswrd psswd pw pwd " +
+    "secret override api-key apikey"
+).split(' ');
 export const RESERVED = (
     "accept action and announce any as-any at atomic except from inbound into networks " +
     "not or outbound peeras refine rs-any to"

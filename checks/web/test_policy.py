@@ -79,6 +79,19 @@ def test_its_policy_refuses_what_comes_from_elsewhere(stage, tell):
     tell("a script, a style, a picture and a request from elsewhere are refused")
 
 
+def test_haproxy_serves_each_file_of_the_page():
+    """It reads no folder: the example has a line for each."""
+    with open(os.path.join(TOP, "examples/haproxy.cfg"), encoding="utf-8") as text:
+        lines = re.findall(
+            r"file /usr/share/irrdesk/web/(\S+) .* if \{ path /(\S*) \}", text.read()
+        )
+    expect(
+        sorted(lines),
+        sorted((name, "" if name == "index.html" else name) for name in FILES),
+        "the files in examples/haproxy.cfg, and their paths",
+    )
+
+
 def test_the_proxies_of_the_examples_send_the_policy(tell):
     told = []
     for name in ["nginx.conf", "haproxy.cfg"]:

@@ -73,7 +73,9 @@ class Mirrors:
         name, version, begin, end = asked.groups()
         self.looked = 0.0
         found = self.range()
-        if found is None or found.source != name.upper():
+        if found is None:
+            raise Bad(401, "invalid range: no serials are kept here")
+        if found.source != name.upper():
             raise Bad(403, f"unknown source {name.upper()}")
         if version != "3":
             raise Bad(405, f"syntax error: version {version} is not known here, and 3 is")

@@ -117,6 +117,9 @@ class Repository:
         """Makes the repository where there is none."""
         if not self.is_there:
             self.git("init", "--quiet", "--bare", "--object-format=sha1", "--initial-branch=main")
+        for left in f"{BRANCH}.lock", "packed-refs.lock":
+            # Of a run that was stopped by force: this one alone works here.
+            (self.folder / left).unlink(missing_ok=True)
 
     @reading("the history")
     def states(self) -> list[State]:

@@ -82,7 +82,7 @@ class Serials:
             found = HEAD.match(file.readline())
         if not found:
             raise Failure(
-                str(path), "it is no file of serials; remove the folder, and mirrors begin anew"
+                str(path), "it has no serials; remove its folder, so that mirrors begin anew"
             )
         source, first, final, since, commit, dump = (part.decode() for part in found.groups())
         return Told(source, int(first), int(final), int(since), commit, dump)

@@ -3,10 +3,11 @@
 import gzip
 import os
 import shutil
+import time
 
 import pytest
 
-from checks.door.opened import read_all
+from checks.door.opened import Opened, read_all
 from checks.mirrors.changing import Changing
 from checks.mirrors.client import Mirror, MustBegin, key_of, objects_of
 from checks.running import expect
@@ -30,6 +31,7 @@ members: AS1
 mnt-by: ROOT-MNT
 source: TEST
 """
+REFUSED = "%ERROR:402: not authorised to mirror the database from IP address"
 NO_NEWER = "% Warning: there are no newer updates available\n\n"
 
 
@@ -89,7 +91,7 @@ def test_it_answers_mirrors_and_nobody_else(world, each, trial):
             expect((answer[:25], answer.count("\n")), ("%ERROR:405: syntax error:", 2), word)
         expect(ask(port, f"-g TEST:3:{last + 1}-LAST"), NO_NEWER, "what is new")
     with each("another address"):
-        answer = "%ERROR:402: not authorised to mirror the database from IP address 127.0.0.2\n\n"
+        answer = f"{REFUSED} 127.0.0.2\n\n"
         for word in "TEST:3:1-LAST", "RIPE:3:1-LAST", "x":
             expect(door.whois(f"-g {word}", last=2).decode(), answer, word)
         expect(
@@ -108,26 +110,42 @@ def test_it_answers_mirrors_and_nobody_else(world, each, trial):
         expect("serials went back" in " ".join(door.status()["faults"]), True, "one that is ahead")
         ask(port, f"-g TEST:3:{last + 1}-LAST")
         expect(door.status()["faults"], [], "one that is not")
-    with each("serials that are lost"):
-        world.export()
-        mirror = world.mirror()
-        # Made to have been so many that the clock does not pass them.
-        high = world.history + "/serials"
-        shutil.rmtree(high)
-        world.record()
-        world.submit(ITEMS.replace("AS1", "AS2").replace("AS-A", "AS-B"))
-        world.record()
-        if world.last() > mirror.serial:
-            world.export()
-        mirror.serial = begun - 1
-        with pytest.raises(MustBegin):
-            mirror.follow(port)
-        mirror.objects, mirror.serial = {}, 0
-        os.unlink(f"{world.out}/TEST.CURRENTSERIAL")
-        world.export()
-        mirror.begin(world.out)
-        mirror.follow(port)
-        expect(mirror.objects == world.dump(), True, "a mirror that began anew")
+    with each("clients that a proxy names"):
+        mirrors = 'mirrors = ["192.0.2.9", "2001:db8::/64"]\nproxied = true\n'
+        words = [f"--registry=http://127.0.0.1:{world.port}"]
+        config = f'history = "{world.history}"\n{mirrors}'
+        with Opened(trial, "proxied", words, config) as proxied:
+            for name, is_mirror in [
+                ("TCP4 192.0.2.9 192.0.2.1", True),
+                ("TCP6 2001:db8::7 2001:db8::1", True),
+                ("TCP4 192.0.2.8 192.0.2.1", False),
+                ("TCP4 127.0.0.1 127.0.0.1", False),
+            ]:
+                asked = f"PROXY {name} 1 43\r\n-g TEST:3:{last + 1}-LAST\r\n"
+                answer = proxied.whois(asked.encode()).decode()
+                wanted = f"{REFUSED} {name.split()[1]}\n\n"
+                expect(answer, NO_NEWER if is_mirror else wanted, name)
+
+
+def test_a_mirror_begins_anew_where_serials_were_lost(world):
+    """A folder of serials that is not there is made anew, from which no mirror of before goes on."""
+    world.record()
+    world.export()
+    mirror = world.mirror()
+    shutil.rmtree(f"{world.history}/serials")
+    while time.time() < 10 * (mirror.serial + 2):
+        # So few seconds can't be told from one another by the first serial.
+        time.sleep(0.5)
+    world.record()
+    world.submit(ITEMS.replace("AS1", "AS2").replace("AS-A", "AS-B"))
+    world.record()
+    with pytest.raises(MustBegin) as refused:
+        mirror.follow(world.door.whois_port)
+    expect(refused.value.number, 401, "what it is answered")
+    world.export()
+    mirror = world.mirror()
+    mirror.follow(world.door.whois_port)
+    expect(mirror.objects == world.dump(), True, "a mirror that began anew")
 
 
 def test_an_export_is_of_one_state_and_its_serial_never_ahead(world, trial, tell):

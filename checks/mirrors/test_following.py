@@ -25,7 +25,7 @@ def unmet(mirror):
 
 def test_a_mirror_has_the_public_dump_at_every_serial(trial, tool, tell):
     chance = trial.chance("mirror")
-    wanted, items = trial.pick(300, 5_000), Chance(chance)
+    wanted, items = trial.count or trial.pick(300, 5_000), Chance(chance)
     seen, stops = {}, {"registry": 0, "door": 0, "history": 0, "export": 0, "mirror": 0}
 
     def looked(mirror):

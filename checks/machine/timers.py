@@ -131,6 +131,18 @@ class Timers:
         )
         return f"{len(made.splitlines())} lines for BIRD"
 
+    def mirrors(self):
+        """What a mirror begins from, and the serials that the door tells of, as another user."""
+        guest = self.service.guest
+        guest.done("systemctl enable --now irrdesk-export.timer; systemctl start irrdesk-export")
+        names = guest.done("ls /var/cache/irrdesk-export").split()
+        expect((names[0][-13:], len(names)), ("CURRENTSERIAL", 9), f"what is exported: {names}")
+        serial = guest.done("cat /var/cache/irrdesk-export/*.CURRENTSERIAL").strip()
+        asked = "exec 3<>/dev/tcp/127.0.0.1/43; echo '-q sources' >&3; cat <&3"
+        told = guest.done(f'bash -c "{asked}"')
+        expect(f"-{serial}\n" in told, True, f"whether serial {serial} is told: {told}")
+        return f"serial {serial}"
+
     def untouched(self):
         """That nothing of all this changed the registry, or failed."""
         service, guest = self.service, self.service.guest

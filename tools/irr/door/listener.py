@@ -39,7 +39,7 @@ class Door:
         self, loop: asyncio.AbstractEventLoop, settings: Settings, pool: Pool, counters: Counters
     ) -> None:
         self.loop, self.settings, self.pool, self.counters = loop, settings, pool, counters
-        self.trusted = networks(settings.trusted)
+        self.trusted = networks(settings.trusted, "trusted")
         self.connections: set["Connection"] = set()
         # Those that have asked nothing yet, the longest silent first.
         self.silent: OrderedDict["Connection", None] = OrderedDict()
@@ -135,6 +135,7 @@ class Connection(asyncio.Protocol):
         "is_full",
         "local",
         "begun",
+        "address",
     )
     port = ""
 
@@ -150,7 +151,7 @@ class Connection(asyncio.Protocol):
         self.transport: asyncio.Transport = transport  # type: ignore[assignment] # of TCP
         door = self.door
         peer = transport.get_extra_info("peername")
-        address = peer[0] if peer else "0.0.0.0"
+        self.address = address = peer[0] if peer else "0.0.0.0"
         now = time.monotonic()
         self.begun = now
         self.client = self.admitted = door.pool.clients.of(client_name(address), now)
@@ -296,6 +297,7 @@ class Whois(Connection):
             name = proxied(line)
             if name is not None:
                 self.client = self.door.pool.clients.of(client_name(name), time.monotonic())
+                self.address = name
                 return
         self.is_named = True
         self.door.silent.pop(self, None)
@@ -304,7 +306,7 @@ class Whois(Connection):
             return
         if self.session is None:
             self.session = irrd.Session(
-                Asker(self.door.pool, self.client), self.door.settings.strict
+                Asker(self.door.pool, self.client, self.address), self.door.settings.strict
             )
         if line[:1] == b"!":
             quick = self.session.at_once(line)
@@ -352,7 +354,9 @@ class Whois(Connection):
         self.stays = reply.stays
         self.idle = self.session.seconds or IDLE
         self.deadline = now + LASTING
-        if reply.text:
+        if reply.body is not None:
+            self.hand(b"", reply.body)
+        elif reply.text:
             self.give(b"", reply.text, reply.source)
         if self.held is None:
             self.given()

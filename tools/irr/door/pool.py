@@ -11,6 +11,7 @@ from irr.door.budget import Client, Clients, Turn, Turns
 from irr.door.cache import DEAR, Answer, Cache, Costs, Ledger
 from irr.door.collecting import Collected, Dump, Dumped
 from irr.door.exchange import Exchange, listens
+from irr.door.nrtm import Mirrors
 from irr.door.settings import Place, Settings, place, upstream
 from irr.door.upstreams import Upstream
 from irr.errors import Failure
@@ -111,6 +112,7 @@ class Pool:
         self.replicas = [Upstream(upstream(text)) for text in settings.replica]
         self.agent: Optional[Place] = place(settings.agent) if settings.agent else None
         self.clients = Clients(settings.refill, settings.burst)
+        self.mirrors = Mirrors(settings)
         self.turns: Turns[Request] = Turns(self.clients)
         self.running: dict[bytes, Request] = {}
         self.costs, self.ledger = Costs(), Ledger(settings.answers)

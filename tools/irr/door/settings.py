@@ -64,6 +64,9 @@ class Settings:
     log_size: int = 16 * MEBIBYTE
     log_files: int = 20
     log_days: float = 180
+    # Who may follow the registry by NRTM, and the history whose serials they are told.
+    mirrors: tuple[str, ...] = ()
+    history: str = "/var/lib/irrdesk-history"
 
 
 BOUNDS: dict[str, tuple[float, float]] = {
@@ -113,7 +116,8 @@ def read(path: str | None, given: dict[str, Any]) -> Settings:
         place(text)
     for text in (settings.registry, *settings.replica):
         upstream(text)
-    networks(settings.trusted)
+    networks(settings.trusted, "trusted")
+    networks(settings.mirrors, "mirrors")
     return settings
 
 
@@ -171,14 +175,14 @@ def upstream(text: str) -> Place:
     )
 
 
-def networks(texts: tuple[str, ...]) -> tuple[Network, ...]:
-    """The networks that these name, each an address or a prefix."""
+def networks(texts: tuple[str, ...], name: str) -> tuple[Network, ...]:
+    """The networks that these name, each an address or a prefix, of the setting of a name."""
     found: list[Network] = []
     for text in texts:
         try:
             found.append(ipaddress.ip_network(text))
         except ValueError:
             raise Failure(
-                text, "this is not an address or prefix; correct `trusted`", SETTINGS
+                text, f"this is not an address or prefix; correct `{name}`", SETTINGS
             ) from None
     return tuple(found)

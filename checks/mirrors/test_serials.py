@@ -12,6 +12,7 @@ from hypothesis import strategies as st
 
 from checks.mirrors.client import key_of
 from checks.running import expect
+from irr.door import nrtm
 from irr.local import changes, serials
 from irr.local.history import Repository
 from irr.rpsl import syntax
@@ -159,6 +160,32 @@ def test_the_last_states_are_kept(states, monkeypatch):
     monkeypatch.setattr(serials, "MOST_BYTES", 1)
     found = states.add()
     expect(states.serials.kept(), [found.last], "the last one, of whatever size")
+
+
+def test_letter_case_tells_no_registries_apart(states):
+    states.add(source="Test")
+    found = states.add(aut_num(1, "tEST"), source="Test")
+    expect((found.source, found.last - found.first), ("TEST", 0), "the registry, and one change")
+
+
+def test_an_answer_whose_file_is_gone_lacks_its_last_line(states):
+    states.add()
+    states.add(aut_num(1))
+    found = states.add(aut_num(1), aut_num(2))
+    parts = states.serials.parts(found.first, found.last)
+    whole, cut = (nrtm.Changes("TEST", found.first, parts) for _ in range(2))
+    expect(handed(whole).endswith(b"\n%END TEST\n\n"), True, "the whole answer")
+    parts[1].path.unlink()
+    text = handed(cut)
+    expect((b"AS1\n" in text, b"%END" in text), (True, False), "the answer")
+
+
+def handed(answer):
+    """What the door hands out of an answer."""
+    text = b""
+    while len(text) < answer.size():
+        text += answer.piece(len(text), 7)
+    return text
 
 
 # The order of changes.

@@ -157,9 +157,14 @@ class Changes:
         part, begun = self.parts[self.at], self.ends[self.at - 1] if self.at else 0
         if isinstance(part, bytes):
             return part[place - begun :]
-        with open(part.path, "rb") as file:
-            file.seek(part.begin + place - begun)
-            return file.read(min(size, self.ends[self.at] - place))
+        try:
+            with open(part.path, "rb") as file:
+                file.seek(part.begin + place - begun)
+                return file.read(min(size, self.ends[self.at] - place))
+        except FileNotFoundError:
+            # It is kept no longer: the answer ends without its last line, so the mirror asks again.
+            self.ends = [place]
+            return b""
 
     def size(self) -> int:
         return self.ends[-1]

@@ -63,6 +63,11 @@ class Mirrors:
             return None
         return min(found.first, found.last), found.last
 
+    def last(self) -> int:
+        """The last serial; 0 where none is kept."""
+        found = self.range()
+        return found.last if found else 0
+
     def answer(self, word: str, address: str) -> "bytes | Changes":
         """What `-g` and its word are answered; Bad where that is an error."""
         if not self.allows(address):

@@ -98,7 +98,11 @@ class Serials:
         if not kept:
             return None
         last = self.told(kept[-1])
-        oldest = self.told(next(one for one in kept if one >= last.since))
+        try:
+            oldest = self.told(next(one for one in kept if one >= last.since))
+        except FileNotFoundError:
+            # It was removed since its name was read.
+            return self.range()
         return last._replace(first=oldest.first)
 
     def parts(self, first: int, last: int) -> list[Part]:

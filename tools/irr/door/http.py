@@ -9,7 +9,8 @@ from urllib.parse import unquote_to_bytes, urlsplit
 from irr.door.budget import client_name
 from irr.door.collecting import Dump, InMemory
 from irr.door.dialects import outcome_of
-from irr.door.listener import LASTING, Connection, Door
+from irr.door.journal import Who
+from irr.door.listener import AHEAD, LASTING, Connection, Door
 from irr.door.pool import DUMP, Refused
 from irr.door.queries import Asker
 from irr.door.status import Status
@@ -117,12 +118,13 @@ class Http(Connection):
                 if len(self.buffer) < request.length:
                     if self.has_ended:
                         raise Bad(400)
+                    self.read_on()
                     return
             except Bad as bad:
                 self.end(bad)
                 return
             body, self.buffer = self.buffer[: request.length], self.buffer[request.length :]
-            self.request = None
+            self.request, self.ahead = None, AHEAD
             self.read_on()
             self.deadline = 0.0
             self.task = self.door.loop.create_task(self.work(request, body))
@@ -149,7 +151,7 @@ class Http(Connection):
             and len(rest) < request.length
         ):
             self.transport.write(b"HTTP/1.1 100 Continue\r\n\r\n")
-        self.request = request
+        self.request, self.ahead = request, max(AHEAD, request.length)
         return True
 
     def check(self, request: Request) -> None:
@@ -179,9 +181,13 @@ class Http(Connection):
         ):
             # A browser names the site whose page sends a request. Pages of other sites may not
             # submit.
+            self.submissions.refused(self.who(request), "403")
             raise Bad(403, text="% a page of another site may not submit here\n")
-        if request.length > self.door.settings.size:
-            raise Bad(413, text=str(TooMuch("size", request.length, self.door.settings.size)))
+        try:
+            size = self.door.settings.size
+            self.submissions.bound(self.who(request), "size", request.length, size)
+        except TooMuch as too_much:
+            raise Bad(413, text=str(too_much)) from None
 
     def end(self, bad: Bad) -> None:
         """Answers what is no request, and ends the connection."""
@@ -242,6 +248,11 @@ class Http(Connection):
                     break
         return address
 
+    def who(self, request: Request) -> Who:
+        """Who sends a submission, as the proxy says."""
+        user = request.fields.get("x-remote-user", "") if self.is_trusted else ""
+        return Who(client_name(self.origin_of(request)), user, self.number)
+
     def begin_reply(self, dialect: str, outcome: str) -> None:
         self.door.counters.query(dialect, outcome)
         self.deadline = time.monotonic() + LASTING
@@ -285,7 +296,6 @@ class Http(Connection):
 
     async def submit(self, request: Request, body: bytes) -> None:
         """Hands a submission on, and its report as it comes."""
-        user = request.fields.get("x-remote-user", "") if self.is_trusted else ""
         has_begun = False
 
         def told(text: bytes) -> None:
@@ -299,18 +309,19 @@ class Http(Connection):
             self.transport.write(b"%x\r\n%s\r\n" % (len(text), text) if request.is_new else text)
 
         try:
-            is_whole = await self.submissions.submit(
-                self.client.name, user, self.number, body, told
-            )
+            await self.submissions.submit(self.who(request), body, told)
         except TooMuch as too_much:
             self.begin_reply("submission", "large")
             self.finish(request, failed(413, "", str(too_much), request.is_kept))
             return
-        self.task = None
-        if not is_whole or not has_begun:
+        except Refused:
+            if not has_begun:
+                raise
             # The report was cut: so is the reply.
+            self.task = None
             self.abort()
             return
+        self.task = None
         if request.is_new:
             self.transport.write(b"0\r\n\r\n")
         self.is_ending = self.is_ending or not request.is_kept or not request.is_new

@@ -133,8 +133,7 @@ class Connection(asyncio.Protocol):
         "task",
         "has_ended",
         "is_full",
-        "local",
-        "begun",
+        "ahead",
         "address",
     )
     port = ""
@@ -145,6 +144,8 @@ class Connection(asyncio.Protocol):
         self.held: Optional[Source] = None
         self.is_paused = self.is_ending = self.has_ended = self.is_trusted = self.is_full = False
         self.buffer = b""
+        # The bytes that are read before what they say is answered.
+        self.ahead = AHEAD
         self.task: Optional[asyncio.Task[None]] = None
 
     def connection_made(self, transport: asyncio.BaseTransport) -> None:
@@ -153,7 +154,6 @@ class Connection(asyncio.Protocol):
         peer = transport.get_extra_info("peername")
         self.address = address = peer[0] if peer else "0.0.0.0"
         now = time.monotonic()
-        self.begun = now
         self.client = self.admitted = door.pool.clients.of(client_name(address), now)
         self.is_trusted = self.is_believed(address)
         self.deadline = now + LASTING
@@ -196,7 +196,7 @@ class Connection(asyncio.Protocol):
         self.buffer += data
         if self.task is None and self.held is None:
             self.pump()
-        if len(self.buffer) > AHEAD and not self.is_full and not self.is_ending:
+        if len(self.buffer) > self.ahead and not self.is_full and not self.is_ending:
             self.is_full = True
             self.transport.pause_reading()
 
@@ -205,7 +205,7 @@ class Connection(asyncio.Protocol):
         raise NotImplementedError
 
     def read_on(self) -> None:
-        if self.is_full and len(self.buffer) <= AHEAD and not self.is_ending:
+        if self.is_full and len(self.buffer) <= self.ahead and not self.is_ending:
             self.is_full = False
             with contextlib.suppress(RuntimeError):
                 self.transport.resume_reading()

@@ -5,6 +5,7 @@ import time
 import asyncio
 import contextlib
 import gc
+import importlib
 import os
 import resource
 import signal
@@ -181,11 +182,10 @@ def notify(word: str) -> None:
 def new_loop() -> asyncio.AbstractEventLoop:
     """The event loop: uvloop's where it is installed."""
     try:
-        import uvloop
+        made: asyncio.AbstractEventLoop = importlib.import_module("uvloop").new_event_loop()
+        return made
     except ImportError:
         return asyncio.new_event_loop()
-    made: asyncio.AbstractEventLoop = uvloop.new_event_loop()
-    return made
 
 
 def run(settings: Settings, loop: Optional[asyncio.AbstractEventLoop] = None) -> None:

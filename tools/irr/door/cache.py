@@ -1,7 +1,7 @@
 """Answers that are kept, the memory that all answers take, and what queries have cost."""
 
 from collections import OrderedDict
-from typing import Optional
+from typing import Callable, Optional
 
 # The seconds from which on an answer is worth to be kept, and a query is dear.
 DEAR = 0.05
@@ -20,16 +20,19 @@ class Full(Exception):
 
 
 class Ledger:
-    """The bytes that answers take in all."""
+    """The bytes that answers take in all. Where there is no room, the `makers` make some, one thing
+    each time, and say whether they had anything to give up."""
 
-    __slots__ = ("most", "used")
+    __slots__ = ("most", "used", "makers")
 
     def __init__(self, most: int) -> None:
         self.most, self.used = most, 0
+        self.makers: list[Callable[[], bool]] = []
 
     def take(self, size: int) -> None:
-        if self.used + size > self.most:
-            raise Full
+        while self.used + size > self.most:
+            if size > self.most or not any(make_room() for make_room in self.makers):
+                raise Full
         self.used += size
 
     def release(self, size: int) -> None:

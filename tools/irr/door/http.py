@@ -10,7 +10,7 @@ from irr.door.budget import client_name
 from irr.door.collecting import Dump, InMemory
 from irr.door.dialects import outcome_of
 from irr.door.journal import Who
-from irr.door.listener import AHEAD, LASTING, Connection, Door
+from irr.door.listener import AHEAD, LASTING, TOO_MANY, Connection, Door
 from irr.door.pool import DUMP, Refused
 from irr.door.queries import Asker
 from irr.door.status import Status
@@ -168,6 +168,9 @@ class Http(Connection):
             raise Bad(404)
         if request.method != allowed:
             raise Bad(405, f"Allow: {allowed}\r\n")
+        name = client_name(self.origin_of(request))
+        if not self.door.count_as(self, self.door.pool.clients.of(name, time.monotonic())):
+            raise Bad(429, "Retry-After: 10\r\n", TOO_MANY.decode())
         if allowed == "GET":
             if request.length > HEAD:
                 raise Bad(413)
@@ -204,10 +207,6 @@ class Http(Connection):
 
     async def work(self, request: Request, body: bytes) -> None:
         try:
-            client = self.door.pool.clients.of(
-                client_name(self.origin_of(request)), time.monotonic()
-            )
-            self.client = client
             if request.path == "/submissions":
                 await self.submit(request, body)
                 return
@@ -215,7 +214,7 @@ class Http(Connection):
                 await self.dump(request)
                 return
             query = unquote_to_bytes(request.path[7:])
-            answer = await Asker(self.door.pool, client).ask(query)
+            answer = await Asker(self.door.pool, self.client).ask(query)
             self.begin_reply("http", outcome_of(answer.text))
             self.finish(
                 request,
@@ -278,6 +277,8 @@ class Http(Connection):
         if self.is_ending:
             self.transport.close()
             return
+        # What a proxy keeps open is nobody's but its own.
+        self.door.count_as(self, self.own)
         self.deadline = time.monotonic() + IDLE
         if self.task is None and (self.buffer or self.has_ended):
             self.door.loop.call_soon(self.pump)
@@ -358,10 +359,10 @@ class StatusHttp(Http):
             text, kind, serves = (
                 self.status.json(),
                 "application/json",
-                bool(self.door.pool.serving()),
+                self.door.pool.answers,
             )
         else:
-            text, kind, serves = self.status.line(), PLAIN, bool(self.door.pool.serving())
+            text, kind, serves = self.status.line(), PLAIN, self.door.pool.answers
         self.deadline = time.monotonic() + LASTING
         head = reply_head(200 if serves else 503, len(text), request.is_kept, kind)
         self.finish(request, head, InMemory(text))

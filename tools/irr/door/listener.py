@@ -8,8 +8,8 @@ import ipaddress
 from collections import OrderedDict
 from typing import Any, Optional
 
-from irr.door import dialects, irrd, ripe
-from irr.door.budget import client_name
+from irr.door import dialects, irrd, proxied, ripe
+from irr.door.budget import Client, client_name
 from irr.door.cache import Answer
 from irr.door.collecting import Dump, InMemory, Source
 from irr.door.dialects import Reply
@@ -28,6 +28,9 @@ LONGEST, AHEAD = 1_100, 1 << 16
 PIECE = 1 << 17
 MANY = b"% too many connections; come again later\n"
 TOO_MANY = b"% too many connections of yours; come again later\n"
+UNNAMED = b"% the proxy does not say whose connection this is; see proxied in irr-door(1)\n"
+# Seconds after which one that takes its answer slowly makes room for others.
+SLOW = 10.0
 # An answer that IRRd's clients, RIPE's and all others read.
 LONG_LINE = b"% error 2\n"
 
@@ -43,6 +46,9 @@ class Door:
         self.connections: set["Connection"] = set()
         # Those that have asked nothing yet, the longest silent first.
         self.silent: OrderedDict["Connection", None] = OrderedDict()
+        # Those that take a long answer, the longest at it first, and since when.
+        self.taking: OrderedDict["Connection", float] = OrderedDict()
+        pool.ledger.makers.append(self.drop_slow)
         self.number = 0
         self.is_closing = False
         self.kept_dump: Optional[tuple[Dump, int, float]] = None
@@ -78,13 +84,9 @@ class Door:
         if client.connections >= self.settings.of_client and not connection.is_trusted:
             self.counters.connection("refused")
             return TOO_MANY
-        if len(self.connections) >= self.settings.connections:
-            if not self.silent:
-                self.counters.connection("refused")
-                return MANY
-            # The longest silent one makes room.
-            oldest, _ = self.silent.popitem(last=False)
-            oldest.abort()
+        if len(self.connections) >= self.settings.connections and not self.make_room(client):
+            self.counters.connection("refused")
+            return MANY
         client.connections += 1
         self.connections.add(connection)
         self.silent[connection] = None
@@ -92,10 +94,54 @@ class Door:
         connection.number = self.number
         return None
 
+    def make_room(self, client: Client) -> bool:
+        """Ends the connection that is silent for longest; without one a connection of the client
+        that has most, if that has more than this one. Whether there was one."""
+        if self.silent:
+            oldest, _ = self.silent.popitem(last=False)
+            oldest.abort()
+            return True
+        others = [one for one in self.connections if not one.is_trusted or one.admitted != one.own]
+        most = max(others, key=lambda one: one.admitted.connections, default=None)
+        if most is None or most.admitted.connections <= client.connections + 1:
+            return False
+        self.counters.connection("pushed out")
+        most.abort()
+        self.dismiss(most)
+        return True
+
+    def drop_slow(self) -> bool:
+        """Ends the connection that has taken longest to take a long answer. Whether there was one
+        that took too long for others to lack room."""
+        for connection, since in self.taking.items():
+            if time.monotonic() - since < SLOW:
+                return False
+            self.counters.connection("slow")
+            connection.held = None
+            connection.abort()
+            self.taking.pop(connection, None)
+            return True
+        return False
+
+    def count_as(self, connection: "Connection", client: Client) -> bool:
+        """Counts a proxy's connection as one of the client that it is for, which pays for what is
+        asked there. Whether that may have one more."""
+        connection.client = client
+        if client is connection.admitted:
+            return True
+        if client is not connection.own and client.connections >= self.settings.of_client:
+            self.counters.connection("refused")
+            return False
+        connection.admitted.connections -= 1
+        client.connections += 1
+        connection.admitted = client
+        return True
+
     def dismiss(self, connection: "Connection") -> None:
         if connection in self.connections:
             self.connections.discard(connection)
             self.silent.pop(connection, None)
+            self.taking.pop(connection, None)
             connection.admitted.connections -= 1
 
     async def sweep(self) -> None:
@@ -121,6 +167,7 @@ class Connection(asyncio.Protocol):
         "door",
         "transport",
         "client",
+        "own",
         "admitted",
         "number",
         "is_trusted",
@@ -154,7 +201,8 @@ class Connection(asyncio.Protocol):
         peer = transport.get_extra_info("peername")
         self.address = address = peer[0] if peer else "0.0.0.0"
         now = time.monotonic()
-        self.client = self.admitted = door.pool.clients.of(client_name(address), now)
+        # Who asks; who is connected; and as whose connection this one counts.
+        self.client = self.own = self.admitted = door.pool.clients.of(client_name(address), now)
         self.is_trusted = self.is_believed(address)
         self.deadline = now + LASTING
         line = door.admit(self)
@@ -224,6 +272,8 @@ class Connection(asyncio.Protocol):
         if head:
             self.transport.write(head)
         self.held, self.place = source, 0
+        if isinstance(source, InMemory):
+            self.door.taking[self] = time.monotonic()
         self.flow()
 
     def flow(self) -> None:
@@ -232,6 +282,7 @@ class Connection(asyncio.Protocol):
             self.place += len(piece)
             if self.place >= self.held.size():
                 self.held = None
+                self.door.taking.pop(self, None)
             self.transport.write(piece)
 
     def pause_writing(self) -> None:
@@ -260,12 +311,16 @@ class Whois(Connection):
         self.session: Optional[irrd.Session] = None
         self.stays = False
         self.idle = IDLE
-        self.is_named = not door.settings.proxied
+        self.is_named = False
 
     def is_believed(self, address: str) -> bool:
         return self.door.settings.proxied and self.door.trusts(address)
 
     def pump(self) -> None:
+        if self.is_trusted and not self.is_named and not self.is_ending:
+            self.name()
+            if not self.is_named:
+                return
         while self.task is None and self.held is None and not self.is_ending:
             line, mark, rest = self.buffer.partition(b"\n")
             if not mark:
@@ -283,6 +338,24 @@ class Whois(Connection):
             self.read_on()
             self.answer(line.removesuffix(b"\r"))
 
+    def name(self) -> None:
+        """Takes the header in which a proxy says whose connection this is."""
+        try:
+            header = proxied.read(self.buffer)
+        except proxied.Bad:
+            self.end(UNNAMED, "error")
+            return
+        if header is None:
+            if self.has_ended:
+                self.end(b"", "")
+            return
+        self.buffer, self.is_named = self.buffer[header.size :], True
+        if header.address is not None:
+            self.address = header.address
+            name = client_name(header.address)
+            if not self.door.count_as(self, self.door.pool.clients.of(name, time.monotonic())):
+                self.end(TOO_MANY, "budget")
+
     def end(self, text: bytes, outcome: str) -> None:
         """Says a last word."""
         self.is_ending = True
@@ -292,14 +365,6 @@ class Whois(Connection):
         self.transport.close()
 
     def answer(self, line: bytes) -> None:
-        if not self.is_named and self.is_trusted:
-            self.is_named = True
-            name = proxied(line)
-            if name is not None:
-                self.client = self.door.pool.clients.of(client_name(name), time.monotonic())
-                self.address = name
-                return
-        self.is_named = True
         self.door.silent.pop(self, None)
         if len(line) > LONGEST:
             self.end(LONG_LINE, "error")
@@ -384,11 +449,3 @@ def faulty(dialect: str) -> bytes:
         if dialect == dialects.RIPE
         else b"% " + words + b"\n"
     )
-
-
-def proxied(line: bytes) -> Optional[str]:
-    """The client that a line of the PROXY protocol names (version 1); None if the line is none."""
-    words = line.split(b" ")
-    if words[0] != b"PROXY" or len(words) < 2:
-        return None
-    return words[2].decode("ascii", "replace") if len(words) > 2 else "unknown"

@@ -98,9 +98,6 @@ class Asker:
         try:
             return Answer(text, cost, self.pool.ledger)
         except Full:
-            while self.pool.cache.shrink():
-                if self.pool.ledger.used + len(text) <= self.pool.ledger.most:
-                    return Answer(text, cost, self.pool.ledger)
             raise Refused("full", FULL) from None
 
     def keep(self, key: bytes, answer: Answer, state: int) -> None:

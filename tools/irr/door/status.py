@@ -84,8 +84,8 @@ class Status:
         return {
             "version": VERSION,
             "source": pool.source or None,
-            "well": not self.faults() and bool(pool.serving()),
-            "serves": bool(pool.serving()),
+            "well": not self.faults() and pool.answers,
+            "serves": pool.answers,
             "faults": self.faults(),
             "running": round(time.time() - counters.begun, 1),
             "connections": self.connections(),

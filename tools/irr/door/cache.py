@@ -8,6 +8,8 @@ DEAR = 0.05
 # How many queries are remembered by what they cost.
 REMEMBERED = 16_384
 UNKNOWN = float("inf")
+# The bytes of a short answer. An eighth of the memory of answers is for these alone.
+SHORT = 1 << 16
 # What kinds of which nothing was measured yet are taken to cost: those whose answer grows with what
 # is registered may be dear.
 GUESSES = {
@@ -29,9 +31,11 @@ class Ledger:
         self.most, self.used = most, 0
         self.makers: list[Callable[[], bool]] = []
 
-    def take(self, size: int) -> None:
-        while self.used + size > self.most:
-            if size > self.most or not any(make_room() for make_room in self.makers):
+    def take(self, size: int, before: int = 0) -> None:
+        """Takes more bytes for an answer that has some."""
+        most = self.most if before + size <= SHORT else self.most - self.most // 8
+        while self.used + size > most:
+            if size > most or not any(make_room() for make_room in self.makers):
                 raise Full
         self.used += size
 

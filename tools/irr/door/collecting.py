@@ -46,7 +46,7 @@ class Collected:
         if self.taken + len(piece) > self.largest:
             raise ValueError("long")
         try:
-            self.ledger.take(len(piece))
+            self.ledger.take(len(piece), self.taken)
         except Full:
             raise ValueError("full") from None
         self.taken += len(piece)

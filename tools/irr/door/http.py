@@ -10,7 +10,7 @@ from irr.door.budget import client_name
 from irr.door.collecting import Dump, InMemory
 from irr.door.dialects import outcome_of
 from irr.door.journal import Who
-from irr.door.listener import AHEAD, LASTING, TOO_MANY, Connection, Door
+from irr.door.listener import AHEAD, TOO_MANY, Connection, Door
 from irr.door.pool import DUMP, Refused
 from irr.door.queries import Asker
 from irr.door.status import Status
@@ -20,6 +20,8 @@ from irr.rpsl import keys
 # The longest head, its most fields, and the bytes of it that name a path.
 HEAD, FIELDS = 8_192, 64
 IDLE = 60.0
+# The bytes of a dump that a client takes each second at least.
+SLOWEST = 1 << 18
 # Seconds for which a body is read, and not looked at, that was refused.
 LINGERING = 5.0
 REASONS = {
@@ -142,7 +144,7 @@ class Http(Connection):
                 self.transport.close()
             return False
         self.door.silent.pop(self, None)
-        self.deadline = time.monotonic() + LASTING
+        self.deadline = time.monotonic() + self.door.settings.patience
         request = Request(head.lstrip(b"\r\n"))
         self.buffer = rest
         self.check(request)
@@ -254,7 +256,7 @@ class Http(Connection):
 
     def begin_reply(self, dialect: str, outcome: str) -> None:
         self.door.counters.query(dialect, outcome)
-        self.deadline = time.monotonic() + LASTING
+        self.deadline = time.monotonic() + self.door.settings.patience
 
     def finish(
         self, request: Request, head: bytes, source: "Optional[InMemory | Dump]" = None
@@ -293,6 +295,8 @@ class Http(Connection):
             found = await door.pool.ask(self.client, b"/dump", DUMP_REQUEST, DUMP)
             door.keep_dump(found)
         self.begin_reply("dump", "answered")
+        # It is in a file, and holds no memory: a slow line may take it.
+        self.deadline += found.size() / SLOWEST
         self.finish(request, reply_head(200, found.size(), request.is_kept), found)
 
     async def submit(self, request: Request, body: bytes) -> None:
@@ -363,7 +367,7 @@ class StatusHttp(Http):
             )
         else:
             text, kind, serves = self.status.line(), PLAIN, self.door.pool.answers
-        self.deadline = time.monotonic() + LASTING
+        self.deadline = time.monotonic() + self.door.settings.patience
         head = reply_head(200 if serves else 503, len(text), request.is_kept, kind)
         self.finish(request, head, InMemory(text))
 

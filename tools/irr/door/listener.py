@@ -18,8 +18,6 @@ from irr.door.queries import Asker
 from irr.door.settings import Network, Settings, networks
 from irr.door.status import Counters
 
-# Seconds for a client in all, for a request and for its answer.
-LASTING = 120.0
 # Seconds that a kept connection may be silent.
 IDLE = 30.0
 # The longest line, and the most bytes of lines that are read ahead.
@@ -204,7 +202,7 @@ class Connection(asyncio.Protocol):
         # Who asks; who is connected; and as whose connection this one counts.
         self.client = self.own = self.admitted = door.pool.clients.of(client_name(address), now)
         self.is_trusted = self.is_believed(address)
-        self.deadline = now + LASTING
+        self.deadline = now + door.settings.patience
         line = door.admit(self)
         if line is not None:
             self.is_ending = True
@@ -418,7 +416,7 @@ class Whois(Connection):
         assert self.session is not None
         self.stays = reply.stays
         self.idle = self.session.seconds or IDLE
-        self.deadline = now + LASTING
+        self.deadline = now + self.door.settings.patience
         if reply.body is not None:
             self.hand(b"", reply.body)
         elif reply.text:

@@ -44,6 +44,8 @@ class Settings:
     # What a client may use of the registry's time: seconds a second, and at once.
     refill: float = 0.5
     burst: float = 3.0
+    # Seconds for a request to come, and for its answer to be taken.
+    patience: float = 120
     connections: int = 1_000
     of_client: int = 50
     largest: int = 32 * MEBIBYTE
@@ -72,6 +74,7 @@ class Settings:
 BOUNDS: dict[str, tuple[float, float]] = {
     "refill": (0.001, 1_000),
     "burst": (0.001, 10_000),
+    "patience": (1, 3_600),
     "connections": (1, 100_000),
     "of_client": (1, 100_000),
     "largest": (65_536, 1 << 32),

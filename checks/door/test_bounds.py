@@ -9,7 +9,7 @@ import time
 import pytest
 
 from checks.door import worlds
-from checks.door.opened import HEAD, SPACE, Opened, Registries, read_all, wait_until
+from checks.door.opened import HEAD, SPACE, Opened, Registries, wait_until
 from checks.pace import pace
 from checks.running import expect
 

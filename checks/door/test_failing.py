@@ -275,3 +275,17 @@ def test_replicas_are_found_by_the_agent_and_old_ones_left_out(trial):
                     in door.status()["faults"],
                 )
                 expect(door.metrics()["irrdesk_door_renewal_failed"], 1.0, "the figure")
+                tell([500, 500], "no server listens there")
+                wait_until(
+                    "that both are old",
+                    20,
+                    lambda: not any(one["serves"] for one in door.status()["upstreams"][1:]),
+                )
+                expect(door.whois("AS1")[:8], b"aut-num:", "the registry's answer")
+                registries.kill(0)
+                wait_until(
+                    "that the registry is down", 20, lambda: not door.status()["upstreams"][0]["up"]
+                )
+                expect(door.whois("AS2"), worlds.AS2 + b"\n", "an old answer in place of none")
+                status, _, said = door.http("GET", "/status", port=door.status_port)
+                expect((status, said[:7]), (200, b"in part"), "the status")

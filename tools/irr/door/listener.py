@@ -119,8 +119,8 @@ class Door:
             if time.monotonic() - since < SLOW:
                 return False
             self.counters.connection("slow")
-            connection.held = None
             connection.abort()
+            connection.held = None
             self.taking.pop(connection, None)
             return True
         return False
@@ -230,7 +230,8 @@ class Connection(asyncio.Protocol):
     def abort(self) -> None:
         self.is_ending = True
         opened = self.transport.get_extra_info("socket")
-        if opened is not None:
+        is_behind = self.held is not None or self.transport.get_write_buffer_size() > 0
+        if opened is not None and is_behind:
             # Else the kernel would go on with what the client has not taken.
             with contextlib.suppress(OSError):
                 opened.setsockopt(socket.SOL_SOCKET, socket.SO_LINGER, AT_ONCE)

@@ -125,6 +125,7 @@ class Service:
         self.door.is_closing = True
         await self.drain()
         sweep.cancel()
+        await asyncio.wait([sweep])
         await self.pool.close()
 
     async def sweep(self) -> None:
@@ -136,6 +137,7 @@ class Service:
                 self.submissions.turn()
         finally:
             work.cancel()
+            await asyncio.wait([work])
 
     async def drain(self) -> None:
         """Waits until those have their answers who have asked."""

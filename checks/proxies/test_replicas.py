@@ -7,7 +7,6 @@ import signal
 import socket
 import sys
 import time
-from pathlib import Path
 
 from checks.keeping import (
     PATIENCE,
@@ -121,7 +120,7 @@ def test_replicas_answer_as_the_registry_does_while_it_changes(
 class Told:
     """What a unit tells systemd."""
 
-    def __init__(self, path: Path) -> None:
+    def __init__(self, path: str) -> None:
         self.path, self.text = path, ""
         self.socket = socket.socket(socket.AF_UNIX, socket.SOCK_DGRAM | socket.SOCK_NONBLOCK)
         self.socket.bind(path)

@@ -18,7 +18,7 @@ GIVEN = b"HTTP/1.1 200 OK\r\nContent-Type: text/plain\r\nConnection: close\r\n\r
 LONGEST = 700
 
 
-# Below the ports that Linux gives to whoever asks for none, each process has a range of its own, also
+# Below the ports that Linux gives to whoever asks for none, each process has its own range, also
 # beside another run: what a case was given stays its own until it listens there.
 FIRST, EACH, RANGES = 10_000, 1_000, 21
 

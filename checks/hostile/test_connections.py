@@ -1,4 +1,4 @@
-"""A server to which memory is refused, or whose calls fail: what it replies then, and what stands."""
+"""A server to which memory is refused, or whose calls fail: what it replies, and what stands."""
 
 import os
 import re

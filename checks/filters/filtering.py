@@ -1,18 +1,66 @@
-"""bgpq4 in front of a registry, what it prints as sets of prefixes or AS numbers, registries of
-sets by chance, and servers that answer what they are given."""
+"""bgpq4 in front of a registry, what it prints as sets of prefixes or AS numbers; a worked registry
+and those of sets by chance; servers that answer what they are given."""
+
+import contextlib
 import ipaddress
 import json
 import os
+import random
 import re
 import shutil
 import socket
 import threading
+from collections.abc import Iterator
 from urllib.parse import unquote
 
-from checks.running import PATIENCE, Failure, expect, run
+from checks.door.opened import Bridge
+from checks.model.registry import Registry
+from checks.running import (
+    PATIENCE,
+    TOP,
+    Failure,
+    Ran,
+    Skipped,
+    Trial,
+    expect,
+    run,
+    write,
+    write_settings,
+)
+from checks.serving import Server
+from checks.worlds import COUNT, Tool
 
+Prefixes = set[tuple[int, int]]
+SET = "AS1:RS-CUSTOMERS"
+# The last lines of an object.
+TAIL = b"mnt-by:         A-MNT\nsource:         TEST\n\n"
+# What the worked registry has besides customers.rpsl.
+WIDE = b"""password: bc
+password: c
+
+route-set: AS1:RS-WIDE
+members: 0.0.0.0/0^0-32, 10.0.0.0/8
+mnt-by: A-MNT
+source: TEST
+
+aut-num: AS7
+member-of: AS1:AS-TAKES
+mnt-by: A-MNT
+source: TEST
+
+as-set: AS1:AS-TAKES
+members: AS1, AS1:AS-CUSTOMERS
+mbrs-by-ref: A-MNT
+mnt-by: A-MNT
+source: TEST
+
+as-set: AS1:AS-HALF
+members: AS1, AS1:AS-GONE
+mnt-by: A-MNT
+source: TEST
+"""
 # The formats of bgpq4 whose lists are read here.
-FORMATS = [
+FORMATS: list[list[str]] = [
     ["-j"],
     ["-j", "-A"],
     ["-b"],
@@ -36,22 +84,51 @@ LIST = re.compile(
 )
 
 
-def program(name):
+def program(name: str) -> str | None:
     """The path of a program, which may stand where root's do; nothing where it is not here."""
     return shutil.which(name, path=PATHS)
 
 
-def bgpq4(port, *words):
+def bgpq4(port: int, *words: str) -> Ran:
     """A run of bgpq4 on the bridge."""
     return run([program("bgpq4"), "-h", f"127.0.0.1:{port}", *words], "/", timeout=6 * PATIENCE)
 
 
-def ask(server, *words):
+def address(server: Server) -> str:
+    return f"http://127.0.0.1:{server.port}"
+
+
+def bridge_of(asked: Tool) -> Bridge:
+    """The port at which bgpq4 asks what a tool does."""
+    if not program("bgpq4"):
+        raise Skipped("bgpq4 is not here (Debian's package of this name)")
+    return Bridge(asked.environment["IRR_SERVER"])
+
+
+@contextlib.contextmanager
+def worked(
+    tool: Tool, trial: Trial, name: str, limit: int = 10_000
+) -> Iterator[tuple[Tool, str, Server]]:
+    """The registry of checks/filters/customers.rpsl and a few objects more, while it is served; the
+    tool that asks it, and its folder."""
+    folder = trial.place(name)
+    write_settings(folder, limit=limit)
+    for words in (
+        ["init", "s.toml"],
+        ["submit", "s.toml", os.path.join(TOP, "checks", "filters", "customers.rpsl")],
+        ["submit", "s.toml", write(folder, "wide.rpsl", WIDE)],
+    ):
+        expect(trial.run(folder, *words).status, 0, " ".join(words))
+    with Server(trial.program, folder, COUNT) as server:
+        yield tool.at(IRR_SERVER=address(server)), folder, server
+
+
+def ask(server: Server, *words: str) -> bytes:
     """The registry's own answer."""
     return server.ask(" ".join(words).encode() + b"\n")
 
 
-def expect_refused(ran, said, what):
+def expect_refused(ran: Ran, said: str, what: str) -> None:
     """That bgpq4 ended with a status other than 0, without a list, and said why."""
     if ran.status == 0 or ran.printed or b"ERROR" not in ran.said or said.encode() not in ran.said:
         raise Failure(
@@ -59,7 +136,7 @@ def expect_refused(ran, said, what):
         )
 
 
-def spread(network, low, high):
+def spread(network: ipaddress.IPv4Network, low: int, high: int) -> Prefixes:
     """The prefixes of these lengths inside a network, as first addresses and lengths."""
     first, size = int(network.network_address), network.num_addresses
     return {
@@ -69,14 +146,14 @@ def spread(network, low, high):
     }
 
 
-def inside(answer):
+def inside(answer: bytes) -> Prefixes:
     """The prefixes of an expansion's ranges (RFC 2622, 2)."""
     found = set()
     for line in answer.decode().split("\n"):
         if not line or line.startswith("%"):
             continue
         text, _, rest = line.partition("^")
-        network = ipaddress.ip_network(text)
+        network = ipaddress.IPv4Network(text)
         least = network.prefixlen
         low, high = {"": (least, least), "+": (least, 32), "-": (least + 1, 32)}.get(rest) or (
             int(rest.split("-")[0]),
@@ -86,12 +163,12 @@ def inside(answer):
     return found
 
 
-def of_lists(printed):
+def of_lists(printed: bytes) -> Prefixes:
     """The prefixes that a list of bgpq4 takes, in any format."""
     text, found = printed.decode(), set()
     if text.startswith("{"):
         for entry in json.loads(text)["NN" if '"NN"' in text else "NAME"]:
-            network = ipaddress.ip_network(entry["prefix"])
+            network = ipaddress.IPv4Network(entry["prefix"])
             low = entry.get("greater-equal", network.prefixlen)
             high = network.prefixlen if entry["exact"] else entry.get("less-equal", 32)
             found |= spread(network, low, high)
@@ -100,7 +177,7 @@ def of_lists(printed):
         if re.search(r"\bdeny\b", line):
             continue
         for match in LIST.finditer(line):
-            network = ipaddress.ip_network(f"{match[1]}/{match[2]}")
+            network = ipaddress.IPv4Network(f"{match[1]}/{match[2]}")
             least, (lows, highs) = network.prefixlen, (
                 [match[3], match[5], match[8]],
                 [match[4], match[6], match[9]],
@@ -124,7 +201,7 @@ def of_lists(printed):
     return found
 
 
-def path_numbers(printed):
+def path_numbers(printed: bytes) -> set[int]:
     """The AS numbers of a list of AS numbers, or at the ends of AS paths."""
     text = printed.decode()
     if "as-path" not in text:
@@ -145,7 +222,7 @@ def path_numbers(printed):
     return found
 
 
-def sets_of_chance(chance, registry):
+def sets_of_chance(chance: random.Random, registry: Registry) -> list[str]:
     """Fills a registry with AS numbers, routes and sets, which name one another, and gives the
     names of the sets."""
     numbers = chance.sample(range(1, 64_000), 8)
@@ -189,11 +266,11 @@ def sets_of_chance(chance, registry):
                 " ROOT-MNT\nsource: TEST\n"
             )
     report = registry.submit(("password: bc\n\n" + "\n".join(texts)).encode())
-    expect(b"refused E0" in report, False, f"whether all is well spelled: {report!r}")
+    expect([line for line in report if "refused E0" in line], [], "items that are badly spelled")
     return as_sets + route_sets
 
 
-def member_of(chance, names):
+def member_of(chance: random.Random, names: list[str]) -> str:
     return (
         f"member-of: {', '.join(chance.sample(names, chance.randint(1, 2)))}\n"
         if chance.random() < 0.4
@@ -201,7 +278,7 @@ def member_of(chance, names):
     )
 
 
-def operator(chance, length=24):
+def operator(chance: random.Random, length: int = 24) -> str:
     """An operator of a range that leaves no more than some hundred prefixes."""
     low = chance.randint(length, 32)
     return chance.choice(["", "", "^-", "^+", f"^{low}", f"^{low}-{chance.randint(low, 32)}"])
@@ -213,13 +290,14 @@ class Canned:
 
     def __init__(
         self,
-        answers,
-        head=b"HTTP/1.1 200 OK\r\nContent-Type: text/plain\r\nConnection: close\r\n\r\n",
-    ):
-        self.answers, self.head, self.turns = answers, head, {}
+        answers: dict[str, list[bytes]],
+        head: bytes = b"HTTP/1.1 200 OK\r\nContent-Type: text/plain\r\nConnection: close\r\n\r\n",
+    ) -> None:
+        self.answers, self.head = answers, head
+        self.turns: dict[str, int] = {}
         self.listener = socket.create_server(("127.0.0.1", 0))
 
-    def serve(self):
+    def serve(self) -> None:
         while True:
             try:
                 peer, _ = self.listener.accept()
@@ -238,9 +316,9 @@ class Canned:
                 head = self.head if is_http else b""
                 peer.sendall(head + answers[turn % len(answers)])
 
-    def __enter__(self):
+    def __enter__(self) -> str:
         threading.Thread(target=self.serve, daemon=True).start()
         return f"http://127.0.0.1:{self.listener.getsockname()[1]}"
 
-    def __exit__(self, *_):
+    def __exit__(self, *_: object) -> None:
         self.listener.close()

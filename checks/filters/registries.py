@@ -1,4 +1,5 @@
 """Registries of sets by chance, inside one prefix, served to a test; and what lists say."""
+
 import contextlib
 import functools
 import json

@@ -1,5 +1,6 @@
 """A small RPKI tree (RFC 6480), made by openssl and validated by rpki-client without a network: one
 trust anchor, and ROAs below it."""
+
 import base64
 import hashlib
 import ipaddress
@@ -10,6 +11,8 @@ import time
 
 from checks.running import expect, run
 
+# The prefixes of a ROA, with the longest that each allows.
+Entries = list[tuple[str, int | None]]
 PROGRAM = shutil.which("rpki-client", path=os.environ["PATH"] + ":/usr/sbin")
 USER = "_rpki-client"
 PLACE = "rpki.example.net/repo"
@@ -49,7 +52,7 @@ sbgp-ipAddrBlock = critical, {addresses}
 {more}"""
 
 
-def der(tag, *parts):
+def der(tag: int, *parts: bytes) -> bytes:
     """A value in DER."""
     body = b"".join(parts)
     size = len(body)
@@ -59,22 +62,22 @@ def der(tag, *parts):
     return bytes([tag, 128 | len(length)]) + length + body
 
 
-def integer(number):
+def integer(number: int) -> bytes:
     return der(2, number.to_bytes(number.bit_length() // 8 + 1, "big"))
 
 
-def sequence(*parts):
+def sequence(*parts: bytes) -> bytes:
     return der(0x30, *parts)
 
 
-def prefix_text(text):
+def prefix_text(text: str) -> bytes:
     """The bits of a prefix."""
     network = ipaddress.ip_network(text)
     used = (network.prefixlen + 7) // 8
     return der(3, bytes([8 * used - network.prefixlen]), network.network_address.packed[:used])
 
 
-def roa_text(number, entries):
+def roa_text(number: int, entries: Entries) -> bytes:
     """The content of a ROA (RFC 6482, 3), of prefixes of one family with their greatest lengths, or
     none."""
     family = ipaddress.ip_network(entries[0][0]).version
@@ -88,7 +91,7 @@ def roa_text(number, entries):
     )
 
 
-def manifest_text(files):
+def manifest_text(files: dict[str, bytes]) -> bytes:
     """The content of a manifest (RFC 6486, 4.2)."""
     times = [
         der(24, time.strftime("%Y%m%d%H%M%SZ", time.gmtime(time.time() + seconds)).encode())
@@ -104,7 +107,7 @@ def manifest_text(files):
 class Tree:
     """The tree in a folder. `roas` are an AS number and its entries each."""
 
-    def __init__(self, folder, roas):
+    def __init__(self, folder: str, roas: list[tuple[int, Entries]]) -> None:
         self.folder = folder
         self.repository = os.path.join(folder, "cache", PLACE)
         for path in (
@@ -174,11 +177,11 @@ class Tree:
         for name, text in files.items():
             self.write(os.path.join(self.repository, name), text)
 
-    def write(self, name, text):
+    def write(self, name: str, text: bytes) -> None:
         with open(os.path.join(self.folder, name), "wb") as out:
             out.write(text)
 
-    def openssl(self, *words):
+    def openssl(self, *words: str) -> bytes:
         return subprocess.run(
             ["openssl", *words],
             cwd=self.folder,
@@ -187,7 +190,9 @@ class Tree:
             capture_output=True,
         ).stdout
 
-    def signed(self, name, kind, content, addresses, serial, more=""):
+    def signed(
+        self, name: str, kind: str, content: bytes, addresses: str, serial: int, more: str = ""
+    ) -> bytes:
         """A signed object (RFC 6488), with a certificate for it alone."""
         self.write("content", content)
         self.write(
@@ -251,7 +256,7 @@ class Tree:
             "DER",
         )
 
-    def validated(self):
+    def validated(self) -> str:
         """The path of the JSON that rpki-client makes of it."""
         if os.geteuid() == 0:
             # It goes on as this user.

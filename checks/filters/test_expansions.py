@@ -1,5 +1,6 @@
 """Filters of registries by chance, by `irr filter` and by bgpq4 through the door, beside what the
 sets stand for by RFC 2622; BIRD and OpenBGPD say themselves what they take."""
+
 import argparse
 import contextlib
 import io

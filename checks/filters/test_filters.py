@@ -1,42 +1,20 @@
-"""Filters of served registries, by bgpq4 through the door and by `irr filter`, which BIRD, FRR
-and OpenBGPD read."""
+"""`irr filter`: what it writes, by itself and for a timer; that BIRD and FRR read it and judge
+prefixes by it."""
 
 import contextlib
 import os
 import re
 import shutil
-import signal
 import subprocess
 import sys
-import threading
 import time
+from collections.abc import Iterator
 
-import pytest
+from checks.filters.filtering import SET, TAIL, Canned, bridge_of, program, worked
+from checks.running import Failure, Tell, Trial, expect, run, write
+from checks.worlds import Tool, expect_line
 
-from checks.door.opened import Bridge
-from checks.filters import roas
-from checks.filters.filtering import (
-    FORMATS,
-    Canned,
-    ask,
-    bgpq4,
-    expect_refused,
-    inside,
-    of_lists,
-    path_numbers,
-    program,
-    sets_of_chance,
-)
-from checks.model.registry import Registry
-from checks.running import AUTH, TOP, Failure, Skipped, expect, run, write, write_settings
-from checks.serving import Server, free_port
-from checks.worlds import expect_line
-
-COUNT = 1_000_000
-DEFAULT = "http://127.0.0.1:4343"
-# The lists of AS numbers, and of AS paths, that bgpq4 makes.
-LISTS = [["-t", "-j"], ["-f", "65001"], ["-G", "65001"]]
-SET, AS_SET = "AS1:RS-CUSTOMERS", "AS1:AS-CUSTOMERS"
+IN_MEMORY = True
 # Prefixes, and whether the set of checks/filters/customers.rpsl has them, by RFC 2622, 2.
 PROBES = """10.0.0.0/16 yes, 10.0.0.0/15 no, 10.0.0.0/17 no, 10.1.0.0/16 no, 10.2.0.0/16 yes,
     10.16.0.0/15 no, 10.16.0.0/16 yes, 10.16.128.0/17 yes, 10.16.1.1/32 yes, 10.17.0.0/16 no,
@@ -63,85 +41,11 @@ ip prefix-list CUSTOMERS seq 35 permit 192.0.2.0/31 ge 32 le 32
 ip prefix-list CUSTOMERS seq 40 deny any
 """
 SMALL = b"define HALF = [\n    10.0.0.0/16{16,16}\n];\n"
-# An answer of each kind, and what no registry says; which of them a query never has.
-TAIL = b"mnt-by:         A-MNT\nsource:         TEST\n\n"
-SPACE = b"inetnum:        0.0.0.0 - 255.255.255.255\n" + TAIL
-LIES = {
-    "empty": b"% empty\n",
-    "numbers": b"AS1\nAS2\n",
-    "ranges": b"10.0.0.0/8^+\n",
-    "an object": SPACE,
-    "a route of another": b"route:          10.0.0.0/8\norigin:         AS7\n" + TAIL,
-    "text": b"hello\n",
-    "RPSL": b"route: 10.0.0.0/8\norigin: AS9\n\n",
-    "a number too great": b"AS1\nAS4294967296\n",
-    "another order": b"10.1.0.0/16\n10.0.0.0/8\n",
-    "twice": b"AS1\nAS1\n",
-    "a bad length": b"10.0.0.0/33\n",
-    "a bad operator": b"10.0.0.0/8^33\n",
-    "another spelling": b"10.0.0.0/8^8-32\n",
-}
-CAN_BE = {
-    "AS9": [],
-    "AS-X": ["empty"],
-    "RS-X": ["empty", "ranges"],
-    "-t -j AS-X": ["empty", "numbers"],
-}
-IN_MEMORY, SECONDS = True, 80
-WIDE = b"""password: bc
-password: c
-
-route-set: AS1:RS-WIDE
-members: 0.0.0.0/0^0-32, 10.0.0.0/8
-mnt-by: A-MNT
-source: TEST
-
-aut-num: AS7
-member-of: AS1:AS-TAKES
-mnt-by: A-MNT
-source: TEST
-
-as-set: AS1:AS-TAKES
-members: AS1, AS1:AS-CUSTOMERS
-mbrs-by-ref: A-MNT
-mnt-by: A-MNT
-source: TEST
-
-as-set: AS1:AS-HALF
-members: AS1, AS1:AS-GONE
-mnt-by: A-MNT
-source: TEST
-"""
 
 
-@pytest.fixture(scope="module", autouse=True)
-def call(trial, tool):
-    """A call of bgpq4 that takes half a minute, which begins before the other checks."""
-    begun = Absent(trial, tool)
-    yield begun
-    begun.stop()
-
-
-@contextlib.contextmanager
-def worked(tool, trial, name, limit=10_000):
-    """The registry of checks/filters/customers.rpsl and a few objects more, while it is served; the
-    tool that asks it, and its folder."""
-    folder = trial.place(name)
-    write_settings(folder, limit=limit)
-    for words in (
-        ["init", "s.toml"],
-        ["submit", "s.toml", os.path.join(TOP, "checks", "filters", "customers.rpsl")],
-        ["submit", "s.toml", write(folder, "wide.rpsl", WIDE)],
-    ):
-        expect(trial.run(folder, *words).status, 0, " ".join(words))
-    with Server(trial.program, folder, COUNT) as server:
-        yield tool.at(IRR_SERVER=f"http://127.0.0.1:{server.port}"), folder, server
-
-
-# irr filter.
-
-
-def test_filters_of_a_set_an_as_and_a_part_are_read_and_judge_prefixes(trial, tool, tell):
+def test_filters_of_a_set_an_as_and_a_part_are_read_and_judge_prefixes(
+    trial: Trial, tool: Tool, tell: Tell
+) -> None:
     """What `irr filter` writes of the worked set, of an AS and of an incomplete set, and that BIRD
     and FRR read it."""
     with worked(tool, trial, "filters") as (tool, folder, server):
@@ -176,11 +80,11 @@ def test_filters_of_a_set_an_as_and_a_part_are_read_and_judge_prefixes(trial, to
     tell("; ".join(told))
 
 
-def probes():
+def probes() -> list[tuple[str, str]]:
     return re.findall(r"(\S+/\d+) (yes|no)", PROBES)
 
 
-def judged_by_bird(folder):
+def judged_by_bird(folder: str) -> str:
     if not program("bird"):
         return "no BIRD here"
     write(folder, "customers.conf", FOR_BIRD)
@@ -205,7 +109,7 @@ def judged_by_bird(folder):
     return f"BIRD judges {len(probes())} prefixes"
 
 
-def judged_by_frr(folder):
+def judged_by_frr(folder: str) -> str:
     daemon = "/usr/lib/frr/bgpd"
     if not program("vtysh") or not os.path.exists(daemon):
         return "no FRR here"
@@ -251,7 +155,7 @@ def judged_by_frr(folder):
 
 
 @contextlib.contextmanager
-def started(command, folder, file):
+def started(command: list[str], folder: str, file: str) -> Iterator[None]:
     """A router that runs, once this file of its is there."""
     process = subprocess.Popen(
         command,
@@ -272,7 +176,7 @@ def started(command, folder, file):
         process.wait()
 
 
-def test_what_makes_no_filter_says_why(trial, tool, tell):
+def test_what_makes_no_filter_says_why(trial: Trial, tool: Tool, tell: Tell) -> None:
     """What makes no filter: the old one stays, and one line says why."""
     with worked(tool, trial, "refusals", limit=8) as (tool, folder, server):
         path, cases = write(folder, "kept", b"old\n"), []
@@ -287,7 +191,7 @@ def test_what_makes_no_filter_says_why(trial, tool, tell):
             "AS-NUMBERS": [b"AS1\nAS2\n"],
             "AS-CUT": [b"10.0.0.0/8\n10.1.0.0/16\n", b"10.0.0.0/8\n"],
             "AS-OBJECT": [b"route:          10.0.0.0/8\norigin:         AS1\n" + TAIL],
-            "AS9": [LIES["a route of another"]],
+            "AS9": [b"route:          10.0.0.0/8\norigin:         AS7\n" + TAIL],
             "AS8": [b"% empty\n"],
             "AS6": [b"10.0.0.0/8\n"],
         }
@@ -340,7 +244,7 @@ def test_what_makes_no_filter_says_why(trial, tool, tell):
                 (2, False, False),
                 "a password in the address",
             )
-        for words, said in [
+        bad: list[tuple[list[str], str]] = [
             ([], "FORMAT: it is missing"),
             (["frr"], "NAME: it is missing"),
             (["frr", "X"], "SET: it is missing"),
@@ -348,7 +252,8 @@ def test_what_makes_no_filter_says_why(trial, tool, tell):
             (["junos", "X", "AS1", "-"], "junos: this is not a format"),
             (["frr", "customers", "AS1", "-"], "customers: this is not the name of a filter"),
             (["frr", "9X", "AS1", "-"], "9X: this is not the name of a filter"),
-        ]:
+        ]
+        for words, said in bad:
             expect_line(tool("filter", *words), 2, f"{said}.*", " ".join(words))
         expect(
             sorted(name for name in os.listdir(folder) if name.startswith(".")),
@@ -358,356 +263,9 @@ def test_what_makes_no_filter_says_why(trial, tool, tell):
     tell(f"{len(cases) + 8} kinds")
 
 
-# bgpq4.
-
-
-def bridge_of(asked):
-    if not program("bgpq4"):
-        raise Skipped("bgpq4 is not here (Debian's package of this name)")
-    return Bridge(asked.environment["IRR_SERVER"])
-
-
-def test_bgpq4_prints_each_format_which_routers_read(trial, tool, tell):
-    """What bgpq4 prints of the worked set in each format, and that BIRD, FRR and OpenBGPD read
-    it."""
-    with (
-        worked(tool, trial, "lists") as (tool, folder, server),
-        bridge_of(tool) as port,
-    ):
-        wanted = {
-            SET: inside(ask(server, "prefixes", SET)),
-            AS_SET: inside(ask(server, "prefixes", AS_SET)),
-            "AS1": {(10 << 24, 16)},
-        }
-        for name, prefixes in wanted.items():
-            for words in FORMATS:
-                if name == SET and "-A" not in words:
-                    # Without -A each prefix of a range is a line: 200,000 of them.
-                    continue
-                ran = bgpq4(port, "-4", "-l", "NAME", *words, name)
-                expect((ran.status, ran.said), (0, b""), f"{words} {name}")
-                expect(of_lists(ran.printed), prefixes, f"the prefixes of {words} {name}")
-        for name, numbers in [(AS_SET, {1, 2}), ("AS1:AS-TAKES", {1, 2, 7})]:
-            for words in (
-                ["-t", "-j"],
-                ["-t", "-b"],
-                ["-f", "65001"],
-                ["-G", "65001"],
-                ["-L", "3", "-t", "-j"],
-            ):
-                ran = bgpq4(port, *words, name)
-                expect(
-                    (ran.status, ran.said, path_numbers(ran.printed)),
-                    (0, b"", numbers),
-                    f"{words} {name}",
-                )
-        expect(
-            of_lists(bgpq4(port, "-j", "-S", "TEST", "AS1").printed), wanted["AS1"], "with -S TEST"
-        )
-        expect(
-            of_lists(bgpq4(port, "-T", "-j", AS_SET, "EXCEPT", "AS2").printed),
-            wanted["AS1"],
-            "without AS2",
-        )
-        expect(of_lists(bgpq4(port, "-6", "-j", AS_SET).printed), set(), "IPv6")
-        told = []
-        for router, words in [
-            ("bird", ["-b", "-l", "define NAME"]),
-            ("frr", ["-l", "NAME"]),
-            ("openbgpd", ["-B", "-E", "-l", "NAME"]),
-            ("openbgpd", ["-B", "-l", "NAME"]),
-        ]:
-            told += [router] * read_by(router, folder, bgpq4(port, "-4", "-A", *words, SET).printed)
-    tell(f"{len(FORMATS)} formats; read by {', '.join(dict.fromkeys(told))}")
-
-
-def read_by(router, folder, text):
-    """Whether the router is here; that it reads a list, and that its reader finds a fault in one
-    that is cut."""
-    commands = {
-        "bird": [program("bird"), "-p", "-c"],
-        "frr": [program("vtysh"), "-C", "-f"],
-        "openbgpd": ["/usr/sbin/bgpd", "-n", "-f"],
-    }
-    around = {
-        "bird": b"router id 192.0.2.1;\nprotocol device { }\n",
-        "frr": b"",
-        "openbgpd": b"AS 64496\n",
-    }
-    command = commands[router]
-    if not command[0] or not os.path.exists(command[0]):
-        return False
-    for given, is_good in [(text, True), (text[: text.rindex(b"/")], False)]:
-        path = write(folder, f"{router}.conf", around[router] + given)
-        os.chmod(path, 0o600)
-        ran = run([*command, path], folder)
-        expect(ran.status == 0, is_good, f"whether {router} reads {given[-200:]!r}: {ran.said!r}")
-    return True
-
-
-def test_bgpq4_makes_no_list_of_what_is_not_whole(trial, tool, tell):
-    """A set that is missing, one that is incomplete, `% error 3`, a registry that has stopped: no
-    list, and a status other than 0."""
-    with worked(tool, trial, "faults", limit=3) as (tool, folder, server):
-        with bridge_of(tool) as port:
-            for words, said in [
-                (["AS1:AS-NONE"], "not registered"),
-                (["AS1:AS-HALF"], "AS1:AS-GONE"),
-                (["AS1:RS-HALF"], "AS1:RS-GONE"),
-                ([SET], "% error 3"),
-                (["AS1", "AS1:AS-HALF"], "AS1:AS-GONE"),
-                (["AS1:AS-HALF", "AS1"], "AS1:AS-GONE"),
-                (["-T", "AS1:AS-HALF", "AS1"], "AS1:AS-GONE"),
-                (["-t", "-j", "AS1:AS-HALF"], "AS1:AS-GONE"),
-                (["-f", "65001", "AS1:AS-NONE"], "not registered"),
-                (["-S", "RIPE", "AS1"], "RIPE"),
-                (["-A", "-b", "AS1:RS-GONE"], "not registered"),
-            ]:
-                expect_refused(bgpq4(port, *words), said, " ".join(words))
-        canned = {"LESS": [SPACE]}
-        stops = {
-            "% error 6": b"% error 6\n",
-            "% error 4": b"% error 4\n",
-            "nothing": b"",
-            "a cut line": b"10.0.0.0/8\n10.",
-            "text": b"hello\n",
-        }
-        for what, text in stops.items():
-            with (
-                Canned(canned | {name: [text] for name in ("AS-X", "RS-X", "ORIGIN")}) as url,
-                bridge_of(tool.at(IRR_SERVER=url)) as port,
-            ):
-                for words in ["AS-X"], ["RS-X"], ["-t", "-j", "AS-X"], ["AS9"], ["AS9", "AS8"]:
-                    expect_refused(bgpq4(port, *words), "", f"{what}: {words}")
-        lies = 0
-        for what, text in LIES.items():
-            with (
-                Canned(canned | {name: [text] for name in ("AS-X", "RS-X", "ORIGIN")}) as url,
-                bridge_of(tool.at(IRR_SERVER=url)) as port,
-            ):
-                for words in [words for words, true in CAN_BE.items() if what not in true]:
-                    expect_refused(
-                        bgpq4(port, *words.split()), "answers what no registry", f"{what}: {words}"
-                    )
-                    lies += 1
-    tell(f"{11 + 5 * len(stops) + lies} calls")
-
-
-class Absent(threading.Thread):
-    """A call of bgpq4 while no registry is there, which takes half a minute; and one while it comes
-    only after some seconds."""
-
-    def __init__(self, trial, given):
-        super().__init__(daemon=True)
-        self.trial, self.given, self.bridge, self.ran = trial, given, None, None
-        self.start()
-
-    def run(self):
-        port = free_port()
-        with contextlib.suppress(Skipped):
-            self.bridge = bridge_of(self.given.at(IRR_SERVER=f"http://127.0.0.1:{port}"))
-            with self.bridge as bridge:
-                self.ran = bgpq4(bridge, "-j", "AS1")
-
-    def stop(self):
-        """Ends the door too where the other checks were over sooner: it would outlive them."""
-        number = getattr(self.bridge, "number", None)
-        if self.is_alive() and number:
-            os.kill(number, signal.SIGKILL)
-
-
-def test_bgpq4_makes_no_list_where_no_registry_is(trial, call, tell):
-    call.join(180)
-    if call.ran is None:
-        raise Skipped("bgpq4 is not here (Debian's package of this name)")
-    expect_refused(call.ran, "does not answer", "no registry")
-    tell("no list")
-
-
-def test_lists_of_registries_by_chance_are_what_the_registry_answers(trial, tool, tell):
-    """Registries of sets by chance: cycles, operators, missing names, members by reference."""
-    if not program("bgpq4"):
-        raise Skipped("bgpq4 is not here (Debian's package of this name)")
-    chance, counts, most = trial.chance("by chance"), {"whole": 0, "refused": 0}, trial.pick(1, 3)
-    registries = trial.count or trial.pick(4, 500)
-    for number in range(registries):
-        registry = Registry(auth=AUTH.encode())
-        names = sets_of_chance(chance, registry)
-        folder = trial.place(f"chance-{number}")
-        write_settings(folder, limit=400)
-        expect(
-            trial.run(folder, "load", "s.toml", write(folder, "dump.rpsl", registry.dump())).status,
-            0,
-            "load",
-        )
-        with (
-            Server(trial.program, folder, COUNT) as server,
-            Bridge(address(server)) as port,
-        ):
-            # In the long form each registry meets all formats.
-            for place, name in enumerate(names):
-                for turn in range(most):
-                    words = FORMATS[(number + most * place + turn) % len(FORMATS)]
-                    compared(
-                        server,
-                        port,
-                        name,
-                        ["-p", "-l", "NAME", *words],
-                        "prefixes",
-                        of_lists,
-                        counts,
-                        number,
-                    )
-                if ":AS-" in name:
-                    compared(
-                        server,
-                        port,
-                        name,
-                        ["-p", *LISTS[(number + place) % len(LISTS)]],
-                        "expand",
-                        path_numbers,
-                        counts,
-                        number,
-                    )
-        shutil.rmtree(folder)
-    expect(min(counts.values()) > 0, True, f"whether there are sets of both kinds: {counts}")
-    tell(
-        f"{registries} registries of seed {trial.seed}: {counts['whole']} lists alike,"
-        f" {counts['refused']} refused as the registry does"
-    )
-
-
-def address(server):
-    return f"http://127.0.0.1:{server.port}"
-
-
-def compared(server, port, name, words, query, read, counts, number):
-    """That a list is what the registry answers, or that there is none where the answer is not
-    whole."""
-    answer, ran, what = (
-        ask(server, query, name),
-        bgpq4(port, *words, name),
-        f"registry {number}: {words} {name}",
-    )
-    if answer.startswith(b"% error") or answer == b"% no entries\n" or b"% missing" in answer:
-        counts["refused"] += 1
-        return expect_refused(ran, "", f"{what}: {answer[-60:]!r}")
-    counts["whole"] += 1
-    expect((ran.status, ran.said), (0, b""), what)
-    wanted = (
-        inside(answer)
-        if query == "prefixes"
-        else {int(line[2:]) for line in answer.split() if line.startswith(b"AS")}
-    )
-    expect(read(ran.printed), wanted, what)
-
-
-def test_a_set_of_many_routes_is_listed_whole(trial, tool, tell):
-    """A set of many routes, with each format, and an AS of all of them."""
-    count = trial.pick(2_000, 100_000)
-    folder, registry = trial.place("many"), Registry(auth=AUTH.encode())
-    write_settings(folder, limit=1_000_000)
-    dump = registry.dump()
-    rest = [
-        b"aut-num: AS1\nmnt-by: ROOT-MNT\nsource: TEST\n",
-        b"as-set: AS1:AS-ALL\nmembers: AS1\nmnt-by: ROOT-MNT\nsource: TEST\n",
-    ]
-    rest += [
-        b"route: %d.%d.%d.0/24\norigin: AS1\nmnt-by: ROOT-MNT\nsource: TEST\n"
-        % (11 + number // 65_536, number // 256 % 256, number % 256)
-        for number in range(0, 2 * count, 2)
-    ]
-    expect(
-        trial.run(
-            folder,
-            "load",
-            "s.toml",
-            write(folder, "dump.rpsl", dump + b"\n" + b"\n".join(rest)),
-            timeout=900,
-        ).status,
-        0,
-        "load",
-    )
-    with (
-        Server(trial.program, folder, COUNT, patience=300) as server,
-        bridge_of(tool.at(IRR_SERVER=f"http://127.0.0.1:{server.port}")) as port,
-    ):
-        wanted = inside(ask(server, "prefixes", "AS1:AS-ALL"))
-        expect(len(wanted), count, "the routes")
-        for name in "AS1:AS-ALL", "AS1":
-            for words in FORMATS if trial.long else [["-j"]]:
-                expect(
-                    of_lists(bgpq4(port, "-l", "NAME", *words, name).printed) == wanted,
-                    True,
-                    f"whether {words} {name} has all",
-                )
-    tell(f"{count:,} routes")
-
-
-# irr rov.
-
-ROUTES = b"""password: bc
-
-aut-num: AS64496
-mnt-by: ROOT-MNT
-source: TEST
-
-aut-num: AS64500
-mnt-by: ROOT-MNT
-source: TEST
-
-""" + b"\n".join(
-    b"route: %s\norigin: %s\nmnt-by: ROOT-MNT\nsource: TEST\n" % tuple(route.split())
-    for route in [
-        b"192.0.2.0/24 AS64496",
-        b"192.0.2.0/25 AS64496",
-        b"198.51.100.0/26 AS64496",
-        b"198.51.100.0/24 AS64500",
-        b"203.0.113.0/24 AS64500",
-        b"203.0.112.0/23 AS64500",
-    ]
-)
-ROAS = [
-    (64496, [("192.0.2.0/24", None), ("198.51.100.0/24", 26)]),
-    (0, [("203.0.113.0/24", 32)]),
-    (64496, [("2001:db8::/32", 48)]),
-]
-JUDGED = b"""invalid: 192.0.2.0/25 AS64496: it is longer than the ROA allows: 192.0.2.0/24 AS64496
-invalid: 198.51.100.0/24 AS64500: another AS has the ROA: 198.51.100.0/24 AS64496 up to /26
-not found: 203.0.112.0/23 AS64500
-invalid: 203.0.113.0/24 AS64500: another AS has the ROA: 203.0.113.0/24 AS0 up to /32
-"""
-
-
-def test_irr_rov_judges_routes_by_what_rpki_client_made(trial, tool, tell):
-    """`irr rov` with what rpki-client makes of a tree of certificates and ROAs."""
-    if not roas.PROGRAM:
-        raise Skipped("rpki-client is not here (Debian's package of this name)")
-    tree, folder = trial.place("rpki"), trial.place("rov")
-    write_settings(folder)
-    for words in ["init", "s.toml"], ["submit", "s.toml", write(folder, "routes.rpsl", ROUTES)]:
-        expect(trial.run(folder, *words).status, 0, " ".join(words))
-    made = roas.Tree(tree, ROAS).validated()
-    with Server(trial.program, folder, COUNT) as server:
-        tool = tool.at(IRR_SERVER=address(server))
-        for words, wanted in [
-            ([], JUDGED),
-            (["--invalid"], b"".join(line for line in JUDGED.splitlines(True) if line[:1] == b"i")),
-        ]:
-            ran = tool("rov", *words, made)
-            expect((ran.status, ran.printed), (1, wanted), f"what `irr rov` says, {ran.said!r}")
-            expect(
-                ran.said.split(b": ")[2:],
-                [b"2 valid, 3 invalid, 1 not found\n"],
-                f"its last line {ran.said!r}",
-            )
-    tell("6 routes, 4 ROAs of rpki-client")
-
-
-# What a timer does.
-
-
-def test_filters_of_the_timer_take_their_place_once_their_router_reads_them(trial, tool, tell):
+def test_filters_of_the_timer_take_their_place_once_their_router_reads_them(
+    trial: Trial, tool: Tool, tell: Tell
+) -> None:
     """`irr filter --settings`: filters that are whole and that their router reads take their place;
     others stay, and are told when stale."""
     irr_path = tool.path

@@ -1,16 +1,20 @@
 """The settings of filters that are shipped, where a set that is reached is not registered."""
+
 import os
 import re
 import shutil
 import sys
+from collections.abc import Iterator
 from pathlib import Path
 
 import pytest
 
+from checks import rpsl
 from checks.door.opened import Bridge
 from checks.filters import registries
-from checks.filters.registries import Object, Registry
+from checks.rpsl import Object, Registry
 from checks.running import TOP
+from checks.worlds import Tool
 from irr.registry.server import Server
 
 OLD = "define CUSTOMERS = [ 192.0.2.0/24 ];\n"
@@ -21,8 +25,8 @@ SHIPPED = Path(TOP, "units/filters.toml").read_text(encoding="utf-8")
 def registry(*members: str) -> Registry:
     """A registry of a route and the set of the example."""
     found = [
-        (("mntner", "A-MNT"), ("auth", registries.rpsl.auth("A-MNT"))),
-        (("mntner", "ROOT-MNT"), ("auth", registries.rpsl.auth("ROOT-MNT"))),
+        (("mntner", "A-MNT"), ("auth", rpsl.auth("A-MNT"))),
+        (("mntner", "ROOT-MNT"), ("auth", rpsl.auth("ROOT-MNT"))),
         (("as-block", "AS0 - AS4294967295"),),
         (("aut-num", "AS64496"),),
         (("inetnum", "0.0.0.0 - 255.255.255.255"),),
@@ -33,12 +37,12 @@ def registry(*members: str) -> Registry:
 
 
 @pytest.fixture(name="half")
-def served_half(program):
+def served_half(program: str) -> Iterator[Server]:
     with registries.served(program, registry("AS64496", "AS64496:AS-GONE")) as place:
         yield place
 
 
-def made(tool, folder: Path, server: Server, text: str) -> tuple[int, bytes, str]:
+def made(tool: Tool, folder: Path, server: Server, text: str) -> tuple[int, bytes, str]:
     """The status of `irr filter --settings`, what it says, and the file then."""
     bin_folder, path = folder / "bin", folder / "customers.conf"
     bin_folder.mkdir(exist_ok=True)
@@ -65,14 +69,18 @@ needs_bgpq4 = pytest.mark.skipif(not shutil.which("bgpq4"), reason="bgpq4 is not
 
 
 @needs_bird
-def test_the_shipped_filter_is_not_made_without_a_set_that_is_reached(tool, tmp_path, half):
+def test_the_shipped_filter_is_not_made_without_a_set_that_is_reached(
+    tool: Tool, tmp_path: Path, half: Server
+) -> None:
     status, said, kept = made(tool, tmp_path, half, SHIPPED)
     assert (status, kept) == (1, OLD)
     assert b"not registered: AS64496:AS-GONE" in said
 
 
 @needs_bird
-def test_the_shipped_filter_is_made_of_a_whole_set(tool, tmp_path, program):
+def test_the_shipped_filter_is_made_of_a_whole_set(
+    tool: Tool, tmp_path: Path, program: str
+) -> None:
     with registries.served(program, registry("AS64496")) as place:
         status, said, found = made(tool, tmp_path, place, SHIPPED)
     assert (status, said, registries.BIRD.findall(found)) == (
@@ -84,7 +92,9 @@ def test_the_shipped_filter_is_made_of_a_whole_set(tool, tmp_path, program):
 
 @needs_bird
 @needs_bgpq4
-def test_the_shipped_command_of_bgpq4_needs_a_strict_door(tool, tmp_path, half):
+def test_the_shipped_command_of_bgpq4_needs_a_strict_door(
+    tool: Tool, tmp_path: Path, half: Server
+) -> None:
     """As the comment there says. The journal names the set that is missing."""
     with Bridge(half.url) as port:
         status, said, kept = made(tool, tmp_path, half, by_bgpq4(port))

@@ -1,4 +1,5 @@
 """`irr rov` by chance, beside RFC 6811."""
+
 import json
 import os
 import time

@@ -1,4 +1,5 @@
 """`irr why` by chance: it says yes exactly for what a set stands for, by chains that are there."""
+
 import os
 import random
 

@@ -129,7 +129,7 @@ def limited(
 
 
 def run(
-    command: list[str | bytes],
+    command: Sequence[str | bytes],
     folder: str,
     stdin: bytes | None = None,
     timeout: int = PATIENCE,

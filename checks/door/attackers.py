@@ -17,16 +17,16 @@ MOST = 65_000
 LETTERS = string.ascii_letters + string.digits
 
 
-def digest(salt, secret):
+def digest(salt: str, secret: str) -> str:
     return hashlib.sha256(f"{salt}{secret}".encode()).hexdigest()
 
 
-def maintainer(name, secret, salt="s"):
+def maintainer(name: str, secret: str, salt: str = "s") -> str:
     auth = f"SHA256-PW {salt}:{digest(salt, secret)}"
     return f"mntner: {name}\nauth: {auth}\nmnt-by: {name}\nsource: TEST\n\n"
 
 
-def ring(count, size=MOST):
+def ring(count: int, size: int = MOST) -> str:
     """Route-sets, each of which lists each under as many operators as fit; one of them has a range
     that takes 561 forms."""
     chance = random.Random(1)
@@ -45,7 +45,7 @@ def ring(count, size=MOST):
     return "".join(made)
 
 
-def salted(count):
+def salted(count: int) -> str:
     """Maintainers of some 700 salts each."""
     salts = map("".join, itertools.product(LETTERS, repeat=3))
     made = []
@@ -59,14 +59,14 @@ def salted(count):
     return "".join(made)
 
 
-def guesses(count, passwords=32):
+def guesses(count: int, passwords: int = 32) -> str:
     """A submission that names all of these, and tries so many passwords."""
     front = "".join(f"password: {number:05}\n" for number in range(passwords))
     names = ",".join(f"M{number}" for number in range(count))
     return f"{front}\nas-set: AS-GUESS\nmnt-by: {names}\nsource: TEST\n"
 
 
-def named(count):
+def named(count: int) -> str:
     """Names of maintainers, and a set that names all of them."""
     capitals, both = string.ascii_uppercase, string.ascii_uppercase + string.digits
     words = map("".join, itertools.product(capitals, both, both))
@@ -88,11 +88,11 @@ DELETIONS = "password: x\n\n" + "as-set: AS-T\ndelete:\n\n" * 990
 class Attack:
     """Strangers that ask and submit as fast as they are answered."""
 
-    def __init__(self, whois, http, until):
+    def __init__(self, whois: int, http: int, until: float) -> None:
         self.whois, self.http, self.until = whois, http, until
         self.asked = 0
 
-    def run(self, number, maintainers):
+    def run(self, number: int, maintainers: int) -> None:
         address = f"127.0.0.{10 + number}"
         chance = random.Random(number)
         body = (guesses(maintainers) if number % 2 else DELETIONS).encode()
@@ -133,7 +133,7 @@ class Attack:
             except OSError:
                 time.sleep(0.05)
 
-    def talk(self, address, port, text):
+    def talk(self, address: str, port: int, text: bytes) -> None:
         with contextlib.closing(socket.socket()) as peer:
             peer.settimeout(120)
             peer.bind((address, 0))
@@ -142,16 +142,16 @@ class Attack:
             while peer.recv(1 << 20):
                 pass
 
-    def ask(self, address, query):
+    def ask(self, address: str, query: str) -> None:
         self.talk(address, self.whois, query.encode() + b"\r\n")
 
-    def post(self, address, body):
+    def post(self, address: str, body: bytes) -> None:
         head = "POST /submissions HTTP/1.1\r\nHost: x\r\nConnection: close\r\n"
         head += f"Content-Length: {len(body)}\r\n\r\n"
         self.talk(address, self.http, head.encode() + body)
 
 
-def main():
+def main() -> None:
     whois, http, first, count, maintainers, seconds = map(int, sys.argv[1:7])
     attack = Attack(whois, http, time.monotonic() + seconds)
     threads = [

@@ -11,8 +11,10 @@ import socket
 import subprocess
 import sys
 import time
+from collections.abc import Callable
+from typing import Any, Self
 
-from checks.running import AUTH, TOP, Failure, write, write_settings
+from checks.running import AUTH, TOP, Failure, Trial, write, write_settings
 from checks.serving import free_port
 
 PYTHON = "/usr/bin/python3" if os.access("/usr/bin/python3", os.X_OK) else sys.executable
@@ -23,7 +25,9 @@ SPACE = "inetnum: 0.0.0.0 - 255.255.255.255\nmnt-by: ROOT-MNT\nsource: TEST\n\n"
 class Registries:
     """A registry of some objects and its replicas, each a process of the program."""
 
-    def __init__(self, trial, name, dump, replicas=2, limit=10_000):
+    def __init__(
+        self, trial: Trial, name: str, dump: str, replicas: int = 2, limit: int = 10_000
+    ) -> None:
         self.program, self.folder = trial.program, trial.place(name)
         self.base = os.path.join(self.folder, "base")
         os.mkdir(self.base)
@@ -35,18 +39,18 @@ class Registries:
             raise Failure(f"{name}: {done.stderr.decode()}")
         os.unlink(os.path.join(self.base, "dump.rpsl"))
         self.ports = [free_port() for _ in range(replicas + 1)]
-        self.processes = [None] * len(self.ports)
+        self.processes: list[subprocess.Popen[bytes] | None] = [None] * len(self.ports)
 
-    def __enter__(self):
+    def __enter__(self) -> Self:
         for number in range(len(self.ports)):
             self.start(number)
         return self
 
-    def __exit__(self, *_):
+    def __exit__(self, *_: object) -> None:
         for number in range(len(self.ports)):
             self.kill(number)
 
-    def start(self, number):
+    def start(self, number: int) -> None:
         folder = os.path.join(self.folder, str(number))
         if not os.path.exists(folder):
             shutil.copytree(self.base, folder)
@@ -58,7 +62,7 @@ class Registries:
             raise Failure("a registry does not serve")
         self.processes[number] = process
 
-    def kill(self, number):
+    def kill(self, number: int) -> None:
         process, self.processes[number] = self.processes[number], None
         if process:
             process.kill()
@@ -66,7 +70,7 @@ class Registries:
             process.stdout.close()
 
     @property
-    def words(self):
+    def words(self) -> list[str]:
         replicas = [f"--replica=http://127.0.0.1:{port}" for port in self.ports[1:]]
         return [f"--registry=http://127.0.0.1:{self.ports[0]}", *replicas]
 
@@ -74,7 +78,14 @@ class Registries:
 class Opened:
     """A door, and what it is asked by."""
 
-    def __init__(self, trial, name, words, config="", start=("-m", "irr")):
+    def __init__(
+        self,
+        trial: Trial,
+        name: str,
+        words: list[str],
+        config: str = "",
+        start: tuple[str, ...] = ("-m", "irr"),
+    ) -> None:
         self.folder = trial.place(name)
         self.whois_port, self.http_port, self.status_port = free_port(), free_port(), free_port()
         self.log = os.path.join(self.folder, "items.log")
@@ -95,7 +106,7 @@ class Opened:
             self.words.append(f"--agent=127.0.0.1:{free_port()}")
         self.said = os.path.join(self.folder, "said")
 
-    def __enter__(self):
+    def __enter__(self) -> Self:
         paths = [os.path.join(TOP, "tools"), os.environ.get("PYTHONPATH", "")]
         environment = {**os.environ, "PYTHONPATH": os.pathsep.join(filter(None, paths))}
         with open(self.said, "wb") as said:
@@ -111,7 +122,7 @@ class Opened:
         wait_until("that it knows its upstreams", 20, lambda: self.status()["source"])
         return self
 
-    def __exit__(self, *_):
+    def __exit__(self, *_: object) -> None:
         if self.process.poll() is None:
             self.process.terminate()
             try:
@@ -120,43 +131,51 @@ class Opened:
                 self.process.kill()
                 self.process.wait()
 
-    def words_said(self):
+    def words_said(self) -> str:
         with open(self.said, encoding="utf-8", errors="replace") as file:
             return file.read()
 
-    def items(self):
+    def items(self) -> list[dict[str, Any]]:
         if not os.path.exists(self.log):
             return []
         with open(self.log, encoding="utf-8") as file:
             return [json.loads(line) for line in file]
 
-    def seconds(self):
+    def seconds(self) -> float:
         """The processor's seconds that it has taken."""
         with open(f"/proc/{self.process.pid}/schedstat", encoding="ascii") as file:
             return int(file.read().split()[0]) / 1e9
 
-    def memory(self):
+    def memory(self) -> int:
         """The bytes that it holds."""
         with open(f"/proc/{self.process.pid}/statm", encoding="ascii") as file:
             return int(file.read().split()[1]) * 4_096
 
     # Clients, each from an address of its own: 127.0.0.LAST.
 
-    def connect(self, port, last=1, patience=60):
+    def connect(self, port: int, last: int = 1, patience: int = 60) -> socket.socket:
         peer = socket.socket()
         peer.settimeout(patience)
         peer.bind((f"127.0.0.{last}", 0))
         peer.connect(("127.0.0.1", port))
         return peer
 
-    def whois(self, line, last=1, patience=60):
+    def whois(self, line: str | bytes, last: int = 1, patience: int = 60) -> bytes:
         """All that is answered to a line, or to several."""
         text = line if isinstance(line, bytes) else line.encode() + b"\r\n"
         with contextlib.closing(self.connect(self.whois_port, last, patience)) as peer:
             peer.sendall(text)
             return read_all(peer)
 
-    def http(self, method, path, body=None, last=1, port=None, **fields):
+    def http(
+        self,
+        method: str,
+        path: str,
+        body: bytes | None = None,
+        last: int = 1,
+        port: int | None = None,
+        **fields: Any,
+    ) -> tuple[int, dict[str, str], bytes]:
         """The status, the fields and the body of a reply."""
         connection = http.client.HTTPConnection(
             "127.0.0.1", port or self.http_port, timeout=60, source_address=(f"127.0.0.{last}", 0)
@@ -167,21 +186,23 @@ class Opened:
             reply = connection.getresponse()
             return reply.status, dict(reply.headers), reply.read()
 
-    def submit(self, text, last=1, **fields):
+    def submit(
+        self, text: str | bytes, last: int = 1, **fields: Any
+    ) -> tuple[int, dict[str, str], bytes]:
         body = text.encode() if isinstance(text, str) else text
         return self.http("POST", "/submissions", body, last, **fields)
 
-    def status(self):
+    def status(self) -> Any:
         return json.loads(self.http("GET", "/status?json", port=self.status_port)[2])
 
-    def metrics(self):
+    def metrics(self) -> dict[str, float]:
         """Each figure by its name and labels."""
         text = self.http("GET", "/metrics", port=self.status_port)[2].decode()
         lines = [line.rpartition(" ") for line in text.splitlines() if not line.startswith("#")]
         return {name: float(value) for name, _, value in lines}
 
 
-def read_all(peer):
+def read_all(peer: socket.socket) -> bytes:
     parts = []
     with contextlib.suppress(ConnectionResetError):
         while part := peer.recv(1 << 16):
@@ -189,7 +210,7 @@ def read_all(peer):
     return b"".join(parts)
 
 
-def wait_until(what, seconds, is_so):
+def wait_until(what: str, seconds: float, is_so: Callable[[], Any]) -> None:
     end = time.monotonic() + seconds
     while not is_so():
         if time.monotonic() > end:
@@ -201,7 +222,7 @@ class Bridge:
     """The port of a door that refuses what lacks a set, over a registry at an address, in a fork of
     this process, while a `with` block runs: for doors by the hundred."""
 
-    def __init__(self, url, **given):
+    def __init__(self, url: str, **given: Any) -> None:
         self.port, places = free_port(), [f"127.0.0.1:{free_port()}" for _ in range(3)]
         self.given = {
             "whois": [f"127.0.0.1:{self.port}"],
@@ -214,7 +235,7 @@ class Bridge:
             "refill": 1000.0,
         } | given
 
-    def __enter__(self):
+    def __enter__(self) -> int:
         self.number = os.fork()
         if not self.number:
             self.serve()
@@ -224,7 +245,7 @@ class Bridge:
             time.sleep(0.02)
         return self.port
 
-    def serve(self):
+    def serve(self) -> None:
         status = 70
         try:
             from irr.door import service, settings
@@ -237,7 +258,7 @@ class Bridge:
         finally:
             os._exit(status)
 
-    def knows(self):
+    def knows(self) -> bool:
         with contextlib.suppress(OSError), socket.create_connection(
             ("127.0.0.1", self.port), 10
         ) as peer:
@@ -245,6 +266,6 @@ class Bridge:
             return peer.recv(10).startswith(b"A")
         return False
 
-    def __exit__(self, *_):
+    def __exit__(self, *_: object) -> None:
         os.kill(self.number, signal.SIGKILL)
         os.waitpid(self.number, 0)

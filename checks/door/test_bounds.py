@@ -5,13 +5,14 @@ import contextlib
 import socket
 import threading
 import time
+from collections.abc import Iterator
 
 import pytest
 
 from checks.door import worlds
 from checks.door.opened import HEAD, SPACE, Opened, Registries, wait_until
 from checks.pace import pace
-from checks.running import expect
+from checks.running import Tell, Trial, expect
 
 SECONDS = 90
 COUNT = 30_000
@@ -19,7 +20,7 @@ LATE = 'irrdesk_door_connections_total{what="late"}'
 
 
 @pytest.fixture(scope="module")
-def big(trial):
+def big(trial: Trial) -> Iterator[Registries]:
     routes = "".join(
         f"route: {1 + (n >> 16)}.{n >> 8 & 255}.{n & 255}.0/24\norigin: AS1\n"
         "mnt-by: ROOT-MNT\nsource: TEST\n\n"
@@ -30,7 +31,7 @@ def big(trial):
         yield made
 
 
-def slow(door, last, line):
+def slow(door: Opened, last: int, line: bytes) -> socket.socket:
     """A client that asks, and has room for a few bytes of the answer."""
     peer = socket.socket()
     peer.setsockopt(socket.SOL_SOCKET, socket.SO_RCVBUF, 4_096)
@@ -43,12 +44,12 @@ def slow(door, last, line):
 class Dripping(threading.Thread):
     """A client that sends a byte every half second, or takes some, until the door ends that."""
 
-    def __init__(self, peer, text=b""):
+    def __init__(self, peer: socket.socket, text: bytes = b"") -> None:
         super().__init__(daemon=True)
         self.peer, self.text, self.begun, self.lasted = peer, text, time.monotonic(), 0.0
         self.start()
 
-    def run(self):
+    def run(self) -> None:
         with contextlib.suppress(OSError):
             for place in range(4_000):
                 if self.text:
@@ -59,7 +60,7 @@ class Dripping(threading.Thread):
         self.lasted = time.monotonic() - self.begun
 
 
-def test_who_is_slow_is_gone_in_time(trial, big, tell):
+def test_who_is_slow_is_gone_in_time(trial: Trial, big: Registries, tell: Tell) -> None:
     patience = trial.pick(6, 120)
     with Opened(trial, "slow", big.words, f"patience = {patience}\nburst = 100\n") as door:
         post = b"POST /submissions HTTP/1.1\r\nContent-Length: 5000\r\n\r\n"
@@ -93,7 +94,7 @@ def test_who_is_slow_is_gone_in_time(trial, big, tell):
             peer.close()
 
 
-def test_all_answers_have_a_bound(trial, big, tell):
+def test_all_answers_have_a_bound(trial: Trial, big: Registries, tell: Tell) -> None:
     """Who takes no answer fills the memory of answers; others have theirs all the while."""
     most = trial.pick(24, 256) << 20
     settings = f"answers = {most}\ncache = {most // 4}\nburst = 10000\nof_client = 50\n"
@@ -122,7 +123,7 @@ def test_all_answers_have_a_bound(trial, big, tell):
     expect(highest < before + 2 * most + (64 << 20), True, f"{highest >> 20} MiB")
 
 
-def test_all_connections_have_a_bound(trial, tell):
+def test_all_connections_have_a_bound(trial: Trial, tell: Tell) -> None:
     """Whether they are silent, or kept: one more client is answered."""
     count = trial.pick(120, 1_000)
     settings = f"connections = {count}\n"

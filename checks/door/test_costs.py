@@ -6,7 +6,7 @@ from irr.door import budget, cache
 from irr.door.budget import Clients, Turn, Turns, client_name
 
 
-def test_a_budget_refills_and_is_paid_by_who_asks():
+def test_a_budget_refills_and_is_paid_by_who_asks() -> None:
     clients = Clients(0.5, 3.0)
     one, other = clients.of("192.0.2.1", 0.0), clients.of("192.0.2.2", 0.0)
     clients.charge(one, 5.0, 0.0)
@@ -16,7 +16,7 @@ def test_a_budget_refills_and_is_paid_by_who_asks():
     assert clients.left(one, 100.0) == 3.0
 
 
-def test_turns_go_to_who_has_most_left_and_round():
+def test_turns_go_to_who_has_most_left_and_round() -> None:
     clients = Clients(0.5, 3.0)
     names = ["a", "b", "c"]
     turns: Turns[Turn] = Turns(clients)
@@ -33,7 +33,7 @@ def test_turns_go_to_who_has_most_left_and_round():
     assert turns.next(2.1) is not None
 
 
-def test_one_who_waits_can_leave():
+def test_one_who_waits_can_leave() -> None:
     clients = Clients(0.5, 3.0)
     turns: Turns[Turn] = Turns(clients)
     one = Turn(clients.of("a", 0.0))
@@ -51,11 +51,11 @@ def test_one_who_waits_can_leave():
         ("nonsense", "nonsense"),
     ],
 )
-def test_a_client_is_an_address_or_a_56(address, name):
+def test_a_client_is_an_address_or_a_56(address: str, name: str) -> None:
     assert client_name(address) == name
 
 
-def test_clients_are_forgotten_once_nothing_is_to_be_remembered():
+def test_clients_are_forgotten_once_nothing_is_to_be_remembered() -> None:
     clients = Clients(0.5, 3.0)
     for number in range(budget.REMEMBERED):
         clients.of(str(number), 0.0)
@@ -65,7 +65,7 @@ def test_clients_are_forgotten_once_nothing_is_to_be_remembered():
     assert set(clients.known) == {"7", "8", "new"}
 
 
-def test_kept_answers_are_of_one_state_and_counted():
+def test_kept_answers_are_of_one_state_and_counted() -> None:
     ledger = cache.Ledger(1_000)
     kept = cache.Cache(500, 60.0)
     kept.put(b"a", cache.Answer(b"x" * 300, 1.0, ledger), 0, 0.0)
@@ -82,7 +82,7 @@ def test_kept_answers_are_of_one_state_and_counted():
     assert ledger.used == 1
 
 
-def test_a_query_is_dear_if_it_was_so_twice():
+def test_a_query_is_dear_if_it_was_so_twice() -> None:
     costs = cache.Costs()
     assert costs.expected(b"PREFIXES A", "prefixes") >= cache.DEAR
     assert costs.expected(b"A-MNT", "word") < cache.DEAR

@@ -13,7 +13,7 @@ import pytest
 
 from checks.door import worlds
 from checks.door.opened import HEAD, SPACE, Opened, Registries, read_all, wait_until
-from checks.running import expect
+from checks.running import Each, Trial, expect
 from checks.serving import free_port
 
 SECONDS = 60
@@ -21,7 +21,7 @@ COUNT = 30_000
 
 
 @pytest.fixture(scope="module")
-def big():
+def big() -> str:
     routes = "".join(
         f"route: {1 + (n >> 16)}.{n >> 8 & 255}.{n & 255}.0/24\norigin: AS1\n"
         "mnt-by: ROOT-MNT\nsource: TEST\n\n"
@@ -34,14 +34,15 @@ class Halves:
     """A replica that answers a few whole queries like any, and then stops in the middle of an
     answer, in one of these ways."""
 
-    def __init__(self, way, whole=b""):
+    def __init__(self, way: str, whole: bytes = b"") -> None:
         self.way, self.whole = way, whole
         self.listener = socket.create_server(("127.0.0.1", 0))
         self.port = self.listener.getsockname()[1]
-        self.held, self.asked = [], 0
+        self.held: list[socket.socket] = []
+        self.asked = 0
         threading.Thread(target=self.serve, daemon=True).start()
 
-    def serve(self):
+    def serve(self) -> None:
         while True:
             try:
                 peer, _ = self.listener.accept()
@@ -66,7 +67,9 @@ class Halves:
 
 
 @pytest.mark.parametrize("way", ["silent", "killed", "reset"])
-def test_an_answer_that_stops_in_the_middle_is_asked_anew_within_a_second(trial, big, way):
+def test_an_answer_that_stops_in_the_middle_is_asked_anew_within_a_second(
+    trial: Trial, big: str, way: str
+) -> None:
     with Registries(trial, f"way-{way}", big, replicas=1) as registries:
         wanted = direct(registries.ports[0], "inverse origin AS1")
         halves = Halves(way, wanted)
@@ -84,18 +87,18 @@ def test_an_answer_that_stops_in_the_middle_is_asked_anew_within_a_second(trial,
             expect(took < 4, True, f"{took:.2f} s, beside other work")
 
 
-def direct(port, query):
+def direct(port: int, query: str) -> bytes:
     with socket.create_connection(("127.0.0.1", port), 30) as peer:
         peer.sendall(query.encode() + b"\r\n")
         return read_all(peer)
 
 
-def test_queries_go_on_while_replicas_are_killed_stopped_and_started(trial):
+def test_queries_go_on_while_replicas_are_killed_stopped_and_started(trial: Trial) -> None:
     with Registries(trial, "some", worlds.DUMP, replicas=2) as registries:
         with Opened(trial, "some-door", registries.words, "keep = 0\n") as door:
             faults, stop = [], threading.Event()
 
-            def asking(last):
+            def asking(last: int) -> None:
                 while not stop.is_set():
                     answer = door.whois("AS1", last)
                     if answer != worlds.AS1 + b"\n":
@@ -137,7 +140,7 @@ def test_queries_go_on_while_replicas_are_killed_stopped_and_started(trial):
             expect(b"%ERROR:301" in door.whois("-r AS1"), True, "RIPE's")
 
 
-def test_a_long_answer_is_told_in_the_dialect(trial, big):
+def test_a_long_answer_is_told_in_the_dialect(trial: Trial, big: str) -> None:
     with Registries(trial, "long", big, replicas=1) as registries:
         with Opened(trial, "long-door", registries.words, "largest = 100000\n") as door:
             for line in "inverse mnt ROOT-MNT", "!gAS1", "-i origin AS1":
@@ -150,7 +153,9 @@ def test_a_long_answer_is_told_in_the_dialect(trial, big):
             expect(door.whois("AS1")[:8], b"aut-num:", "a short answer")
 
 
-def test_who_takes_no_answer_holds_no_replica_and_is_gone(trial, big, monkeypatch):
+def test_who_takes_no_answer_holds_no_replica_and_is_gone(
+    trial: Trial, big: str, monkeypatch: pytest.MonkeyPatch
+) -> None:
     with Registries(trial, "slow", big, replicas=1) as registries:
         with Opened(trial, "slow-door", registries.words) as door:
             peers = []
@@ -169,7 +174,7 @@ def test_who_takes_no_answer_holds_no_replica_and_is_gone(trial, big, monkeypatc
                 peer.close()
 
 
-def test_too_many_are_told_and_the_silent_make_room(trial):
+def test_too_many_are_told_and_the_silent_make_room(trial: Trial) -> None:
     with Registries(trial, "many", worlds.DUMP, replicas=0) as registries:
         with Opened(
             trial, "many-door", registries.words, "connections = 20\nof_client = 8\n"
@@ -190,7 +195,7 @@ def test_too_many_are_told_and_the_silent_make_room(trial):
                 peer.close()
 
 
-def test_an_http_client_can_send_what_it_likes(trial, each):
+def test_an_http_client_can_send_what_it_likes(trial: Trial, each: Each) -> None:
     with Registries(trial, "http", worlds.DUMP, replicas=0) as registries:
         with Opened(trial, "http-door", registries.words) as door:
             for text, status in [
@@ -228,19 +233,19 @@ def test_an_http_client_can_send_what_it_likes(trial, each):
                 expect(read_all(peer).count(b"aut-num:"), 3, "three in one connection")
 
 
-def test_replicas_are_found_by_the_agent_and_old_ones_left_out(trial):
+def test_replicas_are_found_by_the_agent_and_old_ones_left_out(trial: Trial) -> None:
     port, told = free_port(), {}
     with Registries(trial, "agent", worlds.DUMP, replicas=2) as registries:
         ports = registries.ports[1:]
 
-        def tell(ages, fault=""):
+        def tell(ages: list[float], fault: str = "") -> None:
             entries = [
                 {"port": at, "ready": True, "state": "a", "seen": time.time() - age}
                 for at, age in zip(ports, ages)
             ]
             told["text"] = json.dumps({"replicas": entries, "fault": fault}).encode() + b"\n"
 
-        def serve(listener):
+        def serve(listener: socket.socket) -> None:
             while True:
                 peer, _ = listener.accept()
                 with peer:
@@ -291,7 +296,7 @@ def test_replicas_are_found_by_the_agent_and_old_ones_left_out(trial):
                 expect((status, said[:7]), (200, b"in part"), "the status")
 
 
-def test_nobody_pays_for_a_registry_that_stands_still(trial):
+def test_nobody_pays_for_a_registry_that_stands_still(trial: Trial) -> None:
     """One that was stopped in mid-answer, and goes on: who had asked it is answered at once
     then."""
     with Registries(trial, "still", worlds.DUMP, replicas=0) as registries:

@@ -8,13 +8,14 @@ import subprocess
 import sys
 import threading
 import time
+from collections.abc import Callable, Iterator
 
 import pytest
 
 from checks.door import attackers, worlds
 from checks.door.opened import HEAD, PYTHON, SPACE, Opened, Registries, read_all
 from checks.pace import pace
-from checks.running import Failure, expect
+from checks.running import Failure, Tell, Trial, expect
 
 pytestmark = pytest.mark.alone
 SECONDS = 120
@@ -23,13 +24,13 @@ LIMIT = 10_000
 VICTIM = 200
 
 
-def at_most(found, most, what):
+def at_most(found: float, most: float, what: str) -> None:
     if found > most:
         raise Failure(f"{what}: {found:.4g}, and at most {most:.4g} were to be")
 
 
 @pytest.fixture(scope="module")
-def crowd(trial):
+def crowd(trial: Trial) -> Iterator[Registries]:
     """A registry with what attackers registered before: rings, salts and names."""
     count = trial.pick(30_000, 300_000)
     routes = (
@@ -63,12 +64,12 @@ def crowd(trial):
 class Victim:
     """A client of its own address: how long it waits, and what is refused."""
 
-    def __init__(self, door, seconds):
+    def __init__(self, door: Opened, seconds: float) -> None:
         self.door, self.end = door, time.monotonic() + seconds
-        self.waits = {"cheap": [], "prefixes": [], "submissions": []}
-        self.refused = []
+        self.waits: dict[str, list[float]] = {"cheap": [], "prefixes": [], "submissions": []}
+        self.refused: list[tuple[str, bytes]] = []
 
-    def run(self):
+    def run(self) -> None:
         works = [
             ("cheap", 0.05, self.cheap),
             ("prefixes", 0.5, self.prefixes),
@@ -80,7 +81,7 @@ class Victim:
         for thread in threads:
             thread.join()
 
-    def again(self, name, pause, do):
+    def again(self, name: str, pause: float, do: Callable[[], bytes | None]) -> None:
         while time.monotonic() < self.end:
             begun = time.monotonic()
             found = do()
@@ -89,22 +90,24 @@ class Victim:
                 self.refused.append((name, found[:80]))
             time.sleep(pause)
 
-    def cheap(self):
+    def cheap(self) -> bytes | None:
         answer = self.door.whois("AS7", VICTIM)
         return None if answer.startswith(b"aut-num:") else answer
 
-    def prefixes(self):
+    def prefixes(self) -> bytes | None:
         answer = self.door.whois("prefixes AS-SMALL", VICTIM)
         return None if answer[:1].isdigit() else answer
 
-    def submit(self):
+    def submit(self) -> bytes | None:
         status, _, report = self.door.submit(
             "password: bc\n\nas-set: AS-MINE\nmnt-by: ROOT-MNT\nsource: TEST\n", VICTIM
         )
         return None if status == 200 and b"refused" not in report else b"%d %s" % (status, report)
 
 
-def test_another_client_notices_little_of_ten_that_ask_what_is_dear(trial, crowd, tell):
+def test_another_client_notices_little_of_ten_that_ask_what_is_dear(
+    trial: Trial, crowd: Registries, tell: Tell
+) -> None:
     seconds = trial.pick(12, 120)
     with Opened(trial, "fair", crowd.words, "size = 65536\n") as door:
         before = Victim(door, 3)
@@ -142,7 +145,7 @@ def test_another_client_notices_little_of_ten_that_ask_what_is_dear(trial, crowd
     at_most(submissions, 5 * slower, "the longest wait of a submission, in s")
 
 
-def test_a_connection_costs_little(trial, tell):
+def test_a_connection_costs_little(trial: Trial, tell: Tell) -> None:
     count = trial.pick(800, 10_000)
     with Registries(trial, "cost", worlds.DUMP, replicas=1) as registries:
         with Opened(trial, "cost-door", registries.words, "refill = 1000\nburst = 1000\n") as door:
@@ -172,7 +175,7 @@ def test_a_connection_costs_little(trial, tell):
     at_most(still, 1e-3 * slower, "seconds for a silent connection")
 
 
-def idling(door):
+def idling(door: Opened) -> float:
     """The processor's seconds that it takes in a second in which nobody asks."""
     before = door.seconds()
     time.sleep(3)
@@ -199,7 +202,7 @@ asyncio.run(main())
 """
 
 
-def straightforward(trial, above, count):
+def straightforward(trial: Trial, above: int, count: int) -> float:
     """The processor's seconds for a connection through the streams of asyncio."""
     from checks.serving import free_port
 
@@ -208,11 +211,11 @@ def straightforward(trial, above, count):
     try:
         process.stdout.readline()
 
-        def seconds():
+        def seconds() -> float:
             with open(f"/proc/{process.pid}/schedstat", encoding="ascii") as file:
                 return int(file.read().split()[0]) / 1e9
 
-        def ask():
+        def ask() -> bytes:
             with socket.create_connection(("127.0.0.1", port)) as peer:
                 peer.sendall(b"AS1\r\n")
                 return read_all(peer)
@@ -228,7 +231,9 @@ def straightforward(trial, above, count):
         process.stdout.close()
 
 
-def test_kept_answers_are_given_ten_thousand_times_a_second(trial, crowd, tell):
+def test_kept_answers_are_given_ten_thousand_times_a_second(
+    trial: Trial, crowd: Registries, tell: Tell
+) -> None:
     count = trial.pick(10_000, 200_000)
     with Opened(trial, "kept", crowd.words, "refill = 1000\nburst = 1000\n") as door:
         question = b"!iRS-0,1"

@@ -3,22 +3,23 @@
 import shutil
 import socket
 import subprocess
+from collections.abc import Iterator
 
 import pytest
 
 from checks.door import worlds
 from checks.door.opened import Opened, Registries, read_all
-from checks.running import expect
+from checks.running import Each, Trial, expect
 from irr.door import irrd
 
 SECONDS = 30
 
 
-def data(text):
+def data(text: bytes) -> bytes:
     return b"A%d\n%s\nC\n" % (len(text) + 1, text)
 
 
-def joined(*objects):
+def joined(*objects: bytes) -> bytes:
     return data(b"\n".join(objects)[:-1])
 
 
@@ -80,7 +81,7 @@ REPLIES = {
     "!t0": b"F Invalid value for timeout: 0\n",
     "!q": b"",
 }
-FORMATS = {
+FORMATS: dict[str, list[str]] = {
     "plain": [],
     "bird": ["-b"],
     "openbgpd": ["-B"],
@@ -102,18 +103,18 @@ FORMATS = {
 
 
 @pytest.fixture(scope="module")
-def registries(trial):
+def registries(trial: Trial) -> Iterator[Registries]:
     with Registries(trial, "registries", worlds.DUMP) as made:
         yield made
 
 
 @pytest.fixture(scope="module")
-def door(trial, registries):
+def door(trial: Trial, registries: Registries) -> Iterator[Opened]:
     with Opened(trial, "door", registries.words) as opened:
         yield opened
 
 
-def test_each_question_has_its_reply(door, each):
+def test_each_question_has_its_reply(door: Opened, each: Each) -> None:
     for question, wanted in REPLIES.items():
         with each(question):
             expect(door.whois(question), wanted, question)
@@ -123,7 +124,7 @@ def test_each_question_has_its_reply(door, each):
                 expect(both, wanted + after, f"{question} in a kept connection")
 
 
-def test_objects_of_a_maintainer_come_in_one_reply(door):
+def test_objects_of_a_maintainer_come_in_one_reply(door: Opened) -> None:
     reply = door.whois("!oA-MNT")
     head, _, text = reply.partition(b"\n")
     expect(reply.endswith(b"\nC\n") and int(head[1:]) == len(text) - 2, True, "the framing")
@@ -131,12 +132,12 @@ def test_objects_of_a_maintainer_come_in_one_reply(door):
     expect(b"AS2" in text.split(b"members")[0], False, "an object of another")
 
 
-def test_the_status_is_json_and_the_version_says_what_is_skipped(door):
+def test_the_status_is_json_and_the_version_says_what_is_skipped(door: Opened) -> None:
     expect(b'"authoritative": true' in door.whois("!J-*"), True, "!J")
     expect(b"missing sets are skipped" in door.whois("!v"), True, "!v")
 
 
-def test_a_strict_door_refuses_what_lacks_a_set(trial, registries):
+def test_a_strict_door_refuses_what_lacks_a_set(trial: Trial, registries: Registries) -> None:
     with Opened(trial, "strict", registries.words, "strict = true\n") as door:
         for question in "!aAS-X", "!iAS-X,1":
             expect(b"F AS-X: sets that it reaches" in door.whois(question), True, question)
@@ -148,7 +149,7 @@ def test_a_strict_door_refuses_what_lacks_a_set(trial, registries):
 
 @pytest.mark.parametrize("name", FORMATS)
 @pytest.mark.parametrize("what", ["AS-X", "AS1", "RS-X"])
-def test_bgpq4_prints_what_the_registry_has(door, name, what):
+def test_bgpq4_prints_what_the_registry_has(door: Opened, name: str, what: str) -> None:
     if not shutil.which("bgpq4"):
         pytest.skip("bgpq4 is not here")
     words = ["bgpq4", "-h", f"127.0.0.1:{door.whois_port}", "-4", *FORMATS[name], what]
@@ -159,7 +160,7 @@ def test_bgpq4_prints_what_the_registry_has(door, name, what):
     expect("1" in ran.stdout and len(ran.stdout) > 10, True, ran.stdout)
 
 
-def test_bgpq3_and_peval_style_sessions_work(door):
+def test_bgpq3_and_peval_style_sessions_work(door: Opened) -> None:
     if not shutil.which("bgpq3"):
         pytest.skip("bgpq3 is not here")
     words = ["bgpq3", "-h", f"127.0.0.1:{door.whois_port}", "-4", "-l", "N", "AS-X"]
@@ -175,7 +176,7 @@ def test_bgpq3_and_peval_style_sessions_work(door):
     )
 
 
-def test_socat_keeps_a_connection(door):
+def test_socat_keeps_a_connection(door: Opened) -> None:
     if not shutil.which("socat"):
         pytest.skip("socat is not here")
     ran = subprocess.run(
@@ -189,7 +190,9 @@ def test_socat_keeps_a_connection(door):
     expect(ran.stdout.endswith(REPLIES["!gas2"]), True, "the last reply")
 
 
-def test_questions_that_come_in_one_piece_or_byte_by_byte_are_answered_in_order(door):
+def test_questions_that_come_in_one_piece_or_byte_by_byte_are_answered_in_order(
+    door: Opened,
+) -> None:
     lines = [b"!gAS1", b"!gAS2", b"!iAS-X,1", b"!r10.1.0.0/16,o"]
     wanted = b"".join(
         REPLIES[line.decode().replace("AS2", "as2") if line == b"!gAS2" else line.decode()]
@@ -215,6 +218,6 @@ def test_questions_that_come_in_one_piece_or_byte_by_byte_are_answered_in_order(
         (b"AS02^+", "AS2^+"),
     ],
 )
-def test_members_are_spelled_as_those_of_an_expansion(item, text):
+def test_members_are_spelled_as_those_of_an_expansion(item: bytes, text: str) -> None:
     """bgpq4's EXCEPT compares texts: `AS02` would not be taken out by `EXCEPT AS2`."""
     assert irrd.member_text(item) == text

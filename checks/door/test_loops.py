@@ -6,7 +6,7 @@ import pytest
 
 from checks.door import worlds
 from checks.door.opened import Opened, Registries
-from checks.running import expect
+from checks.running import Trial, expect
 
 WITHOUT = (
     "import runpy, sys; sys.modules['uvloop'] = None; sys.argv[0] = 'irr'; "
@@ -15,7 +15,7 @@ WITHOUT = (
 
 
 @pytest.mark.parametrize("loop", ["asyncio", "uvloop"])
-def test_it_answers_with_each_loop(trial, loop):
+def test_it_answers_with_each_loop(trial: Trial, loop: str) -> None:
     if loop == "uvloop" and not importlib.util.find_spec("uvloop"):
         pytest.skip("uvloop is not here")
     start = ("-m", "irr") if loop == "uvloop" else ("-c", WITHOUT)

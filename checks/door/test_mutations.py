@@ -2,9 +2,11 @@
 stays level."""
 
 import contextlib
+import random
 import socket
 import threading
 import time
+from collections.abc import Iterator
 
 import pytest
 
@@ -12,7 +14,7 @@ from checks.door import worlds
 from checks.door.opened import Opened, Registries
 from checks.door.test_irrd import REPLIES
 from checks.door.test_whois import ERRORS, FOUND, NATIVE
-from checks.running import Failure, expect
+from checks.running import Failure, Tell, Trial, expect
 
 SECONDS = 60
 LINES = [
@@ -48,7 +50,7 @@ PIECES = [
 
 
 @pytest.fixture(scope="module")
-def door(trial):
+def door(trial: Trial) -> Iterator[Opened]:
     with Registries(trial, "registries", worlds.DUMP, replicas=1) as registries:
         with Opened(
             trial, "door", registries.words, "refill = 1000\nburst = 1000\nkeep = 1\n"
@@ -56,7 +58,7 @@ def door(trial):
             yield opened
 
 
-def mutated(chance, text):
+def mutated(chance: random.Random, text: bytes) -> bytes:
     """A text with a few changes of chance."""
     for _ in range(chance.randrange(4)):
         place = chance.randrange(len(text) + 1)
@@ -75,12 +77,13 @@ def mutated(chance, text):
 class Client(threading.Thread):
     """One who sends such lines for some time, and waits for the end of each answer."""
 
-    def __init__(self, door, chance, last, end):
+    def __init__(self, door: Opened, chance: random.Random, last: int, end: float) -> None:
         super().__init__(daemon=True)
         self.door, self.chance, self.last, self.end = door, chance, last, end
-        self.sent, self.hung = 0, []
+        self.sent = 0
+        self.hung: list[bytes] = []
 
-    def run(self):
+    def run(self) -> None:
         while time.monotonic() < self.end:
             is_http = self.chance.randrange(6) == 0
             if is_http:
@@ -100,7 +103,7 @@ class Client(threading.Thread):
             self.talk(port, text)
             self.sent += 1
 
-    def talk(self, port, text):
+    def talk(self, port: int, text: bytes) -> None:
         try:
             with contextlib.closing(self.door.connect(port, self.last, 60)) as peer:
                 place = self.chance.randrange(len(text) + 1)
@@ -116,7 +119,7 @@ class Client(threading.Thread):
             pass
 
 
-def test_lines_of_chance_end_and_leave_no_trace(trial, door, tell):
+def test_lines_of_chance_end_and_leave_no_trace(trial: Trial, door: Opened, tell: Tell) -> None:
     seconds = trial.pick(20, 600)
     first = door.memory()
     for part in range(2):

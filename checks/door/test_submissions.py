@@ -5,23 +5,27 @@ import contextlib
 import http.client
 import json
 import os
+import random
 import socket
 import subprocess
 import sys
 import threading
 import time
+from collections.abc import Iterator
+from pathlib import Path
+from typing import Any, Self
 
 import pytest
 
 from checks.door import worlds
 from checks.door.opened import PYTHON, Opened, Registries, read_all, wait_until
-from checks.running import TOP, expect
+from checks.running import TOP, Each, Trial, expect
 
 ITEM = "password: bc\n\nas-set: {}\nmnt-by: ROOT-MNT\nsource: TEST\n"
 
 
 @pytest.fixture(scope="module")
-def door(trial):
+def door(trial: Trial) -> Iterator[Opened]:
     with Registries(trial, "registries", worlds.DUMP, replicas=0) as registries:
         with Opened(
             trial, "door", registries.words, 'trusted = ["127.0.0.1", "127.0.0.9"]\n'
@@ -29,7 +33,7 @@ def door(trial):
             yield opened
 
 
-def test_a_report_comes_whole_and_is_written_down(door):
+def test_a_report_comes_whole_and_is_written_down(door: Opened) -> None:
     text = (
         ITEM.format("AS-ONE")
         + "\nroute: 10.5.0.0/16\norigin: AS1\nmnt-by: A-MNT\nsource: TEST\n\nfoo\n"
@@ -58,7 +62,7 @@ def test_a_report_comes_whole_and_is_written_down(door):
         expect("bc" in file.read().replace("abc", ""), False, "a password")
 
 
-def test_only_trusted_addresses_name_clients_and_users(door):
+def test_only_trusted_addresses_name_clients_and_users(door: Opened) -> None:
     door.submit(ITEM.format("AS-TWO"), last=5, X_Forwarded_For="192.0.2.7", X_Remote_User="holder")
     expect((door.items()[-1]["client"], door.items()[-1]["user"]), ("127.0.0.5", None), "who")
     door.submit(ITEM.format("AS-TWO"), last=9, X_Forwarded_For="203.0.113.1, 192.0.2.8, 127.0.0.1")
@@ -67,7 +71,7 @@ def test_only_trusted_addresses_name_clients_and_users(door):
     expect(door.items()[-1]["client"], "2001:db8:0:100::/56", "a client of version 6")
 
 
-def test_each_bound_is_a_413_that_says_which(door, each):
+def test_each_bound_is_a_413_that_says_which(door: Opened, each: Each) -> None:
     many = "password: bc\n\n" + "as-set: AS-T\nmnt-by: ROOT-MNT\nsource: TEST\n\n" * 1_001
     for what, text in [
         ("262,144 bytes", "remarks: " + "x" * 262_144),
@@ -81,10 +85,10 @@ def test_each_bound_is_a_413_that_says_which(door, each):
     expect(door.submit("password: x\n" * 31 + "\n" + ITEM.format("AS-T"))[0], 200, "32 passwords")
 
 
-def test_a_submission_that_is_refused_is_written_down(door):
+def test_a_submission_that_is_refused_is_written_down(door: Opened) -> None:
     before = len(door.items())
     many = "as-set: AS-T\nmnt-by: ROOT-MNT\nsource: TEST\n\n" * 1_001
-    fields = {"X_Forwarded_For": "192.0.2.40", "X_Remote_User": "refused"}
+    fields: dict[str, Any] = {"X_Forwarded_For": "192.0.2.40", "X_Remote_User": "refused"}
     door.submit(many, **fields)
     door.submit("password: secret\n" * 33, **fields)
     door.submit("x" * 300_000, **fields)
@@ -105,12 +109,12 @@ def test_a_submission_that_is_refused_is_written_down(door):
     expect(
         b"192.0.2.40 (refused): a submission of 1,001 items: refused 413 items" in printed,
         True,
-        printed,
+        f"{printed!r}",
     )
-    expect(b"192.0.2.40 (refused): a submission: refused 413 size" in printed, True, printed)
+    expect(b"192.0.2.40 (refused): a submission: refused 413 size" in printed, True, f"{printed!r}")
 
 
-def test_who_sends_what_is_refused_pushes_no_lines_out(door):
+def test_who_sends_what_is_refused_pushes_no_lines_out(door: Opened) -> None:
     before, begun = len(door.items()), time.monotonic()
     for _ in range(100):
         door.submit("password: x\n" * 33, last=77)
@@ -126,10 +130,10 @@ def test_who_sends_what_is_refused_pushes_no_lines_out(door):
 class Chance:
     """Submissions of items by chance: good ones, bad ones, deletions, passwords between them."""
 
-    def __init__(self, chance):
+    def __init__(self, chance: random.Random) -> None:
         self.chance = chance
 
-    def item(self):
+    def item(self) -> str:
         chance = self.chance
         if chance.randrange(100) == 0:
             return f"remarks: {'x' * 66_000}\n"
@@ -150,7 +154,7 @@ class Chance:
             ]
         )
 
-    def text(self):
+    def text(self) -> str:
         count = self.chance.choice([3, 60, 120, 200])
         text, size = "", 0
         while count and size < 190_000:
@@ -160,7 +164,7 @@ class Chance:
         return text
 
 
-def test_a_submission_in_parts_has_the_report_of_one(trial):
+def test_a_submission_in_parts_has_the_report_of_one(trial: Trial) -> None:
     """The report of a registry that gets the whole, byte for byte, and the same objects after
     it."""
     with Registries(trial, "parts", worlds.DUMP, replicas=0) as through:
@@ -177,27 +181,27 @@ def test_a_submission_in_parts_has_the_report_of_one(trial):
                 expect(dump_of(through.ports[0]), dump_of(alone.ports[0]), "the objects")
 
 
-def direct(port, text):
+def direct(port: int, text: bytes) -> bytes:
     connection = http.client.HTTPConnection("127.0.0.1", port, timeout=60)
     with contextlib.closing(connection):
         connection.request("POST", "/submissions", text)
         return connection.getresponse().read()
 
 
-def dump_of(port):
+def dump_of(port: int) -> bytes:
     connection = http.client.HTTPConnection("127.0.0.1", port, timeout=60)
     with contextlib.closing(connection):
         connection.request("GET", "/dump")
         return connection.getresponse().read()
 
 
-def test_others_are_served_between_the_parts_of_a_long_one(trial):
+def test_others_are_served_between_the_parts_of_a_long_one(trial: Trial) -> None:
     """A registry that takes half a second for each part: another sender has its turn after one of
     them, and not after all."""
     with Slow() as slow:
         with Opened(trial, "slow-parts", [f"--registry=http://127.0.0.1:{slow.port}"]) as door:
             many = "".join(f"as-set: AS-M{n}\nmnt-by: A-MNT\nsource: TEST\n\n" for n in range(400))
-            reports = {}
+            reports: dict[str, Any] = {}
             long = threading.Thread(target=lambda: reports.update(long=door.submit(many, 2)))
             long.start()
             wait_until("a part", 20, lambda: len(slow.sizes) > 1)
@@ -212,7 +216,7 @@ def test_others_are_served_between_the_parts_of_a_long_one(trial):
             expect(max(slow.sizes) <= 50, True, f"the parts {slow.sizes}")
 
 
-def test_a_registry_that_goes_away_between_two_parts_cuts_the_report(trial):
+def test_a_registry_that_goes_away_between_two_parts_cuts_the_report(trial: Trial) -> None:
     with Slow(parts=2) as slow:
         with Opened(trial, "cut-parts", [f"--registry=http://127.0.0.1:{slow.port}"]) as door:
             many = "".join(f"as-set: AS-M{n}\nmnt-by: A-MNT\nsource: TEST\n\n" for n in range(400))
@@ -227,19 +231,20 @@ class Slow:
     """A registry that takes its time for each submission, and adds all of its items; after some of
     them nobody listens there."""
 
-    def __init__(self, parts=1_000):
-        self.sizes, self.parts = [], parts
+    def __init__(self, parts: int = 1_000) -> None:
+        self.parts = parts
+        self.sizes: list[int] = []
         self.listener = socket.create_server(("127.0.0.1", 0))
         self.port = self.listener.getsockname()[1]
 
-    def __enter__(self):
+    def __enter__(self) -> Self:
         threading.Thread(target=self.serve, daemon=True).start()
         return self
 
-    def __exit__(self, *_):
+    def __exit__(self, *_: object) -> None:
         self.listener.close()
 
-    def serve(self):
+    def serve(self) -> None:
         while len(self.sizes) < self.parts:
             try:
                 peer, _ = self.listener.accept()
@@ -264,7 +269,7 @@ class Slow:
                 peer.sendall(b"HTTP/1.1 200 OK\r\n\r\n" + report.encode())
 
 
-def test_a_body_of_any_allowed_size_is_taken(door, each):
+def test_a_body_of_any_allowed_size_is_taken(door: Opened, each: Each) -> None:
     """However it comes: at once, in pieces, or behind another request."""
     for size in 1_000, 60_000, 70_000, 262_144:
         body = (ITEM.format("AS-LONG") + "\n#").encode()
@@ -284,7 +289,7 @@ def test_a_body_of_any_allowed_size_is_taken(door, each):
                 expect(b"% items 1\n" in read_all(peer), True, "the report")
 
 
-def test_a_long_body_is_refused_before_it_is_sent(door):
+def test_a_long_body_is_refused_before_it_is_sent(door: Opened) -> None:
     with socket.create_connection(("127.0.0.1", door.http_port), 30) as peer:
         peer.sendall(
             b"POST /submissions HTTP/1.1\r\nHost: x\r\nContent-Length: 99999999\r\n"
@@ -293,7 +298,7 @@ def test_a_long_body_is_refused_before_it_is_sent(door):
         expect(read_all(peer)[:12], b"HTTP/1.1 413", "the status")
 
 
-def test_a_page_of_another_site_submits_nothing(door):
+def test_a_page_of_another_site_submits_nothing(door: Opened) -> None:
     status, _, _ = door.submit(
         ITEM.format("AS-EVIL"), Origin="https://evil.example", Host="irr.example.net"
     )
@@ -304,13 +309,13 @@ def test_a_page_of_another_site_submits_nothing(door):
     expect(status, 200, "its own page")
 
 
-def test_a_change_is_seen_at_once(door):
+def test_a_change_is_seen_at_once(door: Opened) -> None:
     expect(door.whois("AS-NEW"), b"% no entries\n", "before")
     door.submit(ITEM.format("AS-NEW"))
     expect(door.whois("AS-NEW")[:7], b"as-set:", "after")
 
 
-def irr(door, *words, stdin=b""):
+def irr(door: Opened, *words: str, stdin: bytes = b"") -> tuple[int, bytes, bytes]:
     """The status of `irr`, what it prints, and what it says."""
     environment = {
         **os.environ,
@@ -327,7 +332,7 @@ def irr(door, *words, stdin=b""):
     return ran.returncode, ran.stdout, ran.stderr
 
 
-def test_irr_submits_and_reads_the_log_through_it(door):
+def test_irr_submits_and_reads_the_log_through_it(door: Opened) -> None:
     status, printed, said = irr(door, "submit", "-", stdin=ITEM.format("AS-TOOL").encode())
     expect((status, b"as-set AS-TOOL: added" in printed), (0, True), f"{printed!r} {said!r}")
     many = "password: bc\n\n" + "".join(
@@ -358,7 +363,7 @@ def test_irr_submits_and_reads_the_log_through_it(door):
     expect(irr(door, *log, "--since", entry["time"], "--key", "AS-TOOL")[0], 0, "since then")
 
 
-def test_a_registry_that_is_down_takes_nothing(trial):
+def test_a_registry_that_is_down_takes_nothing(trial: Trial) -> None:
     with Registries(trial, "down", worlds.DUMP, replicas=1) as registries:
         with Opened(trial, "down-door", registries.words) as door:
             registries.kill(0)
@@ -371,7 +376,7 @@ def test_a_registry_that_is_down_takes_nothing(trial):
             wait_until("a submission", 30, lambda: door.submit(ITEM.format("AS-T"))[0] == 200)
 
 
-def test_files_of_the_log_are_bounded(trial):
+def test_files_of_the_log_are_bounded(trial: Trial) -> None:
     sys.path.append(os.path.join(TOP, "tools"))
     from irr.door import journal, settings
     from irr.registry.answers import Item
@@ -382,7 +387,7 @@ def test_files_of_the_log_are_bounded(trial):
     for number in range(400):
         who = journal.Who("192.0.2.1", "", 1)
         made.item(who, Item(number + 1, f"as-set AS-{number}", "added", ""), ["A-MNT"])
-    files = journal.files_of(journal.Path(path))
+    files = journal.files_of(Path(path))
     expect(3 <= len(files) <= 5, True, f"{len(files)} files")
     expect(all(os.path.getsize(one) <= 4_400 for one in files), True, "their sizes")
     with open(files[-1], encoding="utf-8") as file:

@@ -4,12 +4,13 @@ flags."""
 import shutil
 import socket
 import subprocess
+from collections.abc import Iterator
 
 import pytest
 
 from checks.door import worlds
 from checks.door.opened import Opened, Registries, read_all
-from checks.running import expect
+from checks.running import Each, Trial, expect
 from irr.rpsl import grammar
 
 NATIVE = [
@@ -99,18 +100,18 @@ ERRORS = {
 
 
 @pytest.fixture(scope="module")
-def registries(trial):
+def registries(trial: Trial) -> Iterator[Registries]:
     with Registries(trial, "registries", worlds.DUMP) as made:
         yield made
 
 
 @pytest.fixture(scope="module")
-def door(trial, registries):
+def door(trial: Trial, registries: Registries) -> Iterator[Opened]:
     with Opened(trial, "door", registries.words) as opened:
         yield opened
 
 
-def objects(answer):
+def objects(answer: bytes) -> list[bytes]:
     """The objects of an answer in RIPE's form."""
     lines = [line for line in answer.split(b"\n") if line[:1] != b"%"]
     return [
@@ -118,7 +119,9 @@ def objects(answer):
     ]
 
 
-def test_the_registrys_own_queries_are_answered_byte_for_byte(door, registries, each):
+def test_the_registrys_own_queries_are_answered_byte_for_byte(
+    door: Opened, registries: Registries, each: Each
+) -> None:
     for query in NATIVE:
         with each(query or "an empty line"):
             with_line = query.encode() + b"\r\n"
@@ -129,16 +132,16 @@ def test_the_registrys_own_queries_are_answered_byte_for_byte(door, registries, 
 
 
 class Peer:
-    def __init__(self, port):
+    def __init__(self, port: int) -> None:
         self.port = port
 
-    def ask(self, text):
+    def ask(self, text: bytes) -> bytes:
         with socket.create_connection(("127.0.0.1", self.port), 30) as peer:
             peer.sendall(text)
             return read_all(peer)
 
 
-def test_what_is_http_submits_nothing_on_port_43(door, registries):
+def test_what_is_http_submits_nothing_on_port_43(door: Opened, registries: Registries) -> None:
     body = b"password: bc\n\nas-set: AS-HIDDEN\nmnt-by: ROOT-MNT\nsource: TEST\n"
     for text in (
         b"GET /dump HTTP/1.1\r\n\r\n",
@@ -149,7 +152,7 @@ def test_what_is_http_submits_nothing_on_port_43(door, registries):
     expect(Peer(registries.ports[0]).ask(b"AS-HIDDEN\n"), b"% no entries\n", "what came of it")
 
 
-def test_who_ends_without_a_word_is_answered_as_by_the_registry(door):
+def test_who_ends_without_a_word_is_answered_as_by_the_registry(door: Opened) -> None:
     with door.connect(door.whois_port) as peer:
         peer.shutdown(socket.SHUT_WR)
         expect(read_all(peer), b"% error 1\n", "the answer")
@@ -159,7 +162,7 @@ def test_who_ends_without_a_word_is_answered_as_by_the_registry(door):
         expect(read_all(peer), worlds.AS1 + b"\n", "a line without its end")
 
 
-def test_flags_find_what_ripe_says_they_do(door, each):
+def test_flags_find_what_ripe_says_they_do(door: Opened, each: Each) -> None:
     for line, wanted in FOUND.items():
         with each(line):
             answer = door.whois(line)
@@ -171,7 +174,7 @@ def test_flags_find_what_ripe_says_they_do(door, each):
             expect(answer.endswith(b"\n\n\n"), True, "the end")
 
 
-def test_what_is_not_here_has_ripes_number(door, each):
+def test_what_is_not_here_has_ripes_number(door: Opened, each: Each) -> None:
     for line, number in ERRORS.items():
         with each(line):
             answer = door.whois(line)
@@ -179,7 +182,7 @@ def test_what_is_not_here_has_ripes_number(door, each):
             expect(all(row[:1] in (b"%", b"") for row in answer.split(b"\n")), True, "its lines")
 
 
-def test_what_there_is_can_be_asked(door):
+def test_what_there_is_can_be_asked(door: Opened) -> None:
     expect(b"\nTEST:3:N:0-0\n" in door.whois("-q sources"), True, "the sources")
     expect(
         b"\nmntner\nas-block\naut-num\ninetnum\nroute\nas-set\nroute-set\n"
@@ -207,7 +210,7 @@ def test_what_there_is_can_be_asked(door):
     expect(b"prefixes SET" in door.whois("help"), True, "help")
 
 
-def test_k_keeps_a_connection(door):
+def test_k_keeps_a_connection(door: Opened) -> None:
     answer = door.whois(b"-k\r\n-r AS1\r\n-K AS-Y\r\n!gAS9\r\n-k\r\n")
     expect(objects(answer.replace(b"D\n", b""))[:1], [worlds.AS1], "the first")
     expect(b"D\n" in answer and b"AS-Y" in answer, True, "all answers")
@@ -231,7 +234,9 @@ def test_k_keeps_a_connection(door):
         (["--", "-M 10.1.0.0/16"], worlds.LONG),
     ],
 )
-def test_debians_whois_works_with_its_own_flags(door, words, wanted):
+def test_debians_whois_works_with_its_own_flags(
+    door: Opened, words: list[str], wanted: bytes
+) -> None:
     if not shutil.which("whois"):
         pytest.skip("whois is not here")
     command = ["whois", "-h", "127.0.0.1", "-p", str(door.whois_port), *words]

@@ -3,7 +3,7 @@
 from checks.door.opened import HEAD, SPACE
 
 
-def objects(*texts):
+def objects(*texts: str) -> str:
     return "".join(text.strip().replace("    ", "") + "\nsource: TEST\n\n" for text in texts)
 
 
@@ -36,7 +36,7 @@ DUMP = (
 )
 
 
-def canonical(text):
+def canonical(text: str) -> bytes:
     """An object as the registry prints it."""
     lines = (line.partition(":") for line in [*text.split("\n"), "source: TEST"])
     return "".join(f"{name + ':':15} {value.strip()}\n" for name, _, value in lines).encode()

@@ -1,5 +1,7 @@
 """Dumps in the manner of RIPE, RADB, LACNIC, ARIN and IRRd 4 with their oddities, and one of any
 length."""
+
+from collections.abc import Iterator
 from typing import NamedTuple
 
 
@@ -8,14 +10,14 @@ class Dump(NamedTuple):
     cause, what is mended, new names, what is found in the result, and how many items are dropped
     from lists of which cause, and what is told of objects that are taken."""
 
-    files: dict
+    files: dict[str, str]
     taken: int
-    left_out: dict
-    mended: dict
-    renamed: dict
-    texts: list
-    dropped: dict
-    told: dict = {}
+    left_out: dict[str, int]
+    mended: dict[str, int]
+    renamed: dict[str, str]
+    texts: list[str]
+    dropped: dict[str, int]
+    told: dict[str, int] = {}
 
 
 RIPE = Dump(
@@ -454,7 +456,7 @@ source:         DEMO
 DUMPS = {"RIPE": RIPE, "RADB": RADB, "LACNIC": LACNIC, "ARIN": ARIN, "IRRd 4": IRRD}
 
 
-def messy_objects(count):
+def messy_objects(count: int) -> Iterator[bytes]:
     """The text of a dump in pieces, of which so many objects or a few more are taken."""
     numbers = max(count // 10, 1)
     yield b"% a large dump\n\n"
@@ -514,9 +516,9 @@ def messy_objects(count):
         )
 
 
-def address(offset):
+def address(offset: int) -> bytes:
     return b".".join(b"%d" % byte for byte in ((10 << 24) + offset).to_bytes(4, "big"))
 
 
-def holder(number, numbers):
+def holder(number: int, numbers: int) -> bytes:
     return b"MAINT-%d" % (number % (numbers // 10 or 1))

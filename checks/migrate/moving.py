@@ -1,6 +1,10 @@
 """Dumps of chance as foreign registries have them, and a plain second reading of what `irr import`
 makes of a dump."""
+
+import random
 import re
+from collections.abc import Callable, Iterator
+from typing import Any
 
 from checks.model import numbers
 from checks.model.objects import (
@@ -14,9 +18,10 @@ from checks.model.objects import (
     MNTNER,
     ROUTE,
     ROUTES_IN,
-    SETS,
     SECRET_LINE,
+    SETS,
     Key,
+    Object,
     as_set_member,
     read_key,
     route_set_member,
@@ -25,6 +30,11 @@ from checks.model.objects import (
 from checks.model.registry import crosses
 from checks.model.text import blocks, meaning, read
 
+# Attributes with their lines; the lists of an object; its class and key; both of it.
+Attributes = list[tuple[bytes, list[bytes]]]
+Lists = dict[bytes, list[bytes]]
+Order = tuple[int, Any]
+Form = list[Any]
 IPV6 = re.compile(rb"[0-9a-f:.]*:[0-9a-f.]*:[0-9a-f:.]*(/[0-9]+)?(\^.*)?", re.I)
 TOKEN = re.compile(rb"[{}]|[^, \t\r{}]+")
 ROOT, SOURCE, NOBODY = b"ROOT-MNT", b"TEST", b"FILTERED"
@@ -42,17 +52,17 @@ class Out(Exception):
     """What is left out."""
 
 
-def member_of(number):
+def member_of(number: int) -> Callable[[bytes], bytes | None]:
     """The reader of a set's name in `member-of`: that of a route is a route-set's."""
 
-    def read_name(item):
+    def read_name(item: bytes) -> bytes | None:
         name = numbers.set_name(item)
         return None if name and number == ROUTE and numbers.set_kind(name) == b"AS" else name
 
     return read_name
 
 
-def lists_of(number):
+def lists_of(number: int) -> set[bytes]:
     """The attributes of a class that are lists."""
     return (
         {b"mnt-by"}
@@ -63,7 +73,7 @@ def lists_of(number):
     )
 
 
-def is_cut(text, paragraphs):
+def is_cut(text: bytes, paragraphs: list[list[bytes]]) -> bool:
     """Whether the last paragraph of a text may have lost its end: it has no `source`, and most
     others have one, or the text ends within its last line; comments by themselves after it are an
     end."""
@@ -78,15 +88,17 @@ class Second:
     """What was read of files: each object as its other attributes in order, and the items of each
     list, whatever their spelling."""
 
-    def __init__(self, texts, auth):
-        self.auth, self.objects, self.read, self.causes = auth, {}, 0, {}
-        self.sources = {}
+    def __init__(self, texts: list[bytes], auth: bytes) -> None:
+        self.auth, self.read = auth, 0
+        self.objects: dict[Order, Form] = {}
+        self.causes: dict[str, int] = {}
+        self.sources: dict[Order, bytes] = {}
         for text in texts:
             paragraphs = list(blocks(text))
             for place, block in enumerate(paragraphs, 1):
                 self.read += 1
                 try:
-                    attributes = read(block)
+                    attributes: Any = read(block)
                     if place == len(paragraphs) and is_cut(text, paragraphs):
                         raise Out("cut off")
                     order, one = self.mended(attributes)
@@ -110,10 +122,10 @@ class Second:
                         del items[name]
         self.settle()
 
-    def leave_out(self, cause):
+    def leave_out(self, cause: str) -> None:
         self.causes[cause] = self.causes.get(cause, 0) + 1
 
-    def mended(self, attributes):
+    def mended(self, attributes: Attributes | str) -> tuple[Order, Form]:
         """The key's value and the object."""
         if isinstance(attributes, str) or not attributes or attributes[0][0] not in CLASSES:
             raise Out("paragraph")
@@ -174,13 +186,13 @@ class Second:
         items[b"mnt-by"] = items[b"mnt-by"] or [ROOT]
         return (number, order), [others, {name: listed for name, listed in items.items() if listed}]
 
-    def key(self, number, text, origin):
+    def key(self, number: int, text: bytes, origin: bytes | None) -> Any:
         if number == MNTNER:
             return text.upper() if ITEM.fullmatch(text) else None
         key = read_key(number, text, origin)
         return key.value if key else None
 
-    def items(self, number, name, listed):
+    def items(self, number: int, name: bytes, listed: list[list[bytes]]) -> list[bytes]:
         """The items of a list that stay."""
         found = [item for items in listed for item in items]
         if name == b"mnt-routes":
@@ -198,7 +210,7 @@ class Second:
         )
         return [item for item in found if is_good(SCOPE.sub(b"", item)) is not None]
 
-    def without_scopes(self, items):
+    def without_scopes(self, items: list[bytes]) -> Iterator[bytes]:
         """The items without a registry before them; one that another registry has, or that is not
         imported, is gone."""
         for item in items:
@@ -216,7 +228,7 @@ class Second:
             if not scope or (source in imported and own in ([], [source])):
                 yield bare
 
-    def grants(self, tokens):
+    def grants(self, tokens: list[bytes]) -> Iterator[bytes]:
         """The parts of entries, each of which is a name, and ANY or braces."""
         while tokens:
             head, *tokens = tokens
@@ -241,8 +253,8 @@ class Second:
                 yield tokens[0]
                 tokens = tokens[1:]
 
-    def leave_out_crossing(self, number):
-        kept = []
+    def leave_out_crossing(self, number: int) -> None:
+        kept: list[tuple[int, int]] = []
         for order in [order for order in self.objects if order[0] == number]:
             if any(crosses(order[1], other) for other in kept):
                 del self.objects[order]
@@ -252,7 +264,7 @@ class Second:
 
     # What the whole tells.
 
-    def settle(self):
+    def settle(self) -> None:
         """Gives names, and adds what is missing."""
         mntners = {value for number, value in self.objects if number == MNTNER}
         named = {
@@ -301,7 +313,7 @@ class Second:
         self.objects, self.new = {order: ordered(*one) for order, one in settled.items()}, new
 
 
-def with_names(name, items, new):
+def with_names(name: bytes, items: list[bytes], new: dict[bytes, bytes]) -> Iterator[bytes]:
     """The items with new names; those in braces are no names, and ANY is none where it means
     anybody."""
     is_inside = False
@@ -316,7 +328,7 @@ def with_names(name, items, new):
         yield item if keeps else new.get(item.upper(), item)
 
 
-def named_in(items):
+def named_in(items: Lists) -> Iterator[bytes]:
     for name in b"mnt-by", b"mnt-lower":
         yield from (item.upper() for item in items.get(name, []))
     yield from (item.upper() for item in items.get(b"mbrs-by-ref", []) if item.upper() != b"ANY")
@@ -327,7 +339,7 @@ def named_in(items):
             yield item.upper()
 
 
-def normal(held):
+def normal(held: Object) -> tuple[Order, Form]:
     """An object of the model in the form of a second reading."""
     number, lists = held.key.number, lists_of(held.key.number)
     items = {
@@ -348,7 +360,7 @@ def normal(held):
     )
 
 
-def ordered(others, items):
+def ordered(others: Attributes, items: Lists) -> Form:
     """An object whose attributes after the first are in no order."""
     return [others[:1] + sorted(others[1:]), items]
 
@@ -424,7 +436,7 @@ AUTHS = [
     "SHA256-PW a:" + "0" * 64,
     "SHA256-PW x",
 ]
-SOURCES = [
+SOURCES: list[list[str]] = [
     ["RIPE # Filtered"],
     ["RIPE", "RIPE # Filtered"],
     ["TEST"],
@@ -443,14 +455,19 @@ FOREIGN = [
     "*xx: y",
 ]
 DESCRIPTIONS = ["a network", "caf\xe9 \x9b \xc3\xa9", "x # y", ""]
+# What may stand inside a folded value, after a line, and before a dump.
+INSIDE: list[list[str]] = [[], [], ["# inside"]]
+AFTER: list[list[str]] = [[], [], [], [], ["%inside"], ["+"], [" # more"]]
+HEADS: list[list[str]] = [[], ["% This is a dump"], ["# EXAMPLE", "#", ""]]
+ENDS: list[list[str]] = [[], ["# EOF"], ["EOF"]]
 FAULTS = ["EOF", "no colon", "1x: y", "x: \x07", ": x", "a b: c"]
 
 
-def any_address(chance):
+def any_address(chance: random.Random) -> str:
     return f"10.0.0.{chance.randrange(24)}"
 
 
-def any_key(chance, kind):
+def any_key(chance: random.Random, kind: str) -> list[str]:
     """The first lines of an object."""
     number = chance.choice(["1", "2", "03", "64496", "4294967295", "4294967296", "1.1", "-"])
     if kind == "mntner":
@@ -485,13 +502,13 @@ def any_key(chance, kind):
     return [f"{kind}:" f" {chance.choice(SETS_NAMED)}"]
 
 
-def listed(chance, items):
+def listed(chance: random.Random, items: list[str]) -> str:
     return chance.choice([", ", ",", " ", " , "]).join(
         chance.choice(items) for _ in range(chance.choice([0, 1, 1, 1, 2, 3, 5]))
     )
 
 
-def any_paragraph(chance):
+def any_paragraph(chance: random.Random) -> list[str]:
     """An object as dumps have it, or something else."""
     if chance.random() < 0.12:
         return [chance.choice(FOREIGN), "descr: somebody", "mnt-by: A-MNT", "source: RIPE"]
@@ -523,7 +540,7 @@ def any_paragraph(chance):
     return lines + rest + [f"source: {source}" for source in chance.choice(SOURCES)]
 
 
-def messy(chance, line):
+def messy(chance: random.Random, line: str) -> list[str]:
     """A line as somebody may have written it: one or more lines."""
     name, colon, value = line.partition(":")
     if not colon:
@@ -539,27 +556,27 @@ def messy(chance, line):
         front, _, back = line.partition(",")
         return [
             front + ",",
-            *chance.choice([[], [], ["# inside"]]),
+            *chance.choice(INSIDE),
             chance.choice([" ", "+", "\t", "+ "]) + back,
         ]
-    return [line, *chance.choice([[], [], [], [], ["%inside"], ["+"], [" # more"]])]
+    return [line, *chance.choice(AFTER)]
 
 
-def any_dump(chance, count):
+def any_dump(chance: random.Random, count: int) -> bytes:
     """A dump of so many paragraphs or a few more, with a header, comments, and line ends of one
     kind or the other."""
     end = chance.choice(["\n", "\n", "\r\n"])
-    out = [*chance.choice([[], ["% This is a dump"], ["# EXAMPLE", "#", ""]])]
+    out = [*chance.choice(HEADS)]
     for _ in range(count):
         out += [more for line in any_paragraph(chance) for more in messy(chance, line)]
         out += chance.choice([[""], [""], ["", ""], [" \t"], ["", "% between", ""], ["", "# and"]])
-    out += chance.choice([[], ["# EOF"], ["EOF"]])
+    out += chance.choice(ENDS)
     return (
         chance.choice(["", "", "\xef\xbb\xbf"]) + end.join(out) + chance.choice([end, ""])
     ).encode("latin-1")
 
 
-def damaged(chance, dump):
+def damaged(chance: random.Random, dump: bytes) -> bytes:
     """A dump with bytes changed, lost, added and doubled."""
     text = bytearray(dump)
     for _ in range(chance.choice([0, 1, 5, 40])):

@@ -7,15 +7,28 @@ import os
 import re
 import sys
 from collections import Counter
+from collections.abc import Sequence
+from typing import Any
 
 import pytest
 
 from checks.migrate.dumps import DUMPS, messy_objects
 from checks.migrate.moving import SOURCE, Second, any_dump, damaged, normal
 from checks.model.registry import Registry, load
-from checks.running import AUTH, Failure, expect, run, short, write, write_settings
+from checks.running import (
+    AUTH,
+    Failure,
+    Ran,
+    Tell,
+    Trial,
+    expect,
+    run,
+    short,
+    write,
+    write_settings,
+)
 from checks.serving import Server
-from checks.worlds import A_AUTH, COUNT, answering, expect_line
+from checks.worlds import A_AUTH, COUNT, Tool, answering, expect_line
 from irr.errors import Failure as ToolFailure
 from irr.migrate import conversion
 from irr.migrate.kinds import KINDS as MENDED
@@ -36,7 +49,7 @@ LOAD_TIMES, MOST_MEMORY = 3, 1_000_000
 WAIT, LONGEST = 600, 3_600
 
 
-def irr(tool, *words, **more):
+def irr(tool: Tool, *words: str, **more: Any) -> Ran:
     """A run of the tool."""
     return tool(*words, timeout=WAIT, **more)
 
@@ -45,7 +58,9 @@ def irr(tool, *words, **more):
 
 
 @pytest.mark.parametrize("name", DUMPS)
-def test_a_dump_of_another_registry_is_loaded_as_its_rules_say(trial, tool, name, tell):
+def test_a_dump_of_another_registry_is_loaded_as_its_rules_say(
+    trial: Trial, tool: Tool, name: str, tell: Tell
+) -> None:
     """A dump as a registry has it: what is taken, mended and left out, and that the program makes
     of it what was taken."""
     dump, folder = DUMPS[name], trial.place(name)
@@ -138,7 +153,7 @@ def test_a_dump_of_another_registry_is_loaded_as_its_rules_say(trial, tool, name
 # Dumps of chance.
 
 
-def imported(paths, off=()):
+def imported(paths: list[str], off: Sequence[str] = ()) -> tuple[bytes, Tally]:
     """What an import of files writes, and its tally."""
     tally, out = Tally(), io.BytesIO()
     made = conversion.Import(
@@ -150,7 +165,7 @@ def imported(paths, off=()):
     return out.getvalue(), tally
 
 
-def registry_of(result, what):
+def registry_of(result: bytes, what: str) -> Registry:
     """The model's registry of what an import wrote, which is to be a dump of that."""
     judged = load(result, SOURCE)
     expect(isinstance(judged, Registry), True, f"{what}: whether the model loads it: {judged!r}")
@@ -158,7 +173,9 @@ def registry_of(result, what):
     return judged
 
 
-def test_dumps_of_chance_are_as_a_second_reading_has_them(trial, tool, tell):
+def test_dumps_of_chance_are_as_a_second_reading_has_them(
+    trial: Trial, tool: Tool, tell: Tell
+) -> None:
     """Dumps of chance, in one to three files, as a second reading has them."""
     count, chance, taken, left = trial.count or trial.pick(25, 300), trial.chance("dumps"), 0, 0
     for number in range(count):
@@ -211,7 +228,7 @@ def test_dumps_of_chance_are_as_a_second_reading_has_them(trial, tool, tell):
     tell(f"{count} dumps: {taken} taken, {left} left out")
 
 
-def test_what_is_written_of_a_damaged_dump_is_a_dump(trial, tell):
+def test_what_is_written_of_a_damaged_dump_is_a_dump(trial: Trial, tell: Tell) -> None:
     """Damaged dumps, with some of what is mended turned off: what is written is always a registry's
     dump."""
     count, chance, taken, ended = trial.pick(60, 2_000), trial.chance("damage"), 0, 0
@@ -240,7 +257,9 @@ def test_what_is_written_of_a_damaged_dump_is_a_dump(trial, tell):
     tell(f"{count} dumps: {taken} taken; {ended} ended at a duplicate or overlap")
 
 
-def test_an_import_of_a_dump_gives_the_same_bytes_again(trial, tool, tell):
+def test_an_import_of_a_dump_gives_the_same_bytes_again(
+    trial: Trial, tool: Tool, tell: Tell
+) -> None:
     """Import, load, serve, dump, import: the same registry, and from then on the same bytes; so
     through the split form."""
     folder, chance = trial.place("round"), trial.chance("round")
@@ -304,7 +323,7 @@ def test_an_import_of_a_dump_gives_the_same_bytes_again(trial, tool, tell):
 KINDS = ["mntner", "as-block", "aut-num", "inetnum", "route", "as-set", "route-set"]
 
 
-def test_texts_as_long_as_they_may_be_and_longer(trial, tool, tell):
+def test_texts_as_long_as_they_may_be_and_longer(trial: Trial, tool: Tool, tell: Tell) -> None:
     """Canonical texts of as many bytes as a paragraph may have, one more, and many more, which are
     written with fewer blanks."""
     folder, made = trial.place("sizes"), []
@@ -330,7 +349,9 @@ def test_texts_as_long_as_they_may_be_and_longer(trial, tool, tell):
 # What goes wrong.
 
 
-def test_bad_files_and_words_end_as_one_line_and_leave_nothing(trial, tool, tell):
+def test_bad_files_and_words_end_as_one_line_and_leave_nothing(
+    trial: Trial, tool: Tool, tell: Tell
+) -> None:
     """Bad files and words end as one line; nothing is left of what fails."""
     folder = trial.place("bad")
     good = write(folder, "good", b"mntner: A-MNT\nauth: x\nmnt-by: A-MNT\nsource: X\n")
@@ -426,7 +447,7 @@ def test_bad_files_and_words_end_as_one_line_and_leave_nothing(trial, tool, tell
 # Figures.
 
 
-def test_a_large_dump_is_served_after_two_commands(trial, tool, tell):
+def test_a_large_dump_is_served_after_two_commands(trial: Trial, tool: Tool, tell: Tell) -> None:
     """A messy dump becomes a served registry by two commands: its report adds up, and time and
     memory are bounded."""
     count, folder = trial.pick(4_000, 1_000_000), trial.place("large")

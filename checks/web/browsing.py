@@ -8,6 +8,8 @@ import socketserver
 import subprocess
 import threading
 import time
+from collections.abc import Callable, Iterable
+from typing import Any
 
 from selenium import webdriver
 from selenium.common.exceptions import JavascriptException, WebDriverException
@@ -64,7 +66,7 @@ class Nginx:
     """nginx with the page at `/`, in front of several servers: by HTTP in front of each, and by
     HTTPS in front of the first."""
 
-    def __init__(self, folder, behind):
+    def __init__(self, folder: str, behind: dict[str, int]) -> None:
         self.folder = folder
         subprocess.run(
             [
@@ -119,17 +121,20 @@ class Nginx:
                 raise Failure(f"nginx did not start: {self.process.stderr.read()!r}")
             time.sleep(0.05)
 
-    def address(self, name, host="127.0.0.1"):
+    def address(self, name: str, host: str = "127.0.0.1") -> str:
         return f"{'https' if name == 'tls' else 'http'}://{host}:{self.ports[name]}/"
 
-    def log(self):
+    def log(self) -> str:
         with open(f"{self.folder}/access.log", encoding="utf-8", errors="replace") as log:
             return log.read()
 
-    def end(self):
+    def end(self) -> None:
         self.process.terminate()
         self.process.wait(PATIENCE)
         self.process.stderr.close()
+
+
+Reply = bytes | Callable[[Any], None]
 
 
 class BadServer(socketserver.ThreadingTCPServer):
@@ -138,14 +143,17 @@ class BadServer(socketserver.ThreadingTCPServer):
 
     allow_reuse_address = daemon_threads = True
 
-    def __init__(self, replies):
+    def __init__(self, replies: dict[str, Reply]) -> None:
         super().__init__(("127.0.0.1", 0), BadHandler)
-        self.replies, self.asked = replies, []
+        self.replies = replies
+        self.asked: list[str] = []
         threading.Thread(target=self.serve_forever, daemon=True).start()
 
 
 class BadHandler(socketserver.StreamRequestHandler):
-    def handle(self):
+    server: BadServer
+
+    def handle(self) -> None:
         line, length = self.rfile.readline().decode(), 0
         while (head := self.rfile.readline()) not in (b"\r\n", b"\n", b""):
             if head.lower().startswith(b"content-length:"):
@@ -170,7 +178,7 @@ class BadHandler(socketserver.StreamRequestHandler):
             pass
 
 
-def started(options, tries=3):
+def started(options: Any, tries: int = 3) -> Any:
     """A browser, which on a busy machine may not be there in time."""
     for left in reversed(range(tries)):
         try:
@@ -184,7 +192,7 @@ class Browser:
     """Chromium without a window. Names are ids of the page. Calls wait until a page has loaded,
     unless the strategy is `none`."""
 
-    def __init__(self, folder, pictures, strategy="normal"):
+    def __init__(self, folder: str, pictures: str, strategy: str = "normal") -> None:
         options = webdriver.ChromeOptions()
         options.page_load_strategy = strategy
         options.binary_location = shutil.which("chromium") or "/usr/bin/chromium"
@@ -210,29 +218,31 @@ class Browser:
         self.driver = started(options)
         self.driver.set_script_timeout(PATIENCE)
         self.driver.set_page_load_timeout(PATIENCE)
-        self.pictures, self.requests, self.said = pictures, [], []
+        self.pictures = pictures
+        self.requests: list[str] = []
+        self.said: list[dict[str, Any]] = []
 
-    def call(self, method, **words):
+    def call(self, method: str, **words: Any) -> Any:
         return self.driver.execute_cdp_cmd(method, words)
 
-    def go(self, address):
+    def go(self, address: str) -> None:
         """Loads a page anew, also where only what stands after `#` is another."""
         self.driver.get("about:blank")
         self.driver.get(address)
 
-    def js(self, text, *given):
+    def js(self, text: str, *given: Any) -> Any:
         return self.driver.execute_script(text, *given)
 
-    def find(self, name):
+    def find(self, name: str) -> Any:
         return self.driver.find_element(By.ID, name)
 
-    def all(self, selector):
+    def all(self, selector: str) -> Any:
         return self.driver.find_elements(By.CSS_SELECTOR, selector)
 
-    def text(self, name):
+    def text(self, name: str) -> str:
         return self.js("return document.getElementById(arguments[0]).innerText", name)
 
-    def until(self, text, what, patience=PATIENCE):
+    def until(self, text: str, what: str, patience: float = PATIENCE) -> Any:
         """Waits until an expression is true, and gives it."""
         end = time.monotonic() + patience
         while True:
@@ -245,7 +255,7 @@ class Browser:
                 raise Failure(f"{what}: not within {patience} s")
             time.sleep(0.03)
 
-    def write(self, name, text):
+    def write(self, name: str, text: str) -> None:
         """Puts a text into a field as one who pastes it does."""
         self.js(
             (
@@ -256,7 +266,7 @@ class Browser:
             text,
         )
 
-    def choose(self, name, value):
+    def choose(self, name: str, value: str) -> None:
         self.js(
             (
                 "const f = document.getElementById(arguments[0]); f.value = arguments[1];"
@@ -266,10 +276,10 @@ class Browser:
             value,
         )
 
-    def click(self, selector):
+    def click(self, selector: str) -> None:
         self.driver.find_element(By.CSS_SELECTOR, selector).click()
 
-    def picture(self, name):
+    def picture(self, name: str) -> None:
         """Keeps what is seen, of the whole page."""
         size = self.call("Page.getLayoutMetrics")["cssContentSize"]
         clip = {
@@ -285,7 +295,7 @@ class Browser:
         with open(os.path.join(self.pictures, f"{name}.png"), "wb") as out:
             out.write(base64.b64decode(made))
 
-    def look(self):
+    def look(self) -> None:
         """Takes in what the browser has logged so far: requests, and messages of the page."""
         for entry in self.driver.get_log("performance"):
             message = json.loads(entry["message"])["message"]
@@ -297,7 +307,7 @@ class Browser:
             if entry["level"] not in ("DEBUG", "INFO")
         ]
 
-    def nodes(self):
+    def nodes(self) -> list[tuple[str, str, dict[str, Any]]]:
         """The nodes that a screen reader is given: role, name, and properties."""
         found = []
         for node in self.call("Accessibility.getFullAXTree")["nodes"]:
@@ -311,19 +321,19 @@ class Browser:
                 )
         return found
 
-    def end(self):
+    def end(self) -> None:
         try:
             self.driver.quit()
         except WebDriverException:
             pass
 
 
-def expect_in(part, whole, what):
+def expect_in(part: Any, whole: Any, what: str) -> None:
     if part not in whole:
         raise Failure(f"{what}: {part!r} is not in {whole[:600]!r}")
 
 
-def expect_all(parts, whole, what):
+def expect_all(parts: Iterable[Any], whole: Any, what: str) -> None:
     for part in parts:
         expect_in(part, whole, what)
 

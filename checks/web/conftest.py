@@ -1,12 +1,15 @@
 """The stage on which the page is looked at."""
 
+from collections.abc import Iterator
+
 import pytest
 
+from checks.running import Trial
 from checks.web.staging import Stage
 
 
 @pytest.fixture(scope="module")
-def stage(request, trial):
+def stage(request: pytest.FixtureRequest, trial: Trial) -> Iterator[Stage]:
     """Registries, nginx, a server that answers badly, and the browser. Where the module has a line
     `LARGE = N`, one of the registries has so many objects."""
     made = Stage(trial)

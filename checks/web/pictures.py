@@ -1,5 +1,6 @@
 """The pictures of the page's views in docs: `python3 -m checks.web.pictures PROGRAM` makes them."""
 
+import argparse
 import base64
 import struct
 import sys
@@ -8,7 +9,6 @@ import zlib
 from collections import Counter
 from collections.abc import Iterator
 from pathlib import Path
-from types import SimpleNamespace
 
 from checks.running import TOP, Trial
 from checks.web.browsing import HOST
@@ -85,7 +85,7 @@ def take(stage: Stage, name: str) -> None:
 
 def main() -> None:
     with tempfile.TemporaryDirectory(prefix="irrdesk-", ignore_cleanup_errors=True) as folder:
-        options = SimpleNamespace(long=False, seed=1, count=None)
+        options = argparse.Namespace(long=False, seed=1, count=None)
         stage = Stage(Trial(options, str(Path(sys.argv[1]).resolve()), folder))
         try:
             stage.begin(0)

@@ -2,6 +2,8 @@
 no good."""
 
 import time
+from collections.abc import Callable
+from typing import BinaryIO
 
 from checks.running import AUTH
 
@@ -115,7 +117,7 @@ source: TEST
 )
 LIMIT = 40
 # A class, what its fields take, and the passwords.
-FORMS = [
+FORMS: list[tuple[str, dict[str, str], list[str]]] = [
     ("mntner", {"mntner": "C-MNT", "other": "descr: Third Example", "mnt-by": "C-MNT"}, []),
     (
         "as-block",
@@ -252,37 +254,37 @@ WANTED = (
 ).split(", ")
 
 
-def cut(out):
+def cut(out: BinaryIO) -> None:
     """Promises more than it sends."""
     out.write(
         b"HTTP/1.1 200 OK\r\nContent-Type: text/plain\r\nContent-Length: 9000\r\n\r\n" + OBJECT * 3
     )
 
 
-def huge(out):
+def huge(out: BinaryIO) -> None:
     """100 MB of objects that are good ones."""
     out.write(GIVEN)
     for _ in range(1000):
         out.write(OBJECT * 1200)
 
 
-def slow(out):
+def slow(out: BinaryIO) -> None:
     time.sleep(4)
     out.write(GIVEN + OBJECT)
 
 
-def differing():
+def differing() -> Callable[[BinaryIO], None]:
     """Each time another part of a list."""
     times = []
 
-    def reply(out):
+    def reply(out: BinaryIO) -> None:
         times.append(1)
         out.write(GIVEN + b"AS64496\nAS64497\nAS64498\n"[: 8 * (1 + len(times) % 2)])
 
     return reply
 
 
-REPLIES = {
+REPLIES: dict[str, bytes | Callable[[BinaryIO], None]] = {
     "cut": cut,
     "huge": huge,
     "slow": slow,
@@ -312,7 +314,7 @@ REPLIES = {
 }
 
 
-def large_registry(count):
+def large_registry(count: int) -> str:
     """The full dump of a registry with so many objects inside 10.0.0.0/8: a third inetnums, the
     rest routes."""
     parts = [

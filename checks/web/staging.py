@@ -4,8 +4,9 @@ in front of them, and a browser."""
 import os
 import re
 import subprocess
+from collections.abc import Sequence
 
-from checks.running import AUTH, TOP, Failure, expect
+from checks.running import AUTH, TOP, Failure, Trial, expect
 from checks.serving import Server, free_port
 from checks.web.browsing import HOST, BadServer, Browser, Nginx
 from checks.web.shown import LIMIT, REGISTRY, REPLIES, large_registry
@@ -20,13 +21,18 @@ class Stage:
     """What stands for all cases: the registries, nginx, a server that answers badly, and the
     browser."""
 
-    def __init__(self, trial):
+    def __init__(self, trial: Trial) -> None:
         self.trial, self.pictures, self.home = trial, os.path.join(TOP, "out", "web"), ""
-        self.loading = self.large_server = self.small = self.bad = self.nginx = self.browser = None
+        self.loading: subprocess.Popen[bytes] | None = None
+        self.large_server: subprocess.Popen[bytes] | None = None
+        self.small: Server | None = None
+        self.bad: BadServer | None = None
+        self.nginx: Nginx | None = None
+        self.browser: Browser | None = None
         self.large, self.large_port = self.place("large"), free_port()
         os.makedirs(self.pictures, exist_ok=True)
 
-    def begin(self, large_count):
+    def begin(self, large_count: int) -> None:
         """Starts all; a large registry is loaded meanwhile, unless it is to have no objects."""
         trial = self.trial
         if large_count:
@@ -61,13 +67,13 @@ class Stage:
         self.browser = Browser(trial.place("browser"), self.pictures)
         self.home = self.nginx.address("small")
 
-    def place(self, name):
+    def place(self, name: str) -> str:
         folder = self.trial.place(name)
         with open(f"{folder}/s.toml", "w", encoding="ascii") as out:
             out.write(SETTINGS)
         return folder
 
-    def serve_large(self):
+    def serve_large(self) -> None:
         if self.loading.wait(240):
             raise Failure("the large registry was not loaded")
         self.large_server = subprocess.Popen(
@@ -86,7 +92,7 @@ class Stage:
         )
         self.large_server.stdout.readline()
 
-    def end(self):
+    def end(self) -> None:
         if self.browser:
             self.browser.end()
         if self.nginx:
@@ -102,7 +108,7 @@ class Stage:
 
     # What cases do over and over.
 
-    def ask(self, query, name="small"):
+    def ask(self, query: str, name: str = "small") -> tuple[str, str]:
         """Looks up a query, and gives what the page says and shows."""
         browser = self.browser
         browser.go(self.nginx.address(name) + "#q=")
@@ -117,7 +123,7 @@ class Stage:
         )
         return browser.text("look-said"), browser.text("answer")
 
-    def form(self, kind, values, passwords):
+    def form(self, kind: str, values: dict[str, str], passwords: Sequence[str]) -> None:
         browser = self.browser
         browser.go(self.home + "#submit")
         browser.choose("class", kind)
@@ -129,13 +135,13 @@ class Stage:
             browser.write(f"field-{name}", text)
         self.give(passwords)
 
-    def give(self, passwords):
+    def give(self, passwords: Sequence[str]) -> None:
         for at, password in enumerate(passwords, 1):
             if at > 1:
                 self.browser.click("#more-passwords")
             self.browser.write(f"password-{at}", password)
 
-    def sent(self):
+    def sent(self) -> str:
         """Presses Submit, and gives what is said once the report, or a trouble, is there."""
         browser = self.browser
         browser.js("document.getElementById('submit-said').textContent = ''")
@@ -149,7 +155,7 @@ class Stage:
         )
         return browser.text("submit-said")
 
-    def send_text(self, text, passwords, name="small"):
+    def send_text(self, text: str, passwords: Sequence[str], name: str = "small") -> str:
         self.browser.go(self.nginx.address(name) + "#submit")
         self.browser.click("#by-text")
         self.browser.write("text", text)
@@ -161,7 +167,7 @@ class Stage:
 ASKED = ("/submissions", "/dump", "/favicon.ico")
 
 
-def own_origin(stage):
+def own_origin(stage: Stage) -> str:
     """That the browser asked the page's own origin alone, for what the page is made of, and had
     nothing to complain of."""
     browser = stage.browser

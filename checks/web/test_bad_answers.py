@@ -2,14 +2,14 @@
 
 import time
 
-from checks.running import expect
+from checks.running import Tell, expect
 from checks.web.browsing import expect_in
-from checks.web.staging import own_origin
+from checks.web.staging import Stage, own_origin
 
 IN_MEMORY = True
 
 
-def test_bad_answers_end_in_words_and_none_looks_whole(stage, tell):
+def test_bad_answers_end_in_words_and_none_looks_whole(stage: Stage, tell: Tell) -> None:
     browser = stage.browser
     for query, wanted in [
         ("cut", "was cut off after"),
@@ -74,5 +74,5 @@ def test_bad_answers_end_in_words_and_none_looks_whole(stage, tell):
     tell("22 replies that are no good, in words, and none that looks whole")
 
 
-def test_it_asks_its_own_origin_alone(stage, tell):
+def test_it_asks_its_own_origin_alone(stage: Stage, tell: Tell) -> None:
     tell(own_origin(stage))

@@ -5,8 +5,9 @@ import time
 import pytest
 
 from checks.pace import pace
-from checks.running import Failure, expect
-from checks.web.staging import own_origin
+from checks.running import Failure, Tell, expect
+from checks.web.browsing import Browser
+from checks.web.staging import Stage, own_origin
 
 # It looks at times.
 pytestmark = pytest.mark.alone
@@ -19,7 +20,7 @@ LARGE = 100_000
 DRAWN, FROZEN, TRIES = 2.0, 0.25, 5
 
 
-def page_seconds(browser):
+def page_seconds(browser: Browser) -> float:
     """The processor's time of the page so far."""
     return next(
         one["value"]
@@ -28,7 +29,7 @@ def page_seconds(browser):
     )
 
 
-def test_a_map_of_100000_objects_is_drawn_in_time(stage, tell):
+def test_a_map_of_100000_objects_is_drawn_in_time(stage: Stage, tell: Tell) -> None:
     browser = stage.browser
     stage.serve_large()
     browser.call("Performance.enable")
@@ -94,5 +95,5 @@ def test_a_map_of_100000_objects_is_drawn_in_time(stage, tell):
     tell(told)
 
 
-def test_it_asks_its_own_origin_alone(stage, tell):
+def test_it_asks_its_own_origin_alone(stage: Stage, tell: Tell) -> None:
     tell(own_origin(stage))

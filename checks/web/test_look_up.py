@@ -4,15 +4,15 @@ load."""
 import subprocess
 
 from checks.filters.filtering import program
-from checks.running import expect
+from checks.running import Tell, expect
 from checks.web.browsing import Browser, expect_all, expect_in
 from checks.web.shown import HOSTILE
-from checks.web.staging import own_origin
+from checks.web.staging import Stage, own_origin
 
 IN_MEMORY = True
 
 
-def pressed_copy(browser, name):
+def pressed_copy(browser: Browser, name: str) -> str:
     """What a button of an expansion copies."""
     next(button for button in browser.all("#answer .buttons button") if button.text == name).click()
     browser.until("document.getElementById('look-said').textContent.includes('copied')", name)
@@ -22,7 +22,7 @@ def pressed_copy(browser, name):
     )
 
 
-def read_by_routers(folder, bird, frr):
+def read_by_routers(folder: str, bird: str, frr: str) -> str:
     """Has BIRD and FRR read what was copied, where they are installed."""
     readers = []
     for name, text, command in [
@@ -44,7 +44,7 @@ def read_by_routers(folder, bird, frr):
     return f"read by {' and '.join(readers) or 'no router, since none is installed'}"
 
 
-def test_look_up_leads_through_links_and_back(stage, tell):
+def test_look_up_leads_through_links_and_back(stage: Stage, tell: Tell) -> None:
     browser = stage.browser
     said, shown = stage.ask("10.1.2.3")
     expect(said, "2 objects: 1 inetnum, 1 route.", "what is said")
@@ -86,7 +86,7 @@ def test_look_up_leads_through_links_and_back(stage, tell):
     tell("from an address through five links and back, each with its address")
 
 
-def test_ranges_are_copied_for_routers_which_read_them(stage, tell):
+def test_ranges_are_copied_for_routers_which_read_them(stage: Stage, tell: Tell) -> None:
     browser = stage.browser
     browser.call(
         "Browser.grantPermissions",
@@ -164,7 +164,7 @@ def test_ranges_are_copied_for_routers_which_read_them(stage, tell):
     tell(read)
 
 
-def test_bad_queries_end_in_words(stage, tell):
+def test_bad_queries_end_in_words(stage: Stage, tell: Tell) -> None:
     for query, wanted in [
         ("what is this", "This is not a query"),
         ("AS64511", "Nothing is registered there."),
@@ -184,7 +184,7 @@ def test_bad_queries_end_in_words(stage, tell):
     tell("queries that are none, too long, and over the limit")
 
 
-def test_hostile_objects_are_text(stage, tell):
+def test_hostile_objects_are_text(stage: Stage, tell: Tell) -> None:
     browser = stage.browser
     _, shown = stage.ask("A-MNT")
     expect_all(
@@ -220,7 +220,7 @@ def test_hostile_objects_are_text(stage, tell):
     tell("markup, scripts and control characters are text")
 
 
-def test_a_part_that_is_missing_says_so(stage, tell):
+def test_a_part_that_is_missing_says_so(stage: Stage, tell: Tell) -> None:
     browser = stage.browser
     browser.call("Network.setBlockedURLs", urls=["*/map.js", "*/submit.js"])
     try:
@@ -242,7 +242,7 @@ def test_a_part_that_is_missing_says_so(stage, tell):
     tell("what did not load says so, and objects are looked up without it")
 
 
-def test_a_part_that_is_late_keeps_nobody_waiting(stage, tell):
+def test_a_part_that_is_late_keeps_nobody_waiting(stage: Stage, tell: Tell) -> None:
     """A part that stalls: looking up does not wait for it, and it is shown once it is there."""
     browser, said = (
         Browser(stage.trial.place("late"), stage.pictures, "none"),
@@ -280,11 +280,11 @@ def test_a_part_that_is_late_keeps_nobody_waiting(stage, tell):
     tell("objects are looked up meanwhile, and it is shown once it is there")
 
 
-def test_it_asks_its_own_origin_alone(stage, tell):
+def test_it_asks_its_own_origin_alone(stage: Stage, tell: Tell) -> None:
     tell(own_origin(stage))
 
 
-def test_a_server_that_is_gone_ends_in_words(stage, tell):
+def test_a_server_that_is_gone_ends_in_words(stage: Stage, tell: Tell) -> None:
     browser = stage.browser
     browser.go(stage.home + "#q=")
     stage.nginx.end()

@@ -2,13 +2,13 @@
 
 from selenium.webdriver.common.action_chains import ActionChains
 
-from checks.running import expect
-from checks.web.staging import own_origin
+from checks.running import Tell, expect
+from checks.web.staging import Stage, own_origin
 
 IN_MEMORY = True
 
 
-def test_the_map_is_named_zoomed_and_told_in_a_table(stage, tell):
+def test_the_map_is_named_zoomed_and_told_in_a_table(stage: Stage, tell: Tell) -> None:
     browser = stage.browser
     browser.go(stage.home + "#map=")
     browser.write("prefix", "10.0.0.0/8")
@@ -84,5 +84,5 @@ def test_the_map_is_named_zoomed_and_told_in_a_table(stage, tell):
     tell("named, zoomed by a click, and told in a table")
 
 
-def test_it_asks_its_own_origin_alone(stage, tell):
+def test_it_asks_its_own_origin_alone(stage: Stage, tell: Tell) -> None:
     tell(own_origin(stage))

@@ -3,14 +3,14 @@
 import re
 from pathlib import Path
 
-from checks.running import TOP
+from checks.running import TOP, Tell
 from checks.web.pictures import PLACE
 
 # Bytes of all of them, and words of an alternative text.
 MOST, FEWEST = 150_000, 8
 
 
-def test_each_picture_is_small_and_is_shown_with_an_alternative(tell):
+def test_each_picture_is_small_and_is_shown_with_an_alternative(tell: Tell) -> None:
     page = Path(TOP, "docs/OPERATING.md").read_text(encoding="utf-8")
     shown = {path: words for words, path in re.findall(r"!\[([^\]]*)\]\(pictures/(\S+)\)", page)}
     sizes = {path.name: path.stat().st_size for path in PLACE.iterdir()}

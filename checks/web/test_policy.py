@@ -3,15 +3,16 @@
 import os
 import re
 
-from checks.running import TOP, Skipped, expect
+from checks.running import TOP, Skipped, Tell, expect
 from checks.web.browsing import POLICY, expect_in
+from checks.web.staging import Stage
 from checks.web.tables import FILES, TABLES, WEB, tables
 from irr.registry.codes import TABLE
 
 IN_MEMORY = True
 
 
-def test_the_tables_are_those_of_the_tool(tell):
+def test_the_tables_are_those_of_the_tool(tell: Tell) -> None:
     found = TABLES.read_text(encoding="utf-8")
     expect(found, tables(), "web/lib/tables.js (python3 -m checks.web.tables writes it)")
     text = "".join(
@@ -31,7 +32,7 @@ def test_the_tables_are_those_of_the_tool(tell):
     tell(f"{len(TABLE)} codes as in tools/irr/registry/codes.py")
 
 
-def test_its_policy_refuses_what_comes_from_elsewhere(stage, tell):
+def test_its_policy_refuses_what_comes_from_elsewhere(stage: Stage, tell: Tell) -> None:
     browser = stage.browser
     browser.go(stage.home)
     browser.until("document.querySelector('#queries').open", "the page")
@@ -79,7 +80,7 @@ def test_its_policy_refuses_what_comes_from_elsewhere(stage, tell):
     tell("a script, a style, a picture and a request from elsewhere are refused")
 
 
-def test_haproxy_serves_each_file_of_the_page():
+def test_haproxy_serves_each_file_of_the_page() -> None:
     """It reads no folder: the example has a line for each."""
     with open(os.path.join(TOP, "examples/haproxy.cfg"), encoding="utf-8") as text:
         lines = re.findall(
@@ -92,7 +93,7 @@ def test_haproxy_serves_each_file_of_the_page():
     )
 
 
-def test_the_proxies_of_the_examples_send_the_policy(tell):
+def test_the_proxies_of_the_examples_send_the_policy(tell: Tell) -> None:
     told = []
     for name in ["nginx.conf", "haproxy.cfg"]:
         path = os.path.join(TOP, "examples", name)

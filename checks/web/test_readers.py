@@ -3,14 +3,14 @@
 from selenium.webdriver.common.action_chains import ActionChains
 from selenium.webdriver.common.keys import Keys
 
-from checks.running import expect
+from checks.running import Tell, expect
 from checks.web.browsing import expect_all
-from checks.web.staging import own_origin
+from checks.web.staging import Stage, own_origin
 
 IN_MEMORY, SECONDS = True, 40
 
 
-def test_without_scripts_it_says_what_it_needs(stage, tell):
+def test_without_scripts_it_says_what_it_needs(stage: Stage, tell: Tell) -> None:
     browser = stage.browser
     browser.call("Emulation.setScriptExecutionDisabled", value=True)
     try:
@@ -24,7 +24,7 @@ def test_without_scripts_it_says_what_it_needs(stage, tell):
     tell("what it needs is said")
 
 
-def test_it_is_used_without_a_mouse(stage, tell):
+def test_it_is_used_without_a_mouse(stage: Stage, tell: Tell) -> None:
     browser = stage.browser
     browser.go(stage.home)
     press = lambda *keys: ActionChains(browser.driver).send_keys(*keys).perform()
@@ -87,5 +87,5 @@ def test_it_is_used_without_a_mouse(stage, tell):
     tell("look up, map and submit without a mouse")
 
 
-def test_it_asks_its_own_origin_alone(stage, tell):
+def test_it_asks_its_own_origin_alone(stage: Stage, tell: Tell) -> None:
     tell(own_origin(stage))

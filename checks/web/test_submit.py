@@ -4,17 +4,17 @@ import time
 
 from selenium.webdriver.common.keys import Keys
 
-from checks.running import expect
+from checks.running import Tell, expect
 from checks.web.browsing import HOST, expect_all, expect_in
 from checks.web.shown import BAD, FORMS, MISTAKES, WANTED
-from checks.web.staging import own_origin
+from checks.web.staging import Stage, own_origin
 from irr.registry.codes import TABLE
 from irr.rpsl.hashes import auth_of
 
 IN_MEMORY = True
 
 
-def test_forms_add_each_class_and_send_no_bad_value(stage, tell):
+def test_forms_add_each_class_and_send_no_bad_value(stage: Stage, tell: Tell) -> None:
     browser = stage.browser
     for kind, values, passwords in FORMS:
         stage.form(kind, values, passwords)
@@ -64,7 +64,7 @@ def test_forms_add_each_class_and_send_no_bad_value(stage, tell):
     tell(f"each of the seven classes added, one deleted; {len(BAD)} bad values are not sent")
 
 
-def test_reports_have_words_colours_and_remedies(stage, tell):
+def test_reports_have_words_colours_and_remedies(stage: Stage, tell: Tell) -> None:
     browser = stage.browser
     said = stage.send_text(MISTAKES, ["c"])
     words = browser.js(
@@ -133,7 +133,7 @@ source: RIPE
 """
 
 
-def test_refusals_name_the_line_or_what_decides(stage, tell):
+def test_refusals_name_the_line_or_what_decides(stage: Stage, tell: Tell) -> None:
     browser = stage.browser
     told = "[...document.querySelectorAll('#report .decides')].map(one => one.textContent)"
     stage.send_text(REFUSED, ["bc"])
@@ -168,12 +168,12 @@ def test_refusals_name_the_line_or_what_decides(stage, tell):
     tell("two lines, and five objects that decide")
 
 
-def test_nothing_that_locks_out_is_sent_unless_it_is_meant(stage, tell):
+def test_nothing_that_locks_out_is_sent_unless_it_is_meant(stage: Stage, tell: Tell) -> None:
     browser = stage.browser
     posts = stage.nginx.log().count("POST /submissions")
     own = "mnt-by: Z-MNT\nsource: TEST\n"
     other = f"SHA256-PW x:{'0' * 64}"
-    for text, passwords, words in [
+    cases: list[tuple[str, list[str], str]] = [
         (f"mntner: Z-MNT\nauth: MD5-PW x\n{own}", ["c"], "Line 2, auth: no password would fit"),
         (f"aut-num: AS1\npasword: x\n{own}", [], "Line 2, pasword: it is one letter off"),
         (f"aut-num: AS1\nPasswd: x\n{own}", [], "Line 2, passwd: it reads as a password"),
@@ -188,7 +188,8 @@ def test_nothing_that_locks_out_is_sent_unless_it_is_meant(stage, tell):
             ["c"],
             "Line 6, mntner: no password that is given here fits the new auth",
         ),
-    ]:
+    ]
+    for text, passwords, words in cases:
         expect_in("Nothing was sent", stage.send_text(text, passwords), text)
         expect_in(words, browser.text("cautions"), text)
         expect(browser.js("return document.activeElement.id"), "anyway", "where the reader is")
@@ -211,7 +212,7 @@ def test_nothing_that_locks_out_is_sent_unless_it_is_meant(stage, tell):
     tell("five texts held back, one of them sent once that is asked for; two warnings")
 
 
-def test_change_replaces_what_was_left(stage, tell):
+def test_change_replaces_what_was_left(stage: Stage, tell: Tell) -> None:
     browser = stage.browser
     stage.send_text("left: over\n", [])
     for query in "AS64496", "AS64497":
@@ -227,7 +228,7 @@ def test_change_replaces_what_was_left(stage, tell):
     tell("one object")
 
 
-def test_passwords_are_sent_once_and_kept_nowhere(stage, tell):
+def test_passwords_are_sent_once_and_kept_nowhere(stage: Stage, tell: Tell) -> None:
     browser, secret = stage.browser, "correct horse 4711"
     stage.form(
         "aut-num", {"aut-num": "AS64496", "other": "as-name: EXAMPLE", "mnt-by": "A-MNT"}, [secret]
@@ -274,7 +275,7 @@ def test_passwords_are_sent_once_and_kept_nowhere(stage, tell):
     tell("in their own fields, sent once, and nowhere after")
 
 
-def test_without_tls_nothing_is_submitted_from_elsewhere(stage, tell):
+def test_without_tls_nothing_is_submitted_from_elsewhere(stage: Stage, tell: Tell) -> None:
     browser = stage.browser
     posts = stage.nginx.log().count("POST /submissions")
     browser.go(stage.nginx.address("small", HOST) + "#submit")
@@ -300,5 +301,5 @@ def test_without_tls_nothing_is_submitted_from_elsewhere(stage, tell):
     tell("from another name nothing is submitted but by TLS")
 
 
-def test_it_asks_its_own_origin_alone(stage, tell):
+def test_it_asks_its_own_origin_alone(stage: Stage, tell: Tell) -> None:
     tell(own_origin(stage))

@@ -8,9 +8,10 @@ import pytest
 from selenium.webdriver.common.action_chains import ActionChains
 from selenium.webdriver.common.keys import Keys
 
-from checks.running import expect
+from checks.running import Tell, expect
+from checks.web.browsing import Browser
 from checks.web.shown import MISTAKES
-from checks.web.staging import own_origin
+from checks.web.staging import Stage, own_origin
 
 IN_MEMORY, SECONDS = True, 60
 WALK = Path(__file__).with_name("wcag.js").read_text(encoding="utf-8")
@@ -68,7 +69,7 @@ OTHER_STATES = [
     "cautions",
 ]
 # Texts that are held back, and their passwords.
-GIVEN = {
+GIVEN: dict[str, tuple[str, list[str]]] = {
     "a report": (MISTAKES, ["c"]),
     "a password in the text": ("password: x\n\naut-num: AS1\n", []),
     "a bad password": ("aut-num: AS1\n", ["c", " a blank"]),
@@ -76,7 +77,7 @@ GIVEN = {
 }
 
 
-def show(stage, state):
+def show(stage: Stage, state: str) -> None:
     """Brings the page into a state."""
     browser = stage.browser
     if state in VIEWS:
@@ -94,18 +95,18 @@ def show(stage, state):
         browser.click("#attributes fieldset button")
 
 
-def press(browser, *keys):
+def press(browser: Browser, *keys: str) -> None:
     ActionChains(browser.driver).send_keys(*keys).perform()
 
 
-def scheme(browser, name):
+def scheme(browser: Browser, name: str) -> None:
     browser.call(
         "Emulation.setEmulatedMedia", features=[{"name": "prefers-color-scheme", "value": name}]
     )
 
 
 @pytest.mark.parametrize("state", [*VIEWS, *OTHER_STATES])
-def test_it_meets_what_a_program_can_see(stage, tell, state):
+def test_it_meets_what_a_program_can_see(stage: Stage, tell: Tell, state: str) -> None:
     """Contrast, light and dark; targets; headings, labels, names and roles; errors tied to their
     fields; reflow at 320 points."""
     browser = stage.browser
@@ -165,7 +166,9 @@ LANDMARKS = ["banner", "main", "contentinfo", "navigation", "status"]
 
 
 @pytest.mark.parametrize("state", ["objects", "an expansion", "the map", "the form", "cautions"])
-def test_the_keyboard_reaches_all_in_order_and_shows_where(stage, tell, state):
+def test_the_keyboard_reaches_all_in_order_and_shows_where(
+    stage: Stage, tell: Tell, state: str
+) -> None:
     """2.1.1, 2.1.2, 2.4.3, 2.4.7."""
     browser = stage.browser
     show(stage, state)
@@ -188,7 +191,7 @@ def test_the_keyboard_reaches_all_in_order_and_shows_where(stage, tell, state):
     tell(f"{len(wanted)} places")
 
 
-def test_the_focus_is_never_lost(stage, tell):
+def test_the_focus_is_never_lost(stage: Stage, tell: Tell) -> None:
     """2.4.3: what takes away or hides where the reader is puts them at what came instead."""
     browser = stage.browser
     focus = "return document.activeElement.id || document.activeElement.tagName"
@@ -224,7 +227,7 @@ def test_the_focus_is_never_lost(stage, tell):
     tell("eight ways to lose it")
 
 
-def test_a_screen_reader_is_told_where_the_map_is(stage):
+def test_a_screen_reader_is_told_where_the_map_is(stage: Stage) -> None:
     """4.1.2, 1.1.1: the map is a list of boxes with an active one, and names what it shows."""
     browser = stage.browser
     show(stage, "the map")
@@ -243,7 +246,7 @@ def test_a_screen_reader_is_told_where_the_map_is(stage):
     expect(options, [words], "what a screen reader is given of it")
 
 
-def test_motion_is_left_out_where_it_is_not_wanted(stage):
+def test_motion_is_left_out_where_it_is_not_wanted(stage: Stage) -> None:
     """2.3.3, and the system's setting."""
     browser = stage.browser
     counts = []
@@ -264,5 +267,5 @@ def test_motion_is_left_out_where_it_is_not_wanted(stage):
     expect(counts, [0, 1], "what moves as a part opens")
 
 
-def test_it_asks_its_own_origin_alone(stage, tell):
+def test_it_asks_its_own_origin_alone(stage: Stage, tell: Tell) -> None:
     tell(own_origin(stage))

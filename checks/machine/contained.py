@@ -7,7 +7,7 @@ import subprocess
 import time
 
 from checks.machine.drive import mounted
-from checks.machine.guest import PATIENCE, Ended, Machine
+from checks.machine.guest import PATIENCE, Ended, Given, Image, Machine
 from checks.running import Failure, short
 
 # What belongs to the kernel, such as the clock, is not the container's.
@@ -45,7 +45,7 @@ exec env -i container=trial PATH=/usr/sbin:/usr/bin:/sbin:/bin \
 """
 
 
-def cgroup():
+def cgroup() -> str:
     """The folder of this system's control groups of version 2."""
     with open("/proc/mounts", encoding="ascii") as mounts:
         found = [line.split()[1] for line in mounts if line.split()[2] == "cgroup2"]
@@ -58,13 +58,9 @@ class Contained(Machine):
     """What a Guest is, without a kernel of its own: neither the power nor the disk of it can be
     cut."""
 
-    def __init__(self, image, folder, disk, given) -> None:
-        self.stack, self.group, self.console, self.init = (
-            contextlib.ExitStack(),
-            cgroup(),
-            os.path.join(folder, "console"),
-            None,
-        )
+    def __init__(self, image: Image, folder: str, disk: str, given: Given) -> None:
+        self.stack, self.group = contextlib.ExitStack(), cgroup()
+        self.console, self.init = os.path.join(folder, "console"), ""
         for name in ["upper", "work", "root"]:
             os.makedirs(os.path.join(disk, name), exist_ok=True)
         start = time.monotonic()
@@ -83,7 +79,7 @@ class Contained(Machine):
             raise
         self.seconds = time.monotonic() - start
 
-    def enter(self, disk) -> None:
+    def enter(self, disk: str) -> None:
         os.makedirs(self.group, exist_ok=True)
         apart = [
             "unshare",
@@ -114,7 +110,7 @@ class Contained(Machine):
                 command, stdin=subprocess.DEVNULL, stdout=log, stderr=log
             )
 
-    def meet(self, end) -> None:
+    def meet(self, end: float) -> None:
         """Waits until systemd is there, and has begun."""
         while True:
             if self.process.poll() is not None or time.monotonic() > end:
@@ -124,13 +120,13 @@ class Contained(Machine):
                 with open(
                     f"/proc/{self.process.pid}/task/{self.process.pid}/children", encoding="ascii"
                 ) as children:
-                    self.init = next(iter(children.read().split()), None)
+                    self.init = next(iter(children.read().split()), "")
                 with open(f"/proc/{self.init}/comm", encoding="ascii") as name:
                     if name.read() == "systemd\n" and self.ended("systemctl list-jobs").status == 0:
                         return
             time.sleep(0.1)
 
-    def ended(self, command, given: bytes = b"", seconds: int = 300):
+    def ended(self, command: str, given: bytes = b"", seconds: int = 300) -> Ended:
         """Runs a command inside, as root, to its end."""
         env = {"PATH": "/usr/sbin:/usr/bin:/sbin:/bin", "HOME": "/root", "LC_ALL": "C.UTF-8"}
         inside = ["nsenter", "-t", self.init, "-m", "-p", "-n", "-i", "-u", "-C", "setpriv", RIGHTS]

@@ -27,7 +27,7 @@ class Work:
 
     `told` are pairs: how many lines were read, and where the log ended afterwards."""
 
-    def __init__(self, kind, folder, begin) -> None:
+    def __init__(self, kind: str, folder: str, begin: int) -> None:
         self.kind, self.folder, self.begin, self.end, self.told = (
             kind,
             folder,
@@ -36,7 +36,7 @@ class Work:
             [(0, 0)],
         )
 
-    def told_at(self, place):
+    def told_at(self, place: int) -> int:
         """How many lines had been told, for certain, when the log ended there."""
         return max(lines for lines, end in self.told if end <= place)
 
@@ -45,8 +45,10 @@ class Cuts:
     """All commands that write, recorded on one drive, and the states that cuts leave of it."""
 
     def __init__(self, trial: Trial) -> None:
-        self.trial, self.folder, self.works = trial, trial.place("drive"), []
-        self.drive, self.log = None, None
+        self.trial, self.folder, self.told = trial, trial.place("drive"), ""
+        self.works: list[Work] = []
+        self.drive: Drive
+        self.log: Log
         self.count = trial.pick(400, 20_000)
         chance = trial.chance("drive")
         self.texts = changing_items(chance, self.count, SIZES)
@@ -81,7 +83,7 @@ class Cuts:
         write_settings(folder)
         return folder
 
-    def once(self, kind, turn, file) -> None:
+    def once(self, kind: str, turn: int, file: str) -> None:
         name = f"{kind}{turn}"
         folder = self.place(name)
         if kind == "migrate":
@@ -119,7 +121,7 @@ class Cuts:
 
     # What is cut.
 
-    def moments(self, kind, count):
+    def moments(self, kind: str, count: int) -> list[tuple[int, Work]]:
         """So many moments by chance in the works of a kind, as counts of the log's entries, each
         with its work."""
         chance, found = self.trial.chance(f"cut {kind}"), []
@@ -144,7 +146,7 @@ class Cuts:
             return f"found out: {failure}"
         raise Failure("a drive that lies about its last six flushes passes")
 
-    def cut(self, kind, count, is_losing, lies: int = 0) -> str:
+    def cut(self, kind: str, count: int, is_losing: bool, lies: int = 0) -> str:
         """Cuts at moments by chance: with all that was written by then, or less some of what was
         not flushed."""
         moments, seen = self.moments(kind, count), []
@@ -168,7 +170,7 @@ class Cuts:
             return f"{count} cuts, after {min(seen)} to {max(seen)} of {self.count} items"
         return f"{count} cuts; {sum(seen)} stood whole, the others not at all"
 
-    def stands(self, work, place, what):
+    def stands(self, work: Work, place: int, what: str) -> int:
         """How many items of a work stand, and of another one whether it does. Behind a cut this is
         all, or a front, and what was told."""
         folder, told = os.path.join(self.drive.place, work.folder), work.told_at(place)
@@ -202,7 +204,7 @@ class Cuts:
         self.again(work, folder, what)
         return False
 
-    def again(self, work, folder, what) -> None:
+    def again(self, work: Work, folder: str, what: str) -> None:
         """What does not stand is carried out again."""
         words = [os.path.join(self.folder, "dump.rpsl")] if work.kind == "load" else []
         ran = self.trial.run(folder, work.kind, "s.toml", *words)
@@ -215,7 +217,7 @@ class Cuts:
         )
 
     @staticmethod
-    def check_integrity(folder, what) -> None:
+    def check_integrity(folder: str, what: str) -> None:
         """What sqlite3 says of a database that the program has not opened since."""
         made = subprocess.run(
             ["sqlite3", "-batch", "irr.db", "PRAGMA integrity_check"],

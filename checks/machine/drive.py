@@ -13,18 +13,19 @@ import struct
 import subprocess
 import time
 from collections.abc import Iterator
-from pathlib import Path
-from typing import Any, Self
+from typing import Any, BinaryIO, Self
 
 from checks.running import PATIENCE, Failure, expect, short
 
+# Sector, count of sectors, flags, where the data is, where it ends.
+Entry = tuple[int, int, int, int, int]
 SECTOR = 512
 FLUSH, DISCARD = 1, 4
 MAGIC = 0x6A736677736872
 SIZE = "256M"
 
 
-def lacking():
+def lacking() -> str:
     """What is missing for such a drive, as words; nothing if all is there."""
     tools = ["qemu-storage-daemon", "mke2fs", "e2fsck", "losetup", "sqlite3"]
     missing = [
@@ -38,7 +39,7 @@ def lacking():
     return "it takes root" if os.geteuid() else ""
 
 
-def done(*command):
+def done(*command: str) -> str:
     path = os.environ["PATH"] + ":/usr/sbin:/sbin"
     made = subprocess.run(
         command,
@@ -54,7 +55,7 @@ def done(*command):
 
 
 @contextlib.contextmanager
-def mounted(image, place, mode: str = "rw") -> Iterator[None]:
+def mounted(image: str, place: str, mode: str = "rw") -> Iterator[None]:
     """An image as a file system, which the kernel mends as it mounts it."""
     os.makedirs(place, exist_ok=True)
     # Not `mount -o loop`, which takes a device of the same file again while that is being let go,
@@ -82,7 +83,7 @@ def mounted(image, place, mode: str = "rw") -> Iterator[None]:
 class Drive:
     """A new drive, with an empty file system at `place` while it is on."""
 
-    def __init__(self, folder) -> None:
+    def __init__(self, folder: str) -> None:
         self.base, self.image, self.log, self.served = (
             os.path.join(folder, name) for name in ["base", "image", "log", "served"]
         )
@@ -128,7 +129,7 @@ class Drive:
     def __exit__(self, *_: object) -> None:
         self.stack.close()
 
-    def position(self):
+    def position(self) -> int:
         """How long the log is by now: what is told later stands on what is in it."""
         return os.path.getsize(self.log)
 
@@ -141,8 +142,9 @@ class Log:
     """The writes and flushes of a drive, in their order: sector, count of sectors, flags, and where
     the data is and ends in the log."""
 
-    def __init__(self, path: Path) -> None:
-        self.path, self.entries = path, []
+    def __init__(self, path: str) -> None:
+        self.path = path
+        self.entries: list[Entry] = []
         size = os.path.getsize(path)
         with open(path, "rb") as opened:
             magic, version, _, sector = struct.unpack("<QQQI", opened.read(28))
@@ -157,17 +159,17 @@ class Log:
                 self.entries.append((at, count, flags, place + SECTOR, end))
                 place = end
 
-    def end(self, count):
+    def end(self, count: int) -> int:
         """Where the first entries end in the log."""
         return self.entries[count - 1][4] if count else SECTOR
 
-    def within(self, begin, end):
+    def within(self, begin: int, end: int) -> list[int]:
         """The counts of entries after which the log ends above `begin`, and at `end` at most."""
         return [
             count for count in range(1, len(self.entries) + 1) if begin < self.end(count) <= end
         ]
 
-    def flushed(self, count, lies: int = 0):
+    def flushed(self, count: int, lies: int = 0) -> int:
         """How many of the first entries stand whatever the drive loses: those before the last
         flush, and that. It may lie about some."""
         while count and (lies or not self.entries[count - 1][2] & FLUSH):
@@ -175,11 +177,13 @@ class Log:
             count -= 1
         return count
 
-    def written(self, count) -> int:
+    def written(self, count: int) -> int:
         """The bytes that were written since the last flush before the entries end there."""
         return sum(entry[1] * SECTOR for entry in self.entries[self.flushed(count) : count])
 
-    def states(self, base, folder, cuts, lies: int = 0) -> Iterator[Any]:
+    def states(
+        self, base: str, folder: str, cuts: list[tuple[int, random.Random | None]], lies: int = 0
+    ) -> Iterator[Any]:
         """Makes the state of the drive at each cut, in ascending order, in a file of the folder,
         whose path it gives.
 
@@ -203,7 +207,7 @@ class Log:
                 os.remove(state)
 
 
-def apply(log, entry, out, chance: random.Random) -> None:
+def apply(log: BinaryIO, entry: Entry, out: BinaryIO, chance: random.Random) -> None:
     """Writes an entry, whole or in those of its sectors that chance takes."""
     at, count, flags, place, _ = entry
     if flags & DISCARD:

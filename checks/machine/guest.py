@@ -1,6 +1,9 @@
 """A whole machine: Debian with systemd on a disk of its own, which qemu runs, and which is asked
 over a virtual serial port."""
 
+from __future__ import annotations
+
+import abc
 import contextlib
 import io
 import json
@@ -11,10 +14,13 @@ import socket
 import subprocess
 import tarfile
 import time
+from collections.abc import Mapping
 from typing import Any, Self
 
 from checks.running import Failure, Skipped, short
 
+# The files that a machine is given: their bytes, or their paths here.
+Given = Mapping[str, bytes | str]
 # What the machine has beside Debian's least: what the package recommends, what the units run, and
 # what the trial asks with.
 PACKAGES = [
@@ -90,7 +96,7 @@ for line in os.fdopen(os.dup(port), "rb"):
 PATIENCE = 600
 
 
-def lacking(in_container):
+def lacking(in_container: bool) -> str:
     """What is missing for a machine, as words; nothing if all is there."""
     tools = [
         "debootstrap",
@@ -111,12 +117,12 @@ class Image:
     """The machine's disk as Debian makes it, with its kernel: made once in a folder, and again if
     what it is made of has changed."""
 
-    def __init__(self, folder) -> None:
+    def __init__(self, folder: str) -> None:
         self.folder = os.path.abspath(folder)
         self.disk, self.kernel, self.first = (
             os.path.join(self.folder, name) for name in ["disk", "kernel", "initrd"]
         )
-        self.record = os.path.join(self.folder, "made")
+        self.record, self.told = os.path.join(self.folder, "made"), ""
 
     def is_made(self) -> bool:
         """Whether the disk is there, of this recipe."""
@@ -142,7 +148,7 @@ class Image:
             out.write(RECIPE)
         return f"Debian {version}, {os.stat(self.disk).st_blocks // 2048} MiB"
 
-    def lay_out(self, root) -> None:
+    def lay_out(self, root: str) -> None:
         self.do(
             "debootstrap", "--variant=minbase", f"--include={','.join(PACKAGES)}", "bookworm", root
         )
@@ -168,7 +174,7 @@ class Image:
             os.remove(self.disk)
         self.do("mke2fs", "-q", "-F", "-t", "ext4", "-d", root, self.disk, SIZE)
 
-    def do(self, *command) -> None:
+    def do(self, *command: str) -> None:
         env = {
             **os.environ,
             "PATH": os.environ["PATH"] + ":/usr/sbin:/sbin",
@@ -189,8 +195,20 @@ class Image:
             raise Skipped(words) if command[0] == "debootstrap" else Failure(words)
 
 
-class Machine:
+class Machine(abc.ABC):
     """What is asked by commands."""
+
+    process: subprocess.Popen[bytes]
+    # How long it took to boot.
+    seconds: float
+
+    @abc.abstractmethod
+    def ended(self, command: str, given: bytes = b"", seconds: int = 300) -> Ended:
+        """Runs a command in the machine, as root, to its end."""
+
+    @abc.abstractmethod
+    def cut(self) -> None:
+        """Ends it as a cut of its power does."""
 
     def __enter__(self) -> Self:
         return self
@@ -198,7 +216,7 @@ class Machine:
     def __exit__(self, *_: object) -> None:
         self.cut()
 
-    def done(self, command, **options: Any):
+    def done(self, command: str, **options: Any) -> str:
         """What a command prints, which has to end with status 0."""
         ended = self.ended(command, **options)
         if ended.status:
@@ -207,7 +225,7 @@ class Machine:
             )
         return ended.printed
 
-    def until(self, command, what, seconds: int = 240):
+    def until(self, command: str, what: str, seconds: int = 240) -> str:
         """Waits until a command ends with status 0, and gives what it prints."""
         end = time.monotonic() + seconds
         while (ended := self.ended(command)).status:
@@ -231,7 +249,7 @@ class Machine:
 class Ended:
     """How a command in a machine ended."""
 
-    def __init__(self, told) -> None:
+    def __init__(self, told: dict[str, Any]) -> None:
         self.status, self.printed, self.said = told["status"], told["printed"], told["said"]
 
 
@@ -242,11 +260,12 @@ class Guest(Machine):
     A cut is SIGKILL for qemu: what it had handed to this system by then is on the disk, and nothing
     else, whatever was flushed."""
 
-    def __init__(self, image, folder, disk, given, ports: int = 0) -> None:
+    def __init__(self, image: Image, folder: str, disk: str, given: Given, ports: int = 0) -> None:
         self.folder, self.told = folder, [
             os.path.join(folder, f"told{number}") for number in range(ports)
         ]
-        self.console, self.peer = os.path.join(folder, "console"), None
+        self.console, self.buffer = os.path.join(folder, "console"), b""
+        self.peer: socket.socket | None = None
         place = os.path.join(folder, "asked")
         if not os.path.exists(disk):
             subprocess.run(["cp", "--sparse=always", image.disk, disk], check=True)
@@ -308,7 +327,7 @@ class Guest(Machine):
             raise
         self.seconds = time.monotonic() - start
 
-    def meet(self, place, end) -> None:
+    def meet(self, place: str, end: float) -> None:
         """Waits until the agent is there."""
         while self.peer is None:
             self.look(end)
@@ -318,10 +337,9 @@ class Guest(Machine):
                 self.peer = peer
             time.sleep(0.05)
         self.peer.settimeout(1)
-        self.buffer = b""
         self.boot = self.read(end)["boot"]
 
-    def look(self, end) -> None:
+    def look(self, end: float) -> None:
         if self.process.poll() is not None or time.monotonic() > end:
             with (
                 open(self.console, "rb") as opened,
@@ -333,7 +351,7 @@ class Guest(Machine):
                 f" {short(last)}"
             )
 
-    def read(self, end):
+    def read(self, end: float) -> Any:
         """The next line of the agent."""
         while b"\n" not in self.buffer:
             with contextlib.suppress(TimeoutError):
@@ -346,7 +364,7 @@ class Guest(Machine):
         line, _, self.buffer = self.buffer.partition(b"\n")
         return json.loads(line)
 
-    def ended(self, command, given: bytes = b"", seconds: int = 300):
+    def ended(self, command: str, given: bytes = b"", seconds: int = 300) -> Ended:
         """Runs a command in the machine, as root, to its end."""
         asked = {"command": command, "given": given.decode("latin-1"), "seconds": seconds}
         # A socket with a time limit sends a long text in parts as well.
@@ -363,7 +381,7 @@ class Guest(Machine):
             self.peer.close()
 
 
-def bring(path, files) -> None:
+def bring(path: str, files: Given) -> None:
     """Makes a tar file of texts and of files of this system, by their names in the machine."""
     with tarfile.open(path, "w") as out:
         for name, held in files.items():
@@ -375,13 +393,13 @@ def bring(path, files) -> None:
                 out.add(held, name)
 
 
-def lines_in(path):
+def lines_in(path: str) -> int:
     """How many whole lines a file has."""
     with open(path, "rb") as opened:
         return opened.read().count(b"\n")
 
 
-def found(pattern, text, what):
+def found(pattern: str, text: str, what: str) -> str:
     """What the first group of a pattern is in a text."""
     seen = re.search(pattern, text, re.MULTILINE)
     if not seen:

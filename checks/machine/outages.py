@@ -5,7 +5,7 @@ import os
 import time
 from concurrent.futures import ThreadPoolExecutor
 
-from checks.machine.guest import Guest, lines_in
+from checks.machine.guest import Given, Guest, Image, lines_in
 from checks.machine.service import ASKED, AS_OWNER, EDITED, SETTINGS
 from checks.running import TOP, Failure, Trial, expect
 from checks.texts import changing_items, summed_fronts
@@ -20,7 +20,7 @@ MENDED = (
 class Outages:
     """A machine, which is cut, booted, looked at, and cut again."""
 
-    def __init__(self, trial: Trial, image, package, number) -> None:
+    def __init__(self, trial: Trial, image: Image, package: str, number: int) -> None:
         self.trial, self.image, self.folder = trial, image, trial.place(f"outages-{number}")
         self.machines, self.is_over = contextlib.ExitStack(), False
         self.disk, self.texts = os.path.join(self.folder, "disk"), changing_items(
@@ -28,9 +28,13 @@ class Outages:
         )
         self.fronts, self.chance = summed_fronts(self.texts), trial.chance(f"moments {number}")
         sums = os.path.join(TOP, "checks", "sums.py")
-        self.given = {"irrdesk.deb": package, "items.rpsl": b"\n".join(self.texts), "sums": sums}
+        self.given: Given = {
+            "irrdesk.deb": package,
+            "items.rpsl": b"\n".join(self.texts),
+            "sums": sums,
+        }
 
-    def on(self):
+    def on(self) -> Guest:
         if self.is_over:
             raise Failure("the trial is over")
         return self.machines.enter_context(
@@ -42,7 +46,7 @@ class Outages:
         self.is_over = True
         self.machines.close()
 
-    def cut(self, count):
+    def cut(self, count: int) -> list[tuple[int, int, bool]]:
         """So many cuts of a submission, each to a new registry, whose report goes to a port of the
         machine: of each, how many lines came, how many items stand, and whether the file system had
         to be mended."""
@@ -63,7 +67,7 @@ class Outages:
             self.end()
         return seen
 
-    def submit(self, guest, wanted):
+    def submit(self, guest: Guest, wanted: int) -> int:
         """Begins a submission, and cuts the power once so many lines have come; how many came."""
         guest.done(
             f"systemctl stop irrdesk; rm -f /var/lib/irrdesk/irr.db*; {AS_OWNER} irrdesk init"
@@ -86,7 +90,7 @@ class Outages:
         guest.cut()
         return min(lines_in(guest.told[0]), COUNT)
 
-    def stands(self, guest, told, what):
+    def stands(self, guest: Guest, told: int, what: str) -> int:
         """Of how many items the registry is that the service serves by itself, after the machine
         has come up again."""
         guest.until(ASKED, f"{what}: that the registry is served")
@@ -108,7 +112,7 @@ class Outages:
 class Fleet:
     """Machines beside one another, which share the cuts."""
 
-    def __init__(self, trial: Trial, image, package, size, count) -> None:
+    def __init__(self, trial: Trial, image: Image, package: str, size: int, count: int) -> None:
         self.all = [Outages(trial, image, package, number) for number in range(size)]
         self.pool = ThreadPoolExecutor(size)
         self.cuts = [

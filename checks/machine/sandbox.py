@@ -2,8 +2,9 @@
 it can do outside."""
 
 import json
+from typing import Any
 
-from checks.machine.service import AS_OWNER
+from checks.machine.service import AS_OWNER, Service
 from checks.running import Failure, expect, short
 
 # It tries what a program that was taken over would try, and prints what came of it.
@@ -126,7 +127,7 @@ OPEN = {
 }
 
 
-def probe(printed):
+def probe(printed: str) -> Any:
     line = next(
         (line for line in reversed(printed.splitlines()) if line.startswith("probe ")), None
     )
@@ -138,7 +139,7 @@ def probe(printed):
 class Sandbox:
     """A shell in the unit, beside the same outside."""
 
-    def __init__(self, service) -> None:
+    def __init__(self, service: Service) -> None:
         self.service = service
         service.given["probe"] = PROBE.encode()
 

@@ -4,10 +4,11 @@ what goes wrong there."""
 import json
 import os
 import re
-from collections.abc import Iterator
+from collections.abc import Callable, Iterator
 from typing import Any
 
-from checks.machine.guest import found
+from checks.machine.contained import Contained
+from checks.machine.guest import Guest, Image, found
 from checks.model.queries import answer
 from checks.model.registry import Registry, load
 from checks.package.packages import older_package
@@ -63,8 +64,11 @@ def files_of_package() -> Iterator[Any]:
 class Service:
     """A machine with the package, and the registry that it serves."""
 
-    def __init__(self, trial: Trial, image, package, machine) -> None:
-        self.trial, self.image, self.machine, self.guest = trial, image, machine, None
+    def __init__(
+        self, trial: Trial, image: Image, package: str, machine: Callable[..., Guest | Contained]
+    ) -> None:
+        self.trial, self.image, self.machine = trial, image, machine
+        self.guest: Guest | Contained | None = None
         self.folder = trial.place("service")
         self.disk = os.path.join(self.folder, "disk")
         self.registry = Registry(auth=AUTH.encode())
@@ -100,19 +104,19 @@ class Service:
 
     # What cases do over and over.
 
-    def show(self, unit, value):
+    def show(self, unit: str, value: str) -> str:
         return self.guest.done(f"systemctl show --property={value} --value {unit}").strip()
 
-    def journal(self, unit):
+    def journal(self, unit: str) -> str:
         return self.guest.done(f"journalctl --quiet --no-pager --output=cat --unit={unit}")
 
-    def serves(self, what) -> None:
+    def serves(self, what: str) -> None:
         self.guest.until(ASKED, f"{what}: that the registry answers")
 
-    def dump(self):
+    def dump(self) -> bytes:
         return self.guest.done(f"curl --silent --fail {URL}/dump").encode("latin-1")
 
-    def full_dump(self):
+    def full_dump(self) -> bytes:
         """The whole registry, for which the server has to be stopped."""
         self.guest.done("systemctl stop irrdesk")
         dump = self.guest.done(f"{AS_OWNER} irrdesk dump {SETTINGS} --full").encode("latin-1")
@@ -120,7 +124,7 @@ class Service:
         self.serves("after a dump")
         return dump
 
-    def changed(self, words) -> None:
+    def changed(self, words: str) -> None:
         """Gives the unit another line, until the next of these; without words its own."""
         place = "/run/systemd/system/irrdesk.service.d"
         made = f"mkdir -p {place}; cat > {place}/trial.conf" if words else f"rm -rf {place}"
@@ -340,7 +344,7 @@ class Service:
         self.serves("without it")
         return "after 3 connections"
 
-    def wrong_settings(self):
+    def wrong_settings(self) -> str:
         """That a server with wrong settings stays down, and the journal says why."""
         guest = self.guest
         guest.done(f"sed -i 's/^limit = .*/limit = 0/' {SETTINGS}; systemctl restart irrdesk; true")
@@ -440,7 +444,7 @@ class Service:
         self.serves("the first registry again")
         return f"after {told} items: {said}"
 
-    def checked(self):
+    def checked(self) -> str:
         """That the timer has the check run, and the check finds nothing wrong."""
         self.guest.until(TRIGGERED.format("irrdesk-check"), "that the timer runs the check")
         self.guest.done("systemctl start irrdesk-check", seconds=600)

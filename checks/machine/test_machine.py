@@ -4,6 +4,7 @@ folder of --image, and each run works on copies. With --container the same syste
 namespaces of this system's kernel: that is quick, and no power can be cut. The checks go on one
 after the other in one machine."""
 
+import argparse
 import os
 from collections.abc import Iterator
 from typing import Any
@@ -53,7 +54,7 @@ STEPS = [
 
 
 @pytest.fixture(scope="module")
-def options(pytestconfig: pytest.Config):
+def options(pytestconfig: pytest.Config) -> argparse.Namespace:
     """The options of a run, if this system can run the machine in time."""
     given = pytestconfig.option
     if lacking := guest.lacking(given.container):
@@ -64,12 +65,12 @@ def options(pytestconfig: pytest.Config):
 
 
 @pytest.fixture(scope="module")
-def package(trial: Trial, options):
+def package(trial: Trial, options: argparse.Namespace) -> str:
     return make_release(trial.program, trial.place("package"))
 
 
 @pytest.fixture(scope="module")
-def image(options):
+def image(options: argparse.Namespace) -> guest.Image:
     """The machine's disk."""
     made = guest.Image(options.image or os.path.join(TOP, "out", "machine"))
     made.told = made.make()
@@ -77,7 +78,9 @@ def image(options):
 
 
 @pytest.fixture(scope="module")
-def fleet(trial: Trial, options, image, package) -> Iterator[Any]:
+def fleet(
+    trial: Trial, options: argparse.Namespace, image: guest.Image, package: str
+) -> Iterator[Any]:
     """Machines whose power is cut meanwhile; none in a container."""
     if options.container:
         yield None
@@ -88,7 +91,9 @@ def fleet(trial: Trial, options, image, package) -> Iterator[Any]:
 
 
 @pytest.fixture(scope="module")
-def parts(trial: Trial, options, image, package, fleet) -> Iterator[Any]:
+def parts(
+    trial: Trial, options: argparse.Namespace, image: guest.Image, package: str, fleet: Fleet | None
+) -> Iterator[Any]:
     """The machine, and what is looked at in it."""
     kind = Contained if options.container else guest.Guest
     service = Service(trial, image, package, kind)
@@ -96,22 +101,24 @@ def parts(trial: Trial, options, image, package, fleet) -> Iterator[Any]:
     service.end()
 
 
-def test_lintian_finds_no_error_in_the_package(package, tell: Tell) -> None:
+def test_lintian_finds_no_error_in_the_package(package: str, tell: Tell) -> None:
     tell(no_error(package))
 
 
-def test_the_disk_of_the_machine_is_made(image, tell: Tell) -> None:
+def test_the_disk_of_the_machine_is_made(image: guest.Image, tell: Tell) -> None:
     tell(image.told)
 
 
 @pytest.mark.parametrize("part, step", STEPS)
-def test_the_machine_does_as_it_should(parts, part, step, tell: Tell) -> None:
+def test_the_machine_does_as_it_should(
+    parts: dict[str, Any], part: str, step: str, tell: Tell
+) -> None:
     if step != "boot" and parts["service"].guest is None:
         pytest.fail("there is no machine, because it did not boot")
     tell(getattr(parts[part], step)())
 
 
-def test_what_was_told_stands_after_the_power_was_cut(fleet, tell: Tell) -> None:
+def test_what_was_told_stands_after_the_power_was_cut(fleet: Fleet | None, tell: Tell) -> None:
     if fleet is None:
         pytest.skip("a container has no power")
     tell(fleet.seen())

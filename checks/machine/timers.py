@@ -1,6 +1,6 @@
 """What runs beside a registry by timers and sockets of its package, once round in one machine."""
 
-from checks.machine.service import AS_OWNER, SETTINGS, TRIGGERED
+from checks.machine.service import AS_OWNER, SETTINGS, TRIGGERED, Service
 from checks.running import expect
 from checks.sums import sum_of
 
@@ -16,10 +16,10 @@ SOON = "/run/systemd/system/irrdesk-backup.timer.d"
 class Timers:
     """The units of the package that are started by a timer, or beside the server."""
 
-    def __init__(self, service) -> None:
+    def __init__(self, service: Service) -> None:
         self.service = service
 
-    def ran(self, unit) -> None:
+    def ran(self, unit: str) -> None:
         """That a timer had its unit run, and with success."""
         guest = self.service.guest
         guest.until(TRIGGERED.format(unit), f"that the timer runs {unit}", seconds=400)
@@ -75,7 +75,7 @@ class Timers:
         )
         return "the dump as a file"
 
-    def history(self):
+    def history(self) -> str:
         guest = self.service.guest
         guest.done("systemctl enable --now irrdesk-history.timer")
         self.ran("irrdesk-history")

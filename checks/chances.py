@@ -4,6 +4,7 @@ with mistakes."""
 import hashlib
 import random
 import re
+from collections.abc import Callable, Sequence
 
 SECRETS = {b"ROOT-MNT": b"bc", b"A-MNT": b"a secret", b"B-MNT": b"another one", b"C-MNT": b""}
 SALTS = {b"ROOT-MNT": b"a", b"A-MNT": b"k3", b"B-MNT": b"", b"C-MNT": b"0123456789abcdef"}
@@ -136,7 +137,7 @@ def any_members(chance: random.Random, name: bytes) -> bytes:
 
 
 def any_key(chance: random.Random, name: bytes) -> bytes:
-    return {
+    makers: dict[bytes, Callable[[], bytes]] = {
         b"mntner": lambda: chance.choice(NAMES),
         b"as-block": lambda: any_block(chance),
         b"aut-num": lambda: chance.choice(NUMBERS),
@@ -144,7 +145,8 @@ def any_key(chance: random.Random, name: bytes) -> bytes:
         b"route": lambda: any_prefix(chance),
         b"as-set": lambda: chance.choice(AS_SETS),
         b"route-set": lambda: chance.choice(ROUTE_SETS),
-    }[name]()
+    }
+    return makers[name]()
 
 
 def any_attributes(chance: random.Random, name: bytes) -> list[tuple[bytes, bytes]]:
@@ -166,7 +168,7 @@ def any_attributes(chance: random.Random, name: bytes) -> list[tuple[bytes, byte
     return lines
 
 
-EXTRAS = [
+EXTRAS: list[tuple[bytes, Sequence[bytes], Callable[[random.Random, bytes], bytes]]] = [
     (b"mnt-lower", CLASSES, lambda chance, name: any_list(chance, NAMES[:4])),
     (b"mnt-routes", CLASSES, lambda chance, name: any_grants(chance)),
     (

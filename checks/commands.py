@@ -104,7 +104,7 @@ class Commands:
 
     def run(
         self,
-        *words: str,
+        *words: str | bytes,
         given: str | None = None,
         to: str | None = None,
         before: Sequence[str] = (),
@@ -148,7 +148,7 @@ class Commands:
 
     # Cases, of what ran just before.
 
-    def gives(self, name: str, status: int, said: list[str], printed: str = None) -> Self:
+    def gives(self, name: str, status: int, said: str, printed: str | None = None) -> Self:
         """That it ended so; what it printed is compared if it is given, without line ends at the
         end."""
         with self.each(name):
@@ -159,7 +159,7 @@ class Commands:
                 expect(self.printed.rstrip("\n"), printed, "what is printed")
         return self
 
-    def begins(self, name: str, status: int, said: list[str]) -> Self:
+    def begins(self, name: str, status: int, said: str) -> Self:
         """That it ended with a status, and one line that begins so."""
         with self.each(name):
             expect(

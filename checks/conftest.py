@@ -163,7 +163,7 @@ def said(request: pytest.FixtureRequest, program: str) -> Iterator[Any]:
 
 
 @pytest.fixture
-def case(request: pytest.FixtureRequest, trial: Trial, subtests: Any, said):
+def case(request: pytest.FixtureRequest, trial: Trial, subtests: Any, said: list[str]) -> Commands:
     """Commands of the program in a folder of the check."""
     folder = trial.place(request.node.name[:60].replace("/", "-"))
     return Commands(trial.program, folder, subtests.test, said)

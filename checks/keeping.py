@@ -98,7 +98,8 @@ def restored(trial: Trial, ran: Ran, number: int) -> int:
     found = re.fullmatch(
         rb"(\S+): [0-9,]+ objects, the database was held for [0-9.]+ s\n", ran.printed
     )
-    expect(bool(found), True, f"what is printed: {ran.printed!r} {ran.said!r}")
+    if not found:
+        raise Failure(f"what is printed: {ran.printed!r} {ran.said!r}")
     place, dumps = found[1].decode(), []
     for path, mode in [
         (place, 0o700),

@@ -4,13 +4,12 @@ taken."""
 import hashlib
 import time
 from collections.abc import Callable
-from typing import Any
 
 # The seconds that so many digests take there, where nothing else runs.
 DIGESTS, SECONDS = 50_000, 0.042
 
 
-def pace(clock: Callable[..., Any] = time.process_time) -> float:
+def pace(clock: Callable[[], float] = time.process_time) -> float:
     """How many times as long a piece of work takes by a clock, never less than once: by that of the
     processor on a slower machine, by the wall's also while others have the processors."""
     start = clock()

@@ -101,6 +101,7 @@ class Door:
             stdout=subprocess.PIPE,
             env={**os.environ, "PYTHONPATH": os.path.join(TOP, "tools")},
         )
+        assert self.door.stdout
         if not self.door.stdout.readline().startswith(b"irr door: open"):
             raise Failure("the door does not open")
         self.process = subprocess.Popen(
@@ -138,7 +139,8 @@ class Door:
             self.process.wait()
         self.door.kill()
         self.door.wait()
-        self.door.stdout.close()
+        if self.door.stdout:
+            self.door.stdout.close()
 
     def command(self, web: str) -> list[str]:
         """The words that start the proxy."""
@@ -168,7 +170,7 @@ class Door:
         return peer
 
     def connect(
-        self, last: int, host: str = HOST, window: None = None, patience: int = 60
+        self, last: int, host: str = HOST, window: int | None = None, patience: int = 60
     ) -> ssl.SSLSocket:
         """A connection with TLS to this host."""
         peer = socket.socket()

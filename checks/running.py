@@ -82,7 +82,7 @@ class Trial:
 
 
 def cases_of(
-    table: list[tuple[str, Callable[..., Any] | tuple[str, Callable[..., Any]], bool]]
+    table: Sequence[tuple[str, Callable[..., Any] | tuple[str, Callable[..., Any]], bool]]
 ) -> list[Any]:
     """The rows of a table of cases, `(name, function, is_long)`, as parameters of a check."""
     return [

@@ -87,6 +87,7 @@ class Serving:
             stderr=subprocess.PIPE,
             preexec_fn=limited(**limits) if any(limits.values()) else None,
         )
+        assert self.process.stdout and self.process.stderr
         first = self.process.stdout.readline()
         if first != b"listening on 127.0.0.1:%d\n" % self.port:
             said = b"" if first else self.process.stderr.read()
@@ -150,7 +151,7 @@ class Server(Serving):
         _, status, usage = os.wait4(self.process.pid, 0)
         self.process.returncode = os.waitstatus_to_exitcode(status)
         expect(self.process.returncode, 0, "the status of serve")
-        return usage.ru_utime + usage.ru_stime
+        return float(usage.ru_utime + usage.ru_stime)
 
     def look(self) -> None:
         """Notes the most memory that it held so far."""

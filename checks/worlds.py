@@ -192,7 +192,9 @@ class World:
 
     def copy(self, name: str) -> str:
         """A registry of the same objects that is not served: the folder of one."""
-        return shutil.copytree(self.folder, os.path.join(self.trial.work, name))
+        path = os.path.join(self.trial.work, name)
+        shutil.copytree(self.folder, path)
+        return path
 
     def __enter__(self) -> Self:
         self.server = Server(self.trial.program, self.folder, COUNT)
@@ -250,7 +252,7 @@ http {{
 """
         )
     process = subprocess.Popen(
-        [NGINX, "-c", f"{folder}/nginx.conf", "-p", folder],
+        [NGINX or "nginx", "-c", f"{folder}/nginx.conf", "-p", folder],
         stdin=subprocess.DEVNULL,
         stderr=subprocess.DEVNULL,
     )

@@ -9,6 +9,8 @@ import shutil
 import subprocess
 import threading
 import time
+from collections.abc import Sequence
+from typing import IO
 
 import pytest
 
@@ -43,9 +45,10 @@ class Screen:
     lines, a carriage return, and the sequence that clears a line from the cursor on."""
 
     def __init__(self) -> None:
-        self.lines, self.column, self.rest, self.counts, self.written = [b""], 0, b"", [], b""
+        self.lines, self.column, self.rest, self.written = [b""], 0, b"", b""
+        self.counts: list[tuple[int, str]] = []
 
-    def take(self, written) -> None:
+    def take(self, written: bytes) -> None:
         """Shows what is written next, and notes each count that comes to stand on the last line."""
         self.written += written
         text = self.rest + written
@@ -63,7 +66,7 @@ class Screen:
         elif b" so far" in self.lines[-1]:
             raise Failure(f"a count beside something else: {short(self.lines[-1])}")
 
-    def show(self, part) -> None:
+    def show(self, part: bytes) -> None:
         last = self.lines[-1]
         if part == b"\r":
             self.column = 0
@@ -75,22 +78,22 @@ class Screen:
             self.lines[-1] = last[: self.column] + part + last[self.column + len(part) :]
             self.column += len(part)
 
-    def text(self) -> str:
+    def text(self) -> bytes:
         return b"\n".join(self.lines)
 
 
 class Seen:
     """How a command ended: its status, the screen, and what it printed elsewhere."""
 
-    def __init__(self, status, screen, printed) -> None:
+    def __init__(self, status: int, screen: Screen, printed: bytes) -> None:
         self.status, self.screen, self.printed = status, screen, printed
 
-    def expect_end(self, status, shown, printed: bytes = b"") -> None:
+    def expect_end(self, status: int, shown: bytes, printed: bytes = b"") -> None:
         expect(self.status, status, "the status")
         expect(self.screen.text(), shown, "what the terminal shows at the end")
         expect(self.printed, printed, "what is printed elsewhere")
 
-    def expect_counts(self, things, most) -> None:
+    def expect_counts(self, things: str, most: int) -> None:
         """That counts of these were seen, each at least the one before."""
         numbers = [number for number, _ in self.screen.counts]
         expect({name for _, name in self.screen.counts}, {things}, "what is counted")
@@ -105,7 +108,7 @@ class Seen:
         return f"{len(set(self.screen.counts))} counts"
 
 
-def feed(path, texts, pause) -> None:
+def feed(path: str, texts: Sequence[bytes], pause: float) -> None:
     """Writes texts to a pipe of that name, with a pause after each."""
     with contextlib.suppress(BrokenPipeError), open(path, "wb", buffering=0) as out:
         for text in texts:
@@ -115,15 +118,15 @@ def feed(path, texts, pause) -> None:
 
 def run(
     trial: Trial,
-    folder,
-    words,
+    folder: str,
+    words: list[str],
     shared: bool = True,
-    said=None,
-    fed=(),
+    said: IO[bytes] | None = None,
+    fed: Sequence[bytes] = (),
     step: int = 65_536,
     pause: float = 0.0,
     leaves: bool = False,
-):
+) -> Seen:
     """Runs the program with a terminal as its standard error, or with a file, and with the same
     terminal as its standard output, or with a pipe, which its reader may leave once a count was
     shown. Some texts go to the pipe `slow`, 0.4 seconds between them. The terminal and the pipe are
@@ -151,7 +154,14 @@ def run(
         os.close(master)
 
 
-def watched(process, master, reader, step, pause, leaves):
+def watched(
+    process: subprocess.Popen[bytes],
+    master: int,
+    reader: int,
+    step: int,
+    pause: float,
+    leaves: bool,
+) -> Seen:
     screen, printed, begun, left = Screen(), b"", time.monotonic(), {master, reader}
     while left:
         if time.monotonic() > begun + PATIENCE:
@@ -174,7 +184,7 @@ def watched(process, master, reader, step, pause, leaves):
     return Seen(process.wait(PATIENCE), screen, printed)
 
 
-def part_of(file, step):
+def part_of(file: int, step: int) -> bytes:
     """What can be read; nothing at the end, which a terminal tells as a fault."""
     try:
         return os.read(file, step)
@@ -185,7 +195,7 @@ def part_of(file, step):
 # Registries.
 
 
-def registry_of(count, size):
+def registry_of(count: int, size: int) -> Registry:
     """A registry with so many aut-nums of a size beside those that it opens with."""
     registry = Registry(auth=AUTH.encode())
     texts = [
@@ -196,7 +206,7 @@ def registry_of(count, size):
     return registry
 
 
-def made(trial: Trial, name, registry):
+def made(trial: Trial, name: str, registry: Registry) -> str:
     """A folder with a database of the registry, and a pipe named `slow`."""
     folder = emptied(trial, name)
     write(folder, "dump.rpsl", registry.dump())
@@ -204,14 +214,14 @@ def made(trial: Trial, name, registry):
     return folder
 
 
-def emptied(trial: Trial, name):
+def emptied(trial: Trial, name: str) -> str:
     folder = trial.place(name)
     write_settings(folder, limit=LIMIT)
     os.mkfifo(os.path.join(folder, "slow"))
     return folder
 
 
-def reported(count):
+def reported(count: int) -> tuple[list[bytes], bytes]:
     """Texts of one item each, the report on them in a new registry, and that report on a
     terminal."""
     texts = [PASSWORD] + [item(b"aut-num", b"AS%d" % number) + b"\n" for number in range(count)]
@@ -270,13 +280,13 @@ def test_a_count_stands_below_a_dump_on_one_terminal(trial: Trial, tell: Tell) -
     tell(seen.told())
 
 
-def parts_of(text, count):
+def parts_of(text: bytes, count: int) -> list[bytes]:
     size = len(text) // count + 1
     return [text[place : place + size] for place in range(0, len(text), size)]
 
 
 @pytest.mark.parametrize("shared", [False, True], ids=["its line in a pipe", "on one terminal"])
-def test_a_count_of_a_load_is_removed(trial: Trial, shared, tell: Tell) -> None:
+def test_a_count_of_a_load_is_removed(trial: Trial, shared: bool, tell: Tell) -> None:
     registry = registry_of(50, 2_000)
     folder = emptied(trial, f"load {shared}")
     text, line = registry.dump(), b"loaded %d objects\n" % len(registry.objects)
@@ -346,7 +356,7 @@ def test_nothing_is_shown_where_standard_error_is_a_file(trial: Trial, tell: Tel
     tell("a submission")
 
 
-def shown_by(tmux):
+def shown_by(tmux: list[str]) -> bytes:
     """What the pane shows, less what is empty at its end."""
     return subprocess.run(
         [*tmux, "capture-pane", "-p"], capture_output=True, timeout=PATIENCE, check=True

@@ -1,8 +1,6 @@
 """Tables of version 1, laid by sqlite3 with the texts of the program's own, and their migration."""
 
 import shutil
-from collections.abc import Sequence
-from typing import Any
 
 import pytest
 
@@ -270,7 +268,7 @@ OLD_CHANGES = [
 # Tables of version 1, laid by sqlite3 with the texts of the program's own.
 
 
-def old(case: Commands, rows: Sequence[tuple[Any, ...]], tables: str = TABLES) -> None:
+def old(case: Commands, rows: str, tables: str = TABLES) -> None:
     """old.db, with the rows that SQL adds to tables of version 1, which are made in this order."""
     case.sh("rm -f old.db old.db-wal old.db-shm")
     texts = [

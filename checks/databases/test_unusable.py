@@ -5,6 +5,7 @@ import re
 import subprocess
 import time
 from collections.abc import Sequence
+from typing import Any
 
 import pytest
 
@@ -65,7 +66,7 @@ UNREAD = (
 def as_nobody(case: Commands) -> None:
     """Files of root's that another user may not read."""
     case.sh('chmod 755 .; cp "$program" copied; install -m 600 s.toml hidden.toml')
-    other = {"before": AS_NOBODY, "program": "./copied"}
+    other: dict[str, Any] = {"before": AS_NOBODY, "program": "./copied"}
     case.run("init", "hidden.toml", **other).gives("settings that may not be read", 3, UNREAD, "")
     case.settings("hidden.db")
     case.run("init", "s.toml")

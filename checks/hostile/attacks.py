@@ -142,9 +142,9 @@ def guesses(count: int, planted: int | None = None) -> str:
     return text + "mntner:ROOT-MNT\ndelete:x\n"
 
 
-def posted(body: str) -> bytes:
+def posted(text: str | bytes) -> bytes:
     """A submission as a request."""
-    body = body.encode() if isinstance(body, str) else body
+    body = text.encode() if isinstance(text, str) else text
     head = (
         b"POST /submissions HTTP/1.1\r\nHost: irr.example.net\r\nConnection:"
         b" close\r\nContent-Length: %d\r\n\r\n"

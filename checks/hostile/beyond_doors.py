@@ -20,7 +20,8 @@ from checks.hostile import attacks
 from checks.hostile.attacks import PASSWORD, Registry, made, owned
 from checks.hostile.costs import ROOT, at_most
 from checks.pace import pace
-from checks.proxied import HOST, PAGE, PASSWORD as DOOR_PASSWORD, USER, Haproxy, Nginx, parsed
+from checks.proxied import HOST, PAGE, USER, Haproxy, Nginx, parsed
+from checks.proxied import PASSWORD as DOOR_PASSWORD
 from checks.running import PATIENCE, Failure, Skipped, Trial, expect, write
 from checks.serving import read_all
 
@@ -41,7 +42,8 @@ def case(name: str, is_long: bool = False) -> Callable[..., Any]:
     """Registers a case for each of the two, which gets the kind of proxy."""
 
     def register(function: Callable[..., Any]) -> Callable[..., Any]:
-        for kind in (Nginx, Haproxy):
+        kinds: tuple[type[Nginx] | type[Haproxy], ...] = (Nginx, Haproxy)
+        for kind in kinds:
             command = kind.__name__.lower()
 
             def tried(
@@ -95,7 +97,9 @@ class Victim:
     """Another client, which asks for a name over and over, and notes how long it waits at most."""
 
     def __init__(self, ask: Callable[..., Any]) -> None:
-        self.ask, self.waits, self.bad, self.stop = ask, [], [], threading.Event()
+        self.ask, self.stop = ask, threading.Event()
+        self.waits: list[float] = []
+        self.bad: list[bytes] = []
         self.thread = threading.Thread(target=self.run, daemon=True)
 
     def run(self) -> None:
@@ -157,7 +161,11 @@ def request(path: str, fields: str = "") -> bytes:
 
 
 def opened(
-    door: Nginx, held: contextlib.ExitStack, last: int, text: bytes = b"", window: None = None
+    door: Nginx | Haproxy,
+    held: contextlib.ExitStack,
+    last: int,
+    text: bytes = b"",
+    window: int | None = None,
 ) -> ssl.SSLSocket:
     peer = held.enter_context(contextlib.closing(door.connect(last, window=window)))
     # The proxy may answer and close before it has read all.
@@ -430,8 +438,8 @@ def answered(trial: Trial, kind: type[Nginx] | type[Haproxy]) -> str:
             "whether POST to a query is refused",
         )
         for host in ["evil.example", "127.0.0.1"]:
-            reply = door.get("/query/ROOT-MNT", STRANGER + 2, host=host)
-            expect(reply[0] in (0, 421), True, f"whether the host {host} is refused")
+            refused = door.get("/query/ROOT-MNT", STRANGER + 2, host=host)
+            expect(refused[0] in (0, 421), True, f"whether the host {host} is refused")
         with contextlib.suppress(ssl.SSLError, OSError):
             door.connect(STRANGER + 2, host="evil.example")
             raise Failure("another host's certificate is shown")
@@ -515,7 +523,7 @@ def reached(trial: Trial, kind: type[Nginx] | type[Haproxy]) -> str:
                 return parsed(read_all(peer))
 
         with contextlib.ExitStack() as stack:
-            if kind is Haproxy:
+            if isinstance(door, Haproxy):
                 served = http.server.ThreadingHTTPServer(
                     ("127.0.0.1", door.acme_port),
                     functools.partial(Quiet, directory=os.path.join(door.folder, "acme")),

@@ -362,7 +362,7 @@ def load_pressed(trial: Trial, folder: str) -> tuple[int, int, bool]:
         statuses[1] == 0
         and trial.run(folder, "dump", "small.toml", "--full", timeout=PATIENCE).printed == full
     )
-    return *statuses, same
+    return statuses[0], statuses[1], same
 
 
 @case("members by reference, names of one component, and mnt-lower")
@@ -432,7 +432,7 @@ def joined(trial: Trial) -> str:
 # Peers that wait, asked directly: what a proxy in front is for.
 
 
-def held(trial: Trial, text: bytes, most: int, closes: bool = False, drips: bool = False) -> str:
+def held(trial: Trial, text: bytes, most: float, closes: bool = False, drips: bool = False) -> str:
     """How long another peer waits after one that sent this, which has to be at most so long; a
     second of that is the machine's, and more where it is slower."""
     most += pace(time.monotonic) - 1

@@ -49,7 +49,8 @@ def test_the_model_says_what_the_pages_say(trial: Trial, tell: Tell) -> None:
     """The model itself gives what docs/SUBMITTING.md prints below its commands."""
     with open(os.path.join(TOP, "docs", "SUBMITTING.md"), encoding="utf-8") as page:
         parts = re.findall(r"```(sh|text)\n(.*?)```", page.read(), re.DOTALL)
-    registry, files, tried = opened(), {}, 0
+    registry, tried = opened(), 0
+    files: dict[str, str] = {}
     for (kind, commands), (_, printed) in zip(parts, parts[1:]):
         if kind != "sh" or "irrdesk serve" in commands:
             continue

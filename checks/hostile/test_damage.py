@@ -298,7 +298,7 @@ def test_what_is_no_database_is_told(trial: Trial, tell: Tell) -> None:
         folder = made(trial, f"place-{number}", [])
         write(folder, "items.rpsl", NEW)
         make(os.path.join(folder, "irr.db"))
-        for words in [
+        for line in [
             "query s.toml ROOT-MNT",
             "dump s.toml",
             "submit s.toml items.rpsl",
@@ -308,7 +308,7 @@ def test_what_is_no_database_is_told(trial: Trial, tell: Tell) -> None:
             "probe s.toml",
             "serve s.toml --port 1 --count 1",
         ]:
-            words = words.split()
+            words = line.split()
             ran = trial.run(folder, *words)
             right = is_answer(ran) and ran.printed == RIGHT.get(words[0]) and place in STILL_READ
             if not is_fault(ran) and not right:
@@ -338,7 +338,7 @@ def instead(make: Callable[..., Any]) -> Callable[..., Any]:
     return place
 
 
-PLACES = {
+PLACES: dict[str, Callable[[str], None]] = {
     "a folder": instead(os.mkdir),
     "a device that is empty": instead(lambda path: os.symlink("/dev/null", path)),
     "a device that is full": instead(lambda path: os.symlink("/dev/full", path)),
@@ -397,12 +397,8 @@ class Damaged:
 
     def __init__(self, trial: Trial, registry: Registry, earlier: dict[bytes, list[int]]) -> None:
         self.trial = trial
-        self.registry, self.whole, self.earlier, self.kinds = (
-            registry,
-            registry.dump(),
-            earlier,
-            collections.Counter(),
-        )
+        self.registry, self.whole, self.earlier = registry, registry.dump(), earlier
+        self.kinds: collections.Counter[str] = collections.Counter()
 
     def judge(self, folder: str, what: str) -> None:
         """Judges all that is answered from a changed database."""

@@ -37,7 +37,7 @@ def shape(name: str, short_size: int, long_size: int) -> Callable[..., Any]:
     return register
 
 
-def run(trial: Trial, folder: str, *words: str, stdin: None = None, status: int = 0) -> Ran:
+def run(trial: Trial, folder: str, *words: str, stdin: bytes | None = None, status: int = 0) -> Ran:
     ran = trial.run(folder, *words, stdin=stdin, timeout=300, limits={"stack": STACK})
     if ran.status != status or ran.said:
         raise Failure(

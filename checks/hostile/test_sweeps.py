@@ -39,7 +39,7 @@ def sweep(
     words: list[str],
     kind: str,
     how: str,
-    *rest: Callable[..., Any] | tuple[bytes, bytes] | int,
+    *rest: Any,
 ) -> None:
     with each(f"{name}, {kind} {how}"):
         failing.sweep(base, words, kind, how, *rest)

@@ -1,14 +1,19 @@
 """A mirror, from what RIPE says of NRTM version 3 and IRRd of how it takes a mirror in: a dump with
 its serial, then the changes after it, in order. It knows nothing of the code that it tries."""
 
+from __future__ import annotations
+
 import contextlib
 import gzip
 import os
 import re
 import socket
+from collections.abc import Callable
 
 from checks.running import Failure
 
+# The class of an object, and what tells it from others of that class.
+Key = tuple[str, str]
 START = re.compile(r"%START Version: 3 ([A-Z0-9_-]+) ([0-9]+)-([0-9]+)")
 CHANGE = re.compile(r"(ADD|DEL) ([0-9]+)")
 ERROR = re.compile(r"%ERROR:([0-9]+): .+")
@@ -17,12 +22,12 @@ ERROR = re.compile(r"%ERROR:([0-9]+): .+")
 class MustBegin(Exception):
     """The server refused: the mirror has to take a dump, and begin anew."""
 
-    def __init__(self, number, line):
+    def __init__(self, number: int, line: str) -> None:
         super().__init__(line)
         self.number = number
 
 
-def key_of(text):
+def key_of(text: str) -> Key:
     """What tells an object from others: its class and the value of its first line, and of a route
     the origin too."""
     kind, _, value = text.partition("\n")[0].partition(":")
@@ -33,10 +38,10 @@ def key_of(text):
     return kind, key
 
 
-def objects_of(text):
+def objects_of(text: str) -> dict[Key, str]:
     """The objects of a dump, by their keys. Lines of remarks are none."""
     lines = [line for line in text.split("\n") if line[:1] not in ("%", "#")]
-    found = {}
+    found: dict[Key, str] = {}
     for block in re.split("\n\n+", "\n".join(lines).strip("\n")):
         key = key_of(block)
         if key in found:
@@ -48,10 +53,11 @@ def objects_of(text):
 class Mirror:
     """The objects of a registry that is followed, and the last serial that was taken."""
 
-    def __init__(self, source):
-        self.source, self.objects, self.serial = source, {}, 0
+    def __init__(self, source: str) -> None:
+        self.source, self.serial = source, 0
+        self.objects: dict[Key, str] = {}
 
-    def begin(self, folder):
+    def begin(self, folder: str) -> None:
         """Takes the dump of a folder that a registry hands out: the serial first, so that the dump
         is of this or of a later one."""
         with open(os.path.join(folder, f"{self.source}.CURRENTSERIAL"), encoding="ascii") as file:
@@ -59,7 +65,7 @@ class Mirror:
         with gzip.open(os.path.join(folder, f"{self.source.lower()}.db.gz")) as file:
             self.objects = objects_of(file.read().decode("latin-1"))
 
-    def ask(self, port, words, host="127.0.0.1"):
+    def ask(self, port: int, words: str, host: str = "127.0.0.1") -> str:
         """What a server answers to a line."""
         with contextlib.closing(socket.create_connection((host, port), 60)) as peer:
             peer.sendall(words.encode() + b"\r\n")
@@ -68,12 +74,12 @@ class Mirror:
                 parts.append(part)
         return b"".join(parts).decode("latin-1")
 
-    def follow(self, port, seen=None):
+    def follow(self, port: int, seen: Callable[[Mirror], object] | None = None) -> int:
         """Takes what is new, and tells each change to `seen`. How many there were."""
         answer = self.ask(port, f"-g {self.source}:3:{self.serial + 1}-LAST")
         return self.take(answer, seen)
 
-    def take(self, answer, seen=None):
+    def take(self, answer: str, seen: Callable[[Mirror], object] | None = None) -> int:
         """Takes an answer: whole, of this source, from the next serial on, and each serial once."""
         lines = [line for line in answer.split("\n")]
         if found := ERROR.fullmatch(lines[0]):
@@ -105,7 +111,7 @@ class Mirror:
             raise Failure(f"after serial {last} comes {rest[:3]}")
         return last - first + 1
 
-    def change(self, word, text):
+    def change(self, word: str, text: str) -> None:
         """Puts an object in the place of the one of its key, or takes it away."""
         if word == "ADD":
             self.objects[key_of(text)] = text

@@ -5,15 +5,16 @@ import re
 import pytest
 
 from checks.mirrors.changing import Chance, Changing
-from checks.mirrors.client import Mirror
-from checks.running import Failure, expect
+from checks.mirrors.client import Key, Mirror
+from checks.running import Failure, Tell, Trial, expect
+from checks.worlds import Tool
 
 IN_MEMORY = True
 SECONDS = 90
 NAMED = re.compile(r"^(?:mnt-by|mnt-lower|mbrs-by-ref): *(.+)$", re.M)
 
 
-def unmet(mirror):
+def unmet(mirror: Mirror) -> list[str]:
     """The maintainers that objects other than mntners name, and that a mirror lacks."""
     wanted = {
         (text.partition(":")[0], name.strip().upper())
@@ -27,12 +28,12 @@ def unmet(mirror):
 
 # The long form, on a busy machine.
 @pytest.mark.timeout(10_800)
-def test_a_mirror_has_the_public_dump_at_every_serial(trial, tool, tell):
+def test_a_mirror_has_the_public_dump_at_every_serial(trial: Trial, tool: Tool, tell: Tell) -> None:
     chance = trial.chance("mirror")
     wanted, items = trial.count or trial.pick(300, 5_000), Chance(chance)
     seen, stops = {}, {"registry": 0, "door": 0, "history": 0, "export": 0, "mirror": 0}
 
-    def looked(mirror):
+    def looked(mirror: Mirror) -> None:
         """What holds of a mirror after each change."""
         if mirror.serial in seen:
             raise Failure(f"serial {mirror.serial} was told twice")
@@ -42,7 +43,7 @@ def test_a_mirror_has_the_public_dump_at_every_serial(trial, tool, tell):
             compare(mirror, world.dumps[mirror.serial])
             compared.append(mirror.serial)
 
-    compared = []
+    compared: list[int] = []
     with Changing(trial, tool, "following") as world:
         world.record()
         world.export()
@@ -95,14 +96,14 @@ def test_a_mirror_has_the_public_dump_at_every_serial(trial, tool, tell):
     )
 
 
-def again(mirror):
+def again(mirror: Mirror) -> Mirror:
     """The same mirror after a stop: what it kept is its objects and its serial."""
     other = Mirror(mirror.source)
     other.objects, other.serial = dict(mirror.objects), mirror.serial
     return other
 
 
-def compare(mirror, dump):
+def compare(mirror: Mirror, dump: dict[Key, str]) -> None:
     """That a mirror has just the objects of a dump."""
     if mirror.objects != dump:
         differing = {

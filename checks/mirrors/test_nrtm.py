@@ -4,14 +4,16 @@ import gzip
 import os
 import shutil
 import time
+from collections.abc import Iterator
 
 import pytest
 
 from checks.door.opened import Opened, read_all
 from checks.mirrors.changing import Changing
 from checks.mirrors.client import Mirror, MustBegin, key_of, objects_of
-from checks.running import expect
+from checks.running import Each, Tell, Trial, expect
 from checks.tool.forking import run_forked
+from checks.worlds import Tool
 
 IN_MEMORY = True
 SECONDS = 30
@@ -36,12 +38,12 @@ NO_NEWER = "% Warning: there are no newer updates available\n\n"
 
 
 @pytest.fixture(scope="module")
-def world(trial, tool):
+def world(trial: Trial, tool: Tool) -> Iterator[Changing]:
     with Changing(trial, tool, "nrtm") as world:
         yield world
 
 
-def test_it_answers_mirrors_and_nobody_else(world, each, trial):
+def test_it_answers_mirrors_and_nobody_else(world: Changing, each: Each, trial: Trial) -> None:
     """The forms of RIPE's and IRRd's documentation, from before there is a history to a reset."""
     ask, door = Mirror("TEST").ask, world.door
     port = door.whois_port
@@ -123,11 +125,11 @@ def test_it_answers_mirrors_and_nobody_else(world, each, trial):
             ]:
                 asked = f"PROXY {name} 1 43\r\n-g TEST:3:{last + 1}-LAST\r\n"
                 answer = proxied.whois(asked.encode()).decode()
-                wanted = f"{REFUSED} {name.split()[1]}\n\n"
-                expect(answer, NO_NEWER if is_mirror else wanted, name)
+                refused = f"{REFUSED} {name.split()[1]}\n\n"
+                expect(answer, NO_NEWER if is_mirror else refused, name)
 
 
-def test_a_mirror_begins_anew_where_serials_were_lost(world):
+def test_a_mirror_begins_anew_where_serials_were_lost(world: Changing) -> None:
     """A folder of serials that is not there is made anew, and no mirror of before goes on."""
     world.record()
     world.export()
@@ -148,7 +150,9 @@ def test_a_mirror_begins_anew_where_serials_were_lost(world):
     expect(mirror.objects == world.dump(), True, "a mirror that began anew")
 
 
-def test_an_export_is_of_one_state_and_its_serial_never_ahead(world, trial, tell):
+def test_an_export_is_of_one_state_and_its_serial_never_ahead(
+    world: Changing, trial: Trial, tell: Tell
+) -> None:
     """Who reads the serial and then the dump, while both are replaced, gets each state after it."""
     history, out = world.history, world.out + "-again"
     world.record()
@@ -186,7 +190,7 @@ def test_an_export_is_of_one_state_and_its_serial_never_ahead(world, trial, tell
     tell(f"{count} readers")
 
 
-def test_a_long_range_is_told_in_parts(trial, tool, tell):
+def test_a_long_range_is_told_in_parts(trial: Trial, tool: Tool, tell: Tell) -> None:
     """An answer to LAST ends before it would be too long, and the mirror asks on."""
     with Changing(trial, tool, "parts", "largest = 65536\n") as world:
         world.record()

@@ -4,14 +4,15 @@ is not known what was between."""
 import hashlib
 import os
 import shutil
+from collections.abc import Iterable
 from pathlib import Path
 
 import pytest
 from hypothesis import given
 from hypothesis import strategies as st
 
-from checks.mirrors.client import Mirror, key_of
-from checks.running import expect
+from checks.mirrors.client import Key, Mirror, key_of
+from checks.running import Trial, expect
 from irr.door import flags, nrtm
 from irr.door.settings import Settings
 from irr.local import changes, serials
@@ -21,34 +22,35 @@ from irr.rpsl import syntax
 IN_MEMORY = True
 ROOT = "mntner:         ROOT-MNT\nauth:           # filtered\nmnt-by:         ROOT-MNT\n"
 NOW = 1_800_000_000
+Kept = tuple[nrtm.Mirrors, serials.Told, list[tuple[str, str]]]
 
 
-def aut_num(number, source="TEST"):
+def aut_num(number: int, source: str = "TEST") -> str:
     return f"aut-num:        AS{number}\nmnt-by:         ROOT-MNT\nsource:         {source}\n"
 
 
 class States:
     """A history whose states are given, at times that are given."""
 
-    def __init__(self, folder):
+    def __init__(self, folder: str) -> None:
         self.folder = Path(folder)
         self.repository, self.serials = Repository(self.folder), serials.Serials(self.folder)
 
-    def commit(self, *objects, source="TEST", now=NOW):
+    def commit(self, *objects: str, source: str = "TEST", now: int = NOW) -> None:
         blocks = [f"{ROOT}source:         {source}\n", *objects]
         text = "".join(f"{block}\n" for block in blocks) + f"% end {len(blocks)}\n"
         digest = hashlib.sha256(text.encode()).hexdigest()
         self.repository.record(syntax.blocks([text.encode()]), lambda: digest, now)
 
-    def update(self, now=NOW):
+    def update(self, now: int = NOW) -> serials.Told:
         self.serials.update(self.repository, now)
         return self.serials.range()
 
-    def add(self, *objects, source="TEST", now=NOW):
+    def add(self, *objects: str, source: str = "TEST", now: int = NOW) -> serials.Told:
         self.commit(*objects, source=source, now=now)
         return self.update(now)
 
-    def told(self, first, last):
+    def told(self, first: int, last: int) -> list[tuple[str, str]]:
         """The changes of a range, each as its words and its key."""
         text = b""
         for part in self.serials.parts(first, last):
@@ -59,11 +61,11 @@ class States:
 
 
 @pytest.fixture
-def states(trial, request):
+def states(trial: Trial, request: pytest.FixtureRequest) -> States:
     return States(trial.place(request.node.name))
 
 
-def test_each_change_has_the_next_serial(states):
+def test_each_change_has_the_next_serial(states: States) -> None:
     found = states.add()
     begun = NOW // 10
     expect((found.first, found.last), (begun + 1, begun), "the first state has no change")
@@ -84,7 +86,7 @@ def test_each_change_has_the_next_serial(states):
     expect(len(states.told(begun + 2, begun + 3)), 2, "from the midst of one file to another's")
 
 
-def test_what_a_stop_left_out_is_made_up_for(states):
+def test_what_a_stop_left_out_is_made_up_for(states: States) -> None:
     states.add()
     states.commit(aut_num(1))
     states.commit(aut_num(1), aut_num(2))
@@ -103,7 +105,7 @@ def test_what_a_stop_left_out_is_made_up_for(states):
     )
 
 
-def test_serials_that_were_lost_are_followed_by_higher_ones(states):
+def test_serials_that_were_lost_are_followed_by_higher_ones(states: States) -> None:
     states.add()
     before = states.add(aut_num(1), aut_num(2))
     shutil.rmtree(states.serials.folder)
@@ -114,7 +116,9 @@ def test_serials_that_were_lost_are_followed_by_higher_ones(states):
     expect(after.last > before.last, True, "whether they are higher")
 
 
-def test_a_history_that_is_not_the_one_that_had_serials_begins_anew_above_them(states):
+def test_a_history_that_is_not_the_one_that_had_serials_begins_anew_above_them(
+    states: States,
+) -> None:
     states.add()
     before = states.add(aut_num(1))
     for path in states.folder.iterdir():
@@ -125,7 +129,7 @@ def test_a_history_that_is_not_the_one_that_had_serials_begins_anew_above_them(s
     expect(states.serials.kept(), [after.last], "what is kept")
 
 
-def test_a_registry_of_another_name_begins_anew_above_the_one_before(states):
+def test_a_registry_of_another_name_begins_anew_above_the_one_before(states: States) -> None:
     states.add()
     before = states.add(aut_num(1))
     after = states.add(aut_num(1, "OTHER"), source="OTHER")
@@ -134,7 +138,7 @@ def test_a_registry_of_another_name_begins_anew_above_the_one_before(states):
     expect(states.serials.kept(), [after.last], "what is kept")
 
 
-def test_a_registry_that_went_back_goes_on_with_higher_serials(states):
+def test_a_registry_that_went_back_goes_on_with_higher_serials(states: States) -> None:
     states.add()
     states.add(aut_num(1))
     before = states.add(aut_num(1), aut_num(2))
@@ -143,14 +147,14 @@ def test_a_registry_that_went_back_goes_on_with_higher_serials(states):
     expect(states.told(after.last, after.last), [(f"DEL {after.last}", "AS2")], "what it told")
 
 
-def test_the_clock_never_lets_serials_go_back(states):
+def test_the_clock_never_lets_serials_go_back(states: States) -> None:
     states.add()
     before = states.add(aut_num(1), now=NOW - 10**9)
     expect(before.last, NOW // 10 + 1, "after a clock that went back")
     expect(states.add(now=NOW + 10**9).last, before.last + 1, "after one that went ahead")
 
 
-def test_the_last_states_are_kept(states, monkeypatch):
+def test_the_last_states_are_kept(states: States, monkeypatch: pytest.MonkeyPatch) -> None:
     monkeypatch.setattr(serials, "MOST_STATES", 3)
     states.add()
     for number in range(6):
@@ -163,13 +167,13 @@ def test_the_last_states_are_kept(states, monkeypatch):
     expect(states.serials.kept(), [found.last], "the last one, of whatever size")
 
 
-def test_letter_case_tells_no_registries_apart(states):
+def test_letter_case_tells_no_registries_apart(states: States) -> None:
     states.add(source="Test")
     found = states.add(aut_num(1, "tEST"), source="Test")
     expect((found.source, found.last - found.first), ("TEST", 0), "the registry, and one change")
 
 
-def test_an_answer_whose_file_is_gone_lacks_its_last_line(states):
+def test_an_answer_whose_file_is_gone_lacks_its_last_line(states: States) -> None:
     states.add()
     states.add(aut_num(1))
     found = states.add(aut_num(1), aut_num(2))
@@ -182,7 +186,7 @@ def test_an_answer_whose_file_is_gone_lacks_its_last_line(states):
 
 
 @pytest.fixture(scope="module")
-def kept(trial):
+def kept(trial: Trial) -> Kept:
     """A history of some states, the door's view of it, and all changes as one answer."""
     states = States(trial.place("kept"))
     states.add()
@@ -194,7 +198,9 @@ def kept(trial):
 
 
 @given(st.integers(-3, 60), st.integers(-3, 60), st.booleans())
-def test_a_range_is_told_exactly_or_refused(kept, first, last, is_open):
+def test_a_range_is_told_exactly_or_refused(
+    kept: Kept, first: int, last: int, is_open: bool
+) -> None:
     mirrors, found, all_of_it = kept
     first, last = first + found.first, found.last if is_open else last + found.first
     asked = f"TEST:3:{first}-{'LAST' if is_open else last}"
@@ -208,8 +214,10 @@ def test_a_range_is_told_exactly_or_refused(kept, first, last, is_open):
     if is_open and first == found.last + 1:
         assert answer == nrtm.NO_NEWER
         return
-    mirror, seen = Mirror("TEST"), []
+    mirror = Mirror("TEST")
+    seen: list[int] = []
     mirror.serial = first - 1
+    assert isinstance(answer, nrtm.Changes)
     text = handed(answer).decode()
     assert mirror.take(text, lambda one: seen.append(one.serial)) == last - first + 1
     assert seen == list(range(first, last + 1))
@@ -219,7 +227,7 @@ def test_a_range_is_told_exactly_or_refused(kept, first, last, is_open):
 
 
 @given(st.text() | st.from_regex(nrtm.ASKED), st.text() | st.ip_addresses().map(str))
-def test_no_words_of_a_mirror_do_more_than_be_refused(kept, words, address):
+def test_no_words_of_a_mirror_do_more_than_be_refused(kept: Kept, words: str, address: str) -> None:
     try:
         answer = kept[0].answer(words, address)
     except flags.Bad as bad:
@@ -228,7 +236,7 @@ def test_no_words_of_a_mirror_do_more_than_be_refused(kept, words, address):
     assert address == "192.0.2.1" and answer
 
 
-def handed(answer):
+def handed(answer: nrtm.Changes) -> bytes:
     """What the door hands out of an answer."""
     text = b""
     while len(text) < answer.size():
@@ -250,7 +258,7 @@ LISTED = {"as-set": ("aut-num", "as-set"), "route-set": ("aut-num", "as-set", "r
 
 
 @st.composite
-def states_of(draw):
+def states_of(draw: st.DrawFn) -> dict[Key, str]:
     """A state in which each object names some of those that come before it, whether they are there
     or not."""
     found = {}
@@ -259,7 +267,7 @@ def states_of(draw):
             continue
         before = NAMES[:place]
 
-        def some(*kinds, least=0):
+        def some(*kinds: str, least: int = 0) -> list[str]:
             names = [own for of, own in before if of in kinds]
             return (
                 draw(st.lists(st.sampled_from(names), min_size=least, max_size=2)) if names else []
@@ -276,7 +284,7 @@ def states_of(draw):
     return found
 
 
-def unmet(state):
+def unmet(state: dict[Key, str]) -> set[tuple[Key, str]]:
     """The references to what is not there, as the lines that make them and what they name."""
     names = {key[1] for key in state}
     found = set()
@@ -291,7 +299,7 @@ def unmet(state):
     return found
 
 
-def crossing(state):
+def crossing(state: dict[Key, str]) -> list[tuple[tuple[int, ...], tuple[int, ...]]]:
     """The inetnums that overlap, neither inside the other."""
     spans = [
         tuple(int(part.split(".")[1]) for part in key[1].split(" - "))
@@ -302,8 +310,10 @@ def crossing(state):
 
 
 @given(states_of(), states_of())
-def test_no_reference_is_unmet_but_where_a_state_leaves_it_so(before, after):
-    def texts(keys, state):
+def test_no_reference_is_unmet_but_where_a_state_leaves_it_so(
+    before: dict[Key, str], after: dict[Key, str]
+) -> None:
+    def texts(keys: Iterable[Key], state: dict[Key, str]) -> list[bytes]:
         return [state[key].encode() for key in keys]
 
     added, gone = after.keys() - before.keys(), before.keys() - after.keys()
@@ -327,7 +337,7 @@ def test_no_reference_is_unmet_but_where_a_state_leaves_it_so(before, after):
     assert count == len(added) + len(changed) + len(gone)
 
 
-def plain(text):
+def plain(text: str) -> str:
     """A text without the blanks of canonical texts."""
     lines = [line.partition(":") for line in text.split("\n") if line]
     return "".join(f"{name}: {value.strip()}\n" for name, _, value in lines)

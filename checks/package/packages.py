@@ -49,7 +49,7 @@ def make_release(program: str, folder: str) -> str:
     return made.stdout.strip()
 
 
-def older_package(package, folder):
+def older_package(package: str, folder: str) -> str:
     """The same package as of a version before, which differs in its program's file and in the
     description of a unit."""
     root = os.path.join(folder, "older")
@@ -72,7 +72,7 @@ def older_package(package, folder):
     return made
 
 
-def change(path, pattern, words) -> None:
+def change(path: str, pattern: str, words: str) -> None:
     with open(path, encoding="utf-8") as opened:
         text, count = re.subn(pattern, words, opened.read())
     expect(count, 1, f"how often {pattern} stands in {path}")

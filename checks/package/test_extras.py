@@ -177,11 +177,11 @@ def test_systemd_finds_no_fault_in_the_units(trial: Trial, tell: Tell) -> None:
 
 def allowed_calls() -> set[str]:
     """The system calls that the unit's filter lets through."""
-    groups = {}
+    groups: dict[str, set[str]] = {}
     for line in done(["systemd-analyze", "syscall-filter"]).splitlines():
         line = re.sub(r"\x1b\[[0-9;]*m", "", line)
         if line.startswith("@"):
-            groups[line.strip()] = calls = set()
+            calls = groups[line.strip()] = set()
         elif line.strip() and not line.strip().startswith("#"):
             calls.add(line.strip())
 
@@ -237,7 +237,9 @@ def test_the_command_of_the_unit_does_within_its_limits(trial: Trial, tell: Tell
         for text in [b"ROOT-MNT\n", b"GET /dump HTTP/1.1\r\n\r\n", posted]:
             with contextlib.closing(socket.create_connection(("127.0.0.1", port), 30)) as peer:
                 peer.sendall(text)
-                expect(read_all(peer)[:1] in (b"m", b"H"), True, f"whether {text[:20]} is answered")
+                expect(
+                    read_all(peer)[:1] in (b"m", b"H"), True, f"whether {text[:20]!r} is answered"
+                )
         printed, said = process.communicate(timeout=PATIENCE)
         expect((process.returncode, printed, said), (0, b"served 3, failed 0\n", b""), "its end")
     finally:

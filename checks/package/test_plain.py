@@ -179,7 +179,7 @@ def test_the_first_command_prints_what_the_page_says_in_time(root: str, tell: Te
         )
     command, printed = found[1].strip(), found[2]
     wanted = (1 if "refused" in printed else 0, "", printed)
-    times = []
+    times: list[float] = []
     while len(times) < 3 and min(times, default=3) > 2:
         shutil.rmtree(inside(root, f"{CLONE}/out"), ignore_errors=True)
         ended = Ended(root, command, user=VISITOR, folder=CLONE)
@@ -247,7 +247,7 @@ def test_the_package_runs_unpacked(root: str, tell: Tell) -> None:
 
 def listing(root: str) -> set[str]:
     """All that is in the root, but for what dpkg, apt and adduser keep of their own."""
-    found = set()
+    found: set[str] = set()
     for folder, folders, names in os.walk(root):
         place = "/" + os.path.relpath(folder, root) if folder != root else ""
         folders[:] = [name for name in folders if not KEPT.match(f"{place}/{name}")]
@@ -322,7 +322,7 @@ def served(root: str) -> Iterator[Any]:
         server.kill()
 
 
-def ask(port: int, text: bytes) -> bytes:
+def ask(port: int, text: bytes) -> str:
     with contextlib.closing(socket.create_connection(("127.0.0.1", port), 30)) as peer:
         peer.sendall(text)
         return read_all(peer).decode()

@@ -160,10 +160,8 @@ def test_mypy_finds_nothing_in_the_tool() -> None:
     assert not judged(needed("mypy"), "tools/irr")
 
 
-def test_mypy_finds_nothing_in_what_the_checks_share() -> None:
-    shared = sorted((TOP / "checks").glob("*.py"))
-    folders = [TOP / "checks" / name for name in ("model", "pages", "proxies", "server")]
-    assert not judged(needed("mypy"), *shared, *folders)
+def test_mypy_finds_nothing_in_the_checks() -> None:
+    assert not judged(needed("mypy"), "checks")
 
 
 def test_black_would_change_nothing(tell: Tell) -> None:

@@ -6,13 +6,14 @@ import shutil
 import socket
 import struct
 import subprocess
+from collections.abc import Iterator
 from pathlib import Path
 
 import pytest
 
 from checks.door import worlds
 from checks.door.opened import Opened, Registries, read_all, wait_until
-from checks.running import expect, write
+from checks.running import Each, Trial, expect, write
 from checks.serving import free_port
 from irr.door import proxied
 
@@ -42,30 +43,30 @@ PROXIES = {
 FIRST = b"PROXY TCP4 192.0.2.7 192.0.2.1 4000 43\r\n"
 
 
-def second(address, command=0x21, family=0x11, more=b""):
+def second(address: str, command: int = 0x21, family: int = 0x11, more: bytes = b"") -> bytes:
     packed = ipv(address) * 2 + struct.pack(">HH", 4_000, 43) + more
     return proxied.SECOND + bytes([command, family]) + struct.pack(">H", len(packed)) + packed
 
 
-def ipv(address):
+def ipv(address: str) -> bytes:
     return socket.inet_pton(socket.AF_INET6 if ":" in address else socket.AF_INET, address)
 
 
 @pytest.fixture(scope="module")
-def registries(trial):
+def registries(trial: Trial) -> Iterator[Registries]:
     with Registries(trial, "registries", worlds.DUMP, replicas=0) as made:
         yield made
 
 
 @pytest.fixture(scope="module")
-def door(trial, registries):
+def door(trial: Trial, registries: Registries) -> Iterator[Opened]:
     settings = 'proxied = true\ntrusted = ["127.0.0.1"]\nof_client = 6\n'
     with Opened(trial, "door", registries.words, settings) as opened:
         yield opened
 
 
 @contextlib.contextmanager
-def proxy(trial, door, name):
+def proxy(trial: Trial, door: Opened, name: str) -> Iterator[int]:
     """The port of a proxy before the door."""
     config, send = PROXIES[name]
     kind = name.split()[0]
@@ -87,19 +88,21 @@ def proxy(trial, door, name):
         process.wait(20)
 
 
-def has_stream():
+def has_stream() -> bool:
     said = subprocess.run(["nginx", "-V"], capture_output=True, text=True, check=False).stderr
     return os.path.exists(STREAM) or "--with-stream " in said
 
 
-def listens(port):
+def listens(port: int) -> bool:
     with contextlib.suppress(OSError), socket.create_connection(("127.0.0.1", port), 1):
         return True
     return False
 
 
 @pytest.mark.parametrize("name", PROXIES)
-def test_a_client_behind_a_proxy_is_known_by_its_own_address(trial, door, name):
+def test_a_client_behind_a_proxy_is_known_by_its_own_address(
+    trial: Trial, door: Opened, name: str
+) -> None:
     with proxy(trial, door, name) as port:
         peers = [door.connect(port, 50) for _ in range(6)]
         try:
@@ -121,7 +124,7 @@ def test_a_client_behind_a_proxy_is_known_by_its_own_address(trial, door, name):
             expect(worlds.AS1 in printed.replace(b"\r", b""), True, "Debian's whois")
 
 
-def test_a_header_is_taken_of_trusted_addresses_alone(door, each):
+def test_a_header_is_taken_of_trusted_addresses_alone(door: Opened, each: Each) -> None:
     for text, last, wanted in [
         (FIRST + b"AS1\r\n", 1, worlds.AS1 + b"\n"),
         (b"PROXY UNKNOWN\r\nAS1\r\n", 1, worlds.AS1 + b"\n"),
@@ -145,7 +148,7 @@ def test_a_header_is_taken_of_trusted_addresses_alone(door, each):
             expect(answer[: len(wanted)] if wanted else answer, wanted, f"{text!r}")
 
 
-def test_a_header_may_come_byte_by_byte():
+def test_a_header_may_come_byte_by_byte() -> None:
     for text in FIRST, second("192.0.2.7", more=b"\4\0\1x"):
         for size in range(len(text)):
             expect(proxied.read(text[:size]), None, f"{size} bytes of {text!r}")
@@ -154,7 +157,7 @@ def test_a_header_may_come_byte_by_byte():
     expect(proxied.read(second("2001:db8::7", family=0x21)).address, "2001:db8::7", "version 6")
 
 
-def test_no_client_takes_all_that_a_proxy_of_http_has(door):
+def test_no_client_takes_all_that_a_proxy_of_http_has(door: Opened) -> None:
     """Six requests of one client are on their way through a proxy: another client's is answered."""
     body = b"POST /submissions HTTP/1.1\r\nX-Forwarded-For: 192.0.2.%d\r\nContent-Length: 9\r\n\r\n"
     peers = [door.connect(door.http_port) for _ in range(7)]
@@ -170,7 +173,7 @@ def test_no_client_takes_all_that_a_proxy_of_http_has(door):
             peer.close()
 
 
-def is_answered(peer):
+def is_answered(peer: socket.socket) -> bool:
     peer.settimeout(0.5)
     with contextlib.suppress(TimeoutError):
         return bool(peer.recv(1, socket.MSG_PEEK))

@@ -125,7 +125,7 @@ class Told:
         self.socket = socket.socket(socket.AF_UNIX, socket.SOCK_DGRAM | socket.SOCK_NONBLOCK)
         self.socket.bind(path)
 
-    def last(self):
+    def last(self) -> str:
         with contextlib.suppress(BlockingIOError):
             while True:
                 self.text = self.socket.recv(4_096).decode()

@@ -27,7 +27,7 @@ def make_registry(program: str, folder: str, submission: str) -> None:
 @pytest.fixture(scope="module")
 def running(
     request: pytest.FixtureRequest, trial: Trial
-) -> Iterator[dict[Callable[..., Any], Future]]:
+) -> Iterator[dict[Callable[..., Any], Future[Any]]]:
     """What became of each case that was chosen, once it is done: all of them run at once."""
     missing = [command for command in ("whois", "curl") if shutil.which(command) is None]
     if missing:

@@ -19,7 +19,7 @@ GIVEN_HEAD = GIVEN.decode()
 LONGEST = 180
 
 
-class Cases(list):
+class Cases(list[Any]):
     """The cases of a module, as rows for `cases_of`."""
 
     def case(

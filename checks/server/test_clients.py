@@ -434,6 +434,6 @@ def wrong_words(program: str, folder: str) -> None:
 
 @pytest.mark.parametrize("check", cases_of(CASES))
 def test_peers_get_what_they_should(
-    running: dict[Callable[..., Any], Future], check: tuple[str, Callable[..., Any]]
+    running: dict[Callable[..., Any], Future[Any]], check: tuple[str, Callable[..., Any]]
 ) -> None:
     running[check[1]].result()

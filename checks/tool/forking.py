@@ -58,7 +58,7 @@ class Forks:
     """The port at which each connection is handed to a fork, as the socket unit hands it to a
     command, while a `with` block runs."""
 
-    def __init__(self, tool: Tool, words) -> None:
+    def __init__(self, tool: Tool, words: str) -> None:
         self.tool, self.words = tool, words
         self.listener = socket.create_server(("127.0.0.1", 0), backlog=64)
 

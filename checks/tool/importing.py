@@ -63,7 +63,7 @@ def keys_of(dump: bytes) -> list[str]:
     ]
 
 
-def listed(*texts, **more: Any):
+def listed(*texts: bytes, **more: Any) -> list[str]:
     """The lines of the list of what is left out, dropped, or odd about what is taken."""
     out = io.BytesIO()
     made(*texts, left_out=out, **more)

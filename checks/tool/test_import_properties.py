@@ -40,7 +40,7 @@ def normal(piece: Piece, kind: str) -> list[tuple[str, list[str]]]:
     ]
 
 
-def is_name(name) -> bool:
+def is_name(name: str) -> bool:
     return bool(
         NAME.fullmatch(name)
         and name.lower() not in RESERVED

@@ -1,6 +1,8 @@
 """What an import tells of objects that it takes, and which of its list is which."""
+
 import re
 from collections import Counter
+from typing import Any
 
 import pytest
 
@@ -10,7 +12,7 @@ A = ("as-set: AS-A", "members: AS1", "mnt-by: A-MNT", "source: RIPE")
 CUT = "cut off at the end of the file"
 
 
-def told(*texts, **more):
+def told(*texts: bytes, **more: Any) -> list[tuple[Any, ...]]:
     """What is told of objects that are taken: cause, line, first line, and the odd line."""
     lines = [line.split("\t") for line in listed(*texts, **more)]
     return [
@@ -21,7 +23,7 @@ def told(*texts, **more):
 # Objects without a `source`.
 
 
-def test_objects_without_a_source_are_told_with_their_places():
+def test_objects_without_a_source_are_told_with_their_places() -> None:
     text = obj("aut-num: AS1") + obj(*A) + obj("route: 10.0.0.0/8", "origin: AS1", "source:")
     assert told(text + obj("as-set: AS-B") + obj(*A).replace(b"AS-A", b"AS-C")) == [
         ("no `source`", 1, "aut-num: AS1"),
@@ -36,12 +38,12 @@ def test_objects_without_a_source_are_told_with_their_places():
     ]
 
 
-def test_no_source_is_told_of_what_stays_alone():
+def test_no_source_is_told_of_what_stays_alone() -> None:
     text = obj("inetnum: 10.0.0.0 - 10.0.0.9") + obj("inetnum: 10.0.0.5 - 10.0.0.12")
     assert told(text) == [("no `source`", 1, "inetnum: 10.0.0.0 - 10.0.0.9")]
 
 
-def test_no_source_is_the_cause_where_that_is_not_mended():
+def test_no_source_is_the_cause_where_that_is_not_mended() -> None:
     text = obj("aut-num: AS1") + obj(*A)
     assert sorted(line.split("\t")[0] for line in left_out(text, off=["source"])) == [
         "no `source`, not mended because of --no-source",
@@ -65,7 +67,9 @@ def test_no_source_is_the_cause_where_that_is_not_mended():
     ],
 )
 @pytest.mark.parametrize("end", ["", "\n", "\n\n \n"])
-def test_a_file_that_was_cut_off_at_a_lines_end(last, end, off):
+def test_a_file_that_was_cut_off_at_a_lines_end(
+    last: tuple[str, ...], end: str, off: frozenset[str]
+) -> None:
     """Its last object has no `source`, and the others have one: also where no source is mended."""
     text = obj(*A) + ("\n".join(last) + end).encode()
     lines = [line.split("\t") for line in left_out(text, off=off)]
@@ -75,13 +79,13 @@ def test_a_file_that_was_cut_off_at_a_lines_end(last, end, off):
     assert b"AS-X" not in made(text, off=off)[0]
 
 
-def test_a_file_that_was_cut_off_in_a_paragraph_that_is_parted():
+def test_a_file_that_was_cut_off_in_a_paragraph_that_is_parted() -> None:
     text = obj(*A, "route-set: RS-B", "members: 10.0.0.0/8").rstrip() + b"\n"
     assert [line.split("\t")[0] for line in left_out(text)] == [CUT]
     assert made(text)[1].taken == 1
 
 
-def test_what_is_not_cut_off():
+def test_what_is_not_cut_off() -> None:
     """Where most objects have no `source`, or a comment stands after the last one. Each file is
     judged by itself."""
     last = obj("as-set: AS-X", "members: AS1")
@@ -102,7 +106,7 @@ def test_what_is_not_cut_off():
     ]
 
 
-def test_no_cut_of_a_file_makes_another_object_in_silence():
+def test_no_cut_of_a_file_makes_another_object_in_silence() -> None:
     """A dump in which each object has a `source`, cut at each byte: an object that is written is
     one of the whole dump, unless its file has no other and the cut is at the end of a line."""
     whole = (
@@ -124,7 +128,7 @@ def test_no_cut_of_a_file_makes_another_object_in_silence():
 # Lines that the registry's rules read in another way than some readers do.
 
 
-def test_lines_that_are_not_kept_and_lines_that_go_on_are_told():
+def test_lines_that_are_not_kept_and_lines_that_go_on_are_told() -> None:
     text = b"# of the file\n\n# of the object\n" + obj(
         *A[:1], "# a comment", "members: AS1,", "% AS2,\t#", " AS3", "\rmembers: AS4", *A[2:]
     )
@@ -143,7 +147,7 @@ def test_lines_that_are_not_kept_and_lines_that_go_on_are_told():
     assert f"taken, {gone}: 2\n" in report and f"taken, {goes_on}: 1\n" in report
 
 
-def test_a_line_of_a_cr_alone_is_blank():
+def test_a_line_of_a_cr_alone_is_blank() -> None:
     assert (
         told(obj(*A).replace(b"\n", b"\r\n") + b"\r\n\r" + obj("as-set: AS-B", "source: X")) == []
     )
@@ -152,7 +156,7 @@ def test_a_line_of_a_cr_alone_is_blank():
     ]
 
 
-def test_odd_lines_of_what_is_left_out_are_not_told():
+def test_odd_lines_of_what_is_left_out_are_not_told() -> None:
     text = obj(*A, "# x") + obj(*A, "# y") + obj("person: Jo", "# z", "source: RIPE")
     assert [one[-1] for one in told(text)] == ["# x"]
 
@@ -168,7 +172,7 @@ def test_odd_lines_of_what_is_left_out_are_not_told():
         ("aut-num: AS1", "members: RIPE::AS-Z, AS2", "member-of: RADB::AS-Y"),
     ],
 )
-def test_scopes_of_attributes_that_are_text_stay(kind, text, read):
+def test_scopes_of_attributes_that_are_text_stay(kind: str, text: str, read: str) -> None:
     own = obj(kind, text, read, "mnt-by: A-MNT", "source: RIPE")
     for keeps in False, True:
         dump, tally = made(own, keeps_scoped=keeps)
@@ -180,7 +184,7 @@ def test_scopes_of_attributes_that_are_text_stay(kind, text, read):
 # Paragraphs of several objects, of which nobody knows where each ends.
 
 
-def test_what_may_be_objects_in_a_paragraph_is_counted_and_placed():
+def test_what_may_be_objects_in_a_paragraph_is_counted_and_placed() -> None:
     text = b"\n" + obj("as-set: AS-X", "route-set: RS-Y", "descr: x", "PERSON : Jo", "source: RIPE")
     text += obj("aut-num: AS1", "source: RIPE", "x-new: y", "source: RIPE")
     again, twice = "a class again after the first line", "`source` twice"
@@ -205,7 +209,7 @@ def test_what_may_be_objects_in_a_paragraph_is_counted_and_placed():
 # The list beside the report.
 
 
-def test_the_list_says_what_each_entry_is_and_agrees_with_the_report():
+def test_the_list_says_what_each_entry_is_and_agrees_with_the_report() -> None:
     text = (
         obj("as-set: AS-X", "members: ::/0, x!", "# c", "source: RIPE")
         + obj("as-set: AS-X", "members: ::/0")
@@ -232,6 +236,6 @@ def test_the_list_says_what_each_entry_is_and_agrees_with_the_report():
     assert counted["left out", "class person"] == 12
 
 
-def test_a_class_that_nobody_knows_is_an_attribute():
+def test_a_class_that_nobody_knows_is_an_attribute() -> None:
     text = obj("as-set: AS-X", "x-new: y", "mnt-by: A-MNT", "source: TEST")
     assert mended(text)[0].split(b"\n")[1] == b"x-new:          y"

@@ -14,7 +14,9 @@ import unittest
 from typing import Any
 from urllib.parse import unquote
 
-from irr.commands import dump as dumps, export, filter as filters, held, query, rov
+from irr.commands import export, held, query, rov
+from irr.commands import dump as dumps
+from irr.commands import filter as filters
 from irr.door import cache, irrd, queries
 from irr.errors import FAILED, Failure
 from irr.registry import server
@@ -284,7 +286,7 @@ class Table(queries.Asker):
         super().__init__(types.SimpleNamespace(source="TEST", ledger=ledger, cache=kept), None)
         self.answers = answers
 
-    async def ask(self, query):
+    async def ask(self, query: bytes) -> cache.Answer:
         text = self.answers.get(query.decode(), b"% no entries\n")
         return cache.Answer(text, 0.0, self.pool.ledger)
 

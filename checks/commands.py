@@ -33,6 +33,32 @@ SETTINGS = {
     "auth": f'auth = "SHA256-PW a:{DIGEST}"',
     "limit": "limit = 10000",
 }
+# What is said of a file and of settings that are missing, and of databases; DATABASE stands for the
+# name of one.
+NO_FILE = (
+    "irrdesk: none.rpsl: the file cannot be opened: there is none of that name: correct the path"
+)
+NO_SETTINGS = (
+    "irrdesk: none.toml: the settings cannot be read: there is none of that name: correct the path"
+)
+NO_DATABASE = (
+    "irrdesk: DATABASE: there is no such database: `irrdesk init` or `irrdesk load` makes it"
+)
+NO_REGISTRY = (
+    "irrdesk: DATABASE: the database has no registry that can be read: restore a backup, or make"
+    " one by `irrdesk init` or `irrdesk load`"
+)
+UNREAD = (
+    "irrdesk: DATABASE: it is not the database of a registry, or one that was damaged or changed in"
+    " a way that irrdesk does not read: name another file, or restore a backup"
+)
+OTHER_SOURCE = (
+    "irrdesk: DATABASE: most rows of the database are of another source: correct `source`"
+)
+IN_USE = (
+    "irrdesk: DATABASE: in use, most likely by the running server: ask it over its port, or stop it"
+    " first"
+)
 LONGEST = 300
 
 
@@ -191,6 +217,10 @@ def within(option: str, number: int) -> Callable[[], None]:
         resource.setrlimit(kind, (number * unit, number * unit))
 
     return limit
+
+
+def of(database: str, text: str) -> str:
+    return text.replace("DATABASE", database)
 
 
 def keep_said(program: str, lines: list[str], path: Path) -> None:

@@ -15,6 +15,7 @@ from typing import Self
 
 from checks.running import PATIENCE, TOP, Failure, Trial, write
 from checks.serving import free_port, read_all
+from checks.worlds import certificate
 
 HOST = "irr.example.net"
 WEB = Path(TOP, "web")
@@ -46,37 +47,6 @@ def example(name: str) -> str:
         return opened.read()
 
 
-def certificate(folder: str) -> tuple[str, str]:
-    """A certificate of the host, which names itself as its authority, and its key."""
-    if not os.path.exists(os.path.join(folder, "host.pem")):
-        subprocess.run(
-            [
-                "openssl",
-                "req",
-                "-x509",
-                "-newkey",
-                "ec",
-                "-pkeyopt",
-                "ec_paramgen_curve:P-256",
-                "-nodes",
-                "-days",
-                "9",
-                "-subj",
-                f"/CN={HOST}",
-                "-addext",
-                f"subjectAltName=DNS:{HOST}",
-                "-keyout",
-                "key.pem",
-                "-out",
-                "host.pem",
-            ],
-            cwd=folder,
-            check=True,
-            capture_output=True,
-        )
-    return os.path.join(folder, "host.pem"), os.path.join(folder, "key.pem")
-
-
 class Door:
     """A proxy that is running before a door, and what both are reached by."""
 
@@ -88,7 +58,7 @@ class Door:
             free_port(),
             free_port(),
         )
-        self.cert, self.key = certificate(trial.work)
+        self.cert, self.key = certificate(trial.work, HOST)
         os.chmod(self.folder, 0o755)
         web = os.path.join(self.folder, "web")
         shutil.copytree(WEB, web)

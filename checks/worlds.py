@@ -277,32 +277,19 @@ def wait_for(port: int, process: subprocess.Popen[bytes]) -> None:
     raise Failure("a server did not listen in time")
 
 
-def certificate(folder: str) -> tuple[str, str]:
-    """A certificate of 127.0.0.1, signed by itself, and its key."""
+def certificate(folder: str, name: str = "127.0.0.1") -> tuple[str, str]:
+    """A certificate of an address or a host, signed by itself, and its key: made once in a folder."""
     paths = os.path.join(folder, "own.crt"), os.path.join(folder, "own.key")
-    subprocess.run(
-        [
-            "openssl",
-            "req",
-            "-x509",
-            "-newkey",
-            "rsa:2048",
-            "-nodes",
-            "-days",
-            "2",
-            "-subj",
-            "/CN=127.0.0.1",
-            "-addext",
-            "subjectAltName=IP:127.0.0.1",
-            "-keyout",
-            paths[1],
-            "-out",
-            paths[0],
-        ],
-        check=True,
-        stdin=subprocess.DEVNULL,
-        capture_output=True,
-    )
+    if not os.path.exists(paths[0]):
+        words = "req -x509 -newkey ec -pkeyopt ec_paramgen_curve:P-256 -nodes -days 9".split()
+        kind = "IP" if name[0].isdigit() else "DNS"
+        words += ["-subj", f"/CN={name}", "-addext", f"subjectAltName={kind}:{name}"]
+        subprocess.run(
+            ["openssl", *words, "-keyout", paths[1], "-out", paths[0]],
+            check=True,
+            stdin=subprocess.DEVNULL,
+            capture_output=True,
+        )
     return paths
 
 

@@ -1,7 +1,18 @@
 """Loads of dumps: how each ends, and what it leaves."""
 
 from checks.command_line.given import FULL, sets
-from checks.commands import ADDRESSES, BLOCK, OWNED, ROOT, TEN, Commands
+from checks.commands import (
+    ADDRESSES,
+    BLOCK,
+    NO_FILE,
+    NO_SETTINGS,
+    OWNED,
+    ROOT,
+    TEN,
+    UNREAD,
+    Commands,
+    of,
+)
 
 
 def refuses(case: Commands, name: str, place: str, fault: str) -> None:
@@ -24,10 +35,7 @@ def test_loads_are_whole_or_told(case: Commands) -> None:
     case.run("load", "none.toml", "full.rpsl").gives(
         "a load with settings that are missing",
         3,
-        (
-            "irrdesk: none.toml: the settings cannot be read: there is none of that name: correct"
-            " the path"
-        ),
+        NO_SETTINGS,
         "",
     )
     case.settings("none/new.db")
@@ -42,20 +50,14 @@ def test_loads_are_whole_or_told(case: Commands) -> None:
     case.run("load", "s.toml", "full.rpsl").gives(
         "a load into a file that is no database",
         4,
-        (
-            "irrdesk: text.db: it is not the database of a registry, or one that was damaged or"
-            " changed in a way that irrdesk does not read: name another file, or restore a backup"
-        ),
+        of("text.db", UNREAD),
         "",
     )
     case.settings("new.db")
     case.run("load", "s.toml", "none.rpsl").gives(
         "a dump that is missing",
         5,
-        (
-            "irrdesk: none.rpsl: the file cannot be opened: there is none of that name: correct the"
-            " path"
-        ),
+        NO_FILE,
         "",
     )
     case.run("load", "s.toml", ".").gives(

@@ -1,7 +1,19 @@
 """Submissions, queries and dumps: how each command ends, and what it prints."""
 
 from checks.command_line.given import FULL, added, fresh, sets
-from checks.commands import ADDRESSES, AUTH_LINE, BLOCK, OTHERS, OWNED, TEN, Commands
+from checks.commands import (
+    ADDRESSES,
+    AUTH_LINE,
+    BLOCK,
+    NO_DATABASE,
+    NO_FILE,
+    NO_SETTINGS,
+    OTHERS,
+    OWNED,
+    TEN,
+    Commands,
+    of,
+)
 
 
 def test_submissions_are_reported_and_faults_told(case: Commands) -> None:
@@ -9,26 +21,20 @@ def test_submissions_are_reported_and_faults_told(case: Commands) -> None:
     case.run("submit", "s.toml", "none.rpsl").gives(
         "a file that is missing",
         5,
-        (
-            "irrdesk: none.rpsl: the file cannot be opened: there is none of that name: correct the"
-            " path"
-        ),
+        NO_FILE,
         "",
     )
     case.run("submit", "none.toml", "none.rpsl").gives(
         "settings that are missing, before a file",
         3,
-        (
-            "irrdesk: none.toml: the settings cannot be read: there is none of that name: correct"
-            " the path"
-        ),
+        NO_SETTINGS,
         "",
     )
     case.settings("missing.db")
     case.run("submit", "s.toml", "none.rpsl").gives(
         "a database that is missing, before a file",
         4,
-        "irrdesk: missing.db: there is no such database: `irrdesk init` or `irrdesk load` makes it",
+        of("missing.db", NO_DATABASE),
         "",
     )
     case.settings("irr.db")
@@ -96,10 +102,7 @@ def test_queries_are_answered_and_faults_told(case: Commands) -> None:
     case.run("query", "none.toml", "AS1").gives(
         "a query with settings that are missing",
         3,
-        (
-            "irrdesk: none.toml: the settings cannot be read: there is none of that name: correct"
-            " the path"
-        ),
+        NO_SETTINGS,
         "",
     )
     case.run("query", "s.toml").gives(
@@ -161,7 +164,7 @@ def test_queries_are_answered_and_faults_told(case: Commands) -> None:
     case.run("query", "s.toml", "AS1").gives(
         "a query of a database that is missing",
         4,
-        "irrdesk: missing.db: there is no such database: `irrdesk init` or `irrdesk load` makes it",
+        of("missing.db", NO_DATABASE),
         "",
     )
     case.settings(".")
@@ -227,6 +230,6 @@ def test_dumps_are_whole_or_told(case: Commands) -> None:
     case.run("dump", "s.toml").gives(
         "a dump of a database that is missing",
         4,
-        "irrdesk: missing.db: there is no such database: `irrdesk init` or `irrdesk load` makes it",
+        of("missing.db", NO_DATABASE),
         "",
     )

@@ -6,7 +6,7 @@ import socket
 from pathlib import Path
 
 from checks.command_line.given import added, fresh
-from checks.commands import Commands
+from checks.commands import NO_SETTINGS, Commands
 from checks.running import TOP
 
 # Keys of settings, and lines of theirs that are bad.
@@ -214,10 +214,7 @@ def test_settings_are_read_or_their_fault_is_told(case: Commands) -> None:
     case.run("init", "none.toml").gives(
         "settings that are missing",
         3,
-        (
-            "irrdesk: none.toml: the settings cannot be read: there is none of that name: correct"
-            " the path"
-        ),
+        NO_SETTINGS,
         "",
     )
     case.run("init", "no\x1b[31m\u202ene\\.toml").gives(

@@ -8,16 +8,22 @@ from checks.running import TOP
 INETNUM = os.path.join(TOP, "examples", "inetnum.rpsl")
 TEN = "okey = '0a000000-0affffff'"
 REPORT = "1 inetnum 10.0.0.0 - 10.255.255.255: {}\n% items 1"
-OTHER_SOURCE = (
-    "irrdesk: DATABASE: most rows of the database are of another source: correct `source`"
+# Tables of another version; the last is said by a migration.
+OLDER = (
+    "irrdesk: DATABASE: the tables of the database are of version 1, and this program reads version"
+    " 2: `irrdesk migrate SETTINGS` turns them into that"
+)
+LATER = (
+    "irrdesk: DATABASE: the tables of the database are of version 3, and this program reads version"
+    " 2: take a newer irrdesk, which wrote them"
+)
+LATER_OLD = (
+    "irrdesk: DATABASE: the tables of the database are of version 3, and what is migrated is"
+    " version 1: take a newer irrdesk, which wrote them"
 )
 NEW_KEYS = (
     "irrdesk: DATABASE, table meta: `meta` says version 1, and the keys are of version 2: restore a"
     " backup, or set the value to 2 in a copy"
-)
-UNREAD = (
-    "irrdesk: DATABASE: it is not the database of a registry, or one that was damaged or changed in"
-    " a way that irrdesk does not read: name another file, or restore a backup"
 )
 OTHERWISE = (
     'irrdesk: DATABASE: the tables of the registry were not made by irrdesk: "A damaged file" in'
@@ -101,10 +107,6 @@ def begun(case: Commands) -> None:
     case.settings("irr.db")
     case.run("init", "s.toml")
     case.run("submit", "s.toml", INETNUM)
-
-
-def of(database: str, text: str) -> str:
-    return text.replace("DATABASE", database)
 
 
 def mended(case: Commands, database: str) -> None:

@@ -3,7 +3,20 @@
 import contextlib
 import sqlite3
 
-from checks.commands import ADDRESSES, BLOCK, OTHERS, OWNED, ROOT, TEN, Commands
+from checks.commands import (
+    ADDRESSES,
+    BLOCK,
+    NO_DATABASE,
+    NO_SETTINGS,
+    OTHERS,
+    OTHER_SOURCE,
+    OWNED,
+    ROOT,
+    TEN,
+    Commands,
+    of,
+)
+from checks.databases.rows import LATER, LATER_OLD, OLDER
 from checks.databases.spoilt import dumped
 
 SECONDS = 20
@@ -54,17 +67,14 @@ def test_old_and_changed_databases_are_migrated_or_told(case: Commands) -> None:
     case.run("migrate", "none.toml").gives(
         "a migration with settings that are missing",
         3,
-        (
-            "irrdesk: none.toml: the settings cannot be read: there is none of that name: correct"
-            " the path"
-        ),
+        NO_SETTINGS,
         "",
     )
     case.settings("missing.db")
     case.run("migrate", "s.toml").gives(
         "a migration of a database that is missing",
         4,
-        "irrdesk: missing.db: there is no such database: `irrdesk init` or `irrdesk load` makes it",
+        of("missing.db", NO_DATABASE),
         "",
     )
     case.settings("old.db")
@@ -72,10 +82,7 @@ def test_old_and_changed_databases_are_migrated_or_told(case: Commands) -> None:
     case.run("dump", "s.toml").gives(
         "a database of version 1",
         4,
-        (
-            "irrdesk: old.db: the tables of the database are of version 1, and this program reads"
-            " version 2: `irrdesk migrate SETTINGS` turns them into that"
-        ),
+        of("old.db", OLDER),
         "",
     )
     case.settings("old.db", 'root = "OTHER-MNT"')
@@ -92,7 +99,7 @@ def test_old_and_changed_databases_are_migrated_or_told(case: Commands) -> None:
     case.run("migrate", "s.toml").gives(
         "a migration of another source",
         4,
-        "irrdesk: old.db: most rows of the database are of another source: correct `source`",
+        of("old.db", OTHER_SOURCE),
         "",
     )
     case.settings("old.db")
@@ -125,19 +132,13 @@ def test_old_and_changed_databases_are_migrated_or_told(case: Commands) -> None:
     case.run("query", "s.toml", "AS1").gives(
         "a database of version 3",
         4,
-        (
-            "irrdesk: old.db: the tables of the database are of version 3, and this program reads"
-            " version 2: take a newer irrdesk, which wrote them"
-        ),
+        of("old.db", LATER),
         "",
     )
     case.run("migrate", "s.toml").gives(
         "a migration of version 3",
         4,
-        (
-            "irrdesk: old.db: the tables of the database are of version 3, and what is migrated is"
-            " version 1: take a newer irrdesk, which wrote them"
-        ),
+        of("old.db", LATER_OLD),
         "",
     )
     version(case, "old.db", 1)
@@ -225,10 +226,7 @@ sqlite3 wide.db .dump | sqlite3 mended.db)"""
     case.run("query", "s.toml", "AS1").gives(
         "tables of a later version, with another column",
         4,
-        (
-            "irrdesk: changed.db: the tables of the database are of version 3, and this program"
-            " reads version 2: take a newer irrdesk, which wrote them"
-        ),
+        of("changed.db", LATER),
         "",
     )
     (case.folder / "changed.db").unlink()

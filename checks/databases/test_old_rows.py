@@ -4,22 +4,21 @@ import shutil
 
 import pytest
 
-from checks.commands import AUTH_LINE, Commands
+from checks.commands import AUTH_LINE, OTHER_SOURCE, UNREAD, Commands, of
 from checks.databases.rows import (
+    LATER_OLD,
     NEW_KEYS,
+    OLDER,
     ORDERS,
     OTHERWISE,
-    OTHER_SOURCE,
     TABLES,
     UNORDERED,
-    UNREAD,
     added,
     ask,
     bad_row,
     begun,
     mended,
     obstacle,
-    of,
     of_another,
     other_rows,
     unnamed,
@@ -27,10 +26,6 @@ from checks.databases.rows import (
 
 pytestmark = pytest.mark.skipif(shutil.which("sqlite3") is None, reason="sqlite3 is not here")
 IN_MEMORY, SECONDS = True, 20
-LATER_OLD = (
-    "irrdesk: DATABASE: the tables of the database are of version 3, and what is migrated is"
-    " version 1: take a newer irrdesk, which wrote them"
-)
 NO_OLD_TABLES = "irrdesk: DATABASE: the database has no tables of version 1: look at `store`"
 OLD_CHANGES = [
     ("nothing is changed", "migrated to version 2", 0, "2", ""),
@@ -350,10 +345,7 @@ def test_tables_of_version_1_are_migrated(case: Commands) -> None:
     case.run("query", "s.toml", "AS1").gives(
         "tables of version 1",
         4,
-        (
-            "irrdesk: old.db: the tables of the database are of version 1, and this program reads"
-            " version 2: `irrdesk migrate SETTINGS` turns them into that"
-        ),
+        of("old.db", OLDER),
         "",
     )
     migrated(case, "they are migrated", MIGRATED)

@@ -5,18 +5,26 @@ import shutil
 
 import pytest
 
-from checks.commands import ADDRESSES, BLOCK, OTHERS, OWNED, ROOT, Commands
+from checks.commands import (
+    ADDRESSES,
+    BLOCK,
+    OTHERS,
+    OTHER_SOURCE,
+    OWNED,
+    ROOT,
+    UNREAD,
+    Commands,
+    of,
+)
 from checks.databases.rows import (
     INETNUM,
+    LATER,
     NEW_KEYS,
-    OTHER_SOURCE,
     REPORT,
-    UNREAD,
     added,
     ask,
     bad_row,
     begun,
-    of,
     of_another,
     other_rows,
     unnamed,
@@ -30,10 +38,6 @@ RANGE = f"inetnum:        10.0.0.0 - 10.255.255.255\n{OWNED}"
 WHOLE = f"{ROOT}\n{BLOCK}\n\n{OTHERS}\n\n{ADDRESSES}\n\n{RANGE}\n\n% end 5"
 WHOLE_AND_ONE = WHOLE.replace("% end 5", f"inetnum:        10.1.0.0/16\n{OWNED}\n\n% end 6")
 # What is said of a database; DATABASE stands for its name.
-LATER = (
-    "irrdesk: DATABASE: the tables of the database are of version 3, and this program reads version"
-    " 2: take a newer irrdesk, which wrote them"
-)
 CROSSING = (
     "irrdesk: DATABASE, class 4, okey 0a000000-0affffff: the object of the row has a range that"
     " overlaps one before it: restore a backup, or take one of the two out of `object` and `named`"

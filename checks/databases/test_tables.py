@@ -5,7 +5,7 @@ import shutil
 
 import pytest
 
-from checks.commands import Commands
+from checks.commands import NO_REGISTRY, Commands, of
 from checks.databases.rows import (
     INETNUM,
     ORDERS,
@@ -16,15 +16,10 @@ from checks.databases.rows import (
     ask,
     mended,
     obstacle,
-    of,
 )
 
 pytestmark = pytest.mark.skipif(shutil.which("sqlite3") is None, reason="sqlite3 is not here")
 IN_MEMORY, SECONDS = True, 20
-REFUSED = (
-    "irrdesk: DATABASE: the database has no registry that can be read: restore a backup, or make"
-    " one by `irrdesk init` or `irrdesk load`"
-)
 OTHER_TABLES = (
     "irrdesk: DATABASE: the database has other tables, or refuses those of a registry: take a"
     " new one"
@@ -60,7 +55,7 @@ LAID = [
     ("refused: a view before them", UNORDERED, "CREATE VIEW seen AS SELECT 1 AS one", ""),
     (
         "refused: a table that is made WITHOUT ROWID",
-        REFUSED,
+        NO_REGISTRY,
         "",
         (
             "CREATE TABLE kept AS SELECT * FROM meta; DROP TABLE meta; CREATE TABLE meta (name TEXT"
@@ -80,7 +75,7 @@ LAID = [
     ),
     (
         "refused: a view with the name of a table",
-        REFUSED,
+        NO_REGISTRY,
         "",
         (
             "CREATE TABLE kept AS SELECT * FROM meta; DROP TABLE meta; CREATE VIEW meta AS SELECT *"

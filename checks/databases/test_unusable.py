@@ -9,7 +9,16 @@ from typing import Any
 
 import pytest
 
-from checks.commands import Commands, within
+from checks.commands import (
+    IN_USE,
+    NO_DATABASE,
+    NO_REGISTRY,
+    OTHER_SOURCE,
+    UNREAD,
+    Commands,
+    of,
+    within,
+)
 from checks.databases.spoilt import LARGE, dumped
 from checks.running import PATIENCE
 from checks.serving import Listening, free_port
@@ -50,14 +59,14 @@ def modes(case: Commands, name: str, wanted: str, store: str) -> None:
 def as_other_files(case: Commands) -> None:
     """Files that the user of this run may not read."""
     case.sh("cp s.toml hidden.toml; chmod 000 hidden.toml")
-    case.run("init", "hidden.toml").gives("settings that may not be read", 3, UNREAD, "")
+    case.run("init", "hidden.toml").gives("settings that may not be read", 3, HIDDEN, "")
     case.settings("hidden.db")
     case.run("init", "s.toml")
     case.sh("chmod 000 hidden.db")
     case.run("query", "s.toml", "AS1").gives("a database that may not be read", 4, DENIED, "")
 
 
-UNREAD = (
+HIDDEN = (
     "irrdesk: hidden.toml: the settings cannot be read: permission is denied: ask for it, or take"
     " another file or port"
 )
@@ -67,7 +76,7 @@ def as_nobody(case: Commands) -> None:
     """Files of root's that another user may not read."""
     case.sh('chmod 755 .; cp "$program" copied; install -m 600 s.toml hidden.toml')
     other: dict[str, Any] = {"before": AS_NOBODY, "program": "./copied"}
-    case.run("init", "hidden.toml", **other).gives("settings that may not be read", 3, UNREAD, "")
+    case.run("init", "hidden.toml", **other).gives("settings that may not be read", 3, HIDDEN, "")
     case.settings("hidden.db")
     case.run("init", "s.toml")
     case.write("hidden.db-journal", "")
@@ -148,27 +157,21 @@ def test_a_database_that_cannot_be_used_is_told(case: Commands) -> None:
     case.run("init", "s.toml").gives(
         "a file that is no database",
         4,
-        (
-            "irrdesk: text.db: it is not the database of a registry, or one that was damaged or"
-            " changed in a way that irrdesk does not read: name another file, or restore a backup"
-        ),
+        of("text.db", UNREAD),
         "",
     )
     case.settings("irr.db")
     case.run("submit", "s.toml", "added.rpsl").gives(
         "a database that is missing",
         4,
-        "irrdesk: irr.db: there is no such database: `irrdesk init` or `irrdesk load` makes it",
+        of("irr.db", NO_DATABASE),
         "",
     )
     case.write("irr.db", "")
     case.run("submit", "s.toml", "added.rpsl").gives(
         "a database without a registry",
         4,
-        (
-            "irrdesk: irr.db: the database has no registry that can be read: restore a backup, or"
-            " make one by `irrdesk init` or `irrdesk load`"
-        ),
+        of("irr.db", NO_REGISTRY),
         "",
     )
     case.check("it stays empty, and has no log", "[ ! -s irr.db ] && [ ! -e irr.db-wal ]")
@@ -238,7 +241,7 @@ ln -s near/on irr.db""",
     case.run("submit", "s.toml", "added.rpsl").gives(
         "a registry of another source",
         4,
-        "irrdesk: irr.db: most rows of the database are of another source: correct `source`",
+        of("irr.db", OTHER_SOURCE),
         "",
     )
     case.settings("a\\u0000b")
@@ -413,19 +416,13 @@ def test_files_limits_and_other_processes_are_told(case: Commands) -> None:
     case.run("query", "s.toml", "AS1").gives(
         "a database that another process has open",
         4,
-        (
-            "irrdesk: irr.db: in use, most likely by the running server: ask it over its port, or"
-            " stop it first"
-        ),
+        of("irr.db", IN_USE),
         "",
     )
     case.run("init", "s.toml").gives(
         "a new registry where another process has one open",
         4,
-        (
-            "irrdesk: irr.db: in use, most likely by the running server: ask it over its port, or"
-            " stop it first"
-        ),
+        of("irr.db", IN_USE),
         "",
     )
     held.close()

@@ -16,9 +16,9 @@ from typing import Any, Self
 from checks.keeping import PATIENCE, QUERIES, SLACK, VERSIONED, running, said_by, wait_until
 from checks.model.queries import answer
 from checks.model.registry import Registry
-from checks.proxied import HOST, certificate, example, replaced
+from checks.proxied import HOST, example, replaced
 from checks.running import AUTH, TOP, Failure, Skipped, Tell, Trial, expect, write
-from checks.worlds import WORLD, Tool, World
+from checks.worlds import WORLD, Tool, World, certificate
 
 
 # A namespace of mounts of one's own (unshare).
@@ -115,7 +115,7 @@ def doors(trial: Trial, machines: Machines, tool: Tool) -> None:
     """A door on both machines, as docs/OPERATING.md has them, and HAProxy before the first, with
     the file of examples/; but without budgets, since one client stands for many, and on the second
     one with a port without TLS for it."""
-    cert, key = certificate(trial.work)
+    cert, key = certificate(trial.work, HOST)
     both = write(
         machines.folder, "both.pem", b"".join(Path(name).read_bytes() for name in (cert, key))
     )
@@ -159,7 +159,7 @@ def test_a_replica_on_another_machine_outlives_the_network(
         ]
         wanted = write(world.folder, "wanted", "\n".join(lines).encode())
         doors(trial, machines, tool)
-        environment = tool.environment | {"SSL_CERT_FILE": certificate(trial.work)[0]}
+        environment = tool.environment | {"SSL_CERT_FILE": certificate(trial.work, HOST)[0]}
         program = os.path.join(world.folder, "irrdesk")
         shutil.copy(trial.program, program)
 

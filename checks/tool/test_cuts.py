@@ -1,14 +1,14 @@
 """Answers whose end is missing: over TLS, and where a cut can't be told from an end."""
+
 import contextlib
 import socket
 import ssl
-import subprocess
 import threading
 from collections.abc import Callable, Iterator
-from pathlib import Path
 
 import pytest
 
+from checks import worlds
 from irr.errors import FAILED, Failure
 from irr.registry import replies
 from irr.registry.server import Server
@@ -20,29 +20,18 @@ TWO = ONE % 1 + ONE % 2
 
 
 @pytest.fixture(name="certificate", scope="module")
-def _certificate(tmp_path_factory: pytest.TempPathFactory) -> tuple[Path, Path]:
+def _certificate(tmp_path_factory: pytest.TempPathFactory) -> tuple[str, str]:
     """A certificate of 127.0.0.1, signed by itself, and its key."""
-    folder = tmp_path_factory.mktemp("tls")
-    paths = folder / "own.crt", folder / "own.key"
-    words = (
-        "req -x509 -newkey ec -pkeyopt ec_paramgen_curve:P-256 -nodes -days 2 -subj /CN=127.0.0.1"
-    )
-    subprocess.run(
-        ["openssl", *words.split(), "-addext", "subjectAltName=IP:127.0.0.1"]
-        + ["-keyout", str(paths[1]), "-out", str(paths[0])],
-        check=True,
-        capture_output=True,
-    )
-    return paths
+    return worlds.certificate(str(tmp_path_factory.mktemp("tls")))
 
 
 @contextlib.contextmanager
 def over_tls(
-    certificate: tuple[Path, Path], reply: bytes, has_end: bool, monkeypatch: pytest.MonkeyPatch
+    certificate: tuple[str, str], reply: bytes, has_end: bool, monkeypatch: pytest.MonkeyPatch
 ) -> Iterator[Server]:
     """A server that gives a reply over TLS, and ends with close_notify or without."""
     context = ssl.SSLContext(ssl.PROTOCOL_TLS_SERVER)
-    context.load_cert_chain(*map(str, certificate))
+    context.load_cert_chain(*certificate)
     listener = socket.create_server(("127.0.0.1", 0))
 
     def serve() -> None:
@@ -59,7 +48,7 @@ def over_tls(
                     held.close()
 
     threading.Thread(target=serve, daemon=True).start()
-    monkeypatch.setenv("SSL_CERT_FILE", str(certificate[0]))
+    monkeypatch.setenv("SSL_CERT_FILE", certificate[0])
     try:
         yield Server(f"https://127.0.0.1:{listener.getsockname()[1]}")
     finally:
@@ -75,7 +64,7 @@ CALLS: list[Callable[[Server], object]] = [
 @pytest.mark.parametrize("call", CALLS)
 @pytest.mark.parametrize("reply", [HEAD + b"\r\n" + TWO, HEAD + b"\r\n" + ONE % 1])
 def test_end_without_close_notify_is_a_cut(
-    certificate: tuple[Path, Path],
+    certificate: tuple[str, str],
     monkeypatch: pytest.MonkeyPatch,
     call: Callable[[Server], object],
     reply: bytes,
@@ -89,7 +78,7 @@ def test_end_without_close_notify_is_a_cut(
 
 
 def test_python_takes_no_such_end_for_a_good_one(
-    certificate: tuple[Path, Path], monkeypatch: pytest.MonkeyPatch
+    certificate: tuple[str, str], monkeypatch: pytest.MonkeyPatch
 ) -> None:
     """Some releases of Python name it SSLEOFError, which they suppress unless they are told."""
     with over_tls(certificate, HEAD, True, monkeypatch) as place:
@@ -99,13 +88,13 @@ def test_python_takes_no_such_end_for_a_good_one(
             assert connection.sock.suppress_ragged_eofs is False
 
 
-def test_cut_dump_over_tls(certificate: tuple[Path, Path], monkeypatch: pytest.MonkeyPatch) -> None:
+def test_cut_dump_over_tls(certificate: tuple[str, str], monkeypatch: pytest.MonkeyPatch) -> None:
     reply = HEAD + b"\r\n" + TWO + b"% end 2\n"
     with over_tls(certificate, reply, False, monkeypatch) as place, pytest.raises(Failure):
         list(place.dump())
 
 
-def test_cut_head_over_tls(certificate: tuple[Path, Path], monkeypatch: pytest.MonkeyPatch) -> None:
+def test_cut_head_over_tls(certificate: tuple[str, str], monkeypatch: pytest.MonkeyPatch) -> None:
     for reply in b"", HEAD[:20], HEAD:
         with over_tls(certificate, reply, False, monkeypatch) as place:
             with pytest.raises(Failure, match="cut off|does not speak HTTP|not a registry"):
@@ -113,7 +102,7 @@ def test_cut_head_over_tls(certificate: tuple[Path, Path], monkeypatch: pytest.M
 
 
 def test_answer_of_its_length_is_whole(
-    certificate: tuple[Path, Path], monkeypatch: pytest.MonkeyPatch
+    certificate: tuple[str, str], monkeypatch: pytest.MonkeyPatch
 ) -> None:
     """RFC 9112, 9.8: a message whose length was announced ends there, whatever the connection
     does."""

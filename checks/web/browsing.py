@@ -18,6 +18,7 @@ from selenium.webdriver.common.by import By
 
 from checks.running import TOP, Failure, expect
 from checks.serving import free_port
+from checks.worlds import certificate
 
 HOST = "irr.example.net"
 PATIENCE = 60
@@ -68,36 +69,14 @@ class Nginx:
 
     def __init__(self, folder: str, behind: dict[str, int]) -> None:
         self.folder = folder
-        subprocess.run(
-            [
-                "openssl",
-                "req",
-                "-x509",
-                "-newkey",
-                "rsa:2048",
-                "-nodes",
-                "-days",
-                "2",
-                "-subj",
-                f"/CN={HOST}",
-                "-keyout",
-                f"{folder}/key.pem",
-                "-out",
-                f"{folder}/cert.pem",
-            ],
-            check=True,
-            capture_output=True,
-        )
+        cert, key = certificate(folder, HOST)
         self.ports = {name: free_port() for name in [*behind, "tls"]}
         web = os.path.join(TOP, "web")
         servers = [
             SERVER.format(port=self.ports[name], ssl="", host=HOST, web=web, behind=port)
             for name, port in behind.items()
         ]
-        tls = (
-            f" ssl;\n        ssl_certificate {folder}/cert.pem;\n        ssl_certificate_key"
-            f" {folder}/key.pem"
-        )
+        tls = f" ssl;\n        ssl_certificate {cert};\n        ssl_certificate_key {key}"
         servers.append(
             SERVER.format(
                 port=self.ports["tls"],

@@ -5,6 +5,7 @@ import contextlib
 import os
 import random
 import resource
+import shutil
 import signal
 import subprocess
 import tempfile
@@ -79,6 +80,12 @@ class Trial:
 
     def run(self, folder: str, *words: str | bytes, **options: Any) -> Ran:
         return run([self.program, *words], folder, **options)
+
+
+def needs(command: str) -> pytest.MarkDecorator:
+    """Skips a check, or all of a module, where this command is not here."""
+    path = shutil.which(command, path=os.environ["PATH"] + ":/usr/sbin")
+    return pytest.mark.skipif(path is None, reason=f"{command} is not here")
 
 
 def cases_of(
@@ -239,6 +246,12 @@ def expect(found: Any, wanted: Any, what: str) -> None:
 def short(value: bytes | str | bool) -> str:
     text = repr(value)
     return text if len(text) <= 600 else f"{text[:300]} .. {text[-300:]}"
+
+
+def check_integrity(folder: str, what: str = "the database") -> None:
+    """What sqlite3 says of the database of a folder with its log, as they were left."""
+    ran = run(["sqlite3", "-batch", "irr.db", "PRAGMA integrity_check"], folder)
+    expect((ran.status, ran.printed, ran.said), (0, b"ok\n", b""), f"{what}: integrity_check")
 
 
 def is_fault(ran: Ran) -> bool:

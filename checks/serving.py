@@ -50,6 +50,13 @@ def free_port() -> int:
     raise Failure("every port of this process is taken")
 
 
+def accepted(listener: socket.socket) -> Iterator[socket.socket]:
+    """Who connects, one after the other, until nobody can any more."""
+    with contextlib.suppress(OSError):
+        while True:
+            yield listener.accept()[0]
+
+
 class Listening:
     """A port that nobody else can listen on: this one, or any."""
 

@@ -1,8 +1,5 @@
 """Tables of version 1, laid by sqlite3 with the texts of the program's own, and their migration."""
 
-import shutil
-
-import pytest
 
 from checks.commands import AUTH_LINE, OTHER_SOURCE, UNREAD, Commands, of
 from checks.databases.rows import (
@@ -23,8 +20,9 @@ from checks.databases.rows import (
     other_rows,
     unnamed,
 )
+from checks.running import needs
 
-pytestmark = pytest.mark.skipif(shutil.which("sqlite3") is None, reason="sqlite3 is not here")
+pytestmark = needs("sqlite3")
 IN_MEMORY, SECONDS = True, 20
 NO_OLD_TABLES = "irrdesk: DATABASE: the database has no tables of version 1: look at `store`"
 OLD_CHANGES = [

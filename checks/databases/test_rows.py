@@ -1,9 +1,6 @@
 """Databases that the program wrote, read by the stock sqlite3, and what the program says of them
 once sqlite3 has changed them."""
 
-import shutil
-
-import pytest
 
 from checks.commands import (
     ADDRESSES,
@@ -29,8 +26,9 @@ from checks.databases.rows import (
     other_rows,
     unnamed,
 )
+from checks.running import needs
 
-pytestmark = pytest.mark.skipif(shutil.which("sqlite3") is None, reason="sqlite3 is not here")
+pytestmark = needs("sqlite3")
 IN_MEMORY, SECONDS = True, 20
 # What the inetnum of the examples is, as it is answered, and in the rows; TEN stands for that
 # below.

@@ -1,9 +1,6 @@
 """Which files are taken, by what sqlite3 makes before and after the three tables
 (docs/DECISIONS.md, Tables)."""
 
-import shutil
-
-import pytest
 
 from checks.commands import NO_REGISTRY, Commands, of
 from checks.databases.rows import (
@@ -17,8 +14,9 @@ from checks.databases.rows import (
     mended,
     obstacle,
 )
+from checks.running import needs
 
-pytestmark = pytest.mark.skipif(shutil.which("sqlite3") is None, reason="sqlite3 is not here")
+pytestmark = needs("sqlite3")
 IN_MEMORY, SECONDS = True, 20
 OTHER_TABLES = (
     "irrdesk: DATABASE: the database has other tables, or refuses those of a registry: take a"

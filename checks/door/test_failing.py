@@ -14,7 +14,7 @@ import pytest
 from checks.door import worlds
 from checks.door.opened import HEAD, SPACE, Opened, Registries, read_all, wait_until
 from checks.running import Each, Trial, expect
-from checks.serving import free_port
+from checks.serving import accepted, free_port
 
 SECONDS = 60
 COUNT = 30_000
@@ -43,11 +43,7 @@ class Halves:
         threading.Thread(target=self.serve, daemon=True).start()
 
     def serve(self) -> None:
-        while True:
-            try:
-                peer, _ = self.listener.accept()
-            except OSError:
-                return
+        for peer in accepted(self.listener):
             line = peer.recv(4_096)
             if line.startswith(b"less 0.0.0.0/0"):
                 peer.sendall(worlds.ALL + b"\n")

@@ -3,7 +3,6 @@
 import shutil
 import socket
 import subprocess
-from collections.abc import Iterator
 
 import pytest
 
@@ -100,18 +99,6 @@ FORMATS: dict[str, list[str]] = {
     "numbers": ["-f", "1"],
     "a set of numbers": ["-t", "-b"],
 }
-
-
-@pytest.fixture(scope="module")
-def registries(trial: Trial) -> Iterator[Registries]:
-    with Registries(trial, "registries", worlds.DUMP) as made:
-        yield made
-
-
-@pytest.fixture(scope="module")
-def door(trial: Trial, registries: Registries) -> Iterator[Opened]:
-    with Opened(trial, "door", registries.words) as opened:
-        yield opened
 
 
 def test_each_question_has_its_reply(door: Opened, each: Each) -> None:

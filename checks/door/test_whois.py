@@ -4,13 +4,12 @@ flags."""
 import shutil
 import socket
 import subprocess
-from collections.abc import Iterator
 
 import pytest
 
 from checks.door import worlds
 from checks.door.opened import Opened, Registries, read_all
-from checks.running import Each, Trial, expect
+from checks.running import Each, expect
 from irr.rpsl import grammar
 
 NATIVE = [
@@ -97,18 +96,6 @@ ERRORS = {
     "-T": 111,
     "-g TEST:3:1-LAST": 402,
 }
-
-
-@pytest.fixture(scope="module")
-def registries(trial: Trial) -> Iterator[Registries]:
-    with Registries(trial, "registries", worlds.DUMP) as made:
-        yield made
-
-
-@pytest.fixture(scope="module")
-def door(trial: Trial, registries: Registries) -> Iterator[Opened]:
-    with Opened(trial, "door", registries.words) as opened:
-        yield opened
 
 
 def objects(answer: bytes) -> list[bytes]:

@@ -27,7 +27,7 @@ from checks.running import (
     write,
     write_settings,
 )
-from checks.serving import Server
+from checks.serving import Server, accepted
 from checks.worlds import COUNT, Tool
 
 Prefixes = set[tuple[int, int]]
@@ -298,11 +298,7 @@ class Canned:
         self.listener = socket.create_server(("127.0.0.1", 0))
 
     def serve(self) -> None:
-        while True:
-            try:
-                peer, _ = self.listener.accept()
-            except OSError:
-                return
+        for peer in accepted(self.listener):
             with peer:
                 asked = peer.recv(65_536)
                 is_http = asked.startswith(b"GET ")

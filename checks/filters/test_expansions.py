@@ -8,7 +8,6 @@ import itertools
 import os
 import shutil
 
-import pytest
 from hypothesis import given, settings
 from hypothesis import strategies as st
 
@@ -17,6 +16,7 @@ from checks.filters import registries
 from checks.filters.registries import taken
 from checks.models import Expansion
 from checks.rpsl import Registry
+from checks.running import needs
 from irr.commands import filter as filters
 from irr.errors import DONE, REFUSED, Failure
 from irr.filters import lists
@@ -91,7 +91,7 @@ def need_read(router: str, text: str, wanted: int) -> None:
     assert models.bits_of(found) == wanted
 
 
-@pytest.mark.skipif(not shutil.which("bgpq4"), reason="bgpq4 is not here")
+@needs("bgpq4")
 def test_bgpq4_is_the_expansion(program: str) -> None:
     seen = {"whole": 0, "refused": 0}
     turns = itertools.cycle((router, options) for options in OPTIONS for router in ROUTERS)
@@ -118,7 +118,7 @@ def test_bgpq4_is_the_expansion(program: str) -> None:
     assert min(seen.values()) > 3, seen
 
 
-@pytest.mark.skipif(not shutil.which("bgpq4"), reason="bgpq4 is not here")
+@needs("bgpq4")
 def test_bgpq4_by_steps_is_the_expansion_of_numbers(program: str) -> None:
     """With -L bgpq4 asks for the members of each as-set, and for the routes of each AS: a route
     that names an as-set by `member-of` is not in it then."""
@@ -147,7 +147,7 @@ def test_bgpq4_by_steps_is_the_expansion_of_numbers(program: str) -> None:
     assert min(seen.values()) > 3, seen
 
 
-@pytest.mark.skipif(not shutil.which("bgpq4"), reason="bgpq4 is not here")
+@needs("bgpq4")
 def test_bgpq4_leaves_out_what_is_excepted(program: str) -> None:
     """With EXCEPT bgpq4 asks step by step too, and takes out texts: members that are spelled with
     leading zeros or in small letters have to be answered as everybody writes them."""

@@ -2,7 +2,6 @@
 
 import os
 import re
-import shutil
 import sys
 from collections.abc import Iterator
 from pathlib import Path
@@ -13,7 +12,7 @@ from checks import rpsl
 from checks.door.opened import Bridge
 from checks.filters import registries
 from checks.rpsl import Object, Registry
-from checks.running import TOP
+from checks.running import TOP, needs
 from checks.worlds import Tool
 from irr.registry.server import Server
 
@@ -62,13 +61,7 @@ def by_bgpq4(port: int) -> str:
     return text.replace("-h 127.0.0.1 ", f"-h 127.0.0.1:{port} ")
 
 
-needs_bird = pytest.mark.skipif(
-    not shutil.which("bird", path=os.environ["PATH"] + ":/usr/sbin"), reason="BIRD is not here"
-)
-needs_bgpq4 = pytest.mark.skipif(not shutil.which("bgpq4"), reason="bgpq4 is not here")
-
-
-@needs_bird
+@needs("bird")
 def test_the_shipped_filter_is_not_made_without_a_set_that_is_reached(
     tool: Tool, tmp_path: Path, half: Server
 ) -> None:
@@ -77,7 +70,7 @@ def test_the_shipped_filter_is_not_made_without_a_set_that_is_reached(
     assert b"not registered: AS64496:AS-GONE" in said
 
 
-@needs_bird
+@needs("bird")
 def test_the_shipped_filter_is_made_of_a_whole_set(
     tool: Tool, tmp_path: Path, program: str
 ) -> None:
@@ -90,8 +83,8 @@ def test_the_shipped_filter_is_made_of_a_whole_set(
     )
 
 
-@needs_bird
-@needs_bgpq4
+@needs("bird")
+@needs("bgpq4")
 def test_the_shipped_command_of_bgpq4_needs_a_strict_door(
     tool: Tool, tmp_path: Path, half: Server
 ) -> None:

@@ -9,8 +9,6 @@ import subprocess
 from collections.abc import Callable
 from typing import Any
 
-import pytest
-
 from checks.model.queries import answer
 from checks.model.registry import Registry, load
 from checks.running import (
@@ -24,6 +22,7 @@ from checks.running import (
     expect_ended,
     is_answer,
     is_fault,
+    needs,
     short,
     write,
     write_settings,
@@ -31,7 +30,7 @@ from checks.running import (
 from checks.texts import changing_items, digest, fronts, item, last_of
 from checks.worked import STORE_FAILED, STORE_FULL
 
-pytestmark = pytest.mark.skipif(shutil.which("sqlite3") is None, reason="sqlite3 is not here")
+pytestmark = needs("sqlite3")
 SECONDS = 65
 
 
@@ -462,15 +461,20 @@ def changed_copy(trial: Trial, base: str, name: str, file: str, place: int, byte
     return folder
 
 
+def before_damage(trial: Trial, name: str) -> tuple[random.Random, str, Damaged]:
+    """Chance, the folder of a registry by it, and what is said of damage to that."""
+    chance = trial.chance(name)
+    texts = changing_items(chance, 300, [0, 20, 20, 300, 6_000])
+    base = made(trial, name, texts)
+    write(base, "new.rpsl", NEW)
+    return chance, base, Damaged(trial, last_of(texts), {})
+
+
 def test_of_a_changed_byte_nothing_wrong_is_answered(trial: Trial, tell: Tell) -> None:
     """Single bytes of the database: anywhere, in the heads of pages, and in the texts of
     objects."""
     count = trial.pick(60, 500)
-    chance = trial.chance("bytes")
-    texts = changing_items(chance, 300, [0, 20, 20, 300, 6_000])
-    base = made(trial, "bytes", texts)
-    write(base, "new.rpsl", NEW)
-    damaged = Damaged(trial, last_of(texts), {})
+    chance, base, damaged = before_damage(trial, "bytes")
     content = read_file(base, "irr.db")
     page = int.from_bytes(content[16:18], "big")
     digits = [
@@ -559,11 +563,7 @@ def killed_before_end(trial: Trial, folder: str, count: int) -> None:
 def test_of_a_file_cut_short_nothing_wrong_is_answered(trial: Trial, tell: Tell) -> None:
     """Files cut short, with bytes behind their end, and with a page of zeros."""
     count = trial.pick(9, 100)
-    chance = trial.chance("cut")
-    texts = changing_items(chance, 300, [0, 20, 20, 300, 6_000])
-    base = made(trial, "cut", texts)
-    write(base, "new.rpsl", NEW)
-    damaged = Damaged(trial, last_of(texts), {})
+    chance, base, damaged = before_damage(trial, "cut")
     size = len(read_file(base, "irr.db"))
     for turn in range(count):
         place = [

@@ -29,6 +29,8 @@ WRITING = [
     ("room", "on"),
     ("input", "once"),
 ]
+# And in one that reads it.
+READING = [("memory", "once"), ("memory", "on"), ("disk", "once"), ("output", "once")]
 
 
 def sweep(
@@ -295,12 +297,7 @@ def test_an_answer_or_dump_is_whole_or_its_fault_is_told(
         words, right = ["query", "s.toml", *query.decode().split()], answer(
             ASKED.registry, query, LIMIT
         )
-        for kind, how in [
-            ("memory", "once"),
-            ("memory", "on"),
-            ("disk", "once"),
-            ("output", "once"),
-        ]:
+        for kind, how in READING:
             sweep(
                 failing,
                 each,
@@ -317,12 +314,7 @@ def test_an_answer_or_dump_is_whole_or_its_fault_is_told(
         (["dump", "s.toml", "--full"], rows),
         (["dump", "s.toml"], ASKED.registry.dump(full=False)),
     ]:
-        for kind, how in [
-            ("memory", "once"),
-            ("memory", "on"),
-            ("disk", "once"),
-            ("output", "once"),
-        ]:
+        for kind, how in READING:
             sweep(
                 failing,
                 each,

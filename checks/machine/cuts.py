@@ -9,7 +9,17 @@ import tempfile
 from checks.failing import NEVER_MADE
 from checks.machine.drive import Drive, Log, done, mounted
 from checks.old import old_items, write_old
-from checks.running import TOP, Failure, Trial, expect, memory_folder, short, write, write_settings
+from checks.running import (
+    TOP,
+    Failure,
+    Trial,
+    check_integrity,
+    expect,
+    memory_folder,
+    short,
+    write,
+    write_settings,
+)
 from checks.sums import sum_of
 from checks.texts import changing_items, last_of, summed_fronts
 
@@ -182,7 +192,7 @@ class Cuts:
             b"the tables of the database are of version 1" in ran.said,
         )
         if ran.status == 0 or is_old:
-            self.check_integrity(copy, what)
+            check_integrity(copy, what)
         shutil.rmtree(copy)
         if work.kind == "submit":
             expect((ran.status, ran.said), (0, b""), f"{what}: the dump")
@@ -214,21 +224,4 @@ class Cuts:
             sum_of(after.printed) == self.wanted[work.kind],
             True,
             f"{what}: whether the rows are whole then",
-        )
-
-    @staticmethod
-    def check_integrity(folder: str, what: str) -> None:
-        """What sqlite3 says of a database that the program has not opened since."""
-        made = subprocess.run(
-            ["sqlite3", "-batch", "irr.db", "PRAGMA integrity_check"],
-            cwd=folder,
-            capture_output=True,
-            text=True,
-            timeout=300,
-            check=False,
-        )
-        expect(
-            (made.returncode, made.stdout, made.stderr),
-            (0, "ok\n", ""),
-            f"{what}: PRAGMA integrity_check",
         )

@@ -12,8 +12,6 @@ import time
 from collections.abc import Iterator
 from typing import Any
 
-import pytest
-
 from checks.failing import NEVER_MADE
 from checks.model.queries import answer
 from checks.model.registry import load
@@ -23,8 +21,10 @@ from checks.running import (
     Ran,
     Tell,
     Trial,
+    check_integrity,
     difference,
     expect,
+    needs,
     short,
     write,
     write_settings,
@@ -32,7 +32,7 @@ from checks.running import (
 from checks.serving import Server, read_all
 from checks.texts import changing_items, digest, fronts, last_of
 
-pytestmark = pytest.mark.skipif(shutil.which("sqlite3") is None, reason="sqlite3 is not here")
+pytestmark = needs("sqlite3")
 SECONDS = 20
 
 SET_PIPE_SIZE = 1031
@@ -78,19 +78,6 @@ def full_dump(trial: Trial, folder: str) -> Ran:
     return trial.run(folder, "dump", "s.toml", "--full", timeout=120)
 
 
-def check_integrity(folder: str) -> None:
-    """What sqlite3 says of the file with its log, as they were left."""
-    made = subprocess.run(
-        ["sqlite3", "-batch", "irr.db", "PRAGMA integrity_check"],
-        cwd=folder,
-        capture_output=True,
-        text=True,
-        timeout=120,
-        check=False,
-    )
-    expect((made.returncode, made.stdout, made.stderr), (0, "ok\n", ""), "PRAGMA integrity_check")
-
-
 def check_copy(folder: str) -> None:
     """The same of a copy, which the program has not opened since."""
     copy = folder + "-copy"
@@ -126,14 +113,19 @@ def timed(trial: Trial, folder: str, *words: str) -> float:
     return time.monotonic() - start
 
 
+def before_submission(trial: Trial, name: str, texts: list[bytes]) -> str:
+    """A new registry with the file of a submission."""
+    base = made_registry(trial, name)
+    write(base, "items.rpsl", b"\n".join(texts))
+    return base
+
+
 def test_of_a_killed_submission_what_was_told_stands(trial: Trial, tell: Tell) -> None:
     """Kills of a submission: by turns after a line, and after some time."""
     count, kills = trial.pick(400, 2_000), trial.pick(20, 200)
     chance = trial.chance("submit")
     texts = changing_items(chance, count, SIZES)
-    found = fronts(texts)
-    base = made_registry(trial, "submit")
-    write(base, "items.rpsl", b"\n".join(texts))
+    found, base = fronts(texts), before_submission(trial, "submit", texts)
     whole = copied(trial, base, "submit-whole")
     took = timed(trial, whole, "submit", "s.toml", "items.rpsl")
     expect(
@@ -224,9 +216,7 @@ def test_a_copy_of_a_submission_held_still_has_what_was_told(trial: Trial, tell:
     count, copies = trial.pick(400, 2_000), trial.pick(10, 100)
     chance = trial.chance("copies")
     texts = changing_items(chance, count, SIZES)
-    found = fronts(texts)
-    base = made_registry(trial, "copies")
-    write(base, "items.rpsl", b"\n".join(texts))
+    found, base = fronts(texts), before_submission(trial, "copies", texts)
     pause = (
         timed(trial, copied(trial, base, "copies-whole"), "submit", "s.toml", "items.rpsl") / copies
     )

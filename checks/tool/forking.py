@@ -8,7 +8,6 @@ import sys
 import tempfile
 import traceback
 
-from checks.proxied import Haproxy, Nginx
 from checks.running import Ran
 from checks.worlds import Tool
 from irr.main import main
@@ -33,7 +32,7 @@ def begun(words: list[str], environment: dict[str, str], streams: list[int]) -> 
         tempfile.tempdir = None
         status = main(words)
     except SystemExit as ended:
-        status = ended.code
+        status = ended.code if isinstance(ended.code, int) else int(ended.code is not None)
     except BaseException:
         traceback.print_exc()
     finally:
@@ -58,11 +57,11 @@ class Forks:
     """The port at which each connection is handed to a fork, as the socket unit hands it to a
     command, while a `with` block runs."""
 
-    def __init__(self, tool: Tool, words: str) -> None:
+    def __init__(self, tool: Tool, words: list[str]) -> None:
         self.tool, self.words = tool, words
         self.listener = socket.create_server(("127.0.0.1", 0), backlog=64)
 
-    def __enter__(self) -> Nginx | Haproxy:
+    def __enter__(self) -> int:
         self.number = os.fork()
         if not self.number:
             try:

@@ -3,6 +3,7 @@
 import io
 import os
 import tempfile
+from collections.abc import Iterable
 from typing import Any
 
 from irr.migrate import conversion, parting
@@ -13,8 +14,9 @@ from irr.rpsl import syntax
 AUTH = "SHA256-PW a:" + "0" * 64
 
 
-def mended(text: bytes, off: tuple[()] | list[str] = ()) -> str | tuple[bytes, set[str]]:
-    """The text that a paragraph becomes and the kinds of what was mended, or why it is left out."""
+def mended(text: bytes, off: Iterable[str] = ()) -> Any:
+    """The text that a paragraph becomes and the kinds of what was mended, as a pair, or why it is left
+    out."""
     (block,) = syntax.blocks([text])
     (part,) = parting.parts(block)
     try:
@@ -26,8 +28,8 @@ def mended(text: bytes, off: tuple[()] | list[str] = ()) -> str | tuple[bytes, s
 
 def made(
     *texts: bytes,
-    off: tuple[()] | list[str] = (),
-    auths: None = None,
+    off: Iterable[str] = (),
+    auths: dict[str, list[bytes]] | None = None,
     left_out: io.BytesIO | None = None,
     keeps_scoped: bool = False,
 ) -> tuple[bytes, Tally]:
@@ -36,8 +38,8 @@ def made(
         paths = []
         for number, text in enumerate(texts):
             paths.append(os.path.join(folder, str(number)))
-            with open(paths[-1], "wb") as out:
-                out.write(text)
+            with open(paths[-1], "wb") as file:
+                file.write(text)
         tally = Tally(left_out)
         found = conversion.Import(
             Mender("TEST", "ROOT-MNT", frozenset(off)),
@@ -70,7 +72,7 @@ def listed(*texts: bytes, **more: Any) -> list[str]:
     return out.getvalue().decode().splitlines()
 
 
-def left_out(*texts: bytes, **more: bool) -> list[str]:
+def left_out(*texts: bytes, **more: Any) -> list[str]:
     """What is left out or dropped, without the words which of them it is."""
     lines = [line.partition("\t") for line in listed(*texts, **more)]
     return [rest for what, _, rest in lines if what in ("left out", "dropped from lists")]

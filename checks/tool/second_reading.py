@@ -1,8 +1,9 @@
 """A second reading of dumps, from the rules that docs/MOVING.md has and nothing of the tool: which
 lines are one object, why one is left out, and what each item of its lists becomes."""
+
 import ipaddress
 import re
-from typing import Iterator, NamedTuple
+from typing import Any, Iterator, NamedTuple
 
 CLASSES = "mntner as-block aut-num inetnum route as-set route-set".split()
 OTHERS = """person role route6 inet6num inet-rtr filter-set peering-set rtr-set key-cert domain
@@ -152,7 +153,7 @@ def set_name(text: str) -> tuple[str, str] | None:
     return (kind, ":".join(parts)) if kind else None
 
 
-def key_of(piece: Piece) -> object | None:
+def key_of(piece: Piece) -> Any:
     """What tells an object from others of its class; None where it can't be read."""
     value, kind = meaning(piece.attributes[0][1]), piece.kind
     if kind == "mntner":
@@ -286,7 +287,7 @@ class Registry:
         self.pieces = pieces(dump)
         self.causes: dict[int, str] = {}
         self.gone: list[tuple[int, str, str]] = []
-        taken: dict[tuple[str, object], Piece] = {}
+        taken: dict[tuple[str, Any], Piece] = {}
         is_last_cut = is_cut(dump, self.pieces)
         for piece in self.pieces:
             cause = refusal(piece, is_last_cut and piece is self.pieces[-1])
@@ -307,7 +308,7 @@ class Registry:
         }
         self.objects = {place: self.object_of(piece) for place, piece in taken.items()}
 
-    def leave_out_crossing(self, taken: dict[tuple[str, object], Piece], kind: str) -> None:
+    def leave_out_crossing(self, taken: dict[tuple[str, Any], Piece], kind: str) -> None:
         stay: list[tuple[int, int]] = []
         for place, piece in list(taken.items()):
             if place[0] == kind and isinstance(place[1], tuple):
@@ -384,7 +385,7 @@ class Registry:
     def is_imported(self, scope: str, item: str) -> bool:
         """Whether what is named with a registry is that registry's."""
         named = set_name(item.partition("^")[0])
-        if named in ("AS-ANY", "RS-ANY"):
+        if named and named[1] in ("AS-ANY", "RS-ANY"):
             return set(self.sources.values()) == {scope}
         own = self.sources.get(named, scope) if named else scope
         return own == scope and scope in self.sources.values()

@@ -1,5 +1,6 @@
 """What `irr query`, `irr dump` and the files that they write say of nothing, of `-`, and of the
 umask."""
+
 import argparse
 import os
 import stat
@@ -65,7 +66,8 @@ def test_dump_to_standard_output(
     tmp_path: Path, monkeypatch: pytest.MonkeyPatch, capsysbinary: pytest.CaptureFixture[bytes]
 ) -> None:
     monkeypatch.chdir(tmp_path)
-    for words in ["-o", "-"], ["--output", "-"], []:
+    spelled: list[list[str]] = [["-o", "-"], ["--output", "-"], []]
+    for words in spelled:
         assert run(dump, *words) == DONE
         assert capsysbinary.readouterr().out == DUMP
     assert not list(tmp_path.iterdir())

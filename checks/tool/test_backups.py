@@ -110,7 +110,7 @@ def as_its_user(tool: Tool, trial: Trial) -> None:
     write_settings(folder)
     os.chown(folder, user, user)
     tool = tool.at(IRRDESK=program, TMPDIR=folder)
-    options = {
+    options: dict[str, Any] = {
         "cwd": folder,
         "env": tool.environment,
         "user": user,
@@ -217,7 +217,7 @@ def test_a_backup_that_fails_says_so_and_leaves_nothing(
             f"{longer} WHERE class = 4 AND okey = (SELECT min(okey) FROM object WHERE class = 4)"
         )
         other.commit()
-    kept = set(os.listdir(folder))
+    before = set(os.listdir(folder))
     for turn in range(2):
         time.sleep(1.1)
         ran = tool("backup", "--settings", settings, "--keep", "1", folder, folder=world.folder)
@@ -230,9 +230,9 @@ def test_a_backup_that_fails_says_so_and_leaves_nothing(
             ),
             "a long row",
         )
-        new = set(os.listdir(folder)) - kept
+        new = set(os.listdir(folder)) - before
         expect(
-            (len(new), kept <= set(os.listdir(folder))),
+            (len(new), before <= set(os.listdir(folder))),
             (1, True),
             f"what is kept after backup {turn} without a dump",
         )
@@ -300,14 +300,12 @@ def test_a_full_or_read_only_disk_costs_nothing_that_was_kept(
         with mounted(folder := trial.place("view") + "/of", "--bind", world.folder):
             remount(folder, "bind,ro")
             write_settings(world.folder, store=os.path.join(folder, "irr.db"), name="view.toml")
-            for status, words, pattern in [
+            copy = ["--copy", os.path.join(folder, "irr.db")]
+            cases: list[tuple[int, list[str], str]] = [
                 (4, [], READ_ONLY),
-                (
-                    4,
-                    ["--copy", os.path.join(folder, "irr.db")],
-                    ".*another process has the database open; .*",
-                ),
-            ]:
+                (4, copy, ".*another process has the database open; .*"),
+            ]
+            for status, words, pattern in cases:
                 ran = tool(
                     "backup",
                     "--settings",

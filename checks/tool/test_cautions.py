@@ -1,4 +1,5 @@
 """What is seen in a submission before it is sent."""
+
 from types import SimpleNamespace
 from typing import Any, Iterator
 

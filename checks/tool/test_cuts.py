@@ -85,7 +85,7 @@ def test_python_takes_no_such_end_for_a_good_one(
         connection = place.connect(replies.ANSWER)
         with contextlib.closing(connection):
             assert isinstance(connection.sock, ssl.SSLSocket)
-            assert connection.sock.suppress_ragged_eofs is False
+            assert getattr(connection.sock, "suppress_ragged_eofs") is False
 
 
 def test_cut_dump_over_tls(certificate: tuple[str, str], monkeypatch: pytest.MonkeyPatch) -> None:

@@ -1,4 +1,5 @@
 """What `irr delegate` writes is taken, and what it tells lets the new maintainer go on."""
+
 import contextlib
 import hashlib
 import io
@@ -16,7 +17,6 @@ import pytest
 
 from checks.running import PATIENCE
 from checks.serving import free_port
-
 from irr.main import main
 
 LONG = bool(os.environ.get("CHECKS_LONG"))

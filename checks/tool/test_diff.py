@@ -1,4 +1,5 @@
 """What `irr diff` says of items, beside what is registered."""
+
 from types import SimpleNamespace
 from typing import Any
 

@@ -5,6 +5,7 @@ import re
 import shutil
 from collections.abc import Iterator
 from types import SimpleNamespace
+from typing import Any
 
 from checks.chances import any_submission
 from checks.model.registry import Registry, Secrets
@@ -67,7 +68,7 @@ def test_dry_runs_of_chance_say_what_comes(trial: Trial, tool: Tool, tell: Tell)
 
 def owners(text: bytes, model: Registry) -> Iterator[str]:
     """Whose each password of a submission is, in the order in which they come."""
-    secrets = {}
+    secrets: dict[bytes, str] = {}
     for block in blocks(text):
         attributes = read(block)
         for name, lines in [] if isinstance(attributes, str) else attributes:
@@ -156,8 +157,11 @@ def test_hidden_lines_are_unknown_until_an_item_is_taken() -> None:
     report = answers.Report().read(
         b"1 mntner A-MNT: refused E11\n2 mntner A-MNT: changed\n3 mntner A-MNT: unchanged\n"
     )
+    sender: Any = SimpleNamespace(
+        send=lambda items: [Reported(item, line, False) for line in report]
+    )
     dry_run.show(
-        SimpleNamespace(send=lambda items: [Reported(item, line, False) for line in report]),
+        sender,
         [item] * 3,
         {keys.key_of(item.object()): dry_run.public(item.object()).text()},
         SimpleNamespace(show=lambda reported, word: words.append(word)),

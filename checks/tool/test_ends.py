@@ -1,4 +1,5 @@
 """How irr ends where what it was given can't be read, or what it prints can't be written."""
+
 import os
 import signal
 import subprocess

@@ -103,14 +103,14 @@ def test_bad_servers_end_as_one_line_and_a_status(trial: Trial, tool: Tool, tell
             ("dump", GOOD + OBJECT + b"% end 2\n"),
             ("dump", GOOD + OBJECT + b"% end 1"),
         ]
-        for command, reply in cuts:
+        for name, reply in cuts:
             with answering(reply) as url:
-                words = [command, "AS1"] if command == "query" else [command, "-o", kept]
+                given = [name, "AS1"] if name == "query" else [name, "-o", kept]
                 expect_line(
-                    tool.at(IRR_SERVER=url)(*words),
+                    tool.at(IRR_SERVER=url)(*given),
                     5,
                     ".*was cut off; .*again",
-                    f"{command} of {reply[len(GOOD):]!r}",
+                    f"{name} of {reply[len(GOOD):]!r}",
                 )
         announced = [
             b"Content-Length: %d\r\n" % (len(OBJECT) - 1),
@@ -232,11 +232,11 @@ def test_bad_servers_end_as_one_line_and_a_status(trial: Trial, tool: Tool, tell
                 url,
             )
             expect(b"secret" in ran.said, False, "whether a password of an address is shown")
-        for given, words in (["-s", ""], "-s: the address is empty; give one.*"), (
-            [],
-            "IRR_SERVER: the address is empty; give one.*",
-        ):
-            for command in [("query", *given, "AS1"), ("submit", *given, place)]:
+        for option, words in [
+            (("-s", ""), "-s: the address is empty; give one.*"),
+            ((), "IRR_SERVER: the address is empty; give one.*"),
+        ]:
+            for command in [("query", *option, "AS1"), ("submit", *option, place)]:
                 expect_line(
                     tool.at(IRR_SERVER="")(*command), 2, words, f"{command} with an empty address"
                 )
@@ -277,7 +277,7 @@ def test_a_busy_server_is_asked_again_and_not_for_ever(
                 tool.at(IRR_SERVER=url)("submit", place),
                 5,
                 f"{url}: status 429: .*; ask {words}",
-                f"Retry-After: {after}",
+                f"Retry-After: {after!r}",
             )
     tell("429 and 503")
 
@@ -404,7 +404,7 @@ def test_bad_files_and_words_end_as_one_line_that_says_what_to_do(
             ".*none/x: it cannot be written: .*; .*",
             "a folder that is not there",
         )
-        for words in [
+        for bad in [
             ["nonsense"],
             ["qury", "x"],
             ["query"],
@@ -417,13 +417,13 @@ def test_bad_files_and_words_end_as_one_line_that_says_what_to_do(
             ["auth", "--ask", "--save", "x"],
             ["dump", "x"],
         ]:
-            expect_line(world.tool(*words), 2, ".*", " ".join(words))
+            expect_line(world.tool(*bad), 2, ".*", " ".join(bad))
         expect(
             world.tool("qury").said,
             b"irr: qury: there is no such command; did you mean `irr query`?\n",
             "a command that is mistyped",
         )
-        for words, name in [
+        for spelled, name in [
             (["dump"], "irr dump"),
             (["query", "--help"], "irr query"),
             (["help"], "irr"),
@@ -431,14 +431,16 @@ def test_bad_files_and_words_end_as_one_line_that_says_what_to_do(
         ]:
             with open("/dev/full", "wb") as full:
                 ran = run(
-                    [sys.executable, tool.path, *words],
+                    [sys.executable, tool.path, *spelled],
                     folder,
                     output=full,
                     environment=world.tool.environment,
                 )
             line = f"{name}: standard output: no space left on device; look where it goes to\n"
             expect(
-                (ran.status, ran.said.decode()), (5, line), f"standard output that is full, {words}"
+                (ran.status, ran.said.decode()),
+                (5, line),
+                f"standard output that is full, {spelled}",
             )
         ran = run(
             ["sh", "-c", f"exec '{sys.executable}' '{tool.path}' submit - <&-"],

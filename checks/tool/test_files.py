@@ -146,7 +146,7 @@ class Files(unittest.TestCase):
                     f"/dev/fd/{number}",
                     f"/proc/self/fd/{number}",
                     f"/proc/{os.getpid()}/fd/{number}",
-                    link,
+                    str(link),
                     f"/dev/../dev/fd/{number}",
                 ):
                     with self.assertRaisesRegex(Failure, "not a file that can be replaced; give"):
@@ -163,7 +163,7 @@ class Files(unittest.TestCase):
             folder.mkdir()
         for link, lead in [
             ("here/a", "../there/deep"),
-            ("here/b", there),
+            ("here/b", str(there)),
             ("here/c", "a/../x"),
             ("here/d", "none"),
             ("here/e", "./b//./y"),

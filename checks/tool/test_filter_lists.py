@@ -1,4 +1,5 @@
 """What lists of routers take, and how much of an older list a new one has lost."""
+
 import pytest
 
 from irr.filters.lists import entries, loss

@@ -1,4 +1,5 @@
 """Which ranges a filter takes, and how routers are told their lengths."""
+
 import argparse
 
 import pytest

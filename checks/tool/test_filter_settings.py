@@ -1,5 +1,6 @@
 """The settings of filters: what a command says, what is no filter, and the guard against a list
 that shrinks."""
+
 import os
 import shlex
 import sys

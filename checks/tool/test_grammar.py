@@ -1,4 +1,5 @@
 """The lines and words of what is wrong with an object."""
+
 import re
 
 import pytest

@@ -1,4 +1,5 @@
 """What of an object is left to whom, where it is handed over or held."""
+
 from types import SimpleNamespace
 from typing import cast
 

@@ -20,6 +20,7 @@ from checks.tool.importing import AUTH, obj
 from irr import main
 from irr.errors import FAILED, REFUSED
 from irr.migrate import dumps
+from irr.system import files
 
 TOOLS = Path(__file__).resolve().parents[2] / "tools"
 GOOD = obj("aut-num: AS1", "mnt-by: A-MNT", "source: RIPE")
@@ -86,7 +87,8 @@ def test_nothing_taken_replaces_nothing(content: bytes, capsys: pytest.CaptureFi
     for name in ("full", "list", "names"):
         Path(name).write_bytes(b"before")
     words = ["-o", "full", "--left-out", "list", "--renamed", "names"]
-    for more in [], ["--check"]:
+    options: list[list[str]] = [[], ["--check"]]
+    for more in options:
         assert run("dump", *words, *more) == REFUSED
         out, said = capsys.readouterr()
         last = said.splitlines()[-1]
@@ -110,7 +112,7 @@ class Drops(io.RawIOBase):
     def readable(self) -> bool:
         return True
 
-    def readinto(self, buffer: memoryview) -> int:
+    def readinto(self, buffer: Any) -> int:
         found = self.rest.read(1)
         buffer[: len(found)] = found
         return len(found)
@@ -124,7 +126,7 @@ class Drops(io.RawIOBase):
 def test_reads_of_one_byte(content: bytes, monkeypatch: pytest.MonkeyPatch) -> None:
     plain = b"".join(whole(content))
     monkeypatch.setattr(
-        dumps.files, "opened", lambda _: io.BufferedReader(Drops(content), buffer_size=16)
+        files, "opened", lambda _: io.BufferedReader(Drops(content), buffer_size=16)
     )
     assert b"".join(dumps.pieces_of("-")) == plain == whole_text(content)
 
@@ -210,7 +212,8 @@ def test_routes_without_an_aut_num_are_told(capsys: pytest.CaptureFixture[str]) 
 
 def test_scopes_are_kept_by_an_option() -> None:
     Path("dump").write_bytes(obj("as-set: AS-X", "members: RADB::AS-Y", "source: RIPE"))
-    for more, kept in ([], False), (["--keep-scoped"], True):
+    options: list[tuple[list[str], bool]] = [([], False), (["--keep-scoped"], True)]
+    for more, kept in options:
         assert run("dump", "-o", "full", *more) == 0
         assert (b"members:        AS-Y\n" in Path("full").read_bytes()) is kept
 

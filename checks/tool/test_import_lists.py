@@ -1,5 +1,7 @@
 """What an import makes of lists: nothing is gone from one that is not told."""
 
+from collections.abc import Iterable
+
 import pytest
 
 from checks.tool.importing import left_out, made, mended, obj, texts_of
@@ -8,7 +10,9 @@ from irr.rpsl import syntax
 SET = ("as-set: AS-X", "mnt-by: A-MNT", "source: RIPE")
 
 
-def lists_of(text: bytes, off: tuple[()] = ()) -> tuple[list[tuple[bytes, list[bytes]]], set[str]]:
+def lists_of(
+    text: bytes, off: Iterable[str] = ()
+) -> tuple[list[tuple[bytes, list[bytes]]], set[str]]:
     """The lines of the lists that a paragraph has in the end, and what was mended."""
     new, kinds = mended(text, off)
     found = syntax.read(new).attributes

@@ -25,11 +25,8 @@ class Mending(unittest.TestCase):
         self.assertEqual(mended(text), (syntax.read(text[:-1]).text(), set()))
 
     def test_source(self) -> None:
-        for sources in (
-            ["source: RIPE # Filtered"],
-            [],
-            ["source:"],
-        ):
+        written: list[list[str]] = [["source: RIPE # Filtered"], [], ["source:"]]
+        for sources in written:
             text, kinds = mended(obj("aut-num: AS1", "mnt-by: A-MNT", *sources))
             self.assertEqual(
                 (text.count(b"source:"), text.endswith(b"source:         TEST\n"), kinds),
@@ -282,12 +279,13 @@ class Importing(unittest.TestCase):
             made(text, off=["crossing"])
 
     def test_what_covers_everything(self) -> None:
-        for blocks, wanted in [
+        cases: list[tuple[list[str], list[str]]] = [
             (["AS0 - AS4294967295"], []),
             (["AS0 - AS65535"], ["AS65536 - AS4294967295"]),
             (["AS60000 - AS70000"], ["AS0 - AS4294967295"]),
             (["AS1 - AS2"], ["AS0 - AS65535", "AS65536 - AS4294967295"]),
-        ]:
+        ]
+        for blocks, wanted in cases:
             dump, _ = made(
                 b"".join(obj(f"as-block: {block}", "mnt-by: ROOT-MNT") for block in blocks)
             )
@@ -464,8 +462,9 @@ class Crossing(unittest.TestCase):
                 sorted((chance.randrange(size), chance.randrange(size)))
                 for _ in range(chance.randrange(40))
             ]
-            pairs = list(dict.fromkeys(map(tuple, drawn)))
-            kept, gone = [], []
+            pairs = list(dict.fromkeys((first, last) for first, last in drawn))
+            kept: list[tuple[int, int]] = []
+            gone: list[int] = []
             for place, (first, last) in enumerate(pairs):
                 if any(a < first <= b < last or first < a <= last < b for a, b in kept):
                     gone.append(place)

@@ -10,7 +10,7 @@ class Readers(unittest.TestCase):
     def test_prefixes(self) -> None:
         self.assertEqual(keys.read_prefix(b"10.0.0.5/8").text(), "10.0.0.0/8")
         self.assertEqual(keys.read_prefix("0.0.0.0/0").span(), Span(0, keys.TOP))
-        for text in [
+        bad: list[str | bytes] = [
             "0/0",
             "10.0.0.0/33",
             "10.0.0.256/8",
@@ -18,7 +18,8 @@ class Readers(unittest.TestCase):
             "10.0.0.0/008",
             b"10.0.0.0/8\xb2",
             "10.0.0.0/8\n",
-        ]:
+        ]
+        for text in bad:
             self.assertIsNone(keys.read_prefix(text), text)
 
     def test_ranges(self) -> None:

@@ -19,7 +19,7 @@ from irr.commands import dump as dumps
 from irr.commands import filter as filters
 from irr.door import cache, irrd, queries
 from irr.errors import FAILED, Failure
-from irr.registry import server
+from irr.registry import answers
 
 REST = b"mnt-by:         A-MNT\nsource:         TEST\n\n"
 ROUTE, INETNUM = b"route:          %s\norigin:         AS1\n" + REST, b"inetnum:        %s\n" + REST
@@ -261,8 +261,16 @@ def wrong_answers(query: str) -> list[bytes]:
     ]
 
 
+class Liar(http.server.ThreadingHTTPServer):
+    """A server with a table of answers."""
+
+    answers: dict[str, bytes] = {}
+
+
 class Lying(http.server.BaseHTTPRequestHandler):
     """Answers from the table of its server."""
+
+    server: Liar
 
     def do_GET(self) -> None:
         text = self.server.answers.get(
@@ -283,7 +291,8 @@ class Table(queries.Asker):
     def __init__(self, answers: dict[str, bytes]) -> None:
         ledger = cache.Ledger(1 << 30)
         kept = types.SimpleNamespace(state=0, get=lambda key, now: None, put=lambda *words: None)
-        super().__init__(types.SimpleNamespace(source="TEST", ledger=ledger, cache=kept), None)
+        pool: Any = types.SimpleNamespace(source="TEST", ledger=ledger, cache=kept)
+        super().__init__(pool, None)
         self.answers = answers
 
     async def ask(self, query: bytes) -> cache.Answer:
@@ -325,8 +334,7 @@ class Questions(unittest.TestCase):
 
 class Commands(unittest.TestCase):
     def setUp(self) -> None:
-        self.server = http.server.ThreadingHTTPServer(("127.0.0.1", 0), Lying)
-        self.server.answers = {}
+        self.server = Liar(("127.0.0.1", 0), Lying)
         threading.Thread(target=self.server.serve_forever, args=(0.01,), daemon=True).start()
         self.address = argparse.Namespace(
             server=f"http://127.0.0.1:{self.server.server_port}", plain=False
@@ -338,7 +346,8 @@ class Commands(unittest.TestCase):
 
     def ends(self, command: Any, *words: str) -> tuple[int, bool]:
         """The status of a command, and whether it printed anything."""
-        parser, printed = argparse.ArgumentParser(), io.TextIOWrapper(io.BytesIO())
+        parser, held = argparse.ArgumentParser(), io.BytesIO()
+        printed = io.TextIOWrapper(held)
         command.arguments(parser)
         options = parser.parse_args(["-s", self.address.server, *words])
         with contextlib.redirect_stdout(printed), contextlib.redirect_stderr(io.StringIO()):
@@ -347,7 +356,7 @@ class Commands(unittest.TestCase):
             except Failure as failure:
                 status = failure.status
         printed.flush()
-        return status, bool(printed.buffer.getvalue())
+        return status, bool(held.getvalue())
 
     def test_filters(self) -> None:
         for query_, name in (
@@ -400,7 +409,7 @@ class Commands(unittest.TestCase):
             ([ALL, WIDE.replace(b"AS1", b"AS4294967296"), NARROW, SET], False),
         ):
             text = b"".join(dump) + b"%% end %d\n" % len(dump)
-            pieces = server.answers.whole_dump(
+            pieces = answers.whole_dump(
                 [text[place : place + 50] for place in range(0, len(text), 50)], "x"
             )
             if is_good:

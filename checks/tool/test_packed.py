@@ -83,7 +83,7 @@ def test_the_manual_names_each_command_option_and_code(tool: Tool, tell: Tell) -
         if os.path.exists(path):
             with open(path, encoding="utf-8") as file:
                 parts[name] = file.read()
-    listed = {}
+    listed: dict[str, str] = {}
     for group, names in re.findall(
         r"^([a-z]+):\n((?:  .*\n)+)", tool("--help").printed.decode(), re.M
     ):

@@ -72,7 +72,7 @@ def test_passwords_are_made_saved_asked_and_given(trial: Trial, tool: Tool, tell
             (0, True),
             "a new one at the terminal",
         )
-        ran = subprocess.run(
+        alone = subprocess.run(
             [sys.executable, tool.path, "auth"],
             env=tool.environment,
             capture_output=True,
@@ -81,7 +81,7 @@ def test_passwords_are_made_saved_asked_and_given(trial: Trial, tool: Tool, tell
             check=False,
         )
         expect(
-            (ran.returncode, ran.stdout, b"--save" in ran.stderr),
+            (alone.returncode, alone.stdout, b"--save" in alone.stderr),
             (2, b"", True),
             "a new one without a terminal",
         )

@@ -133,7 +133,8 @@ class Replies(unittest.TestCase):
     @mock.patch.object(replies, "LINGERING", 0.3)
     def test_lengths(self) -> None:
         good = b"%d" % len(OBJECT)
-        for lengths in [good], [good, good], [b" " + good + b" "], []:
+        spelled: list[list[bytes]] = [[good], [good, good], [b" " + good + b" "], []]
+        for lengths in spelled:
             fields = b"".join(b"Content-Length:%s\r\n" % length for length in lengths)
             with answering(HEAD + fields + b"\r\n" + OBJECT) as place:
                 self.assertEqual(place.query("AS1").text, OBJECT)
@@ -204,10 +205,10 @@ class Submissions(unittest.TestCase):
             )
             with (
                 answering(*pieces, is_reset=is_reset) as place,
-                self.assertRaises(Failure) as raised,
+                self.assertRaises(Failure) as failed,
             ):
                 place.query("AS1")
-            self.assertNotIn("irr diff", str(raised.exception))
+            self.assertNotIn("irr diff", str(failed.exception))
 
     def test_unread(self) -> None:
         """The same where nobody reads the report, or it finds no room."""
@@ -235,11 +236,12 @@ class Submissions(unittest.TestCase):
                 )
 
     def test_refused(self) -> None:
-        for status, kind in [
+        refusals: list[tuple[bytes, type[Failure]]] = [
             (b"413 Too Large", TooLarge),
             (b"401 Unauthorized", Failure),
             (b"429 Too Many\r\nRetry-After: 9999", Busy),
-        ]:
+        ]
+        for status, kind in refusals:
             with (
                 answering(b"HTTP/1.1 %s\r\n\r\n" % status) as place,
                 self.assertRaises(kind) as raised,

@@ -1,9 +1,9 @@
 """The steps of `irr reset`: the objects of a dump, the new password, the folder it works in."""
 
+import argparse
 import os
 import signal
 from pathlib import Path
-from types import SimpleNamespace
 from unittest import mock
 
 from checks.tool.stores import AUTH, Folder
@@ -62,7 +62,7 @@ class Resets(Folder):
         for is_in_place in False, True:
             single, save = self.file("single.db", b""), self.folder / f"password-{is_in_place}"
             with self.assertRaises(KeyboardInterrupt), reset.handed_over(
-                SimpleNamespace(save=str(save), ask=False), "word", single
+                argparse.Namespace(save=str(save), ask=False), "word", single
             ):
                 self.assertEqual(save.read_bytes(), b"password: word\n")
                 if is_in_place:
@@ -74,7 +74,7 @@ class Resets(Folder):
         """A new password goes again also if a signal comes once it is saved, and another's file
         stays."""
         single, save = self.file("single.db", b""), self.folder / "password"
-        options = SimpleNamespace(save=str(save), ask=False)
+        options = argparse.Namespace(save=str(save), ask=False)
 
         def put_new(path: str, text: bytes) -> None:
             Path(path).write_bytes(text)
@@ -125,4 +125,4 @@ class Resets(Folder):
             ".*: there is such a file",
         ):
             with self.assertRaisesRegex(Failure, f"^{words}"):
-                reset.new_auth(SimpleNamespace(ask=False, auth=auth, save=save))
+                reset.new_auth(argparse.Namespace(ask=False, auth=auth, save=save))

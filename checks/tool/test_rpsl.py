@@ -18,7 +18,9 @@ def cut(text: bytes, chance: random.Random) -> Iterator[bytes]:
 
 def plain_blocks(text: bytes) -> list[tuple[int, list[bytes]]]:
     """The same, line by line: number of the first line, and the lines."""
-    found, held, first = [], [], 0
+    found: list[tuple[int, list[bytes]]] = []
+    held: list[bytes] = []
+    first = 0
     for number, line in enumerate(text.split(b"\n"), 1):
         if not line.strip(b" \t\r"):
             if held:

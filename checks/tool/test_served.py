@@ -181,9 +181,9 @@ def test_json_says_what_the_text_says(
             ["192.0.2.0/24 AS64496"],
             "the key of a route",
         )
-        lines = tool("query", "--json", "expand", "AS64496:AS-CUSTOMERS").printed.splitlines()
+        members = tool("query", "--json", "expand", "AS64496:AS-CUSTOMERS").printed.splitlines()
         expect(
-            [json.loads(line) for line in lines],
+            [json.loads(line) for line in members],
             [{"member": "AS64496"}, {"member": "AS64500"}, {"missing": "AS-GONE"}],
             "members",
         )
@@ -349,9 +349,7 @@ def test_each_refusal_has_its_words_remedy_and_what_decided(
     trial: Trial, tool: Tool, kind: str, wrapped: Callable[..., Any], tell: Tell
 ) -> None:
     """Each refusal with its code in words, the remedy, and what decided; the same in a dry run."""
-    explained = {}
-    for code in CODES:
-        explained[code.code] = (code.sentence, code.causes, code.remedy)
+    explained = {known.code: (known.sentence, known.causes, known.remedy) for known in CODES}
     text = MISTAKES.encode() + b"\naut-num: AS1\ndescr: " + b"x" * 69_988 + b"\n"
     with World(trial, tool, f"reasons-{kind}") as world, wrapped(trial, world) as tool:
         write(world.folder, "mistakes.rpsl", text)

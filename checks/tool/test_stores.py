@@ -10,6 +10,7 @@ import tempfile
 import time
 from pathlib import Path
 from types import SimpleNamespace
+from typing import Any
 from unittest import mock
 
 from checks.running import PATIENCE
@@ -104,10 +105,11 @@ class Stores(Folder):
         """What fails in the folder is said of the one that it is in, and what fails elsewhere is
         not."""
         words = "it cannot be written: no space left on device; make room, or look at its disk"
-        for raised, wanted in (OSError(28, "No space left on device"), words), (
-            Failure("", "it failed"),
-            "it failed",
-        ):
+        failures: list[tuple[Any, str]] = [
+            (OSError(28, "No space left on device"), words),
+            (Failure("", "it failed"), "it failed"),
+        ]
+        for raised, wanted in failures:
             with (
                 self.assertRaisesRegex(Failure, f"^{self.folder}: {wanted}$"),
                 databases.working(self.folder, ".new-") as work,
@@ -433,7 +435,7 @@ class Stores(Folder):
 
 class Replicas(Folder):
     def test_agent(self) -> None:
-        agent = SimpleNamespace(draining={4344}, heard=set())
+        agent: Any = SimpleNamespace(draining={4344}, heard=set())
         self.assertEqual(replicas.Agent.word(agent, b"4344\n"), b"drain\n")
         self.assertEqual(replicas.Agent.word(agent, b"4345\n"), b"ready\n")
         self.assertEqual(replicas.Agent.word(agent, b"nonsense"), b"ready\n")

@@ -1,10 +1,11 @@
 """A submission in parts."""
 
+import functools
 import io
 import os
 import tempfile
 import unittest
-from collections.abc import Iterator
+from collections.abc import Iterable, Iterator
 from types import SimpleNamespace
 from typing import Any
 
@@ -25,14 +26,16 @@ class Registry:
     before it."""
 
     def __init__(self, most: int = submissions.MOST) -> None:
-        self.most, self.parts, self.refused = most, [], 0
+        self.most, self.refused = most, 0
+        self.parts: list[bytes] = []
 
     def post(self, text: bytes) -> list[bytes]:
         if len(text) > self.most:
             self.refused += 1
             raise TooLarge("the server", "status 413")
         self.parts.append(text)
-        lines, given = [], set()
+        lines: list[str] = []
+        given: set[bytes] = set()
         for item in items_of(text):
             given |= {submissions.secret_of(attribute) for attribute in item.passwords()}
             if item.is_item:
@@ -133,7 +136,7 @@ class Parts(unittest.TestCase):
             (b"% stopped after 0 items\n", "stopped", 0, "% stopped after 0 items"),
             (b"% items 2\n", "", 2, ""),
         ]:
-            sender = Sender(lambda _, text=text: [text])
+            sender = Sender(functools.partial(lambda text, _: [text], text))
             list(sender.send(items_of(b"a\n\nb\n")))
             self.assertEqual((sender.end, sender.count, sender.last_line()), (end, count, last))
         with self.assertRaises(Failure):
@@ -142,7 +145,7 @@ class Parts(unittest.TestCase):
     def test_told_as_it_comes(self) -> None:
         """An item is told when its line has come, and a part goes out when the report of the last
         one is whole."""
-        seen = []
+        seen: list[bytes | str] = []
 
         def post(text: bytes) -> Iterator[Any]:
             seen.append(text)
@@ -177,7 +180,7 @@ class Parts(unittest.TestCase):
                 raise Lost("the server", "the connection was cut off; the text was sent")
             return registry.post(text)
 
-        printer = SimpleNamespace(show=lambda reported: None)
+        printer: Any = SimpleNamespace(show=lambda reported: None)
         for part, words in [
             (1, "the server: after 1 item: the connection was cut off; the text was sent"),
             (1 << 20, "the server: the connection was cut off; the text was sent"),
@@ -192,7 +195,11 @@ class Parts(unittest.TestCase):
         def full(_: Reported | Sender) -> None:
             raise OSError(28, "No space left on device")
 
-        for printer in SimpleNamespace(show=full), SimpleNamespace(show=lambda _: None, end=full):
+        printers: list[Any] = [
+            SimpleNamespace(show=full),
+            SimpleNamespace(show=lambda _: None, end=full),
+        ]
+        for printer in printers:
             with self.assertRaises(OSError) as raised:
                 submit.send(Sender(Registry().post), items_of(b"mntner: A\n"), printer)
             self.assertEqual(raised.exception.__notes__, [SENT])
@@ -201,12 +208,13 @@ class Parts(unittest.TestCase):
         self.assertFalse(hasattr(raised.exception, "__notes__"))
 
     def test_read_fault(self) -> None:
-        def broken() -> Iterator[Any]:
+        def broken() -> Iterator[Item]:
             yield from items_of(b"mntner: A\n")
             raise OSError(5, "Input/output error")
 
         # Also where all of it was looked at before it is sent.
-        for source in broken(), submissions.Gathered(broken()):
+        sources: list[Iterable[Item]] = [broken(), submissions.Gathered(broken())]
+        for source in sources:
             sender = Sender(Registry().post)
             self.assertEqual(len(list(sender.send(source))), 1)
             self.assertEqual(sender.last_line(), "% read fault after 1 items")

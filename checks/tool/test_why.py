@@ -1,4 +1,5 @@
 """What `irr why` says: chains, what is near, its status, and its bounds."""
+
 import argparse
 import json
 import re

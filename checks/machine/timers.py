@@ -80,7 +80,7 @@ class Timers:
         guest.done("systemctl enable --now irrdesk-history.timer")
         self.ran("irrdesk-history")
         commits = guest.done(
-            f"{AS_OWNER} git -C /var/lib/irrdesk-history log --oneline"
+            "runuser -u irrdesk-public -- git -C /var/lib/irrdesk-history log --oneline"
         ).splitlines()
         shown = guest.done("irr history show mntner ROOT-MNT", seconds=120)
         expect((len(commits), "mntner:         ROOT-MNT" in shown), (1, True), "the history")
@@ -107,7 +107,9 @@ class Timers:
                 True,
                 f"the dump of {port}",
             )
-        guest.done("systemctl start irrdesk")
+        guest.done("systemctl stop irrdesk-mirror")
+        expect(service.show("irrdesk-mirror", "ActiveState"), "inactive", "a mirror that is stopped")
+        guest.done("systemctl start irrdesk-mirror irrdesk")
         service.serves("after the replicas")
         return f"ports {' and '.join(ports)}"
 

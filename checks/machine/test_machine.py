@@ -17,7 +17,7 @@ from checks.machine.outages import Fleet
 from checks.machine.sandbox import Sandbox
 from checks.machine.service import Service
 from checks.machine.timers import Timers
-from checks.package.packages import make_release, no_error
+from checks.package.packages import lintian_is_silent, make_release
 from checks.running import TOP, Tell, Trial
 
 # It takes all of the machine.
@@ -103,8 +103,8 @@ def parts(
     service.end()
 
 
-def test_lintian_finds_no_error_in_the_package(package: str, tell: Tell) -> None:
-    tell(no_error(package))
+def test_lintian_finds_nothing_in_the_package(package: str, tell: Tell) -> None:
+    tell(lintian_is_silent(package))
 
 
 def test_the_disk_of_the_machine_is_made(image: guest.Image, tell: Tell) -> None:

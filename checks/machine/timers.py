@@ -78,8 +78,8 @@ class Timers:
             ("true", False),
             (f"sed -i 's/^auth = .*/auth = \"\"/' {SETTINGS}", False),
             (
-                "systemctl stop irrdesk; printf damage | dd of=/var/lib/irrdesk/irr.db bs=1"
-                " seek=4096 conv=notrunc; rm -f /var/lib/irrdesk/irr.db-wal; ! systemctl start irrdesk",
+                "systemctl stop irrdesk; cd /var/lib/irrdesk; rm -f irr.db-wal; printf damage"
+                " | dd of=irr.db bs=1 seek=4096 conv=notrunc; ! systemctl start irrdesk",
                 True,
             ),
         ]:
@@ -94,7 +94,9 @@ class Timers:
         line = found(r"^auth: +(SHA256-PW k3:\w+)$", service.first.decode(), "the holder's line")
         before = service.show("irrdesk", "MainPID")
         guest.done(f"irr reset --service HOLDER-MNT --auth '{line}'", seconds=600)
-        guest.done("rm -r /var/lib/irrdesk/replaced-*; systemctl start irrdesk-check")
+        guest.done("rm -r /var/lib/irrdesk/replaced-*")
+        # The door looks at the registry again after a moment.
+        guest.until("systemctl start irrdesk-check", "that the check finds nothing wrong")
         expect(service.show("irrdesk", "MainPID") != before, True, "whether it was stopped")
         expect(service.dump() == wanted, True, "whether the registry is the same")
         return "over the same, a damaged one, and without settings; a reset"
@@ -128,7 +130,8 @@ class Timers:
                 new.ended("systemctl --failed --plain --no-legend").printed, "", "what has failed"
             )
         guest.done("systemctl enable --now irrdesk.service irrdesk-check.timer")
-        guest.done("rm -r /root/moved; systemctl start irrdesk-check")
+        guest.done("rm -r /root/moved")
+        guest.until("systemctl start irrdesk-check", "that the check finds nothing wrong")
         return f"{len(wanted)} bytes of dump"
 
     def dumped(self) -> str:

@@ -20,11 +20,11 @@ EXAMPLES = """
 irr reset EXAMPLE-MNT --auth 'SHA256-PW k3:ccda..'     the line that its holder made by `irr auth`
 irr reset EXAMPLE-MNT --save new.password              a new password, in a file for you alone
 irr reset EXAMPLE-MNT --settings irr.toml              a new password, which the terminal shows
-irr reset EXAMPLE-MNT --service --auth ..              of the service, as root
+irr reset EXAMPLE-MNT --service                        that of the service, as root
 
-The server has to be stopped, which --service does. All `auth` lines of the maintainer are replaced by
-the new one. Make sure that you speak to the holder: the new password gives all that the maintainer
-holds.
+The server has to be stopped, which --service does. All `auth` lines of the maintainer are replaced
+by the new one. Make sure that you speak to the holder: the new password gives all that the
+maintainer holds.
 """
 
 

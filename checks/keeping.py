@@ -11,7 +11,7 @@ import time
 from collections.abc import Callable, Iterator
 from typing import Any
 
-from checks.running import Failure, Ran, Trial, expect
+from checks.running import Failure, Ran, Trial, expect, write
 
 
 QUERIES = [
@@ -112,7 +112,9 @@ def restored(trial: Trial, ran: Ran, number: int) -> int:
             f"restored-{os.path.basename(os.path.dirname(place))}-{os.path.basename(place)}"
             f"-{name}-{time.monotonic_ns()}"
         )
-        shutil.copy(os.path.join(place, "irr.toml"), work)
+        with open(os.path.join(place, "irr.toml"), "rb") as settings:
+            text = re.sub(rb"(?m)^store = .*$", b'store = "irr.db"', settings.read())
+        write(work, "irr.toml", text)
         if name == "irr.db":
             shutil.copy(os.path.join(place, name), work)
         else:

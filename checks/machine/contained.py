@@ -45,13 +45,13 @@ exec env -i container=trial PATH=/usr/sbin:/usr/bin:/sbin:/bin \
 """
 
 
-def cgroup() -> str:
-    """The folder of this system's control groups of version 2."""
+def cgroup(name: str) -> str:
+    """The folder of a machine in this system's control groups of version 2."""
     with open("/proc/mounts", encoding="ascii") as mounts:
         found = [line.split()[1] for line in mounts if line.split()[2] == "cgroup2"]
     if not found:
         raise Failure("no control groups of version 2 are mounted here")
-    return os.path.join(found[0], f"irrdesk-{os.getpid()}")
+    return os.path.join(found[0], f"irrdesk-{os.getpid()}-{name}")
 
 
 class Contained(Machine):
@@ -59,7 +59,7 @@ class Contained(Machine):
     cut."""
 
     def __init__(self, image: Image, folder: str, disk: str, given: Given) -> None:
-        self.stack, self.group = contextlib.ExitStack(), cgroup()
+        self.stack, self.group = contextlib.ExitStack(), cgroup(os.path.basename(disk))
         self.console, self.init = os.path.join(folder, "console"), ""
         for name in ["upper", "work", "root"]:
             os.makedirs(os.path.join(disk, name), exist_ok=True)

@@ -347,11 +347,7 @@ class Service:
     def wrong_settings(self) -> str:
         """That a server with wrong settings stays down, and the journal says why."""
         guest = self.guest
-        guest.done(f"sed -i 's/^limit = .*/limit = 0/' {SETTINGS}; systemctl restart irrdesk; true")
-        guest.until(
-            "test $(systemctl show --property=ActiveState --value irrdesk) = failed",
-            "that the unit has failed",
-        )
+        guest.done(f"sed -i 's/^limit = .*/limit = 0/' {SETTINGS}; ! systemctl restart irrdesk")
         guest.done("sleep 3")
         state = [
             self.show("irrdesk", value) for value in ["ActiveState", "ExecMainStatus", "NRestarts"]
@@ -376,7 +372,7 @@ class Service:
         guest.until(
             "journalctl --quiet --output=cat --unit=other | grep -q listening", "the other process"
         )
-        guest.done("systemctl start irrdesk; true")
+        expect(guest.ended("systemctl start irrdesk").status, 1, "a start beside it")
         guest.until(
             (
                 "journalctl --quiet --output=cat --unit=irrdesk | grep -q 'in use, most likely by"
@@ -388,9 +384,14 @@ class Service:
             "test $(systemctl show --property=NRestarts --value irrdesk) -ge 2",
             "that it goes on trying",
         )
-        guest.done("systemctl stop other")
-        self.serves("once the database is free")
-        return "served once it is free"
+        self.changed("[Unit]\nStartLimitBurst=5\n")
+        guest.until(
+            "systemctl list-units --failed | grep -q irrdesk.service", "that its limit ends it"
+        )
+        self.changed("")
+        guest.done("systemctl stop other; systemctl reset-failed irrdesk; systemctl start irrdesk")
+        guest.done(ASKED)
+        return "listed as failed, and served once it is free"
 
     def disk_full(self) -> str:
         """A disk that fills up while a registry is served: the check starts it again, and says so,

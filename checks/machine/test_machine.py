@@ -17,7 +17,7 @@ from checks.machine.outages import Fleet
 from checks.machine.sandbox import Sandbox
 from checks.machine.service import Service
 from checks.machine.timers import Timers
-from checks.package.packages import make_release, no_error
+from checks.package.packages import lintian_is_silent, make_release
 from checks.running import TOP, Tell, Trial
 
 # It takes all of the machine.
@@ -44,8 +44,10 @@ STEPS = [
     pytest.param("sandbox", "inside", id="inside the sandbox", marks=LONG),
     pytest.param("timers", "dumped", id="the dump by its timer", marks=LONG),
     pytest.param("timers", "backup", id="a backup by its timer", marks=LONG),
+    pytest.param("timers", "restored", id="a restored backup", marks=LONG),
     pytest.param("timers", "history", id="the history by its timer", marks=LONG),
     pytest.param("timers", "mirror", id="replicas", marks=LONG),
+    pytest.param("timers", "moved", id="a move to a second machine", marks=LONG),
     pytest.param("timers", "filters", id="filters by their timer", marks=LONG),
     pytest.param("timers", "mirrors", id="the dump and the serials for mirrors", marks=LONG),
     pytest.param("timers", "untouched", id="what all this left", marks=LONG),
@@ -101,8 +103,8 @@ def parts(
     service.end()
 
 
-def test_lintian_finds_no_error_in_the_package(package: str, tell: Tell) -> None:
-    tell(no_error(package))
+def test_lintian_finds_nothing_in_the_package(package: str, tell: Tell) -> None:
+    tell(lintian_is_silent(package))
 
 
 def test_the_disk_of_the_machine_is_made(image: guest.Image, tell: Tell) -> None:

@@ -1,7 +1,11 @@
 """What runs beside a registry by timers and sockets of its package, once round in one machine."""
 
-from checks.machine.service import AS_OWNER, SETTINGS, TRIGGERED, Service
-from checks.running import expect
+import os
+import re
+
+from checks.machine.guest import found
+from checks.machine.service import AS_OWNER, ASKED, SETTINGS, TRIGGERED, Service
+from checks.running import TOP, expect
 from checks.sums import sum_of
 
 # The example's filter by bgpq4, of an AS that the registry has; its number is one for
@@ -64,6 +68,72 @@ class Timers:
         service.serves("after the backup")
         return f"{len(wanted)} bytes of dump"
 
+    def restored(self) -> str:
+        """A backup over the same registry, over a damaged one, and where settings are missing; a
+        password that is reset. The service is as it was after each."""
+        service, guest = self.service, self.service.guest
+        wanted, settings = service.dump(), guest.done(f"cat {SETTINGS}")
+        place = guest.done("ls -d /var/lib/irrdesk-backup/2* | tail -n 1").strip()
+        for change, is_kept in [
+            ("true", False),
+            (f"sed -i 's/^auth = .*/auth = \"\"/' {SETTINGS}", False),
+            (
+                "systemctl stop irrdesk; cd /var/lib/irrdesk; rm -f irr.db-wal; printf damage"
+                " | dd of=irr.db bs=1 seek=4096 conv=notrunc; ! systemctl start irrdesk",
+                True,
+            ),
+        ]:
+            told = guest.done(f"({change}) > /dev/null 2>&1; irr restore {place}", seconds=600)
+            expect("replaced-" in told, is_kept, f"whether something is kept: {told}")
+            expect(service.dump() == wanted, True, f"whether the registry is the same: {change}")
+            expect(guest.done(f"cat {SETTINGS}"), settings, "the settings")
+        owned = f"stat -c '%U:%G %a' {SETTINGS} /var/lib/irrdesk/irr.db"
+        expect(
+            guest.done(owned).splitlines(), ["root:irrdesk 640", "irrdesk:irrdesk 600"], "who owns"
+        )
+        line = found(r"^auth: +(SHA256-PW k3:\w+)$", service.first.decode(), "the holder's line")
+        before = service.show("irrdesk", "MainPID")
+        guest.done(f"irr reset --service HOLDER-MNT --auth '{line}'", seconds=600)
+        guest.done("rm -r /var/lib/irrdesk/replaced-*")
+        # The door looks at the registry again after a moment.
+        guest.until("systemctl start irrdesk-check", "that the check finds nothing wrong")
+        expect(service.show("irrdesk", "MainPID") != before, True, "whether it was stopped")
+        expect(service.dump() == wanted, True, "whether the registry is the same")
+        return "over the same, a damaged one, and without settings; a reset"
+
+    def moved(self) -> str:
+        """The lines of docs/BACKUP.md, on this machine and a second one, while a replica here
+        answers. Then this one is the registry's again."""
+        service, guest = self.service, self.service.guest
+        with open(os.path.join(TOP, "docs", "BACKUP.md"), encoding="utf-8") as opened:
+            text = opened.read().partition("## Move to another machine\n")[2]
+        lines = re.findall(r"^```sh\n(.*?)^```$", text, re.MULTILINE | re.DOTALL)[:2]
+        wanted, settings = service.full_dump(), guest.done(f"cat {SETTINGS}")
+        guest.done(f"set -e; {lines[0]}", seconds=600)
+        replica = "curl --silent --fail http://127.0.0.1:4345/query/ROOT-MNT"
+        guest.done(replica)
+        packed = guest.done("tar -C /root -c moved | base64").encode()
+        disk = f"{service.disk}-second"
+        with service.machine(
+            service.image, service.trial.place("second"), disk, service.given
+        ) as new:
+            new.done("apt-get install --yes /run/given/irrdesk.deb")
+            new.done("base64 -d | tar -C /root -x", given=packed)
+            new.done(f"set -e; {lines[1]}", seconds=600)
+            new.done(ASKED)
+            guest.done(replica)
+            expect(new.done(f"cat {SETTINGS}"), settings, "the settings")
+            new.done("systemctl start irrdesk-backup irrdesk-check", seconds=600)
+            stands = new.done("cat /var/lib/irrdesk-backup/2*/dump.rpsl").encode("latin-1")
+            expect(stands == wanted, True, "whether the registry moved whole")
+            expect(
+                new.ended("systemctl --failed --plain --no-legend").printed, "", "what has failed"
+            )
+        guest.done("systemctl enable --now irrdesk.service irrdesk-check.timer")
+        guest.done("rm -r /root/moved")
+        guest.until("systemctl start irrdesk-check", "that the check finds nothing wrong")
+        return f"{len(wanted)} bytes of dump"
+
     def dumped(self) -> str:
         service, guest = self.service, self.service.guest
         guest.done("systemctl enable --now irrdesk-dump.timer")
@@ -80,7 +150,7 @@ class Timers:
         guest.done("systemctl enable --now irrdesk-history.timer")
         self.ran("irrdesk-history")
         commits = guest.done(
-            f"{AS_OWNER} git -C /var/lib/irrdesk-history log --oneline"
+            "runuser -u irrdesk-public -- git -C /var/lib/irrdesk-history log --oneline"
         ).splitlines()
         shown = guest.done("irr history show mntner ROOT-MNT", seconds=120)
         expect((len(commits), "mntner:         ROOT-MNT" in shown), (1, True), "the history")
@@ -107,7 +177,11 @@ class Timers:
                 True,
                 f"the dump of {port}",
             )
-        guest.done("systemctl start irrdesk")
+        guest.done("systemctl stop irrdesk-mirror")
+        expect(
+            service.show("irrdesk-mirror", "ActiveState"), "inactive", "a mirror that is stopped"
+        )
+        guest.done("systemctl start irrdesk-mirror irrdesk")
         service.serves("after the replicas")
         return f"ports {' and '.join(ports)}"
 

@@ -80,19 +80,15 @@ def change(path: str, pattern: str, words: str) -> None:
         out.write(text)
 
 
-def no_error(package: str) -> str:
-    """That lintian finds no error in a package; warnings are told."""
+def lintian_is_silent(package: str) -> str:
+    """That lintian, pedantic, has nothing to say of a package but what its overrides explain."""
     if shutil.which("lintian") is None:
         raise Skipped("lintian is not there")
     made = subprocess.run(
-        ["lintian", "--allow-root", "--fail-on=error", package],
+        ["lintian", "--allow-root", "--pedantic", "--display-info", package],
         capture_output=True,
         text=True,
         check=False,
     )
-    found = {
-        word: [line[3:] for line in made.stdout.splitlines() if line.startswith(f"{word}:")]
-        for word in "EW"
-    }
-    expect((made.returncode, found["E"]), (0, []), "what lintian finds")
-    return f"no error; warnings: {', '.join(found['W']) or 'none'}"
+    expect((made.returncode, made.stdout), (0, ""), "what lintian finds")
+    return "pedantic, and silent"

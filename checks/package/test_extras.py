@@ -3,9 +3,12 @@
 import contextlib
 import os
 import re
+import shlex
 import shutil
 import socket
 import subprocess
+import time
+from pathlib import Path
 from typing import Any
 
 import pytest
@@ -251,6 +254,58 @@ def test_the_command_of_the_unit_does_within_its_limits(trial: Trial, tell: Tell
         os.stat(os.path.join(folder, "irr.db")).st_mode & 0o077, 0, "who else may read the database"
     )
     tell(f"{len(calls)} calls of the system, all allowed")
+
+
+def waiting(process: subprocess.Popen[str], port: int) -> subprocess.Popen[bytes]:
+    """The helper of the unit, which waits until this process listens at this port."""
+    return subprocess.Popen(
+        [os.path.join(UNITS, "irrdesk-ready"), str(process.pid), str(port)],
+        stderr=subprocess.PIPE,
+    )
+
+
+def test_a_start_has_ended_when_the_port_answers(trial: Trial, tell: Tell) -> None:
+    """That the unit's helper waits while a registry is opened, ends once its own process listens,
+    and fails where that ends: also where another process has the port."""
+    folder, port = trial.place("ready"), free_port()
+    write_settings(folder, limit=LIMIT)
+    done([trial.program, "init", "s.toml"], cwd=folder)
+    serve = [trial.program, "serve", "s.toml", "--port", str(port), "--count", "1"]
+    opening = subprocess.Popen(
+        ["sh", "-c", f"sleep 2; exec {shlex.join(serve)}"], cwd=folder, text=True
+    )
+    start = time.monotonic()
+    try:
+        helper = waiting(opening, port)
+        expect((helper.communicate(timeout=PATIENCE)[1], helper.returncode), (b"", 0), "its end")
+        seconds = time.monotonic() - start
+        expect(seconds > 2, True, f"whether it waited: {seconds:.1f} s")
+        other = subprocess.Popen(["sh", "-c", "sleep 2; exit 4"], text=True)
+        helper = waiting(other, port)
+        other.wait(PATIENCE)
+        expect((helper.communicate(timeout=PATIENCE)[1], helper.returncode), (b"", 1), "beside it")
+        with contextlib.closing(socket.create_connection(("127.0.0.1", port), 30)) as peer:
+            peer.sendall(b"ROOT-MNT\n")
+            expect(read_all(peer)[:6], b"mntner", "whether the helper took no connection")
+        expect(opening.wait(PATIENCE), 0, "the server's end")
+    finally:
+        opening.kill()
+    tell(f"after {seconds:.1f} s, of which 2 s were waited for")
+
+
+def test_each_unit_is_bounded_and_may_be_stopped() -> None:
+    """That each service has a bound of memory, and that none which is stopped has failed: `irr`
+    ends by status 143 then, and what runs once by the signal."""
+    for path in sorted(Path(UNITS).glob("*.service")):
+        lines = unit_lines(path.name)
+        expect("MemoryMax" in lines, True, f"whether {path.name} has a bound of memory")
+        wanted = {"oneshot": "143 SIGTERM"}.get(lines["Type"], "143")
+        if lines["ExecStart"].startswith("/usr/bin/irr ") or lines["Type"] == "oneshot":
+            # The door ends with status 0.
+            if path.name != "irrdesk-door.service":
+                expect(lines.get("SuccessExitStatus"), wanted, f"the ends of {path.name}")
+        if lines.get("Restart") == "always" and path.name != "irrdesk-door.service":
+            expect(lines.get("StartLimitBurst"), "100", f"the starts of {path.name}")
 
 
 def packed(trial: Trial) -> str:

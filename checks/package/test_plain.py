@@ -15,7 +15,13 @@ from typing import Any
 
 import pytest
 
-from checks.package.packages import DIST, is_released, make_release, no_error, package_of
+from checks.package.packages import (
+    DIST,
+    is_released,
+    lintian_is_silent,
+    make_release,
+    package_of,
+)
 from checks.running import (
     DIGEST,
     PATIENCE,
@@ -97,7 +103,9 @@ def root(trial: Trial) -> str:
 
 @pytest.fixture(scope="module")
 def before(root: str) -> set[str]:
-    """What the root has before the package is installed."""
+    """What the root has before the package is installed, but with what that needs."""
+    needs = done(root, f"dpkg-deb --field {package(root)} Depends").strip()
+    done(root, f"apt-get satisfy --yes --no-install-recommends '{needs}'")
     return listing(root)
 
 
@@ -385,14 +393,40 @@ def test_the_package_is_taken_away_to_the_last_file(
     wanted = ["etc/irrdesk/door.toml", "etc/irrdesk/irr.toml", "var/lib/irrdesk/irr.db"]
     expect(kept[:3], wanted, "what a removal keeps")
     expect([path for path in kept if path.startswith("usr/")], [], "what it takes away")
+    # What the units and the operator make.
+    again = ["/var/cache/irrdesk/dump", "/var/lib/private/irrdesk-mirror/irr.db"]
+    own = [
+        "/etc/systemd/system/irrdesk-mirror.service.d/override.conf",
+        "/var/lib/irrdesk-backup/20261128T031502Z/irr.db",
+        "/var/lib/irrdesk-history/.git/HEAD",
+        "/var/log/private/irrdesk-door/items.log",
+    ]
+    for path in [*again, *own]:
+        os.makedirs(os.path.dirname(inside(root, path)), exist_ok=True)
+        write(os.path.dirname(inside(root, path)), os.path.basename(path), b"")
+    for name in "lib/irrdesk-mirror", "log/irrdesk-door":
+        place, last = os.path.split(name)
+        os.symlink(f"private/{last}", inside(root, f"/var/{place}/{last}"))
     ended = Ended(root, "dpkg --purge irrdesk")
     expect((ended.status, ended.said), (0, ""), "the purge")
-    left = sorted(
-        path for path in listing(root) - before if not path.startswith("/var/lib/irrdesk/irr.db")
+    kept = re.findall(r"^  (/\S+)$", ended.printed, re.MULTILINE)
+    wanted = [
+        own[0].rpartition("/")[0],
+        "/var/lib/irrdesk",
+        "/var/lib/irrdesk-backup",
+        "/var/lib/irrdesk-history",
+        "/var/log/private/irrdesk-door",
+    ]
+    expect(kept, wanted, "what the purge says that it keeps")
+    left = done(root, f"find / -xdev -path '*irrdesk*' -prune -print | grep -v '^{CLONE}'")
+    is_named = re.compile(
+        r"/(etc/systemd/system/irrdesk-mirror.service.d|var/lib/irrdesk(-backup|-history)?"
+        r"|var/log/(private/)?irrdesk-door|home/visitor/.*|(proc|sys)/.*|var/lib/systemd/.*)"
     )
-    expect(left, ["/var/lib/irrdesk"], "what a purge keeps")
-    done(root, "getent passwd irrdesk")
-    shutil.rmtree(inside(root, "/var/lib/irrdesk"))
+    expect([path for path in left.split() if not is_named.fullmatch(path)], [], "what it keeps")
+    for user in "irrdesk", "irrdesk-public":
+        done(root, f"getent passwd {user}")
+    done(root, f"rm -r {' '.join(kept)} /var/log/irrdesk-door /var/log/private /var/lib/private")
     done(root, f"dpkg --install {package(root)}")
     done(root, "dpkg --purge irrdesk")
     expect(sorted(listing(root) - before), [], "what a purge without data keeps")
@@ -403,8 +437,51 @@ def test_the_package_is_taken_away_to_the_last_file(
 # The making of a release.
 
 
-def test_lintian_finds_no_error_in_the_package(root: str, tell: Tell) -> None:
-    tell(no_error(package_of(inside(root, f"{CLONE}/dist"))))
+def test_apt_takes_it_from_a_folder_that_is_signed(trial: Trial, root: str, tell: Tell) -> None:
+    """That the folder which scripts/release makes is a repository for apt, which trusts the
+    operator's key, and takes nothing of it once its index is another one."""
+    if shutil.which("gpg") is None:
+        pytest.skip("gpg is not there")
+    home, place = trial.place("gpg"), inside(root, "/srv/apt")
+    os.chmod(home, 0o700)
+    env = {**os.environ, "GNUPGHOME": home}
+    key = [
+        "gpg",
+        "--batch",
+        "--passphrase",
+        "",
+        "--quick-generate-key",
+        "op@example.net",
+        "ed25519",
+    ]
+    subprocess.run(key, env=env, check=True, capture_output=True)
+    script = [f"{TOP}/scripts/release", "--repository", "op@example.net"]
+    made = subprocess.run(
+        [*script, inside(root, package(root)), place], env=env, capture_output=True, check=False
+    )
+    subprocess.run(["gpgconf", "--kill", "all"], env=env, check=False)
+    expect((made.returncode, made.stdout), (0, f"{place}\n".encode()), f"its end: {made.stderr!r}")
+    lines = (
+        "Types: deb\nURIs: file:/srv/apt\nSuites: ./\nSigned-By: /etc/apt/keyrings/irrdesk.asc\n"
+    )
+    done(root, "install -D -m 644 /srv/apt/irrdesk.asc /etc/apt/keyrings/irrdesk.asc")
+    write(inside(root, "/etc/apt/sources.list.d"), "irrdesk.sources", lines.encode())
+    update = "apt-get update -o Dir::Etc::sourcelist=/dev/null -o APT::Get::List-Cleanup=0"
+    done(root, update)
+    done(root, "apt-get install --yes irrdesk")
+    version = done(root, "dpkg-query --show --showformat '${Version}' irrdesk")
+    expect(version, VERSION, "the version that apt installed")
+    done(root, "apt-get purge --yes irrdesk")
+    with open(os.path.join(place, "Packages"), "ab") as opened:
+        opened.write(b"\n")
+    done(root, "rm -f /var/lib/apt/lists/*srv_apt*")
+    ended = Ended(root, f"{update}; apt-get install --yes irrdesk")
+    expect(ended.status != 0, True, f"whether apt refuses a changed index: {short(ended.said)}")
+    tell("installed by apt, and refused with a changed index")
+
+
+def test_lintian_finds_nothing_in_the_package(root: str, tell: Tell) -> None:
+    tell(lintian_is_silent(package_of(inside(root, f"{CLONE}/dist"))))
 
 
 def test_a_release_made_twice_is_the_same_bytes(trial: Trial, tell: Tell) -> None:

@@ -5,8 +5,12 @@ import re
 import subprocess
 import sys
 
-from checks.running import Tell, Trial, expect, write
+import pytest
+
+from checks.running import Tell, Trial, expect, short, write
 from checks.worlds import Tool, World, expect_line
+
+LINE = "SHA256-PW Xq3:3d72452d508755b8fcf01dfbb10b3a37d4cb2debb0312934b5f2b447595c927e"
 
 
 def test_a_lost_password_is_reset_and_nothing_else(trial: Trial, tool: Tool, tell: Tell) -> None:
@@ -89,9 +93,8 @@ def test_a_lost_password_is_reset_and_nothing_else(trial: Trial, tool: Tool, tel
     ]:
         ran = trial.run(folder, "submit", "s.toml", write(folder, "t.rpsl", text))
         expect(word in ran.printed, True, f"{word!r}: {ran.printed!r}")
-    line = "SHA256-PW Xq3:3d72452d508755b8fcf01dfbb10b3a37d4cb2debb0312934b5f2b447595c927e"
     expect(
-        tool("reset", "a-mnt", "--settings", settings, "--auth", line, folder=folder).status,
+        tool("reset", "a-mnt", "--settings", settings, "--auth", LINE, folder=folder).status,
         0,
         "a reset by a line of its holder",
     )
@@ -99,3 +102,41 @@ def test_a_lost_password_is_reset_and_nothing_else(trial: Trial, tool: Tool, tel
     ran = trial.run(folder, "submit", "s.toml", write(folder, "t.rpsl", text))
     expect(b"changed" in ran.printed, True, f"by the holder's password: {ran.printed!r}")
     tell("2 resets")
+
+
+# It notes what it is asked, and has a file for a service that runs.
+SYSTEMCTL = """#!/bin/sh
+cd "$(dirname "$0")" && echo "$*" >>asked
+case $1 in
+    show) if [ -e runs ]; then echo active; else echo inactive; fi ;;
+    start) touch runs ;;
+    stop) rm -f runs ;;
+esac
+"""
+
+
+@pytest.mark.skipif(os.geteuid() != 0, reason="it takes root")
+def test_a_service_is_stopped_meanwhile(trial: Trial, tool: Tool) -> None:
+    """That --service stops what runs and starts it again, also where nothing is reset, and starts
+    nothing else. What it leaves belongs to the owner of the database."""
+    with World(trial, tool, "service") as world:
+        pass
+    folder, place = world.folder, trial.place("systemctl")
+    os.chmod(write(place, "systemctl", SYSTEMCTL.encode()), 0o755)
+    at = tool.at(PATH=f"{place}:{os.environ['PATH']}")
+    os.chmod(trial.work, 0o711)
+    os.chmod(folder, 0o700)
+    for path in [folder, *(os.path.join(folder, name) for name in os.listdir(folder))]:
+        os.chown(path, 12_345, 12_345)
+    for runs, name, status in [(True, "A-MNT", 0), (False, "A-MNT", 0), (True, "C-MNT", 2)]:
+        if runs:
+            write(place, "runs", b"")
+        ran = at("reset", name, "--service", "--settings", "s.toml", "--auth", LINE, folder=folder)
+        expect(ran.status, status, f"{name}: {ran.said!r}")
+        with open(os.path.join(place, "asked"), encoding="ascii") as opened:
+            asked = [line.split()[0] for line in opened]
+        expect(asked, ["show", "stop", *["reset-failed", "start"] * runs], "what was asked")
+        for left in ["asked", *["runs"] * runs]:
+            os.remove(os.path.join(place, left))
+        owners = {os.stat(os.path.join(folder, name)).st_uid for name in os.listdir(folder)}
+        expect(owners, {12_345}, "who owns what is there")

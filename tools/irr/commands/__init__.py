@@ -47,6 +47,7 @@ TABLE = (
         "mirror", KEEP, "mirror", "serve replicas: copies of a registry that answer its queries"
     ),
     Command("backup", KEEP, "backup", "make a verified backup of a registry, served or not"),
+    Command("restore", KEEP, "restore", "put a backup in the place of a registry"),
     Command("history", KEEP, "history", "keep each public state of a registry, and show what was"),
     Command("reset", KEEP, "reset", "give a maintainer of a stopped registry another password"),
     Command(

@@ -18,9 +18,7 @@ irr backup /var/backups/irrdesk                       of /etc/irrdesk/irr.toml, 
 irr backup --settings irr.toml --keep 30 backups
 irr backup --copy /snapshot/irr.db backups            of a snapshot of the file system
 
-To restore one, stop the server, put the file irr.db of the backup in the place of the database,
-and remove the write-ahead log of what stood there, irr.db-wal; if `store` is a link, do this where
-it leads. Or load its dump.rpsl as a new registry.
+To restore one: irr restore FOLDER. Or load its dump.rpsl as a new registry.
 """
 NAME = re.compile("[0-9]{8}T[0-9]{6}Z")
 # What the name of a folder begins with that is no backup yet, or no longer.
@@ -107,7 +105,7 @@ def run(options: argparse.Namespace) -> int:
 
 def make(settings: Settings, options: argparse.Namespace, work: Path) -> tuple[Copy, float]:
     """The backup in a folder of the working one: SQLite's copy of the database as it stands, and
-    the settings beside it. And the seconds for which the database was held."""
+    settings for it. And the seconds for which the database was held."""
     held, made = Copy(work / "held", settings.text()), Copy(work / "made", settings.text())
     store, start = (
         settings.store if options.copy is None else databases.real(options.copy),
@@ -167,6 +165,8 @@ def tried(work: Path, settings: Settings, made: Copy) -> str:
                 ),
                 DATABASE,
             )
+    # What the registry has, with the path of its database.
+    files.put(made.folder / "irr.toml", settings.path.read_bytes(), files.PRIVATE)
     for path in made.folder.iterdir():
         with files.named(path), open(path, "rb") as file:
             os.fsync(file.fileno())

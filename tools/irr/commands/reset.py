@@ -4,7 +4,7 @@ import contextlib
 import os
 import signal
 from pathlib import Path
-from typing import Iterator
+from typing import Any, Iterator
 
 from irr.commands import auth as auths
 from irr.errors import ARGUMENTS, DATABASE, DONE, Failure, system_words
@@ -13,17 +13,18 @@ from irr.local.databases import Copy, Settings
 from irr.registry import submissions
 from irr.rpsl import hashes, keys, syntax
 from irr.rpsl.syntax import Attribute, Paragraph
-from irr.system import files
+from irr.system import files, services
 from irr.terminal import prompts, texts
 
 EXAMPLES = """
 irr reset EXAMPLE-MNT --auth 'SHA256-PW k3:ccda..'     the line that its holder made by `irr auth`
 irr reset EXAMPLE-MNT --save new.password              a new password, in a file for you alone
 irr reset EXAMPLE-MNT --settings irr.toml              a new password, which the terminal shows
+irr reset EXAMPLE-MNT --service                        that of the service, as root
 
-Stop the server before: systemctl stop irrdesk. All `auth` lines of the maintainer are replaced by
-the new one. Make sure that you speak to the holder: the new password gives all that the maintainer
-holds.
+The server has to be stopped, which --service does. All `auth` lines of the maintainer are replaced
+by the new one. Make sure that you speak to the holder: the new password gives all that the
+maintainer holds.
 """
 
 
@@ -33,6 +34,11 @@ def arguments(parser: argparse.ArgumentParser) -> None:
         metavar="FILE",
         default=databases.DEFAULT,
         help=f"those of the registry; {databases.DEFAULT} otherwise",
+    )
+    parser.add_argument(
+        "--service",
+        action="store_true",
+        help="stop irrdesk.service meanwhile, and start it again if it ran; run this as root",
     )
     how = parser.add_mutually_exclusive_group()
     how.add_argument(
@@ -54,6 +60,14 @@ def arguments(parser: argparse.ArgumentParser) -> None:
 def run(options: argparse.Namespace) -> int:
     name = keys.need_maintainer(options.name)
     os.umask(0o077)
+    with services.stopped() if options.service else contextlib.nullcontext():
+        replace(options, name)
+    then = "the service is as it was" if options.service else "start the server again"
+    print(texts.shown_line(f"mntner {name}: its auth is replaced, and nothing else; {then}"))
+    return DONE
+
+
+def replace(options: argparse.Namespace, name: str) -> None:
     settings = Settings.read(options.settings)
     if not settings.store.exists():
         raise Failure(
@@ -64,7 +78,7 @@ def run(options: argparse.Namespace) -> int:
             ),
             DATABASE,
         )
-    settle(settings)
+    settle(settings, options.service)
     with alone_in_work(settings) as work:
         if os.path.lexists(settings.log) and settings.log.stat().st_size >= databases.EMPTY_LOG:
             raise Failure(
@@ -81,18 +95,11 @@ def run(options: argparse.Namespace) -> int:
         single = made_of(settings, wanted, work)
         with handed_over(options, password, single):
             put_in_place(settings, single)
-    print(
-        texts.shown_line(
-            f"mntner {name}: its auth is replaced, and nothing else; start the server again"
-        )
-    )
-    return DONE
 
 
 @contextlib.contextmanager
-def alone_in_work(settings: Settings) -> Iterator[Path]:
-    """A working folder beside the database, which nobody else has open while the block runs."""
-    prefix = f".{settings.store.name}.irr-reset-"
+def alone(settings: Settings) -> Iterator[None]:
+    """Nobody else has the database open while the block runs."""
     with databases.alone(settings) as is_alone:
         if not is_alone:
             raise Failure(
@@ -100,13 +107,22 @@ def alone_in_work(settings: Settings) -> Iterator[Path]:
                 "another process has the database open; stop the server first",
                 DATABASE,
             )
+        yield
+
+
+@contextlib.contextmanager
+def alone_in_work(settings: Settings) -> Iterator[Path]:
+    """A working folder beside the database, which nobody else has open while the block runs."""
+    prefix = f".{settings.store.name}.irr-reset-"
+    with alone(settings):
         databases.clear(settings.store.parent, prefix)
         with databases.working(settings.store.parent, prefix) as work:
             yield work
 
 
-def settle(settings: Settings) -> None:
-    """Has the program open the registry and close it, which writes the log into the database."""
+def settle(settings: Settings, is_service: bool) -> None:
+    """Has the program open the registry and close it, which writes the log into the database. A
+    log that root made could not be opened by the service."""
     import subprocess
     from irr.local import temporary
 
@@ -115,9 +131,16 @@ def settle(settings: Settings) -> None:
         stdin=subprocess.DEVNULL,
         capture_output=True,
         check=False,
+        **(owner_of(settings) if is_service else {}),
     )
     if done.returncode > 1:
         raise Failure(str(settings.path), temporary.said(done), done.returncode)
+
+
+def owner_of(settings: Settings) -> dict[str, Any]:
+    """What has a program run as the owner of the database."""
+    was = settings.store.stat()
+    return {"user": was.st_uid, "group": was.st_gid, "extra_groups": []}
 
 
 def new_auth(options: argparse.Namespace) -> tuple[bytes, str]:

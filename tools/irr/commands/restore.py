@@ -1,0 +1,224 @@
+"""`irr restore FOLDER`: a backup in the place of a registry."""
+import argparse
+import contextlib
+import os
+import tempfile
+import time
+from pathlib import Path
+from typing import Iterator
+
+from irr.commands import backup as backups
+from irr.commands import reset
+from irr.errors import DATABASE, DONE, SETTINGS, Failure, reading, system_words
+from irr.local import databases
+from irr.local.databases import Copy, Settings
+from irr.registry import server
+from irr.system import files, services
+from irr.terminal import texts
+
+EXAMPLES = """
+irr restore /var/lib/irrdesk-backup/20261128T031502Z       the service's registry, as root
+irr restore --settings irr.toml backups/20261128T031502Z   one whose server you have stopped
+
+The backup is tried first: its database is opened, and its dump compared. What stood there is kept
+in a folder beside the database. Where there are no settings, those of the backup are put in place.
+"""
+# Where the package has the database, for a backup whose settings have a path without a folder.
+STORE = "/var/lib/irrdesk/irr.db"
+OF_GROUP = 0o640
+
+
+def arguments(parser: argparse.ArgumentParser) -> None:
+    parser.add_argument(
+        "--settings",
+        metavar="FILE",
+        help="those of a registry of yours, whose server is stopped; otherwise the registry is that"
+        f" of the service, {databases.DEFAULT}",
+    )
+    parser.add_argument(
+        "--over",
+        action="store_true",
+        help="also over a registry that has other objects than the backup",
+    )
+    parser.add_argument("folder", metavar="FOLDER", help="a backup that `irr backup` made")
+
+
+def run(options: argparse.Namespace) -> int:
+    os.umask(0o077)
+    backup, is_service = Path(options.folder), options.settings is None
+    with services.stopped() if is_service else contextlib.nullcontext():
+        settings = settings_for(options.settings, backup)
+        prefix = f".{settings.store.name}.irr-restore-"
+        with alone(settings), databases.working(settings.store.parent, prefix) as work:
+            tried(backup, settings, work)
+            kept = put_in_place(settings, work, options.over)
+            count = texts.counted(backups.count_of(work / "full.rpsl"), "object")
+            public = (work / "public.rpsl").read_bytes() if is_service else b""
+    if is_service:
+        services.start()
+        need_same(public)
+    print(
+        texts.shown_line(
+            f"{settings.store}: {count} of {backup}"
+            + (f"; what was there is in {kept}" if kept else "")
+        )
+    )
+    return DONE
+
+
+@reading("the settings")
+def settings_for(path: str | None, backup: Path) -> Settings:
+    """The settings of the registry. Where there are none yet, those of the backup are put there."""
+    of_backup = Settings.read(str(backup / "irr.toml"))
+    place = path or databases.DEFAULT
+    if is_blank(place):
+        text = (backup / "irr.toml").read_bytes()
+        if path is None and not os.path.isabs(stored(text)):
+            text = of_backup.text().replace('"irr.db"', f'"{STORE}"').encode("ascii")
+        files.put(place, text, files.PRIVATE)
+        if path is None:
+            # The service's group reads them.
+            os.chown(place, 0, os.stat(os.path.dirname(os.path.abspath(place))).st_gid)
+            os.chmod(place, OF_GROUP)
+    settings = Settings.read(place)
+    if settings.source != of_backup.source:
+        raise Failure(
+            place,
+            f"this registry is {settings.source}, and the backup one of {of_backup.source}; give"
+            " the settings of the right one",
+            SETTINGS,
+        )
+    return settings
+
+
+def stored(text: bytes) -> str:
+    import tomllib
+
+    return str(tomllib.loads(text.decode())["store"])
+
+
+def is_blank(path: str) -> bool:
+    """Whether there are no settings yet, or those of the package, which lack `auth`."""
+    import tomllib
+
+    try:
+        with open(path, "rb") as file:
+            return tomllib.load(file).get("auth") == ""
+    except FileNotFoundError:
+        return True
+    except (OSError, ValueError):
+        return False
+
+
+@contextlib.contextmanager
+def alone(settings: Settings) -> Iterator[None]:
+    """Nobody opens the database while the block runs, if there is one."""
+    with contextlib.ExitStack() as stack:
+        if os.path.lexists(settings.store):
+            stack.enter_context(reset.alone(settings))
+        yield
+
+
+def tried(backup: Path, settings: Settings, work: Path) -> None:
+    """Opens a copy of the backup, and writes its dumps into the working folder. Its own dump has
+    to be the same."""
+    made, pressed = Copy(work / "made", settings.text(), backup), work / "pressed.rpsl"
+    databases.copied(databases.real(str(backup / "irr.db")), work / "single.db")
+    databases.copied(work / "single.db", made.store)
+    made.dump(work / "full.rpsl", full=True)
+    made.dump(work / "public.rpsl")
+    dump = backup / "dump.rpsl"
+    if not dump.exists():
+        texts.note(f"irr restore: {backup}: it has no dump.rpsl to compare its database with")
+        return
+    files.put(pressed, databases.pressed(databases.blocks_of(work / "full.rpsl")), files.PRIVATE)
+    if not databases.same(pressed, dump):
+        raise Failure(
+            str(backup),
+            "its irr.db and its dump.rpsl have other objects; take another backup",
+            DATABASE,
+        )
+
+
+def put_in_place(settings: Settings, work: Path, is_told: bool) -> Path | None:
+    """Puts the database of the working folder into the place of the old one. Where that has other
+    objects, or can't be opened, its files are kept, and their folder is given."""
+    owner, mode, kept = os.stat(settings.store.parent), files.PRIVATE, None
+    old = [
+        path
+        for path in (
+            settings.store,
+            settings.log,
+            databases.beside(settings.store, databases.JOURNAL),
+        )
+        if os.path.lexists(path)
+    ]
+    if settings.store.exists():
+        owner, mode = os.stat(settings.store), os.stat(settings.store).st_mode & 0o777
+        if others := what_others(settings, work):
+            if not is_told and others != UNREADABLE:
+                raise Failure(
+                    str(settings.store),
+                    f"this registry has other objects than the backup: {others}; to lose them,"
+                    " add --over",
+                    DATABASE,
+                )
+            name = time.strftime("replaced-%Y%m%dT%H%M%SZ-", time.gmtime())
+            kept = Path(tempfile.mkdtemp(prefix=name, dir=settings.store.parent))
+            chown(kept, owner)
+    with files.named(work / "single.db"), open(work / "single.db", "r+b") as file:
+        os.fchmod(file.fileno(), mode)
+        chown(file.fileno(), owner)
+        os.fsync(file.fileno())
+    # The database goes first: where this is killed, no old one is left without its log.
+    for path in old:
+        if kept:
+            os.rename(path, kept / path.name)
+        elif path != settings.store:
+            path.unlink()
+    os.replace(work / "single.db", settings.store)
+    try:
+        files.sync_folder(settings.store.parent)
+    except OSError as error:
+        raise Failure(
+            str(settings.store),
+            f"it is restored, but may not be on the disk: {system_words(error)}; look at the disk",
+            DATABASE,
+        ) from None
+    return kept
+
+
+def chown(what: Path | int, owner: os.stat_result) -> None:
+    if (owner.st_uid, owner.st_gid) != (os.geteuid(), os.getegid()):
+        os.chown(what, owner.st_uid, owner.st_gid)
+
+
+UNREADABLE = "it cannot be opened"
+
+
+def what_others(settings: Settings, work: Path) -> str:
+    """In what the registry that is there differs from the backup; nothing if it does not."""
+    standing = Copy(work / "standing", settings.text(), settings.store)
+    databases.copied_store(settings.store, standing)
+    try:
+        standing.dump(work / "standing.rpsl", full=True)
+    except Failure:
+        return UNREADABLE
+    if databases.same(work / "standing.rpsl", work / "full.rpsl"):
+        return ""
+    there, here = (set(databases.blocks_of(work / name)) for name in ("standing.rpsl", "full.rpsl"))
+    return (
+        f"{texts.counted(len(there - here), 'object')} of it,"
+        f" {texts.counted(len(here - there), 'object')} of the backup"
+    )
+
+
+def need_same(public: bytes) -> None:
+    """That the service answers the public dump of the backup."""
+    place = server.Server.from_options(services.server(), True)
+    if b"".join(place.dump()) != public:
+        raise Failure(
+            place.url,
+            "the service answers another dump than the backup's; look what listens there",
+            DATABASE,
+        )

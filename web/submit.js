@@ -298,16 +298,17 @@ async function objectsAt(signal, query) {
 }
 
 // The mntners of a text that change themselves so that no password given here would fit any more,
-// or that others alone could change them. What an item makes of one stands for those after it.
+// or that others alone could change them. An item may be refused: what is registered counts beside
+// what those before it make of one.
 async function lockouts(signal, blocks, passwords) {
-    const found = [], made = {};
+    const found = [], own = new Set();
     for (const block of passwords.length ? blocks : []) {
         const mntner = mntnerOf(block);
         if (!mntner?.auths.length || faultsOf(block).length) continue;
-        const {name, line, holders} = mntner, earlier = made[name], isOwn = holders.includes(name);
-        made[name] = holders;
+        const {name, line, holders} = mntner, wasOwn = own.has(name), isOwn = holders.includes(name);
+        if (isOwn) own.add(name);
         if (isOwn && await fits(mntner.auths, passwords)) continue;
-        const old = earlier ?? (await objectsAt(signal, `object mntner ${name}`))
+        const old = wasOwn ? [name] : (await objectsAt(signal, `object mntner ${name}`))
             .flatMap(object => object.holders.map(holder => holder.toUpperCase()));
         if (!old.includes(name)) continue;
         const others = holders.filter(holder => holder !== name);

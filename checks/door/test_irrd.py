@@ -1,8 +1,11 @@
 """IRRd's questions at the door: golden replies, kept connections, and IRRd's clients unchanged."""
 
+import asyncio
 import shutil
 import socket
 import subprocess
+from types import SimpleNamespace
+from typing import Any
 
 import pytest
 
@@ -10,6 +13,8 @@ from checks.door import worlds
 from checks.door.opened import Opened, Registries, read_all
 from checks.running import Each, Trial, expect
 from irr.door import irrd
+from irr.door.cache import Answer, Cache, Ledger
+from irr.door.queries import Asker
 
 SECONDS = 30
 
@@ -208,3 +213,37 @@ def test_questions_that_come_in_one_piece_or_byte_by_byte_are_answered_in_order(
 def test_members_are_spelled_as_those_of_an_expansion(item: bytes, text: str) -> None:
     """bgpq4's EXCEPT compares texts: `AS02` would not be taken out by `EXCEPT AS2`."""
     assert irrd.member_text(item) == text
+
+
+class Dear(Asker):
+    """Asks a registry that takes a second to answer, so that answers are kept."""
+
+    def __init__(self, text: bytes) -> None:
+        pool: Any = SimpleNamespace(cache=Cache(1 << 20, 60.0), ledger=Ledger(1 << 20))
+        client: Any = SimpleNamespace()
+        super().__init__(pool, client)
+        self.text, self.count = text, 0
+
+    async def ask(self, query: bytes) -> Answer:
+        self.count += 1
+        return self.own(self.text, 1.0)
+
+
+@pytest.mark.parametrize("options", ["lL", "Ll"])
+def test_options_of_routes_that_differ_by_letter_case_are_kept_apart(options: str) -> None:
+    asker = Dear(worlds.ONE + b"\n" + worlds.LONG + b"\n")
+    wanted = {option: REPLIES[f"!r10.1.2.0/24,{option}"] for option in options}
+    for option in options * 2:
+        question = f"!r10.1.2.0/24,{option}"
+        reply = asyncio.run(irrd.Session(asker).answer(question.encode()))
+        expect(reply.text, wanted[option], question)
+    expect(asker.count, 2, "queries of the registry")
+
+
+def test_what_is_kept_answers_names_of_any_letter_case_and_the_same_command_alone() -> None:
+    asker = Dear(worlds.ONE + b"\n")
+    for question in b"!gAS1", b"!gas1":
+        reply = asyncio.run(irrd.Session(asker).answer(question))
+        expect((reply.text, asker.count), (data(b"10.1.0.0/16"), 1), f"{question!r}")
+    reply = asyncio.run(irrd.Session(asker).answer(b"!GAS1"))
+    expect(reply.text, b"F Unrecognised command: GAS1\n", "!GAS1")

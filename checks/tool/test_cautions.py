@@ -154,6 +154,21 @@ def test_lock_out_by_a_later_item() -> None:
     assert [is_grave for _, is_grave in seen(given)[0]] == []
 
 
+def test_lock_out_whatever_becomes_of_an_earlier_item() -> None:
+    """It may be refused, and then what was registered stands."""
+    own, password = mntner("# filtered"), "password: a secret\n\n"
+    handed, back = mntner(HASH, by="NOPE-MNT"), mntner(OTHER)
+    first, second = seen(f"{password}{handed}\n{back}", own)[0]
+    assert first[0].startswith("f: line 8: ") and "no password" in first[0] and first[1]
+    assert second[0].startswith("f: line 3: ") and "NOPE-MNT alone" in second[0] and not second[1]
+    # What an item before it makes of the maintainer is enough.
+    (found, *_), asked = seen(f"{password}{mntner(HASH)}\n{handed}\n{back}", mntner("", by="B-MNT"))
+    assert found[0].startswith("f: line 13: ") and found[1] and asked == 0
+    # Neither locks anybody out.
+    assert seen(f"{password}{handed}\n{back}", mntner("", by="B-MNT"))[0] == []
+    assert seen(f"{password}{handed}\n{mntner(HASH)}", own)[0] == [second]
+
+
 def test_handed_to_others() -> None:
     """A maintainer that no longer maintains itself is told, and sent."""
     own, password = mntner("# filtered"), "password: a secret\n\n"

@@ -188,6 +188,13 @@ def test_nothing_that_locks_out_is_sent_unless_it_is_meant(stage: Stage, tell: T
             ["c"],
             "Line 6, mntner: no password that is given here fits the new auth",
         ),
+        # The first one is refused, so that the registered one is changed.
+        (
+            f"mntner: B-MNT\nauth: {other}\nmnt-by: NOPE-MNT\nsource: TEST\n\n"
+            f"mntner: B-MNT\nauth: {other}\nmnt-by: B-MNT\nsource: TEST\n",
+            ["bc"],
+            "Line 6, mntner: no password that is given here fits the new auth",
+        ),
     ]
     for text, passwords, words in cases:
         expect_in("Nothing was sent", stage.send_text(text, passwords), text)
@@ -209,7 +216,7 @@ def test_nothing_that_locks_out_is_sent_unless_it_is_meant(stage: Stage, tell: T
         browser.text("cautions"),
         "the warnings",
     )
-    tell("five texts held back, one of them sent once that is asked for; two warnings")
+    tell("six texts held back, one of them sent once that is asked for; two warnings")
 
 
 def test_change_replaces_what_was_left(stage: Stage, tell: Tell) -> None:

@@ -98,8 +98,8 @@ class Session:
         if line == b"!!":
             self.stays = True
             return Reply(b"", "answered", True)
-        if line[1:2].lower() in b"agi6":
-            kept = self.asker.kept(line.upper())
+        if line[1:2] in b"agi6":
+            kept = self.asker.kept(key_of(line))
             if kept is not None and len(kept.text) <= queries.FREE:
                 return Reply(kept.text, outcome_of(kept.text), self.stays, kept)
         return None
@@ -113,7 +113,7 @@ class Session:
             return Reply(b"", "answered", False)
         state = self.asker.pool.cache.state
         try:
-            kept = self.asker.kept(line.upper())
+            kept = self.asker.kept(key_of(line))
             if kept is not None:
                 await self.asker.pay(len(kept.text))
                 return Reply(kept.text, outcome_of(kept.text), self.stays, kept)
@@ -123,7 +123,7 @@ class Session:
         except Refused as refused:
             return self.wrong(refused.sentence, refused.word)
         if isinstance(answer, Answer):
-            self.asker.keep(line.upper(), answer, state)
+            self.asker.keep(key_of(line), answer, state)
             return Reply(answer.text, outcome_of(answer.text), self.stays, answer)
         if outcome_of(answer) == "error":
             return self.wrong(answer[2:-1].decode("latin-1"))
@@ -441,6 +441,12 @@ QUESTIONS: tuple[tuple[str, Callable[[Session, str], Awaitable["bytes | Answer"]
     ("v", Session.version),
     ("n", Session.named),
 )
+
+
+def key_of(line: bytes) -> bytes:
+    """What the answer to a question is kept by: `!r` means others by `,l` than by `,L`."""
+    word, comma, option = line.partition(b",")
+    return word[:2] + word[2:].upper() + comma + option
 
 
 def sound(answer: Answer, query: bytes) -> None:

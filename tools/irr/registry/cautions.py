@@ -158,7 +158,9 @@ def lockouts(items: list[Item], reasons: Reasons) -> Iterator[Caution]:
     """Maintainers that change themselves so that none of the given passwords would fit any more, or
     that others alone could change them."""
     secrets = submissions.given(items)
-    made: dict[str, Paragraph] = {}
+    # Those that an earlier item has maintain themselves. It may be refused: what is registered counts
+    # beside it.
+    own: set[str] = set()
     for item in items if secrets else ():
         new = item.object()
         if new is None or new.name != b"mntner" or is_deletion(item):
@@ -166,13 +168,13 @@ def lockouts(items: list[Item], reasons: Reasons) -> Iterator[Caution]:
         key = keys.key_of(new)
         if key is None or not is_usable(new) or grammar.faults(item.block.text):
             continue
-        old, made[key.text] = made.get(key.text), new
         others = [name for name in holders.by(new) if name != key.text]
-        fits, is_own = lets_in(new, list(secrets)), key.text in holders.by(new)
-        if fits and is_own:
-            continue
-        old = old or next(iter(reasons.ask(key.query())), None)
-        if old is None or key.text not in holders.by(old):
+        was_own, is_own = key.text in own, key.text in holders.by(new)
+        if is_own:
+            own.add(key.text)
+            if lets_in(new, list(secrets)):
+                continue
+        if not was_own and not any(key.text in holders.by(old) for old in reasons.ask(key.query())):
             continue
         if not is_own:
             words = f"{key.text} no longer maintains itself"

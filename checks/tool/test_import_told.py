@@ -7,6 +7,8 @@ from typing import Any
 import pytest
 
 from checks.tool.importing import left_out, listed, made, mended, obj, texts_of
+from irr.migrate import conversion
+from irr.rpsl import syntax
 
 A = ("as-set: AS-A", "members: AS1", "mnt-by: A-MNT", "source: RIPE")
 CUT = "cut off at the end of the file"
@@ -204,6 +206,39 @@ def test_what_may_be_objects_in_a_paragraph_is_counted_and_placed() -> None:
         ["left out", "not mended because of --no-part"],
         ["left out with it", "not mended because of --no-part"],
     )
+
+
+@pytest.mark.parametrize("most, chunk", [(1_000, 700), (997, 50), (1_000, 1 << 20), (60, 60)])
+def test_what_may_be_objects_is_told_of_a_paragraph_of_any_size(most, chunk, monkeypatch):
+    """Also of what is not kept of it, and each line as it stands there."""
+    monkeypatch.setattr(conversion, "MOST", most)
+    monkeypatch.setattr(syntax, "CHUNK", chunk)
+    again, count = "a class again after the first line", 300
+    for end in [], ["source: RIPE"], ["source: RIPE", "last-modified: 2020"]:
+        lines = [more for number in range(count) for more in (f"aut-num: AS{number}", "a: b", *end)]
+        text = obj(*A) + (obj(*lines) if end[1:] else obj(*lines).replace(b"source", b"x"))
+        found = [line.split("\t") for line in listed(text + obj(*A).replace(b"AS-A", b"AS-B"))]
+        size = 2 + len(end)
+        assert [(*one[:2], int(one[2].rpartition(":")[2]), one[3]) for one in found] == [
+            (
+                "left out with it" if number else "left out",
+                again,
+                6 + size * number,
+                f"aut-num: AS{number}",
+            )
+            for number in range(count)
+        ], end
+
+
+def test_a_class_after_what_is_kept_is_told(monkeypatch):
+    monkeypatch.setattr(conversion, "MOST", 1_000)
+    monkeypatch.setattr(syntax, "CHUNK", 700)
+    text = obj(*A, *["x: y"] * 1_000, "aut-num: AS1", *["x: y"] * 500, "Route : 10.0.0.0/8")
+    assert [(line.split("\t")[0], line.split(":", 1)[1]) for line in listed(text)] == [
+        ("left out", "1\tas-set: AS-A"),
+        ("left out with it", "1005\taut-num: AS1"),
+        ("left out with it", "1506\tRoute : 10.0.0.0/8"),
+    ]
 
 
 # The list beside the report.

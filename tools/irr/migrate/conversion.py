@@ -113,7 +113,7 @@ class Import:
         waiting: parting.Part | None = None
         is_off = "part" in self.off
         seam = parting.no_seam if is_off else parting.last_seam
-        for block in syntax.blocks(self.sized(pieces_of(path)), MOST, seam):
+        for block in syntax.blocks(self.sized(pieces_of(path)), MOST, seam, parting.later):
             found = parting.parts(block)
             if len(found) > 1 and is_off:
                 found = [parting.Part(block, not_mended("part"), True)]

@@ -24,6 +24,7 @@ CLASS_LINE = rb"(?=[%s])(?:%s)[ \t\r]*:" % (
 SOURCE_LINE = rb"\nsource[ \t\r]*:"
 LATER_CLASS = re.compile(rb"\n" + CLASS_LINE)
 LATER_SOURCE = re.compile(SOURCE_LINE)
+LATER = re.compile(rb"\n" + CLASS_LINE + rb"|" + SOURCE_LINE)
 # A `source` after the first line, with the lines that continue it and those that are skipped,
 # directly before a class.
 SEAM = re.compile(rb"%s[^\n]*\n(?:[ \t\r+#%%][^\n]*\n)*(?=%s)" % (SOURCE_LINE, CLASS_LINE))
@@ -40,11 +41,15 @@ class Part(NamedTuple):
     doubt: str
     has_source: bool
 
-    def further(self) -> list[int]:
-        """The lines, from 0, at which further objects may begin, or end, in what is not one."""
-        small = self.block.text.lower()
-        found = [*LATER_CLASS.finditer(small)] or [*LATER_SOURCE.finditer(small)][1:]
-        return [small.count(b"\n", 0, one.start() + 1) for one in found]
+    def further(self) -> list[tuple[int, bytes]]:
+        """The lines at which further objects may begin, or end, in what is not one: each with its
+        number in the file."""
+        block, (_, _, after) = self.block, self.block.text.partition(b"\n")
+        if block.size > len(block.text):
+            # Its last line is not whole, and told of as the others that are not kept.
+            after = after[: after.rfind(b"\n") + 1]
+        found = [*later(after, block.line + 1), *block.beyond]
+        return [one for one in found if not is_source(one[1])] or found[1:]
 
     def odd_lines(self) -> tuple[tuple[int, bytes], ...]:
         """The lines with `#` or `%` first, which are not kept, and those with a CR first, which go
@@ -64,14 +69,17 @@ def parts(block: Block) -> list[Part]:
     class line."""
     small = block.text.lower()
     if not LATER_CLASS.search(small):
-        return [part_of(block, small, "")]
+        has_more = any(not is_source(line) for _, line in block.beyond)
+        return [part_of(block, small, CLASS_AGAIN if has_more else "")]
     found: list[Part] = []
     start, line = 0, block.line
     for end in [*(seam.end() for seam in SEAM.finditer(small)), len(small)]:
-        size = end - start if end < len(small) else block.size - start
+        size, beyond = end - start, block.beyond[:0]
+        if end == len(small):
+            size, beyond = block.size - start, block.beyond
         own = small[start:end]
         doubt = CLASS_AGAIN if LATER_CLASS.search(own) else ""
-        found.append(part_of(Block(line, size, block.text[start:end]), own, doubt))
+        found.append(part_of(Block(line, size, block.text[start:end], beyond), own, doubt))
         line += own.count(b"\n")
         start = end
     return found
@@ -80,6 +88,22 @@ def parts(block: Block) -> list[Part]:
 def part_of(block: Block, small: bytes, doubt: str) -> Part:
     count = len(LATER_SOURCE.findall(small))
     return Part(block, doubt or (SOURCE_AGAIN if count > 1 else ""), count > 0)
+
+
+def later(text: bytes, line: int) -> list[tuple[int, bytes]]:
+    """Of the lines of a text those that begin with a class or `source`, each with its number; that
+    of the first one is given."""
+    small, found, start = b"\n" + text.lower(), [], 0
+    for one in LATER.finditer(small):
+        line += small.count(b"\n", start + 1, one.start() + 1)
+        start = one.start()
+        end = text.find(b"\n", start)
+        found.append((line, text[start:] if end < 0 else text[start:end]))
+    return found
+
+
+def is_source(line: bytes) -> bool:
+    return LATER_SOURCE.match(b"\n" + line.lower()) is not None
 
 
 def no_seam(_: bytes) -> int:

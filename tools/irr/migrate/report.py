@@ -67,15 +67,15 @@ class Tally:
         """How many paragraphs are left out, by cause."""
         return self.left_out.causes
 
-    def leave_out(self, cause: str, place: Place, text: bytes, further: Iterable[int] = ()) -> None:
-        """Notes a paragraph that is not taken, and the lines, from 0, at which further objects may
-        begin in it."""
+    def leave_out(
+        self, cause: str, place: Place, text: bytes, further: Iterable[tuple[int, bytes]] = ()
+    ) -> None:
+        """Notes a paragraph that is not taken, and the lines at which further objects may begin in
+        it, each with its number in the file."""
         self.note(self.left_out, cause, entry(place, text))
-        lines = text.split(b"\n") if further else []
-        for number in further:
+        for number, line in further:
             self.left_out.more[cause] += 1
-            own = entry(place._replace(line=place.line + number), lines[number])
-            self.write("left out with it", cause, own)
+            self.write("left out with it", cause, entry(place._replace(line=number), line))
 
     def drop(self, dropped: Dropped, place: Place, text: bytes) -> None:
         """Notes an item that is taken out of a list of an object."""

@@ -24,6 +24,9 @@ CHUNK = 1 << 20
 PASSED_OVER, CONTINUED = frozenset((b"#", b"%")), frozenset((b" ", b"\t", b"\r", b"+"))
 # The end of the last one of several objects in a text, at which it may be cut in two; 0 for none.
 Seam = Callable[[bytes], int]
+# Those of some lines which are told of even if they are not kept, each with its number; the number
+# of the first line is given.
+Marked = Callable[[bytes, int], list[tuple[int, bytes]]]
 
 
 class TextFault(Unreadable):
@@ -71,11 +74,12 @@ class Attribute(NamedTuple):
 class Block(NamedTuple):
     """The lines of one paragraph as they came: the number of the first one in the text, their size
     in bytes, and the lines with their ends, of which there may be fewer bytes than the size where
-    the reader was told to keep no more."""
+    the reader was told to keep no more; and what is told of the lines that are not kept whole."""
 
     line: int
     size: int
     text: bytes
+    beyond: tuple[tuple[int, bytes], ...] = ()
 
 
 class Paragraph:
@@ -183,60 +187,82 @@ def blocks(
     source: Iterable[bytes],
     most: int | None = None,
     seam: Seam = lambda _: 0,
+    marked: Marked = lambda _, __: [],
 ) -> Iterator[Block]:
     """The blocks of a text that comes in pieces (`chunks(file)`, `Server.dump()`, or `[text]`), in
     memory that grows with one block.
 
     Lines that are skipped (`#` or `%` first) stay in the block that they stand in, but for those
     before its first other line. Of a block of more than `most` bytes the first `most` are kept,
-    unless `seam` has a place in them at which the block may be cut in two."""
+    unless `seam` has a place in them at which the block may be cut in two. Of the lines that are
+    not kept whole the block has what `marked` finds."""
     # What is held begins with the LF before its first line, of which `line` were before it.
-    held, line, lost_bytes, lost_lines = bytearray(b"\n"), 0, 0, 0
+    held, line, lost = bytearray(b"\n"), 0, Lost()
     for chunk in source:
         # A line of blanks may have come in part: it begins after the last LF.
         tail, start = held.rfind(b"\n"), 0
         held += chunk
         for found in BETWEEN.finditer(held, tail):
             text = bytes(held[start + 1 : found.start() + 1])
-            yield from block_of(text, line + 1, lost_bytes, most, seam)
-            line += held.count(b"\n", start + 1, found.end()) + lost_lines
-            start, lost_bytes, lost_lines = found.end() - 1, 0, 0
+            yield from block_of(text, line + 1, lost, most, seam, marked)
+            line += held.count(b"\n", start + 1, found.end()) + lost.lines
+            start, lost = found.end() - 1, Lost()
         del held[:start]
         if most is not None and len(held) > most + CHUNK:
             skipped = SKIPPED.match(held, 1)
             if skipped:
                 line += held.count(b"\n", 1, skipped.end())
                 del held[1 : skipped.end()]
-            end = 0 if lost_bytes else seam(bytes(held[1:]))
+            end = 0 if lost.size else seam(bytes(held[1:]))
             if end:
                 yield Block(line + 1, end, bytes(held[1 : end + 1]))
                 line += held.count(b"\n", 1, end + 1)
                 del held[1 : end + 1]
             tail = held.rfind(b"\n")
             if tail > most + 1:
-                lost_bytes += tail - most - 1
-                lost_lines += held.count(b"\n", most + 1, tail)
+                lost.note(bytes(held[1 : tail + 1]), line + 1, most, marked)
+                lost.size += tail - most - 1
+                lost.lines += held.count(b"\n", most + 1, tail)
                 del held[most + 1 : tail]
     last = bytes(held[1:])
     if not last[last.rfind(b"\n") + 1 :].strip(BLANKS):
         last = last[: last.rfind(b"\n") + 1]
-    yield from block_of(last, line + 1, lost_bytes, most, seam)
+    yield from block_of(last, line + 1, lost, most, seam, marked)
 
 
-def block_of(text: bytes, line: int, lost: int, most: int | None, seam: Seam) -> Iterator[Block]:
+class Lost:
+    """What is not kept of a block: how many bytes and ends of lines, and what is told of its
+    lines."""
+
+    def __init__(self) -> None:
+        self.size, self.lines = 0, 0
+        self.told: list[tuple[int, bytes]] = []
+
+    def note(self, text: bytes, line: int, most: int, marked: Marked) -> None:
+        """Notes what is told of the lines that are not whole in the first bytes of a text, which is
+        without what was lost before."""
+        begin = most + 1 if self.size else text.rfind(b"\n", 0, most) + 1
+        self.told += marked(text[begin:], line + text.count(b"\n", 0, begin) + self.lines)
+
+
+def block_of(
+    text: bytes, line: int, lost: Lost, most: int | None, seam: Seam, marked: Marked
+) -> Iterator[Block]:
     """The block of these lines, if any of them is not skipped; or two of them."""
     skipped = SKIPPED.match(text)
     if skipped:
         line += text.count(b"\n", 0, skipped.end())
         text = text[skipped.end() :]
-    if most is not None and len(text) > most and not lost:
+    if most is not None and len(text) > most and not lost.size:
         end = seam(text)
         if end:
             yield Block(line, end, text[:end])
             line += text.count(b"\n", 0, end)
             text = text[end:]
     if text and text[:1] not in (b"#", b"%"):
-        yield Block(line, len(text) + lost, text if most is None else text[:most])
+        if most is not None and len(text) > most:
+            lost.note(text, line, most, marked)
+        yield Block(line, len(text) + lost.size, text[:most], tuple(lost.told))
 
 
 def paragraphs(source: Iterable[bytes]) -> Iterator[Paragraph]:

@@ -7,7 +7,7 @@ import sys
 
 import pytest
 
-from checks.running import Tell, Trial, expect, short, write
+from checks.running import Tell, Trial, expect, write
 from checks.worlds import Tool, World, expect_line
 
 LINE = "SHA256-PW Xq3:3d72452d508755b8fcf01dfbb10b3a37d4cb2debb0312934b5f2b447595c927e"

@@ -64,6 +64,8 @@ AS- A- -A a_b-C MD5-PW SHA256-PW x:0 0.0.0.0/0^- TEST test RIPE TEST,RIPE AS1-AS
     b"\n+",
     b"\n+, ",
     b"\n# skipped\n ",
+    b"\n password: x",
+    b"\n+\tPwd :",
 ]
 PIECES = st.sampled_from(WORDS) | st.binary(max_size=3).filter(lambda piece: b"\n" not in piece)
 

@@ -63,6 +63,12 @@ def seen(text: str, registered: str = "") -> tuple[list[tuple[str, bool]], int]:
             (f"aut-num: AS1\n{name}: x\n", f"f: line 2, `{name}`", "write `password`", True)
             for name in grammar.SECRETS
         ),
+        # A line that begins with a blank or `+` goes on with the attribute before it.
+        *(
+            (f"aut-num: AS1\ndescr: x\n{line}: y\n", "f: line 3, `descr`", "goes on with", True)
+            for line in (" password", "+Password\t", "\t  pwd", "+ api-key ", "\rPASSWD")
+        ),
+        ("# x\nas-set: AS-A\n# x\n secret:\n", "f: line 4, `as-set`", "shown to all", True),
         ("aut-num: AS1\nmnt-lowr: B-MNT\n", "f: line 2, `mnt-lowr`", "`mnt-lower`", False),
         ("route: 192.0.2.1/24\n", "f: line 1, `route`", "192.0.2.0/24 is registered", False),
         ("# x\n\ninetnum: 192.0.2.1/24\n", "f: line 3, `inetnum`", "192.0.2.0/24", False),
@@ -113,6 +119,10 @@ def test_seen(text: str, place: str, words: str, is_grave: bool) -> None:
         "person: X\nmnt-ref: A-MNT\nnotify: x\n",
         # Names that only begin so, and a name in a value.
         "aut-num: AS1\npassport: x\nauth-override: 20010101\nremarks: passwd: x\n",
+        # What goes on with a text or with a password, and reads as no password, or isn't kept.
+        "aut-num: AS1\ndescr: x\n my password: y\n passwords: y\n password\n+# password: y\n",
+        "password: x\n password: y\naut-num: AS1\n",
+        "aut-num: AS1\ndelete: x\n password: y\n",
     ],
 )
 def test_unseen(text: str) -> None:

@@ -5,6 +5,7 @@ import {FORMS, HINTS, INTERPRETED, KEY_WORDS, SECRETS, TABLE, WORDS} from './tab
 
 const PSEUDO = ['password', 'delete'], LONGEST_SHOWN = 60, LARGEST = 65536;
 const ATTRIBUTE = /^[a-z][a-z0-9_-]{0,63}$/i;
+const SECRET_LINE = new RegExp(`^(?:${['password', ...SECRETS].join('|')})[ \\t\\r]*:`, 'i');
 const DASHED = /^([^- \t\r]+)[ \t\r]*-[ \t\r]*([^- \t\r]+)$/;
 const trimmed = text => text.replace(/^[ \t\r]+|[ \t\r]+$/g, '');
 const meant = line => line.split('#', 1)[0];
@@ -300,6 +301,13 @@ export function cautionsOf(block) {
                 'it is one letter off `password`, and would be shown to all as a text' :
                 `it is one letter off \`${near}\`, and would be kept as a text without meaning`,
             near === 'password');
+        }
+        // A line that goes on with an attribute is a part of it.
+        for (const [number, line] of PSEUDO.includes(one.name) ? [] : one.lines.slice(1)) {
+            if (SECRET_LINE.test(line)) {
+                caution(number, one.name, 'its line reads as a password, and would be shown to ' +
+                    'all, as it goes on with this attribute; give it below', true);
+            }
         }
         const isKey = one.name === kind && ['inetnum', 'route'].includes(kind);
         const isList = ['members', 'mnt-routes'].includes(one.name) &&

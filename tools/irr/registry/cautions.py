@@ -17,6 +17,10 @@ from irr.terminal import texts
 MOST_TOLD = 20
 MNTNER = re.compile(rb"^mntner[ \t\r]*:", re.I | re.M)
 NAMES = re.compile(rb"^[A-Za-z][A-Za-z0-9_-]*", re.M)
+SECRET_LINE = re.compile(
+    rb"(?:%s)[ \t\r]*:" % "|".join(("password", *grammar.SECRETS)).encode(), re.I
+)
+GOES_ON = re.compile(rb"^[ \t\r+][ \t\r]*" + SECRET_LINE.pattern, re.I | re.M)
 PREFIX = re.compile(rb"[0-9]{1,3}(?:\.[0-9]{1,3}){3}/[0-9]{1,2}")
 HELP = (
     "send it even if a maintainer would be left without a password that fits, or what reads as a "
@@ -78,6 +82,7 @@ def of_text(item: Item) -> Iterator[Caution]:
     own = [one for one in given if one.name not in grammar.PSEUDO]
     kind = keys.as_text(own[0].name) if own else ""
     for one in own:
+        yield from going_on(item, one)
         yield from host_bits(item, kind, one)
     if kind == "mntner" and not item.paragraph.has(b"delete"):
         yield from without_auth(item, own)
@@ -87,6 +92,7 @@ def is_suspect(text: bytes) -> bool:
     """Whether it is worth reading: most objects are not, and a submission may have many."""
     return (
         MNTNER.search(text) is not None
+        or GOES_ON.search(text) is not None
         or any(misspelt(name) or is_secret(name) for name in NAMES.findall(text))
         or any(map(rounded, PREFIX.findall(text)))
     )
@@ -129,6 +135,17 @@ def of_name(item: Item, one: Placed) -> Iterator[Caution]:
         yield Caution(at(item, one, one.numbers[0]), words)
 
 
+def going_on(item: Item, one: Placed) -> Iterator[Caution]:
+    """A password whose line begins with a blank or `+`, so that it is of the attribute before."""
+    for number, line in zip(one.numbers[1:], one.attribute.lines[1:]):
+        if SECRET_LINE.match(line):
+            words = (
+                "its line reads as a password, and would be shown to all, as it goes on with this "
+                "attribute; begin the line with `password`"
+            )
+            yield Caution(at(item, one, number), words, True)
+
+
 def host_bits(item: Item, kind: str, one: Placed) -> Iterator[Caution]:
     """Prefixes that are read as others, where prefixes are read."""
     name = keys.as_text(one.name)
@@ -158,8 +175,8 @@ def lockouts(items: list[Item], reasons: Reasons) -> Iterator[Caution]:
     """Maintainers that change themselves so that none of the given passwords would fit any more, or
     that others alone could change them."""
     secrets = submissions.given(items)
-    # Those that an earlier item has maintain themselves. It may be refused: what is registered counts
-    # beside it.
+    # Those that an earlier item has maintain themselves. It may be refused: what is registered
+    # counts beside it.
     own: set[str] = set()
     for item in items if secrets else ():
         new = item.object()

@@ -2,7 +2,7 @@
 
 import pytest
 
-from irr.filters.lists import entries, loss
+from irr.filters.lists import entries, losses
 
 PREFIXES = {
     "bird": "define X = [ 10.0.0.0/24, 10.0.1.0/24{24,26}, 10.0.2.0/23+ ];",
@@ -27,14 +27,19 @@ OTHERS = [
 ]
 
 
+def loss(router: str, old: str, new: str) -> list[tuple[str, int, int]]:
+    """The name, what is lost, and the count of each list."""
+    return [tuple(one) for one in losses(router, old, new)]
+
+
 @pytest.mark.parametrize("router", list(PREFIXES))
 @pytest.mark.parametrize(("new", "lost"), OTHERS)
 def test_loss(router: str, new: str, lost: int) -> None:
     text = f"define X = [ {new} ];"
     if router == "bird":
-        assert loss("bird", PREFIXES["bird"], text) == (lost, 3)
+        assert loss("bird", PREFIXES["bird"], text) == [("X", lost, 3)]
     # The old list in another syntax takes the same.
-    assert loss(router, PREFIXES[router], PREFIXES[router]) == (0, 3)
+    assert loss(router, PREFIXES[router], PREFIXES[router]) == [("X", 0, 3)]
 
 
 def test_syntaxes_say_the_same() -> None:
@@ -42,25 +47,50 @@ def test_syntaxes_say_the_same() -> None:
 
 
 def test_comments_and_refusals_take_nothing() -> None:
-    assert loss("bird", "# 10.0.0.0/8\n/* 10.1.0.0/16\n*/ define X = [ 10.2.0.0/16 ];", "") == (
-        1,
-        1,
-    )
+    bird = "# 10.0.0.0/8\n/* 10.1.0.0/16\n*/ define X = [ 10.2.0.0/16 ];"
+    assert loss("bird", bird, "") == [("X", 1, 1)]
     frr = "! 10.0.0.0/8\nno ip prefix-list X\nip prefix-list X deny 0.0.0.0/0\n"
-    assert loss("frr", frr, "") == (0, 0)
+    assert loss("frr", frr, "") == []
+    assert loss("frr", "ip prefix-list X seq 5 deny any\n", "") == []
 
 
 def test_ipv6() -> None:
     old = "ipv6 prefix-list X permit 2001:db8::/32 le 48\nipv6 prefix-list X permit 2001:db9::/32\n"
-    assert loss("frr", old, "ipv6 prefix-list X permit 2001:db8::/31 ge 32 le 48\n") == (0, 2)
-    assert loss("frr", old, "ip prefix-list X permit 0.0.0.0/0 le 32\n") == (2, 2)
+    assert loss("frr", old, "ipv6 prefix-list X permit 2001:db8::/31 ge 32 le 48\n") == [
+        ("X", 0, 2)
+    ]
+    assert loss("frr", old, "ip prefix-list X permit 0.0.0.0/0 le 32\n") == [("X", 2, 2)]
 
 
 def test_numbers_where_there_are_no_prefixes() -> None:
-    assert loss("bird", "define O = [ 64496, 64497 ];", "define O = [ 64497, 64498 ];") == (1, 2)
-    old = "ip as-path access-list O permit ^64496(_[0-9]+)*_(64497|64498)$\n"
-    # What stands for any number is none.
-    assert loss("frr", old, old.replace("|64498", "")) == (1, 3)
+    old, new = "define O = [ 64496, 64497 ];", "define O = [ 64497, 64498 ];"
+    assert loss("bird", old, new) == [("O", 1, 2)]
+    old = "bgp as-path access-list O seq 5 permit ^64496(_[0-9]+)*_(64497|64498)$\n"
+    # What stands for any number is none, nor is that of a line.
+    new = old.replace("|64498", "").replace("seq 5", "seq 7")
+    assert loss("frr", old, new) == [("O", 1, 3)]
+    old = "as-set O {\n\t64496 64497\n}\n"
+    assert loss("openbgpd", old, old.replace(" 64497", "")) == [("O", 1, 2)]
+    # There is no list.
+    rule = "allow from AS 64496 source-as { 64497 }\n"
+    assert loss("openbgpd", rule, rule.replace("7", "8")) == [("", 1, 2)]
+
+
+@pytest.mark.parametrize(
+    ("router", "numbers"),
+    [
+        ("bird", "define O = [ 1, 2, 3, 4 ];\n"),
+        ("frr", "bgp as-path access-list B permit ^1(_[0-9]+)*_(2|3|4)$\n"),
+        ("openbgpd", "as-set B { 1 2 3 4 }\n"),
+    ],
+)
+def test_numbers_beside_prefixes(router: str, numbers: str) -> None:
+    """Also where a list of prefixes has the same name."""
+    name, old = "O" if router == "bird" else "B", MANY[router] + numbers
+    assert loss(router, old, old) == [("A", 0, 1), ("B", 0, 2), (name, 0, 4)]
+    assert loss(router, old, MANY[router]) == [("A", 0, 1), ("B", 0, 2), (name, 4, 4)]
+    new = MANY[router] + numbers.replace("4", "5")
+    assert loss(router, old, new) == [("A", 0, 1), ("B", 0, 2), (name, 1, 4)]
 
 
 MANY = {
@@ -76,14 +106,15 @@ MANY = {
 def test_each_list_of_a_file(router: str) -> None:
     """What one list has lost is not made up for by another one, nor by one of another name."""
     old = MANY[router]
-    assert loss(router, old, old) == (0, 3)
-    assert loss(router, old, old.replace("A", "C")) == (1, 3)
+    assert loss(router, old, old) == [("A", 0, 1), ("B", 0, 2)]
+    assert loss(router, old, old.replace("A", "C")) == [("A", 1, 1), ("B", 0, 2)]
     for place in "10.1.0.0/16", "10.2.0.0/16":
-        assert loss(router, old, old.replace(place, "10.3.0.0/16")) == (1, 3)
+        new = old.replace(place, "10.3.0.0/16")
+        assert loss(router, old, new) == [("A", 0, 1), ("B", 1, 2)]
     without = MANY[router].partition("define B" if router == "bird" else 'prefix-set "B')[0]
     if router == "frr":
         without = old.partition("\n")[0] + "\nip prefix-list B deny any\n"
-    assert loss(router, old, without) == (2, 3)
+    assert loss(router, old, without) == [("A", 0, 1), ("B", 2, 2)]
     for other in MANY:
         assert sorted(entries(other, MANY[other])) == sorted(entries(router, old))
 

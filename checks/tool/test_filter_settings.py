@@ -118,6 +118,22 @@ def test_list_that_shrinks_is_kept_back(tmp_path: Path, capsys: pytest.CaptureFi
     assert (tmp_path / "0").read_text() == SHORTER
 
 
+@pytest.mark.parametrize("small", [SHORTER, "define X = [ 64496, 64497, 64498, 64499 ];\n"])
+def test_a_small_list_that_shrinks_beside_a_large_one_is_kept_back(
+    tmp_path: Path, capsys: pytest.CaptureFixture[str], small: str
+) -> None:
+    many = ",".join(f"10.{n}.0.0/16" for n in range(200))
+    large = f"define LARGE = [ {many} ];\n"
+    assert made(tmp_path, command(large + small)) == DONE
+    for left in "", "define X = [ 10.0.0.0/24 ];\n", "define X = [ 64496 ];\n":
+        assert made(tmp_path, command(large + left)) == SHRUNK
+        assert (tmp_path / "0").read_text() == large + small
+        assert "its list X lacks " in capsys.readouterr().err
+    assert made(tmp_path, command("define Y = [ 10.0.0.0/24 ];\n")) == SHRUNK
+    said = capsys.readouterr().err
+    assert "its list LARGE lacks 200 of" in said and "of 1 other list too much" in said
+
+
 def test_a_list_at_the_bound_is_taken(tmp_path: Path) -> None:
     ten, seven = LIST, LIST.replace("10.0.7.", "10.1.7.").replace("10.0.8.", "10.1.8.")
     seven = seven.replace("10.0.9.", "10.1.9.")

@@ -26,14 +26,17 @@ LENGTHS = {
     ),
 }
 SLASHED = re.compile(PREFIX)
-# Where a list begins, with its name: a router's configuration refers to it by that.
+# Where a list begins, with its kind and its name: a router's configuration refers to it by these.
 BEGINS = {
-    "bird": re.compile(r"\bdefine[ \t]+(\w+)"),
-    "frr": re.compile(r"\bprefix-list[ \t]+(\S+)"),
-    "openbgpd": re.compile(r"\bprefix-set[ \t]+\"?([^\s\"{]+)"),
+    "bird": re.compile(r"\b(define)[ \t]+(\w+)"),
+    "frr": re.compile(r"\b(prefix-list|as-path[ \t]+access-list)[ \t]+(\S+)"),
+    "openbgpd": re.compile(r"\b(prefix-set|as-set|origin-set|roa-set)[ \t]+\"?([^\s\"{]+)"),
 }
-# Any number, in the patterns of AS paths.
-ANY_NUMBER = "[0-9]"
+# Those that have no AS numbers.
+PREFIX_LISTS = ("prefix-list", "prefix-set")
+# What is no AS number in a list of these: what stands for any one in a pattern, and the number of a
+# line.
+NO_NUMBER = re.compile(r"\[0-9\]|\bseq[ \t]+[0-9]+")
 NUMBER = re.compile(r"(?<![0-9.])[0-9]+(?![0-9.])")
 FAMILIES = {32: socket.AF_INET, 128: socket.AF_INET6}
 
@@ -120,30 +123,56 @@ class Taken:
         return True
 
 
-def named(router: str, text: str) -> dict[str, list[Entry]]:
-    """What each list of a filter takes, by its name; what stands before the first one has none."""
+class List(NamedTuple):
+    """The kind and the name of a list; what stands before the first one has none."""
+
+    kind: str
+    name: str
+
+
+class Loss(NamedTuple):
+    """How many entries, or AS numbers, of an older list a new one of its name does not take whole,
+    and how many there are."""
+
+    name: str
+    lost: int
+    size: int
+
+
+def parted(router: str, text: str) -> dict[List, str]:
+    """What stands in each list of a filter."""
     meant = meaning(router, text)
-    begins = [(0, ""), *((found.start(), found[1]) for found in BEGINS[router].finditer(meant))]
-    ends = [*(start for start, _ in begins[1:]), len(meant)]
-    found: dict[str, list[Entry]] = {}
-    for (start, name), end in zip(begins, ends):
-        found.setdefault(name, []).extend(entries(router, meant[start:end]))
-    return found
+    begins = list(BEGINS[router].finditer(meant))
+    names = [List("", ""), *(List(" ".join(one[1].split()), one[2]) for one in begins)]
+    starts = [0, *(one.end() for one in begins)]
+    ends = [*(one.start() for one in begins), len(meant)]
+    found: dict[List, list[str]] = {}
+    for name, start, end in zip(names, starts, ends):
+        found.setdefault(name, []).append(meant[start:end])
+    return {name: "\n".join(parts) for name, parts in found.items()}
 
 
-def loss(router: str, old: str, new: str) -> tuple[int, int]:
-    """How many entries of the lists of an older filter those of the same names do not take whole,
-    and how many there are. Lists without prefixes, as those of AS numbers, are compared by their
-    numbers."""
-    lost = count = 0
-    taken = {name: Taken(found) for name, found in named(router, new).items()}
-    for name, found in named(router, old).items():
-        own = taken.get(name) or Taken([])
-        count += len(found)
-        lost += sum(not own.has(one) for one in found)
-    if count or SLASHED.search(meaning(router, old)):
-        return lost, count
-    numbers, left = (
-        set(NUMBER.findall(meaning(router, text).replace(ANY_NUMBER, ""))) for text in (old, new)
-    )
-    return len(numbers - left), len(numbers)
+def losses(router: str, old: str, new: str) -> list[Loss]:
+    """What each list of an older filter has lost. Those without prefixes are compared by their AS
+    numbers; text outside of all lists is so where there is no list."""
+    before, after = parted(router, old), parted(router, new)
+    found: list[Loss] = []
+    for place, text in before.items():
+        there = after.get(place, "")
+        if had := list(entries(router, text)):
+            taken = Taken(entries(router, there))
+            found.append(Loss(place.name, sum(not taken.has(one) for one in had), len(had)))
+        elif has_numbers(place, text) and (place.kind or len(before) == 1):
+            numbers = numbers_of(text)
+            found.append(Loss(place.name, len(numbers - numbers_of(there)), len(numbers)))
+    return [loss for loss in found if loss.size]
+
+
+def has_numbers(place: List, text: str) -> bool:
+    """Whether the numbers of a list are of ASes."""
+    return place.kind not in PREFIX_LISTS and not SLASHED.search(text)
+
+
+def numbers_of(text: str) -> set[str]:
+    """The AS numbers of a list."""
+    return set(NUMBER.findall(NO_NUMBER.sub("", text)))

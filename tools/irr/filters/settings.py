@@ -143,8 +143,8 @@ def is_text(value: object) -> bool:
 
 
 def make(one: Filter, shrink: float) -> str:
-    """Makes a filter, and puts it in place; Shrunk where the old list lost over `shrink` percent of
-    its prefixes. The words say whether it is another one."""
+    """Makes a filter, and puts it in place; Shrunk where an old list lost over `shrink` percent of
+    its entries. The words say whether it is another one."""
     text = printed(one.make)
     if not lists.meaning(one.router, text.decode("latin-1")):
         raise Failure(one.make[0], "it printed nothing but comments; look at `make`")
@@ -164,13 +164,18 @@ def make(one: Filter, shrink: float) -> str:
 
 
 def need_kept(one: Filter, old: bytes, new: bytes, shrink: float) -> None:
-    """That a new list keeps enough of the old one."""
-    lost, count = lists.loss(one.router, old.decode("latin-1"), new.decode("latin-1"))
-    if lost * 100 > count * shrink:
+    """That each new list keeps enough of the old one of its name."""
+    losses = lists.losses(one.router, old.decode("latin-1"), new.decode("latin-1"))
+    bad = [loss for loss in losses if loss.lost * 100 > loss.size * shrink]
+    if bad:
+        name, lost, size = bad[0]
+        named, more = f" {name}" if name else "", len(bad) - 1
+        others = f", and of {texts.counted(more, 'other list')} too much" if more else ""
         raise Shrunk(
             one.make[0],
-            f"its list lacks {lost:,} of the old one's {texts.counted(count, 'entry', 'entries')}, "
-            f"over {shrink:g} %; look what is gone, or take it by --accept",
+            f"its list{named} lacks {lost:,} of the old one's "
+            f"{texts.counted(size, 'entry', 'entries')}, over {shrink:g} %{others}; look what is "
+            "gone, or take it by --accept",
         )
 
 

@@ -183,6 +183,25 @@ def test_the_nearest_is_the_longest_around() -> None:
     assert [step.says for step in found.nearest()] == ["members: 10.0.0.0/20"]
 
 
+def test_a_range_that_stands_is_nearer_than_one_of_which_nothing_is_left() -> None:
+    sets = {"AS1:RS-N": "AS2^0, AS1:RS-M^0, AS1:RS-P", "AS1:RS-P": "AS1:RS-M", "AS1:RS-M": "AS1"}
+    text = {
+        f"object route-set {name}": made(f"route-set: {name}\nmembers: {members}")
+        for name, members in sets.items()
+    }
+    found = References(Table(OBJECTS | text), prefix("10.0.1.0/24"), "AS1:RS-N")
+    assert not found.chains(10).first
+    # By the way on which it stands, which is not the shortest one.
+    says = ["members: AS1:RS-P", "members: AS1:RS-M", "members: AS1", "origin", ""]
+    assert [step.says for step in found.nearest()] == says
+    assert found.nearest()[0].range_text() == "10.0.0.0/16"
+    # Where nothing stands, it is told of what nothing is left.
+    text["object route-set AS1:RS-N"] = made("route-set: AS1:RS-N\nmembers: AS1:RS-M^0, AS2^0")
+    found = References(Table(OBJECTS | text), prefix("10.0.1.0/24"), "AS1:RS-N")
+    assert [step.says for step in found.nearest()] == ["members: AS2^0", "origin", ""]
+    assert found.nearest()[0].range is None
+
+
 def test_json(capsys: pytest.CaptureFixture[str]) -> None:
     assert run("--json", "10.0.0.0/16", "AS1:AS-B") == DONE
     said = json.loads(capsys.readouterr().out)

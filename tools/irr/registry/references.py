@@ -366,27 +366,44 @@ class References:
 
     def nearest(self) -> list[Step]:
         """The shortest chain to the longest prefix around the prefix that is in the set by another
-        length; nothing where there is none."""
-        back: dict[Node, tuple[Node, Link] | None] = {self.start: None}
-        waiting: deque[Node] = deque([self.start])
-        best: tuple[Leaf, Node, Link] | None = None
+        length, or where there is none, to one of which operators leave nothing; nothing where there
+        is none of these either."""
+        return self.around(True) or self.around(False)
+
+    def around(self, stands: bool) -> list[Step]:
+        """The shortest chain to the longest prefix around the prefix of all, or of those of which
+        something is left."""
+        # Any range that is left has some least length.
+        start: State = self.start, Wanted(32, False)
+        back: dict[State, tuple[State, Link] | None] = {start: None}
+        waiting = deque([start])
+        best: tuple[Leaf, State, Link] | None = None
         while waiting:
-            node = waiting.popleft()
-            for link in self.links.get(node, []):
+            state = waiting.popleft()
+            for link, wanted in self.onward(state) if stands else self.all_onward(state):
                 target = link.target
                 if isinstance(target, Leaf):
                     if not best or target.range.prefix.length > best[0].range.prefix.length:
-                        best = target, node, link
-                elif target in self.links and target not in back:
-                    back[target] = node, link
-                    waiting.append(target)
+                        best = target, state, link
+                elif (target, wanted) not in back:
+                    back[target, wanted] = state, link
+                    waiting.append((target, wanted))
         if not best:
             return []
-        nodes, links = [best[1]], [best[2]]
-        while before := back[nodes[0]]:
-            nodes.insert(0, before[0])
-            links.insert(0, before[1])
-        return self.steps(nodes, links, best[0])
+        leaf, state, link = best
+        nodes, links = [state[0]], [link]
+        while before := back[state]:
+            state, link = before
+            nodes.insert(0, state[0])
+            links.insert(0, link)
+        return self.steps(nodes, links, leaf)
+
+    def all_onward(self, state: State) -> Iterator[tuple[Link, Wanted]]:
+        """The references of what is reached, whatever their operators leave."""
+        node, wanted = state
+        for link in self.links.get(node, []):
+            if isinstance(link.target, Leaf) or link.target in self.links:
+                yield link, wanted
 
     def near(self) -> list[Near]:
         """What is not in the set and nearly is: routes around the prefix whose origin is not

@@ -29,7 +29,7 @@ OTHERS = [
 
 def loss(router: str, old: str, new: str) -> list[tuple[str, int, int]]:
     """The name, what is lost, and the count of each list."""
-    return [tuple(one) for one in losses(router, old, new)]
+    return [(one.name, one.lost, one.size) for one in losses(router, old, new)]
 
 
 @pytest.mark.parametrize("router", list(PREFIXES))

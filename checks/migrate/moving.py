@@ -35,7 +35,8 @@ Attributes = list[tuple[bytes, list[bytes]]]
 Lists = dict[bytes, list[bytes]]
 Order = tuple[int, Any]
 Form = list[Any]
-IPV6 = re.compile(rb"[0-9a-f:.]*:[0-9a-f.]*:[0-9a-f:.]*(/[0-9]+)?(\^.*)?", re.I)
+# Prefixes, braces and operators, of which no maintainer's name has any.
+NO_NAME = re.compile(rb"^[0-9.]+(/|$)|::|[{}^]")
 TOKEN = re.compile(rb"[{}]|[^, \t\r{}]+")
 ROOT, SOURCE, NOBODY = b"ROOT-MNT", b"TEST", b"FILTERED"
 TOP = (1 << 32) - 1
@@ -188,7 +189,7 @@ class Second:
 
     def key(self, number: int, text: bytes, origin: bytes | None) -> Any:
         if number == MNTNER:
-            return text.upper() if ITEM.fullmatch(text) else None
+            return text.upper() if ITEM.fullmatch(text) and not NO_NAME.search(text) else None
         key = read_key(number, text, origin)
         return key.value if key else None
 
@@ -197,10 +198,8 @@ class Second:
         found = [item for items in listed for item in items]
         if name == b"mnt-routes":
             return list(self.grants(found))
-        if name in (b"mnt-by", b"mnt-lower"):
-            return found
-        if name == b"mbrs-by-ref":
-            return [item for item in found if not IPV6.fullmatch(item)]
+        if name in (b"mnt-by", b"mnt-lower", b"mbrs-by-ref"):
+            return list(map(self.name, found))
         is_good = (
             member_of(number)
             if name == b"member-of"
@@ -232,19 +231,15 @@ class Second:
         """The parts of entries, each of which is a name, and ANY or braces."""
         while tokens:
             head, *tokens = tokens
-            if head == b"{":
-                if b"}" not in tokens:
-                    raise Out("brace")
-                tokens = tokens[tokens.index(b"}") + 1 :]
-            if head in b"{}" or head.upper() == b"ANY" or IPV6.fullmatch(head):
+            if head in b"{}":
+                raise Out("brace")
+            if head.upper() == b"ANY":
                 continue
-            yield head
-            while tokens and (IPV6.fullmatch(tokens[0]) or tokens[0] == b"}"):
-                tokens = tokens[1:]
+            yield self.name(head)
             if tokens[:1] == [b"{"]:
-                if b"}" not in tokens:
+                end = tokens.index(b"}") if b"}" in tokens else 0
+                if not end or b"{" in tokens[1:end]:
                     raise Out("brace")
-                end = tokens.index(b"}")
                 yield b"{"
                 yield from (token for token in tokens[1:end] if numbers.ranged(token) is not None)
                 yield b"}"
@@ -252,6 +247,12 @@ class Second:
             elif tokens and tokens[0].upper() == b"ANY":
                 yield tokens[0]
                 tokens = tokens[1:]
+
+    def name(self, item: bytes) -> bytes:
+        """An item in a maintainer's place, which is no prefix and has no brace."""
+        if NO_NAME.search(item):
+            raise Out("no name")
+        return item
 
     def leave_out_crossing(self, number: int) -> None:
         kept: list[tuple[int, int]] = []

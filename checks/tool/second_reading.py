@@ -157,7 +157,8 @@ def key_of(piece: Piece) -> Any:
     """What tells an object from others of its class; None where it can't be read."""
     value, kind = meaning(piece.attributes[0][1]), piece.kind
     if kind == "mntner":
-        return value.upper() if re.fullmatch(r"[^, \t\r]+", value) else None
+        is_name = re.fullmatch(r"[^, \t\r]+", value) and not is_no_name(value)
+        return value.upper() if is_name else None
     if kind == "aut-num":
         return number_of(value)
     if kind == "as-block":
@@ -208,14 +209,43 @@ def refusal(piece: Piece, is_cut_off: bool) -> str:
         return "IPv6"
     if key_of(piece) is None:
         return "key"
-    if "password" in piece.names or "delete" in piece.names:
-        return "`delete`"
-    if piece.kind in LISTS["mnt-routes"]:
-        braces = re.findall("[{}]", " ".join(piece.values("mnt-routes")))
-        if (braces or ["}"])[-1] == "{":
-            return "brace"
+    cause = no_list(piece)
+    if cause:
+        return cause
     source = "".join(piece.values("source"))
     return "`source` that" if source and not NAME.fullmatch(source) else ""
+
+
+def no_list(piece: Piece) -> str:
+    """A word of the cause for which the lists of a piece are none, or that of `password` and
+    `delete`: the first one decides."""
+    before = "}"
+    for name, lines in piece.attributes[1:]:
+        if name in ("password", "delete"):
+            return "`delete`"
+        if piece.kind not in LISTS.get(name, []):
+            continue
+        for item in tokens_of(name, meaning(lines)):
+            if name == "mnt-routes" and item in "{}":
+                if before != ("name" if item == "{" else "{"):
+                    return "no pair"
+                before = item
+            elif name == "mnt-routes" and before == "{":
+                continue
+            elif name in ("mnt-by", "mnt-lower", "mnt-routes", "mbrs-by-ref"):
+                if is_no_name(item):
+                    return "among maintainers"
+                if name == "mnt-routes":
+                    before = "}" if item.upper() == "ANY" else "name"
+    return "no pair" if before == "{" else ""
+
+
+def is_no_name(item: str) -> bool:
+    """Whether an item of a list of maintainers is a prefix, an address or an operator, or has a
+    brace or two colons."""
+    numbers = re.match("[0-9.]+", item)
+    rest = item[numbers.end() :] if numbers else "x"
+    return bool(re.search("[{}^]|:.*:", item)) or rest[:1] == "/" or not rest
 
 
 # Items of lists.
@@ -225,7 +255,7 @@ def is_good(kind: str, attribute: str, item: str) -> bool:
     """Whether an item of a list, without a registry before it, is one that irrdesk reads there.
     Braces and ANY of `mnt-routes` are no matter of one item."""
     if attribute in ("mnt-by", "mnt-lower", "mbrs-by-ref"):
-        return "::" not in item
+        return True
     if attribute == "member-of":
         name = set_name(item)
         return name is not None and (kind, name[0]) != ("route", "as-set")
@@ -260,20 +290,16 @@ def grants(values: list[list[str]]) -> list[list[bool]]:
     """Which tokens of the attributes `mnt-routes` of an object stay: an entry is a name, and ANY or
     ranges in braces."""
     found: list[list[bool]] = []
-    is_after_name, inside = False, ""
+    before = ""
     for tokens in values:
         kept: list[bool] = []
         for token in tokens:
-            if inside:
-                kept.append(inside == "granted" and (token == "}" or is_range(token)))
-                inside = "" if token == "}" else inside
-            elif token == "{" or token.upper() == "ANY":
-                kept.append(is_after_name)
-                inside = ("granted" if is_after_name else "lost") if token == "{" else ""
-                is_after_name = False
+            if before == "{":
+                kept.append(token == "}" or is_range(token))
+                before = token if token == "}" else before
             else:
-                kept.append(token != "}" and ":" not in token)
-                is_after_name |= kept[-1]
+                kept.append(token.upper() != "ANY" or before == "name")
+                before = token if token == "{" else "" if token.upper() == "ANY" else "name"
         found.append(kept)
     return found
 

@@ -245,6 +245,78 @@ def test_what_stands_before_an_operator_is_dropped_with_it(
     ]
 
 
+# Maintainers: without an item that is none, others would get more than the text gives them.
+
+
+@pytest.mark.parametrize(
+    "value",
+    [
+        "B-MNT 192.0.2.0/25^+",
+        "B-MNT, 192.0.2.0/25",
+        "B-MNT 192.0.2.0/99",
+        "B-MNT 192.0.2/25",
+        "B-MNT 10/8",
+        "B-MNT 10./8",
+        "B-MNT 192.0.2.0 - 192.0.2.9",
+        "B-MNT 192.0.2.0-192.0.2.9",
+        "B-MNT ^25",
+        "B-MNT 192.0.2.0/25 ^26",
+        "B-MNT 2001:db8::/32",
+        "192.0.2.0/25 B-MNT",
+        "192.0.2.0/25 {192.0.2.0/25}",
+    ],
+)
+def test_a_prefix_is_no_maintainer(value: str) -> None:
+    """Without it, or as a maintainer, B-MNT would have all of the object's routes."""
+    cause = "a prefix or a brace among maintainers"
+    assert mended(rest("inetnum: 192.0.2.0/24", f"mnt-routes: {value}")) == cause
+    for name in "mnt-lower", "mnt-by":
+        assert mended(rest("inetnum: 192.0.2.0/24", f"{name}: {value.split(' {')[0]}")) == cause
+    assert mended(rest("as-set: AS-X", f"mbrs-by-ref: {value.split(' {')[0]}")) == cause
+    assert mended(rest("mntner: 192.0.2.0/25")) == "a key that can't be read"
+
+
+@pytest.mark.parametrize(
+    "values",
+    [
+        ["B-MNT {192.0.2.0/25"],
+        ["B-MNT 192.0.2.0/25}"],
+        ["B-MNT }"],
+        ["{192.0.2.0/25} B-MNT"],
+        ["B-MNT {{192.0.2.0/25}}"],
+        ["B-MNT {192.0.2.0/25}, {192.0.2.128/25}"],
+        ["B-MNT {192.0.2.0/25", "C-MNT {192.0.2.128/25}"],
+        ["{B-MNT 192.0.2.0/25}"],
+        ["ANY {192.0.2.0/25}"],
+        ["{192.0.2.0/24} A-MNT ANY {10.0.0.0/8}"],
+    ],
+)
+def test_braces_that_are_no_pair_after_a_name(values: list[str]) -> None:
+    """Nobody knows whose ranges they have."""
+    text = rest("inetnum: 192.0.2.0/24", *(f"mnt-routes: {value}" for value in values))
+    cause = mended(text)
+    assert cause in (
+        "braces of `mnt-routes` that are no pair after a name",
+        "a prefix or a brace among maintainers",
+    )
+    assert [line.split("\t")[0] for line in left_out(text)] == [cause]
+    for name in "mnt-by", "mnt-lower":
+        text = rest("inetnum: 192.0.2.0/24", f"{name}: {{A-MNT, B-MNT}}")
+        assert mended(text) == "a prefix or a brace among maintainers"
+
+
+def test_grants_that_are_good_stay() -> None:
+    """Over several attributes too; names that only look like numbers are mended as others are."""
+    text = rest(
+        "inetnum: 192.0.2.0/24",
+        "mnt-routes: B-MNT {192.0.2.0/25^+,",
+        "mnt-routes: 192.0.2.128/25} C-MNT ANY, D-MNT {}, E-MNT",
+    )
+    assert mended(text) == (syntax.read(text[:-1]).text(), set())
+    for name in "1.2-MNT", "A/B", "64496", "X.1.2":
+        assert mended(rest("aut-num: AS1", f"mnt-lower: {name}"))[1] == {"rename"}, name
+
+
 # A file that ends too early.
 
 
@@ -317,7 +389,6 @@ def test_each_reason_is_listed_with_object_attribute_and_item() -> None:
         obj(
             "as-set: AS-X",
             "members: AS1, caf\xe9, ::/0",
-            "mbrs-by-ref: 2001:db8::/32",
             "mnt-by: A-MNT",
             "source: RIPE",
         )
@@ -326,7 +397,6 @@ def test_each_reason_is_listed_with_object_attribute_and_item() -> None:
     assert [line.split("\t")[:1] + line.split("\t")[2:] for line in lines] == [
         ["an item that can't be read", "as-set: AS-X", "members", "caf\xe9"],
         ["IPv6", "as-set: AS-X", "members", "::/0"],
-        ["IPv6", "as-set: AS-X", "mbrs-by-ref", "2001:db8::/32"],
         ["an item that can't be read", "route: 10.0.0.0/8 AS1", "mnt-routes", "ANY"],
         ["an item that can't be read", "route: 10.0.0.0/8 AS1", "mnt-routes", "x"],
     ]

@@ -9,6 +9,7 @@ from irr.migrate.items import (
     SCOPED,
     TOKEN,
     is_member,
+    is_no_name,
     is_range,
     name_of,
     source_of,
@@ -40,6 +41,9 @@ LONGEST_NAME = 80
 OTHER_KIND = "a set of the other kind"
 OPERATOR_AFTER = "an operator after it is apart from it"
 NO_SOURCE = "no `source`"
+# Why an object is left out: a list of maintainers without the item would say something else.
+NO_NAME = "a prefix or a brace among maintainers"
+BRACES = "braces of `mnt-routes` that are no pair after a name"
 
 
 class LeftOut(Exception):
@@ -122,7 +126,7 @@ class Mender:
             else []
         )
         if number == MNTNER:
-            if not value or ITEM.fullmatch(value) is None:
+            if ITEM.fullmatch(value) is None or is_no_name(value):
                 raise LeftOut("a key that can't be read")
             return self.maintainer(value), attributes
         full, key = value, ordered(number, value, origins)
@@ -173,9 +177,8 @@ class Mender:
                 changed = self.changed(attribute, lambda item: self.member(number, item))
             elif name == b"mbrs-by-ref":
                 for item in ITEM.findall(attribute.meaning()):
-                    if item.upper() != b"ANY" and not IPV6.fullmatch(item):
+                    if item.upper() != b"ANY":
                         names[self.maintainer(item)] = None
-                changed = self.changed(attribute, self.referrer)
             elif name == b"auth":
                 changed, has_auth = self.auth(attribute), True
             elif name == b"mp-members":
@@ -184,8 +187,8 @@ class Mender:
                 raise LeftOut("`password` or `delete`")
             if changed is not None:
                 kept.append(changed)
-        if grants and grants.is_open:
-            raise LeftOut("a brace of `mnt-routes` that is not closed")
+        if grants and grants.state == "ranges":
+            raise LeftOut(BRACES)
         if not has_mnt_by:
             self.use("mnt-by")
             kept.insert(source_place(kept), Attribute(b"mnt-by", [self.root]))
@@ -226,6 +229,8 @@ class Mender:
         return changed and changed._replace(name=b"members")
 
     def maintainer(self, item: bytes) -> str:
+        if is_no_name(item):
+            raise LeftOut(NO_NAME)
         name, is_good = name_of(item)
         if not is_good:
             self.use("rename")
@@ -247,12 +252,6 @@ class Mender:
             self.drop(item, "ipv6", "IPv6")
         else:
             self.drop(item, "item", "an item that can't be read")
-
-    def referrer(self, item: bytes) -> bytes | None:
-        if IPV6.fullmatch(item):
-            self.drop_unread(item)
-            return None
-        return item
 
     def set_item(self, number: int, item: bytes) -> bytes | None:
         """An item of `member-of`, which names as-sets in an aut-num and route-sets in a route (RFC
@@ -330,33 +329,25 @@ class Grants:
     def __init__(self, mender: Mender, names: dict[str, None]) -> None:
         self.mender, self.names, self.state = mender, names, "start"
 
-    @property
-    def is_open(self) -> bool:
-        return self.state in ("ranges", "lost")
-
     def token(self, token: bytes) -> bytes | None:
         """What a token becomes."""
-        kept = self.kept(token)
-        if kept is None:
-            self.mender.drop_unread(token)
-        return kept
-
-    def kept(self, token: bytes) -> bytes | None:
-        if self.state in ("ranges", "lost"):
-            is_lost = self.state == "lost"
-            if token == b"}":
-                self.state = "start"
-            elif not is_range(token):
+        if token in (b"{", b"}"):
+            if self.state != ("named" if token == b"{" else "ranges"):
+                raise LeftOut(BRACES)
+            self.state = "ranges" if token == b"{" else "start"
+        elif self.state == "ranges":
+            if not is_range(token):
+                self.mender.drop_unread(token)
                 return None
-            return None if is_lost else self.mender.zeroed(token)
-        if token == b"{" or token.upper() == b"ANY":
-            is_named = self.state == "named"
-            self.state = ("ranges" if is_named else "lost") if token == b"{" else "start"
-            return token if is_named else None
-        if token == b"}" or IPV6.fullmatch(token):
-            return None
-        self.state = "named"
-        self.names[self.mender.maintainer(token)] = None
+            return self.mender.zeroed(token)
+        elif token.upper() == b"ANY":
+            if self.state != "named":
+                self.mender.drop_unread(token)
+                return None
+            self.state = "start"
+        else:
+            self.names[self.mender.maintainer(token)] = None
+            self.state = "named"
         return token
 
 

@@ -207,7 +207,20 @@ class Second:
             if number == AS_SET
             else route_set_member
         )
+        found = [item for items in listed for item in self.outside(items)]
         return [item for item in found if is_good(SCOPE.sub(b"", item)) is not None]
+
+    def outside(self, items: list[bytes]) -> Iterator[bytes]:
+        """The items that are not in braces, of which each has another one."""
+        depth = 0
+        for item in items:
+            before, depth = depth, depth + item.count(b"{") - item.count(b"}")
+            if depth < 0:
+                raise Out("brace")
+            if not before and not depth:
+                yield item
+        if depth:
+            raise Out("brace")
 
     def without_scopes(self, items: list[bytes]) -> Iterator[bytes]:
         """The items without a registry before them; one that another registry has, or that is not

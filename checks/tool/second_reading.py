@@ -237,6 +237,9 @@ def no_list(piece: Piece) -> str:
                     return "among maintainers"
                 if name == "mnt-routes":
                     before = "}" if item.upper() == "ANY" else "name"
+        if name.endswith("members") or name == "member-of":
+            if in_braces(tokens_of(name, meaning(lines))) is None:
+                return "without the other"
     return "no pair" if before == "{" else ""
 
 
@@ -246,6 +249,20 @@ def is_no_name(item: str) -> bool:
     numbers = re.match("[0-9.]+", item)
     rest = item[numbers.end() :] if numbers else "x"
     return bool(re.search("[{}^]|:.*:", item)) or rest[:1] == "/" or not rest
+
+
+def in_braces(items: list[str]) -> list[bool] | None:
+    """Which items are not wholly outside of braces; None where the braces are no pairs."""
+    depth, found = 0, []
+    for item in items:
+        is_inside = depth > 0
+        for letter in re.findall("[{}]", item):
+            is_inside = True
+            depth += 1 if letter == "{" else -1
+        if depth < 0:
+            return None
+        found.append(is_inside)
+    return found if not depth else None
 
 
 # Items of lists.
@@ -399,6 +416,8 @@ class Registry:
                 stays = is_good(piece.kind, name, item)
             follows = (items + [""])[place + 1]
             if follows[:1] == "^" and (name != "mnt-routes" or is_range(item)):
+                stays = False
+            if name != "mnt-routes" and (in_braces(items) or [False] * len(items))[place]:
                 stays = False
             if stays:
                 kept.append(without_host_bits(bare))

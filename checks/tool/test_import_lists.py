@@ -245,6 +245,47 @@ def test_what_stands_before_an_operator_is_dropped_with_it(
     ]
 
 
+# Items in braces: without the operator after these they would mean something else.
+
+
+@pytest.mark.parametrize("name", ["members", "mp-members"])
+@pytest.mark.parametrize(
+    "items, kept, gone",
+    [
+        (
+            "{10.0.0.0/9, 10.1.0.0/16, AS2}^25, AS1",
+            ["AS1"],
+            ["{10.0.0.0/9", "10.1.0.0/16", "AS2}^25"],
+        ),
+        ("AS1, { 10.0.0.0/9 10.1.0.0/16 } ^25", ["AS1"], ["{", "10.0.0.0/9", "10.1.0.0/16", "}"]),
+        ("{10.0.0.0/9}, AS1, {AS2,\n {AS3},\n AS4}^+", ["AS1"], ["{10.0.0.0/9}", "{AS2", "{AS3}"]),
+        ("AS1, 10.0.0.0/9^{24, 25, 26}", ["AS1"], ["10.0.0.0/9^{24", "25", "26}"]),
+    ],
+)
+def test_items_in_braces_are_dropped_together(
+    name: str, items: str, kept: list[str], gone: list[str]
+) -> None:
+    text = rest("route-set: RS-X", f"{name}: {items}")
+    ((_, lines),), kinds = lists_of(text)
+    found = b" ".join(lines).decode().replace(",", " ").split()
+    assert (found, kinds - {"mp-members"}) == (kept, {"item"})
+    dropped = [line.split("\t") for line in left_out(text)]
+    assert [line[-1] for line in dropped][: len(gone)] == gone
+    assert {line[0] for line in dropped if not line[-1].startswith("^")} == {
+        "it stands in braces, whose operator may be its own"
+    }
+
+
+def test_braces_of_other_lists() -> None:
+    text = rest("aut-num: AS1", "member-of: {AS-A, AS-B, AS-C}")
+    assert lists_of(text) == ([], {"item"})
+    for value in "{AS-A, AS-B", "AS-A}, AS-B", "}, AS-B, {", "{{AS-A}, AS-B":
+        for kind, name in ("aut-num: AS1", "member-of"), ("as-set: AS-X", "members"):
+            assert mended(rest(kind, f"{name}: {value}")) == (
+                f"a brace without the other one in `{name}`"
+            )
+
+
 # Maintainers: without an item that is none, others would get more than the text gives them.
 
 

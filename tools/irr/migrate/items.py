@@ -53,6 +53,18 @@ def is_member(number: int, item: bytes) -> bool:
     return keys.is_member(keys.CLASSES[number - 1], item)
 
 
+def braced(items: list[bytes]) -> list[bool] | None:
+    """Which items stand in braces or have one; None where a brace has no other one."""
+    found, depth = [], 0
+    for item in items:
+        opened, closed = item.count(b"{"), item.count(b"}")
+        found.append(depth > 0 or opened > 0)
+        depth += opened - closed
+        if depth < 0:
+            return None
+    return None if depth else found
+
+
 @functools.lru_cache(1 << 16)
 def without_host_bits(item: bytes) -> bytes:
     """An item in which the bits of a prefix after its length are zero."""

@@ -8,6 +8,7 @@ from irr.migrate.items import (
     IPV6,
     SCOPED,
     TOKEN,
+    braced,
     is_member,
     is_no_name,
     is_range,
@@ -40,9 +41,11 @@ LONGEST_NAME = 80
 # Why an item is taken out of a list.
 OTHER_KIND = "a set of the other kind"
 OPERATOR_AFTER = "an operator after it is apart from it"
+IN_BRACES = "it stands in braces, whose operator may be its own"
 NO_SOURCE = "no `source`"
 # Why an object is left out: a list of maintainers without the item would say something else.
 NO_NAME = "a prefix or a brace among maintainers"
+ALONE = "a brace without the other one"
 BRACES = "braces of `mnt-routes` that are no pair after a name"
 
 
@@ -207,9 +210,15 @@ class Mender:
         """The attribute with each item as `change` has it; the same one where none changes."""
         items = pattern.findall(attribute.meaning())
         self.listing = attribute.name
+        in_braces = braced(items) if pattern is ITEM else [False] * len(items)
+        if in_braces is None:
+            raise LeftOut(f"{ALONE} in `{attribute.name.decode()}`")
         new: list[bytes | None] = []
-        for item, after in zip(items, [*items[1:], b""]):
-            if is_apart(item, after, pattern):
+        for item, after, is_braced in zip(items, [*items[1:], b""], in_braces):
+            if is_braced:
+                self.drop(item, "item", IN_BRACES)
+                new.append(None)
+            elif is_apart(item, after, pattern):
                 # Without its operator it would mean something else.
                 self.drop(item, "item", OPERATOR_AFTER)
                 new.append(None)

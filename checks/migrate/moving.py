@@ -35,8 +35,8 @@ Attributes = list[tuple[bytes, list[bytes]]]
 Lists = dict[bytes, list[bytes]]
 Order = tuple[int, Any]
 Form = list[Any]
-# Prefixes, braces and operators, of which no maintainer's name has any.
-NO_NAME = re.compile(rb"^[0-9.]+(/|$)|::|[{}^]")
+# Prefixes, braces, colons and operators, of which no maintainer's name has any.
+NO_NAME = re.compile(rb"^[0-9.]+(/|$)|[:{}^]")
 TOKEN = re.compile(rb"[{}]|[^, \t\r{}]+")
 ROOT, SOURCE, NOBODY = b"ROOT-MNT", b"TEST", b"FILTERED"
 TOP = (1 << 32) - 1

@@ -157,7 +157,7 @@ def key_of(piece: Piece) -> Any:
     """What tells an object from others of its class; None where it can't be read."""
     value, kind = meaning(piece.attributes[0][1]), piece.kind
     if kind == "mntner":
-        is_name = re.fullmatch(r"[^, \t\r]+", value) and not is_no_name(value)
+        is_name = re.fullmatch(r"[^, \t\r:]+", value) and not is_no_name(value)
         return value.upper() if is_name else None
     if kind == "aut-num":
         return number_of(value)
@@ -231,15 +231,26 @@ def no_list(piece: Piece) -> str:
                     return "no pair"
                 before = item
             elif name == "mnt-routes" and before == "{":
-                continue
+                if not is_range(item) and is_joined(item):
+                    return "two lines"
             elif name in ("mnt-by", "mnt-lower", "mnt-routes", "mbrs-by-ref"):
                 if is_no_name(item):
                     return "among maintainers"
+                if ":" in item:
+                    return "two lines"
                 if name == "mnt-routes":
                     before = "}" if item.upper() == "ANY" else "name"
         if name.endswith("members") or name == "member-of":
-            if in_braces(tokens_of(name, meaning(lines))) is None:
+            items = tokens_of(name, meaning(lines))
+            inside = in_braces(items)
+            if inside is None:
                 return "without the other"
+            for item, is_inside, follows in zip(items, inside, [*items[1:], ""]):
+                scope, _, bare = item.rpartition("::")
+                own = bare if NAME.fullmatch(scope) else item
+                is_read = set_name(own) if name == "member-of" else is_good(piece.kind, name, own)
+                if not (is_inside or is_read or follows[:1] == "^") and is_joined(item):
+                    return "two lines"
     return "no pair" if before == "{" else ""
 
 
@@ -248,7 +259,23 @@ def is_no_name(item: str) -> bool:
     brace or two colons."""
     numbers = re.match("[0-9.]+", item)
     rest = item[numbers.end() :] if numbers else "x"
-    return bool(re.search("[{}^]|:.*:", item)) or rest[:1] == "/" or not rest
+    return bool(re.search("[{}^]", item)) or rest[:1] == "/" or not rest or is_ipv6(item)
+
+
+def is_ipv6(item: str) -> bool:
+    front = item.partition("^")[0].partition("/")[0]
+    return item.count(":") > 1 and not set(front) - set("0123456789abcdefABCDEF:.")
+
+
+def is_joined(item: str) -> bool:
+    """Whether an item that can't be read has the name of a class before a colon, or a single colon
+    at an end."""
+    if is_ipv6(item):
+        return False
+    words = re.split("(?<!:):(?!:)", item.lower())
+    return any(word.endswith(tuple(CLASSES + OTHERS)) for word in words[:-1]) or (
+        len(words) > 1 and "" in (words[0], words[-1])
+    )
 
 
 def in_braces(items: list[str]) -> list[bool] | None:

@@ -358,6 +358,51 @@ def test_grants_that_are_good_stay() -> None:
         assert mended(rest("aut-num: AS1", f"mnt-lower: {name}"))[1] == {"rename"}, name
 
 
+# Files that were cut off within a line and joined with another one.
+
+
+@pytest.mark.parametrize(
+    "kind, cut",
+    [
+        ("aut-num: AS1", "mnt-by: A-"),
+        ("aut-num: AS1", "mnt-by: B-MNT, A-"),
+        ("inetnum: 10.0.0.0/8", "mnt-lower: A-"),
+        ("inetnum: 10.0.0.0/8", "mnt-routes: A-"),
+        ("inetnum: 10.0.0.0/8", "mnt-routes: A-MNT {10.0.0.0/8^16-2"),
+        ("as-set: AS-X", "mbrs-by-ref: A-"),
+        ("as-set: AS-X", "members: AS2, AS644"),
+        ("as-set: AS-X", "members: AS-"),
+        ("route-set: RS-X", "members: RADB::RS-"),
+        ("route-set: RS-X", "mp-members: 10.0.0.0/8^16-2"),
+        ("route-set: RS-X", "mp-members: 2001:db8:"),
+        ("aut-num: AS1", "member-of: AS-X, AS"),
+        ("mntner: X-MNT", "mnt-by: "),
+    ],
+)
+@pytest.mark.parametrize("other", ["as-block: AS7 - AS9", "poem:_7", "ROUTE : AS7", "descr: AS7"])
+def test_two_files_that_are_joined_within_a_line(kind: str, cut: str, other: str) -> None:
+    """What the second line has is no item of the first, whose object is not whole."""
+    whole = obj(*SET[:1], "mnt-by: A-MNT", "source: RIPE")
+    cut_off = f"{kind}\nas-name: X\n{cut}".encode()
+    rest_of = obj(other, "as-name: Y", "mnt-by: B-MNT", "source: RIPE")
+    text = whole.replace(b"AS-X", b"AS-W") + cut_off + rest_of
+    (line,) = left_out(text)
+    assert line.startswith("an item with a colon, as of two lines that were joined\t")
+    assert line.endswith(kind) and made(text)[1].taken == 1
+
+
+def test_colons_that_join_no_lines() -> None:
+    for kind, value in [
+        ("as-set: AS-X", "members: AS1:AS-ROUTE:AS-POEM, AS-PERSON:AS-X"),
+        ("route-set: RS-X", "members: AS1:RS-ROUTE^+, RS-DOMAIN:AS1"),
+        ("aut-num: AS1", "member-of: AS-ROUTE:AS-X"),
+    ]:
+        text = rest(kind, value)
+        assert mended(text) == (syntax.read(text[:-1]).text(), set())
+    text = rest("as-set: AS-X", "members: AS-FOO:BAR, x::, ::, ::1, 2001:db8:, RIPE::foo, AS1")
+    assert lists_of(text)[0] == [(b"members", [b"AS1"])]
+
+
 # A file that ends too early.
 
 

@@ -129,7 +129,7 @@ class Mender:
             else []
         )
         if number == MNTNER:
-            if ITEM.fullmatch(value) is None or is_no_name(value):
+            if ITEM.fullmatch(value) is None or is_no_name(value) or b":" in value:
                 raise LeftOut("a key that can't be read")
             return self.maintainer(value), attributes
         full, key = value, ordered(number, value, origins)
@@ -240,6 +240,8 @@ class Mender:
     def maintainer(self, item: bytes) -> str:
         if is_no_name(item):
             raise LeftOut(NO_NAME)
+        if b":" in item:
+            raise LeftOut(parting.JOINED)
         name, is_good = name_of(item)
         if not is_good:
             self.use("rename")
@@ -259,6 +261,8 @@ class Mender:
     def drop_unread(self, item: bytes) -> None:
         if IPV6.fullmatch(item):
             self.drop(item, "ipv6", "IPv6")
+        elif parting.JOINED_ITEM.fullmatch(item):
+            raise LeftOut(parting.JOINED)
         else:
             self.drop(item, "item", "an item that can't be read")
 

@@ -28,9 +28,12 @@ LATER = re.compile(rb"\n" + CLASS_LINE + rb"|" + SOURCE_LINE)
 # A `source` after the first line, with the lines that continue it and those that are skipped,
 # directly before a class.
 SEAM = re.compile(rb"%s[^\n]*\n(?:[ \t\r+#%%][^\n]*\n)*(?=%s)" % (SOURCE_LINE, CLASS_LINE))
+# An item with the first word of another line: a class, or any name, before a colon.
+JOINED_ITEM = re.compile(rb".*(?:%s):(?!:).*|:(?!:).*|.*(?<!:):" % b"|".join(CLASSES), re.I)
 CUT_OFF = "cut off at the end of the file"
 CLASS_AGAIN = "a class again after the first line"
 SOURCE_AGAIN = "`source` twice"
+JOINED = "an item with a colon, as of two lines that were joined"
 
 
 class Part(NamedTuple):

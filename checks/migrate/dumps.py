@@ -201,7 +201,7 @@ source:     RADB\r
         "a key that can't be read": 2,
         "duplicate": 1,
         "class route6": 1,
-        "braces of `mnt-routes` that are no pair after a name": 1,
+        "braces of `mnt-routes` that are not a pair after a name": 1,
     },
     {
         "source": 6,

@@ -75,14 +75,15 @@ def lists_of(number: int) -> set[bytes]:
 
 
 def is_cut(text: bytes, paragraphs: list[list[bytes]]) -> bool:
-    """Whether the last paragraph of a text may have lost its end: it has no `source`, and most
-    others have one, or the text ends within its last line; comments by themselves after it are an
+    """Whether the last paragraph of a text may have lost its end: the text ends within its last
+    line, or it has no `source` and most others have one; comments by themselves after it are an
     end."""
     *others, last = [any(map(SOURCE_LINE.match, block[1:])) for block in paragraphs]
     end, own = text.rstrip(b" \t\r\n").rpartition(b"\n")[2], paragraphs[-1][-1]
-    if last or (end[:1] in (b"#", b"%") and end != own.rstrip(b" \t\r\n")):
+    if end[:1] in (b"#", b"%") and end != own.rstrip(b" \t\r\n"):
         return False
-    return others.count(True) > others.count(False) or end == own.rstrip(b" \t\r")
+    is_usual = others.count(True) > others.count(False)
+    return end == own.rstrip(b" \t\r") or (is_usual and not last)
 
 
 class Second:

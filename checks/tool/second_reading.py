@@ -176,8 +176,8 @@ def key_of(piece: Piece) -> Any:
 
 
 def is_cut(dump: bytes, found: list[Piece]) -> bool:
-    """Whether the last piece of a dump may have lost its end: it has no `source`, most others have
-    one or the file ends within its last line, and no paragraph of comments stands after it."""
+    """Whether the last piece of a dump may have lost its end: the file ends within its last line,
+    or it has no `source` and most others have one; and no paragraph of comments stands after it."""
     text = dump.decode("latin-1").rstrip(BLANKS + "\n")
     end = re.split(r"\n[ \t\r]*\n", text)[-1].split("\n")
     is_ended = all(not line.strip(BLANKS) or line[0] in "#%" for line in end)
@@ -187,7 +187,7 @@ def is_cut(dump: bytes, found: list[Piece]) -> bool:
     have = ["source" in piece.names[1:] for piece in others]
     is_within_line = bool(dump.decode("latin-1").rpartition("\n")[2].strip(BLANKS))
     is_usual = have.count(True) > have.count(False)
-    return "source" not in last.names[1:] and (is_usual or is_within_line)
+    return is_within_line or (is_usual and "source" not in last.names[1:])
 
 
 def refusal(piece: Piece, is_cut_off: bool) -> str:
@@ -228,7 +228,7 @@ def no_list(piece: Piece) -> str:
         for item in tokens_of(name, meaning(lines)):
             if name == "mnt-routes" and item in "{}":
                 if before != ("name" if item == "{" else "{"):
-                    return "no pair"
+                    return "not a pair"
                 before = item
             elif name == "mnt-routes" and before == "{":
                 if not is_range(item) and is_joined(item):
@@ -251,7 +251,7 @@ def no_list(piece: Piece) -> str:
                 is_read = set_name(own) if name == "member-of" else is_good(piece.kind, name, own)
                 if not (is_inside or is_read or follows[:1] == "^") and is_joined(item):
                     return "two lines"
-    return "no pair" if before == "{" else ""
+    return "not a pair" if before == "{" else ""
 
 
 def is_no_name(item: str) -> bool:

@@ -272,7 +272,7 @@ def test_items_in_braces_are_dropped_together(
     dropped = [line.split("\t") for line in left_out(text)]
     assert [line[-1] for line in dropped][: len(gone)] == gone
     assert {line[0] for line in dropped if not line[-1].startswith("^")} == {
-        "it stands in braces, whose operator may be its own"
+        "it is in braces, whose operator may be its own"
     }
 
 
@@ -337,7 +337,7 @@ def test_braces_that_are_no_pair_after_a_name(values: list[str]) -> None:
     text = rest("inetnum: 192.0.2.0/24", *(f"mnt-routes: {value}" for value in values))
     cause = mended(text)
     assert cause in (
-        "braces of `mnt-routes` that are no pair after a name",
+        "braces of `mnt-routes` that are not a pair after a name",
         "a prefix or a brace among maintainers",
     )
     assert [line.split("\t")[0] for line in left_out(text)] == [cause]
@@ -406,16 +406,27 @@ def test_colons_that_join_no_lines() -> None:
 # A file that ends too early.
 
 
-@pytest.mark.parametrize("end", ["members: AS1, AS64", "members: AS1,\n AS64", "mnt-by: A-MNT"])
+@pytest.mark.parametrize(
+    "end",
+    [
+        "members: AS1, AS64",
+        "members: AS1,\n AS64",
+        "mnt-by: A-MNT",
+        "source: RIPE\nmembers: AS1, AS64",
+        "source: RIPE\nmnt-by: A-M",
+        "mnt-by: A-MNT\nsource: RIPE",
+        "mnt-by: A-MNT\nsource: RIPE\n# a comm",
+    ],
+)
 def test_the_last_object_of_a_file_that_was_cut_off(end: str) -> None:
-    """`AS64` may have been `AS64496`: without an end of the line, and without a `source`."""
+    """`AS64` may have been `AS64496`: without an end of the line, wherever the `source` stands."""
     whole = obj("as-set: AS-Y", "mnt-by: A-MNT", "source: RIPE")
     text = whole + f"as-set: AS-X\n{end}".encode()
     (line,) = left_out(text)
     assert line.startswith("cut off at the end of the file\t") and line.endswith("as-set: AS-X")
     assert b"AS-X" not in made(text)[0]
     # Other ends are none.
-    for good in text + b"\nsource: RIPE", whole.rstrip(b"\n"), whole + b"# end":
+    for good in whole.rstrip(b"\n") + b"\n", whole.rstrip(b"\n") + b"\n \t", whole + b"# end":
         assert left_out(good) == []
 
 

@@ -174,7 +174,7 @@ class Mending(unittest.TestCase):
             (["aut-num: AS1", "EOF"], "text: it has a line without a colon"),
             (
                 ["aut-num: AS1", "mnt-routes: A-MNT {10.0.0.0/8"],
-                "braces of `mnt-routes` that are no pair after a name",
+                "braces of `mnt-routes` that are not a pair after a name",
             ),
             (["mntner: A B"], "a key that can't be read"),
             (["as-set: AS-X", "x: " + "y" * 70_000], "above 65,536 bytes"),

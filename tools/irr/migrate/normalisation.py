@@ -41,12 +41,12 @@ LONGEST_NAME = 80
 # Why an item is taken out of a list.
 OTHER_KIND = "a set of the other kind"
 OPERATOR_AFTER = "an operator after it is apart from it"
-IN_BRACES = "it stands in braces, whose operator may be its own"
+IN_BRACES = "it is in braces, whose operator may be its own"
 NO_SOURCE = "no `source`"
 # Why an object is left out: a list of maintainers without the item would say something else.
 NO_NAME = "a prefix or a brace among maintainers"
 ALONE = "a brace without the other one"
-BRACES = "braces of `mnt-routes` that are no pair after a name"
+BRACES = "braces of `mnt-routes` that are not a pair after a name"
 
 
 class LeftOut(Exception):

@@ -185,6 +185,11 @@ source:     RADB\r
 aut-num:    AS64496\r
 as-name:    EXAMPLE\r
 mnt-by:     MAINT-AS64496\r
+mnt-routes: MAINT-AS64496 ANY\r
+source:     RADB\r
+\r
+aut-num:    AS64497\r
+mnt-by:     MAINT-AS64496\r
 mnt-routes: {198.51.100.0/24} MAINT-AS64496 ANY\r
 source:     RADB\r
 \r
@@ -192,13 +197,18 @@ source:     RADB\r
 """
     },
     6,
-    {"a key that can't be read": 2, "duplicate": 1, "class route6": 1},
+    {
+        "a key that can't be read": 2,
+        "duplicate": 1,
+        "class route6": 1,
+        "braces of `mnt-routes` that are not a pair after a name": 1,
+    },
     {
         "source": 6,
         "ipv6": 2,
         "mp-members": 1,
         "host-bits": 1,
-        "item": 2,
+        "item": 1,
         "rename": 1,
         "auth": 1,
         "mntner": 1,
@@ -223,7 +233,7 @@ source:     RADB\r
             " MNT-AS-EXAMPLE-MNT\n"
         ),
     ],
-    {"IPv6": 3, "an item that can't be read": 4},
+    {"IPv6": 3, "an item that can't be read": 1},
 )
 
 LACNIC = Dump(
@@ -412,6 +422,11 @@ as-set:         AS64496:AS-DEMO
 members:        AS64496,
                 AS64497
                 , AS-MEMBER
+mbrs-by-ref:    DEMO-MNT
+mnt-by:         DEMO-MNT
+source:         DEMO
+
+as-set:         AS-PREFIX
 mbrs-by-ref:    DEMO-MNT, 2001:db8::/32
 mnt-by:         DEMO-MNT
 source:         DEMO
@@ -439,8 +454,13 @@ source:         DEMO
 """
     },
     6,
-    {"class key-cert": 1, "class filter-set": 1, "text: it has a line without a colon": 1},
-    {"source": 6, "ipv6": 1, "rename": 1, "mntner": 2, "initial": 3},
+    {
+        "class key-cert": 1,
+        "class filter-set": 1,
+        "text: it has a line without a colon": 1,
+        "a prefix or a brace among maintainers": 1,
+    },
+    {"source": 6, "rename": 1, "mntner": 2, "initial": 3},
     {"ANY": "MNT-ANY"},
     [
         "auth:           bcrypt DummyValue # Filtered for security\n",
@@ -450,7 +470,7 @@ source:         DEMO
         "as-block:       AS0 - AS4294967295\n",
         "mnt-routes:     DEMO-MNT, OTHER-MNT {192.0.2.0/24^24-32}\n",
     ],
-    {"IPv6": 1},
+    {},
 )
 
 DUMPS = {"RIPE": RIPE, "RADB": RADB, "LACNIC": LACNIC, "ARIN": ARIN, "IRRd 4": IRRD}

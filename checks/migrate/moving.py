@@ -35,7 +35,8 @@ Attributes = list[tuple[bytes, list[bytes]]]
 Lists = dict[bytes, list[bytes]]
 Order = tuple[int, Any]
 Form = list[Any]
-IPV6 = re.compile(rb"[0-9a-f:.]*:[0-9a-f.]*:[0-9a-f:.]*(/[0-9]+)?(\^.*)?", re.I)
+# Prefixes, braces, colons and operators, of which no maintainer's name has any.
+NO_NAME = re.compile(rb"^[0-9.]+(/|$)|[:{}^]")
 TOKEN = re.compile(rb"[{}]|[^, \t\r{}]+")
 ROOT, SOURCE, NOBODY = b"ROOT-MNT", b"TEST", b"FILTERED"
 TOP = (1 << 32) - 1
@@ -74,14 +75,15 @@ def lists_of(number: int) -> set[bytes]:
 
 
 def is_cut(text: bytes, paragraphs: list[list[bytes]]) -> bool:
-    """Whether the last paragraph of a text may have lost its end: it has no `source`, and most
-    others have one, or the text ends within its last line; comments by themselves after it are an
+    """Whether the last paragraph of a text may have lost its end: the text ends within its last
+    line, or it has no `source` and most others have one; comments by themselves after it are an
     end."""
     *others, last = [any(map(SOURCE_LINE.match, block[1:])) for block in paragraphs]
     end, own = text.rstrip(b" \t\r\n").rpartition(b"\n")[2], paragraphs[-1][-1]
-    if last or (end[:1] in (b"#", b"%") and end != own.rstrip(b" \t\r\n")):
+    if end[:1] in (b"#", b"%") and end != own.rstrip(b" \t\r\n"):
         return False
-    return others.count(True) > others.count(False) or end == own.rstrip(b" \t\r")
+    is_usual = others.count(True) > others.count(False)
+    return end == own.rstrip(b" \t\r") or (is_usual and not last)
 
 
 class Second:
@@ -188,7 +190,7 @@ class Second:
 
     def key(self, number: int, text: bytes, origin: bytes | None) -> Any:
         if number == MNTNER:
-            return text.upper() if ITEM.fullmatch(text) else None
+            return text.upper() if ITEM.fullmatch(text) and not NO_NAME.search(text) else None
         key = read_key(number, text, origin)
         return key.value if key else None
 
@@ -197,10 +199,8 @@ class Second:
         found = [item for items in listed for item in items]
         if name == b"mnt-routes":
             return list(self.grants(found))
-        if name in (b"mnt-by", b"mnt-lower"):
-            return found
-        if name == b"mbrs-by-ref":
-            return [item for item in found if not IPV6.fullmatch(item)]
+        if name in (b"mnt-by", b"mnt-lower", b"mbrs-by-ref"):
+            return list(map(self.name, found))
         is_good = (
             member_of(number)
             if name == b"member-of"
@@ -208,7 +208,20 @@ class Second:
             if number == AS_SET
             else route_set_member
         )
+        found = [item for items in listed for item in self.outside(items)]
         return [item for item in found if is_good(SCOPE.sub(b"", item)) is not None]
+
+    def outside(self, items: list[bytes]) -> Iterator[bytes]:
+        """The items that are not in braces, of which each has another one."""
+        depth = 0
+        for item in items:
+            before, depth = depth, depth + item.count(b"{") - item.count(b"}")
+            if depth < 0:
+                raise Out("brace")
+            if not before and not depth:
+                yield item
+        if depth:
+            raise Out("brace")
 
     def without_scopes(self, items: list[bytes]) -> Iterator[bytes]:
         """The items without a registry before them; one that another registry has, or that is not
@@ -232,19 +245,15 @@ class Second:
         """The parts of entries, each of which is a name, and ANY or braces."""
         while tokens:
             head, *tokens = tokens
-            if head == b"{":
-                if b"}" not in tokens:
-                    raise Out("brace")
-                tokens = tokens[tokens.index(b"}") + 1 :]
-            if head in b"{}" or head.upper() == b"ANY" or IPV6.fullmatch(head):
+            if head in b"{}":
+                raise Out("brace")
+            if head.upper() == b"ANY":
                 continue
-            yield head
-            while tokens and (IPV6.fullmatch(tokens[0]) or tokens[0] == b"}"):
-                tokens = tokens[1:]
+            yield self.name(head)
             if tokens[:1] == [b"{"]:
-                if b"}" not in tokens:
+                end = tokens.index(b"}") if b"}" in tokens else 0
+                if not end or b"{" in tokens[1:end]:
                     raise Out("brace")
-                end = tokens.index(b"}")
                 yield b"{"
                 yield from (token for token in tokens[1:end] if numbers.ranged(token) is not None)
                 yield b"}"
@@ -252,6 +261,12 @@ class Second:
             elif tokens and tokens[0].upper() == b"ANY":
                 yield tokens[0]
                 tokens = tokens[1:]
+
+    def name(self, item: bytes) -> bytes:
+        """An item in a maintainer's place, which is no prefix and has no brace."""
+        if NO_NAME.search(item):
+            raise Out("no name")
+        return item
 
     def leave_out_crossing(self, number: int) -> None:
         kept: list[tuple[int, int]] = []

@@ -157,7 +157,8 @@ def key_of(piece: Piece) -> Any:
     """What tells an object from others of its class; None where it can't be read."""
     value, kind = meaning(piece.attributes[0][1]), piece.kind
     if kind == "mntner":
-        return value.upper() if re.fullmatch(r"[^, \t\r]+", value) else None
+        is_name = re.fullmatch(r"[^, \t\r:]+", value) and not is_no_name(value)
+        return value.upper() if is_name else None
     if kind == "aut-num":
         return number_of(value)
     if kind == "as-block":
@@ -175,8 +176,8 @@ def key_of(piece: Piece) -> Any:
 
 
 def is_cut(dump: bytes, found: list[Piece]) -> bool:
-    """Whether the last piece of a dump may have lost its end: it has no `source`, most others have
-    one or the file ends within its last line, and no paragraph of comments stands after it."""
+    """Whether the last piece of a dump may have lost its end: the file ends within its last line,
+    or it has no `source` and most others have one; and no paragraph of comments stands after it."""
     text = dump.decode("latin-1").rstrip(BLANKS + "\n")
     end = re.split(r"\n[ \t\r]*\n", text)[-1].split("\n")
     is_ended = all(not line.strip(BLANKS) or line[0] in "#%" for line in end)
@@ -186,7 +187,7 @@ def is_cut(dump: bytes, found: list[Piece]) -> bool:
     have = ["source" in piece.names[1:] for piece in others]
     is_within_line = bool(dump.decode("latin-1").rpartition("\n")[2].strip(BLANKS))
     is_usual = have.count(True) > have.count(False)
-    return "source" not in last.names[1:] and (is_usual or is_within_line)
+    return is_within_line or (is_usual and "source" not in last.names[1:])
 
 
 def refusal(piece: Piece, is_cut_off: bool) -> str:
@@ -208,14 +209,87 @@ def refusal(piece: Piece, is_cut_off: bool) -> str:
         return "IPv6"
     if key_of(piece) is None:
         return "key"
-    if "password" in piece.names or "delete" in piece.names:
-        return "`delete`"
-    if piece.kind in LISTS["mnt-routes"]:
-        braces = re.findall("[{}]", " ".join(piece.values("mnt-routes")))
-        if (braces or ["}"])[-1] == "{":
-            return "brace"
+    cause = no_list(piece)
+    if cause:
+        return cause
     source = "".join(piece.values("source"))
     return "`source` that" if source and not NAME.fullmatch(source) else ""
+
+
+def no_list(piece: Piece) -> str:
+    """A word of the cause for which the lists of a piece are none, or that of `password` and
+    `delete`: the first one decides."""
+    before = "}"
+    for name, lines in piece.attributes[1:]:
+        if name in ("password", "delete"):
+            return "`delete`"
+        if piece.kind not in LISTS.get(name, []):
+            continue
+        for item in tokens_of(name, meaning(lines)):
+            if name == "mnt-routes" and item in "{}":
+                if before != ("name" if item == "{" else "{"):
+                    return "not a pair"
+                before = item
+            elif name == "mnt-routes" and before == "{":
+                if not is_range(item) and is_joined(item):
+                    return "two lines"
+            elif name in ("mnt-by", "mnt-lower", "mnt-routes", "mbrs-by-ref"):
+                if is_no_name(item):
+                    return "among maintainers"
+                if ":" in item:
+                    return "two lines"
+                if name == "mnt-routes":
+                    before = "}" if item.upper() == "ANY" else "name"
+        if name.endswith("members") or name == "member-of":
+            items = tokens_of(name, meaning(lines))
+            inside = in_braces(items)
+            if inside is None:
+                return "without the other"
+            for item, is_inside, follows in zip(items, inside, [*items[1:], ""]):
+                scope, _, bare = item.rpartition("::")
+                own = bare if NAME.fullmatch(scope) else item
+                is_read = set_name(own) if name == "member-of" else is_good(piece.kind, name, own)
+                if not (is_inside or is_read or follows[:1] == "^") and is_joined(item):
+                    return "two lines"
+    return "not a pair" if before == "{" else ""
+
+
+def is_no_name(item: str) -> bool:
+    """Whether an item of a list of maintainers is a prefix, an address or an operator, or has a
+    brace or two colons."""
+    numbers = re.match("[0-9.]+", item)
+    rest = item[numbers.end() :] if numbers else "x"
+    return bool(re.search("[{}^]", item)) or rest[:1] == "/" or not rest or is_ipv6(item)
+
+
+def is_ipv6(item: str) -> bool:
+    front = item.partition("^")[0].partition("/")[0]
+    return item.count(":") > 1 and not set(front) - set("0123456789abcdefABCDEF:.")
+
+
+def is_joined(item: str) -> bool:
+    """Whether an item that can't be read has the name of a class before a colon, or a single colon
+    at an end."""
+    if is_ipv6(item):
+        return False
+    words = re.split("(?<!:):(?!:)", item.lower())
+    return any(word.endswith(tuple(CLASSES + OTHERS)) for word in words[:-1]) or (
+        len(words) > 1 and "" in (words[0], words[-1])
+    )
+
+
+def in_braces(items: list[str]) -> list[bool] | None:
+    """Which items are not wholly outside of braces; None where the braces are no pairs."""
+    depth, found = 0, []
+    for item in items:
+        is_inside = depth > 0
+        for letter in re.findall("[{}]", item):
+            is_inside = True
+            depth += 1 if letter == "{" else -1
+        if depth < 0:
+            return None
+        found.append(is_inside)
+    return found if not depth else None
 
 
 # Items of lists.
@@ -225,7 +299,7 @@ def is_good(kind: str, attribute: str, item: str) -> bool:
     """Whether an item of a list, without a registry before it, is one that irrdesk reads there.
     Braces and ANY of `mnt-routes` are no matter of one item."""
     if attribute in ("mnt-by", "mnt-lower", "mbrs-by-ref"):
-        return "::" not in item
+        return True
     if attribute == "member-of":
         name = set_name(item)
         return name is not None and (kind, name[0]) != ("route", "as-set")
@@ -260,20 +334,16 @@ def grants(values: list[list[str]]) -> list[list[bool]]:
     """Which tokens of the attributes `mnt-routes` of an object stay: an entry is a name, and ANY or
     ranges in braces."""
     found: list[list[bool]] = []
-    is_after_name, inside = False, ""
+    before = ""
     for tokens in values:
         kept: list[bool] = []
         for token in tokens:
-            if inside:
-                kept.append(inside == "granted" and (token == "}" or is_range(token)))
-                inside = "" if token == "}" else inside
-            elif token == "{" or token.upper() == "ANY":
-                kept.append(is_after_name)
-                inside = ("granted" if is_after_name else "lost") if token == "{" else ""
-                is_after_name = False
+            if before == "{":
+                kept.append(token == "}" or is_range(token))
+                before = token if token == "}" else before
             else:
-                kept.append(token != "}" and ":" not in token)
-                is_after_name |= kept[-1]
+                kept.append(token.upper() != "ANY" or before == "name")
+                before = token if token == "{" else "" if token.upper() == "ANY" else "name"
         found.append(kept)
     return found
 
@@ -373,6 +443,8 @@ class Registry:
                 stays = is_good(piece.kind, name, item)
             follows = (items + [""])[place + 1]
             if follows[:1] == "^" and (name != "mnt-routes" or is_range(item)):
+                stays = False
+            if name != "mnt-routes" and (in_braces(items) or [False] * len(items))[place]:
                 stays = False
             if stays:
                 kept.append(without_host_bits(bare))

@@ -221,6 +221,9 @@ def test_scopes_are_kept_by_an_option() -> None:
 def test_the_help_says_what_an_object_is(capsys: pytest.CaptureFixture[str]) -> None:
     assert main.main(["import", "--help"]) == 0
     words = " ".join(capsys.readouterr().out.split())
-    assert (
-        "A paragraph is not an object if the name of a class comes again after its first" in words
-    )
+    for rule in (
+        "A paragraph is not an object if the name of a class comes again after its first",
+        "An object is left out too if its maintainers have a prefix or a brace, if two of its lines "
+        "were joined, or if its file ends within it.",
+    ):
+        assert rule in words

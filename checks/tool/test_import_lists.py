@@ -245,19 +245,188 @@ def test_what_stands_before_an_operator_is_dropped_with_it(
     ]
 
 
+# Items in braces: without the operator after these they would mean something else.
+
+
+@pytest.mark.parametrize("name", ["members", "mp-members"])
+@pytest.mark.parametrize(
+    "items, kept, gone",
+    [
+        (
+            "{10.0.0.0/9, 10.1.0.0/16, AS2}^25, AS1",
+            ["AS1"],
+            ["{10.0.0.0/9", "10.1.0.0/16", "AS2}^25"],
+        ),
+        ("AS1, { 10.0.0.0/9 10.1.0.0/16 } ^25", ["AS1"], ["{", "10.0.0.0/9", "10.1.0.0/16", "}"]),
+        ("{10.0.0.0/9}, AS1, {AS2,\n {AS3},\n AS4}^+", ["AS1"], ["{10.0.0.0/9}", "{AS2", "{AS3}"]),
+        ("AS1, 10.0.0.0/9^{24, 25, 26}", ["AS1"], ["10.0.0.0/9^{24", "25", "26}"]),
+    ],
+)
+def test_items_in_braces_are_dropped_together(
+    name: str, items: str, kept: list[str], gone: list[str]
+) -> None:
+    text = rest("route-set: RS-X", f"{name}: {items}")
+    ((_, lines),), kinds = lists_of(text)
+    found = b" ".join(lines).decode().replace(",", " ").split()
+    assert (found, kinds - {"mp-members"}) == (kept, {"item"})
+    dropped = [line.split("\t") for line in left_out(text)]
+    assert [line[-1] for line in dropped][: len(gone)] == gone
+    assert {line[0] for line in dropped if not line[-1].startswith("^")} == {
+        "it is in braces, whose operator may be its own"
+    }
+
+
+def test_braces_of_other_lists() -> None:
+    text = rest("aut-num: AS1", "member-of: {AS-A, AS-B, AS-C}")
+    assert lists_of(text) == ([], {"item"})
+    for value in "{AS-A, AS-B", "AS-A}, AS-B", "}, AS-B, {", "{{AS-A}, AS-B":
+        for kind, name in ("aut-num: AS1", "member-of"), ("as-set: AS-X", "members"):
+            assert mended(rest(kind, f"{name}: {value}")) == (
+                f"a brace without the other one in `{name}`"
+            )
+
+
+# Maintainers: without an item that is none, others would get more than the text gives them.
+
+
+@pytest.mark.parametrize(
+    "value",
+    [
+        "B-MNT 192.0.2.0/25^+",
+        "B-MNT, 192.0.2.0/25",
+        "B-MNT 192.0.2.0/99",
+        "B-MNT 192.0.2/25",
+        "B-MNT 10/8",
+        "B-MNT 10./8",
+        "B-MNT 192.0.2.0 - 192.0.2.9",
+        "B-MNT 192.0.2.0-192.0.2.9",
+        "B-MNT ^25",
+        "B-MNT 192.0.2.0/25 ^26",
+        "B-MNT 2001:db8::/32",
+        "192.0.2.0/25 B-MNT",
+        "192.0.2.0/25 {192.0.2.0/25}",
+    ],
+)
+def test_a_prefix_is_no_maintainer(value: str) -> None:
+    """Without it, or as a maintainer, B-MNT would have all of the object's routes."""
+    cause = "a prefix or a brace among maintainers"
+    assert mended(rest("inetnum: 192.0.2.0/24", f"mnt-routes: {value}")) == cause
+    for name in "mnt-lower", "mnt-by":
+        assert mended(rest("inetnum: 192.0.2.0/24", f"{name}: {value.split(' {')[0]}")) == cause
+    assert mended(rest("as-set: AS-X", f"mbrs-by-ref: {value.split(' {')[0]}")) == cause
+    assert mended(rest("mntner: 192.0.2.0/25")) == "a key that can't be read"
+
+
+@pytest.mark.parametrize(
+    "values",
+    [
+        ["B-MNT {192.0.2.0/25"],
+        ["B-MNT 192.0.2.0/25}"],
+        ["B-MNT }"],
+        ["{192.0.2.0/25} B-MNT"],
+        ["B-MNT {{192.0.2.0/25}}"],
+        ["B-MNT {192.0.2.0/25}, {192.0.2.128/25}"],
+        ["B-MNT {192.0.2.0/25", "C-MNT {192.0.2.128/25}"],
+        ["{B-MNT 192.0.2.0/25}"],
+        ["ANY {192.0.2.0/25}"],
+        ["{192.0.2.0/24} A-MNT ANY {10.0.0.0/8}"],
+    ],
+)
+def test_braces_that_are_no_pair_after_a_name(values: list[str]) -> None:
+    """Nobody knows whose ranges they have."""
+    text = rest("inetnum: 192.0.2.0/24", *(f"mnt-routes: {value}" for value in values))
+    cause = mended(text)
+    assert cause in (
+        "braces of `mnt-routes` that are not a pair after a name",
+        "a prefix or a brace among maintainers",
+    )
+    assert [line.split("\t")[0] for line in left_out(text)] == [cause]
+    for name in "mnt-by", "mnt-lower":
+        text = rest("inetnum: 192.0.2.0/24", f"{name}: {{A-MNT, B-MNT}}")
+        assert mended(text) == "a prefix or a brace among maintainers"
+
+
+def test_grants_that_are_good_stay() -> None:
+    """Over several attributes too; names that only look like numbers are mended as others are."""
+    text = rest(
+        "inetnum: 192.0.2.0/24",
+        "mnt-routes: B-MNT {192.0.2.0/25^+,",
+        "mnt-routes: 192.0.2.128/25} C-MNT ANY, D-MNT {}, E-MNT",
+    )
+    assert mended(text) == (syntax.read(text[:-1]).text(), set())
+    for name in "1.2-MNT", "A/B", "64496", "X.1.2":
+        assert mended(rest("aut-num: AS1", f"mnt-lower: {name}"))[1] == {"rename"}, name
+
+
+# Files that were cut off within a line and joined with another one.
+
+
+@pytest.mark.parametrize(
+    "kind, cut",
+    [
+        ("aut-num: AS1", "mnt-by: A-"),
+        ("aut-num: AS1", "mnt-by: B-MNT, A-"),
+        ("inetnum: 10.0.0.0/8", "mnt-lower: A-"),
+        ("inetnum: 10.0.0.0/8", "mnt-routes: A-"),
+        ("inetnum: 10.0.0.0/8", "mnt-routes: A-MNT {10.0.0.0/8^16-2"),
+        ("as-set: AS-X", "mbrs-by-ref: A-"),
+        ("as-set: AS-X", "members: AS2, AS644"),
+        ("as-set: AS-X", "members: AS-"),
+        ("route-set: RS-X", "members: RADB::RS-"),
+        ("route-set: RS-X", "mp-members: 10.0.0.0/8^16-2"),
+        ("route-set: RS-X", "mp-members: 2001:db8:"),
+        ("aut-num: AS1", "member-of: AS-X, AS"),
+        ("mntner: X-MNT", "mnt-by: "),
+    ],
+)
+@pytest.mark.parametrize("other", ["as-block: AS7 - AS9", "poem:_7", "ROUTE : AS7", "descr: AS7"])
+def test_two_files_that_are_joined_within_a_line(kind: str, cut: str, other: str) -> None:
+    """What the second line has is no item of the first, whose object is not whole."""
+    whole = obj(*SET[:1], "mnt-by: A-MNT", "source: RIPE")
+    cut_off = f"{kind}\nas-name: X\n{cut}".encode()
+    rest_of = obj(other, "as-name: Y", "mnt-by: B-MNT", "source: RIPE")
+    text = whole.replace(b"AS-X", b"AS-W") + cut_off + rest_of
+    (line,) = left_out(text)
+    assert line.startswith("an item with a colon, as of two lines that were joined\t")
+    assert line.endswith(kind) and made(text)[1].taken == 1
+
+
+def test_colons_that_join_no_lines() -> None:
+    for kind, value in [
+        ("as-set: AS-X", "members: AS1:AS-ROUTE:AS-POEM, AS-PERSON:AS-X"),
+        ("route-set: RS-X", "members: AS1:RS-ROUTE^+, RS-DOMAIN:AS1"),
+        ("aut-num: AS1", "member-of: AS-ROUTE:AS-X"),
+    ]:
+        text = rest(kind, value)
+        assert mended(text) == (syntax.read(text[:-1]).text(), set())
+    text = rest("as-set: AS-X", "members: AS-FOO:BAR, x::, ::, ::1, 2001:db8:, RIPE::foo, AS1")
+    assert lists_of(text)[0] == [(b"members", [b"AS1"])]
+
+
 # A file that ends too early.
 
 
-@pytest.mark.parametrize("end", ["members: AS1, AS64", "members: AS1,\n AS64", "mnt-by: A-MNT"])
+@pytest.mark.parametrize(
+    "end",
+    [
+        "members: AS1, AS64",
+        "members: AS1,\n AS64",
+        "mnt-by: A-MNT",
+        "source: RIPE\nmembers: AS1, AS64",
+        "source: RIPE\nmnt-by: A-M",
+        "mnt-by: A-MNT\nsource: RIPE",
+        "mnt-by: A-MNT\nsource: RIPE\n# a comm",
+    ],
+)
 def test_the_last_object_of_a_file_that_was_cut_off(end: str) -> None:
-    """`AS64` may have been `AS64496`: without an end of the line, and without a `source`."""
+    """`AS64` may have been `AS64496`: without an end of the line, wherever the `source` stands."""
     whole = obj("as-set: AS-Y", "mnt-by: A-MNT", "source: RIPE")
     text = whole + f"as-set: AS-X\n{end}".encode()
     (line,) = left_out(text)
     assert line.startswith("cut off at the end of the file\t") and line.endswith("as-set: AS-X")
     assert b"AS-X" not in made(text)[0]
     # Other ends are none.
-    for good in text + b"\nsource: RIPE", whole.rstrip(b"\n"), whole + b"# end":
+    for good in whole.rstrip(b"\n") + b"\n", whole.rstrip(b"\n") + b"\n \t", whole + b"# end":
         assert left_out(good) == []
 
 
@@ -317,7 +486,6 @@ def test_each_reason_is_listed_with_object_attribute_and_item() -> None:
         obj(
             "as-set: AS-X",
             "members: AS1, caf\xe9, ::/0",
-            "mbrs-by-ref: 2001:db8::/32",
             "mnt-by: A-MNT",
             "source: RIPE",
         )
@@ -326,7 +494,6 @@ def test_each_reason_is_listed_with_object_attribute_and_item() -> None:
     assert [line.split("\t")[:1] + line.split("\t")[2:] for line in lines] == [
         ["an item that can't be read", "as-set: AS-X", "members", "caf\xe9"],
         ["IPv6", "as-set: AS-X", "members", "::/0"],
-        ["IPv6", "as-set: AS-X", "mbrs-by-ref", "2001:db8::/32"],
         ["an item that can't be read", "route: 10.0.0.0/8 AS1", "mnt-routes", "ANY"],
         ["an item that can't be read", "route: 10.0.0.0/8 AS1", "mnt-routes", "x"],
     ]

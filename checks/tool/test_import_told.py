@@ -132,7 +132,14 @@ def test_no_cut_of_a_file_makes_another_object_in_silence() -> None:
 
 def test_lines_that_are_not_kept_and_lines_that_go_on_are_told() -> None:
     text = b"# of the file\n\n# of the object\n" + obj(
-        *A[:1], "# a comment", "members: AS1,", "% AS2,\t#", " AS3", "\rmembers: AS4", *A[2:]
+        *A[:1],
+        "# a comment",
+        "members: AS1,",
+        "% AS2,\t#",
+        " AS3",
+        "descr: x",
+        "\rmembers: AS4",
+        *A[2:],
     )
     goes_on, gone = (
         "a line with a CR first, which goes on",
@@ -141,7 +148,7 @@ def test_lines_that_are_not_kept_and_lines_that_go_on_are_told() -> None:
     assert told(text) == [
         (gone, 5, "as-set: AS-A", "# a comment"),
         (gone, 7, "as-set: AS-A", "% AS2,\\x09#"),
-        (goes_on, 9, "as-set: AS-A", "\\x0dmembers: AS4"),
+        (goes_on, 10, "as-set: AS-A", "\\x0dmembers: AS4"),
     ]
     (own,) = texts_of(made(text)[0], "as-set")
     assert "#" not in own and "%" not in own

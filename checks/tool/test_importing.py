@@ -57,13 +57,7 @@ class Mending(unittest.TestCase):
                 ),
                 ("as-set: AS-X", "members", "AS1,AS-Y^+ # both", b"AS1 # both", {"item"}),
                 ("as-set: AS-X", "members", ",, AS1,AS2,", b",, AS1,AS2,", set()),
-                (
-                    "as-set: AS-X",
-                    "mbrs-by-ref",
-                    "any, 2001:db8::/32,A-MNT",
-                    b"any, A-MNT",
-                    {"ipv6"},
-                ),
+                ("as-set: AS-X", "mbrs-by-ref", "any,A-MNT", b"any,A-MNT", set()),
                 (
                     "route-set: RS-X",
                     "members",
@@ -89,7 +83,7 @@ class Mending(unittest.TestCase):
                 (
                     "aut-num: AS1",
                     "mnt-routes",
-                    "{192.0.2.0/24} A-MNT ANY {10.0.0.0/8}",
+                    "A-MNT ANY, ANY",
                     b"A-MNT ANY",
                     {"item"},
                 ),
@@ -180,7 +174,7 @@ class Mending(unittest.TestCase):
             (["aut-num: AS1", "EOF"], "text: it has a line without a colon"),
             (
                 ["aut-num: AS1", "mnt-routes: A-MNT {10.0.0.0/8"],
-                "a brace of `mnt-routes` that is not closed",
+                "braces of `mnt-routes` that are not a pair after a name",
             ),
             (["mntner: A B"], "a key that can't be read"),
             (["as-set: AS-X", "x: " + "y" * 70_000], "above 65,536 bytes"),
@@ -351,18 +345,6 @@ class Importing(unittest.TestCase):
             own = f"auth:           X-{place}\nmnt-by:         {new}\n"
             self.assertIn(f"mntner:         {new}\n{own}".encode(), dump)
             self.assertIn(f"aut-num:        AS{place}\nmnt-by:         {new}\n".encode(), dump)
-
-    def test_a_range_is_no_maintainer(self) -> None:
-        dump, tally = made(
-            obj(
-                "inetnum: 10.0.0.0/8",
-                "mnt-by: 10.0.0.0/8",
-                "mnt-routes: 10.0.0.0/8 {10.0.0.0/8}",
-                "source: TEST",
-            )
-        )
-        self.assertEqual(tally.renamed, {"10.0.0.0/8": "MNT-10-0-0-0-8"})
-        self.assertIn(b"mnt-routes:     MNT-10-0-0-0-8 {10.0.0.0/8}\n", dump)
 
     def test_without_mntners(self) -> None:
         text = obj("mntner: A-MNT", "auth: X", "mnt-by: B-MNT") + obj(

@@ -2,7 +2,7 @@
 
 import pytest
 
-from checks.tool.importing import left_out, made, mended, obj, texts_of
+from checks.tool.importing import left_out, listed, made, mended, obj, texts_of
 from irr.migrate import conversion
 from irr.rpsl import syntax
 
@@ -25,6 +25,31 @@ def test_parted_after_a_source() -> None:
     assert (tally.read, tally.taken, tally.mended["part"]) == (2, 2, 1)
     assert "  1  --no-part" in "\n".join(tally.lines())
     assert [line.partition(":")[2] for line in tally.parted] == ["5\troute-set: RS-B"]
+
+
+def test_byte_order_marks_of_files_that_were_joined() -> None:
+    """A mark hides no class line, with a blank line before it or without, and is not kept."""
+    mark, again = b"\xef\xbb\xbf", "a class again after the first line"
+    c = ("aut-num: AS1", "mnt-by: A-MNT", "source: RIPE")
+    for text in (
+        obj(*A) + mark + obj(*B),
+        obj(*A)[:-1] + mark + obj(*B),
+        mark + obj(*A)[:-1] + b"# x\n" + mark + obj(*B)[:-1],
+    ):
+        assert texts_of(made(text)[0], "as-set", "route-set") == texts_of(
+            made(obj(*A, *B))[0], "as-set", "route-set"
+        )
+        assert left_out(text) == []
+    text = obj(*c[:-1], "route: 10.0.0.0/8", c[-1])[:-1] + mark + obj(*A)
+    assert [line.split("\t")[0] for line in left_out(text)] == [again]
+    assert b"AS-A" in made(text)[0]
+    text = obj(*c[:-1], "route: 10.0.0.0/8")[:-1] + mark + obj(*A)
+    assert [line.rpartition("\t")[2] for line in listed(text)] == [
+        "aut-num: AS1",
+        "route: 10.0.0.0/8",
+        "as-set: AS-A",
+    ]
+    assert listed(obj(*A)[:-1] + mark + obj(*B), off=["part"])[1].endswith("\troute-set: RS-B")
 
 
 def test_not_parted_where_that_is_turned_off() -> None:

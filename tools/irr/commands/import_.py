@@ -28,7 +28,8 @@ irr import radb.db --source EXAMPLE --root ROOT-MNT --auth @holders.auth --check
 RULE = """What is written is, object by object, the paragraph that was read, but for what is mended
 and reported. A paragraph is not an object if the name of a class comes again after its
 first line, or `source` comes twice. It is parted where a class line follows directly on
-`source`; otherwise it is left out."""
+`source`; otherwise it is left out. An object is left out too if its maintainers have a
+prefix or a brace, if two of its lines were joined, or if its file ends within it."""
 
 
 def arguments(parser: argparse.ArgumentParser) -> None:

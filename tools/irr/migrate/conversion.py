@@ -128,18 +128,18 @@ class Import:
             after = block.line + block.text.count(b"\n")
         if waiting:
             is_usual = 2 * with_source > count - 1
-            self.take(waiting, path, not waiting.has_source and self.is_cut(waiting, is_usual))
+            self.take(waiting, path, self.is_cut(waiting, is_usual))
 
     def is_cut(self, last: parting.Part, is_usual: bool) -> bool:
-        """Whether the last object of a file that has no `source` may have lost its end: the file
-        ends within a line, or where the next one would begin, and a `source` is usual in it."""
+        """Whether the last object of a file may have lost its end: the file ends within a line, or
+        the object has no `source`, which is usual in the file."""
         text, blanks = last.block.text, syntax.BLANKS + b"\n"
         ends = [one.rstrip(blanks).rpartition(b"\n")[2] for one in (self.tail, text)]
         # A comment after a blank line is an end of the file.
         is_ended = ends[0][:1] in (b"#", b"%") and ends[0] != ends[1]
         if len(text) < last.block.size or is_ended:
             return False
-        return is_usual or not text.endswith(b"\n")
+        return not text.endswith(b"\n") or (is_usual and not last.has_source)
 
     def sized(self, pieces: Iterator[bytes]) -> Iterator[bytes]:
         for piece in pieces:

@@ -7,6 +7,10 @@ from irr.rpsl import keys, syntax
 from irr.rpsl.syntax import Attribute
 
 IPV6 = re.compile(rb"[0-9A-Fa-f]{0,4}(?::[0-9A-Fa-f.]{0,15}){2,8}(?:/[0-9]{1,3})?(?:\^.*)?")
+# What is a prefix, an address, several of them, or an operator, however it is spelled.
+ADDRESSES = re.compile(
+    rb"[0-9]+(?:\.[0-9]*)*/.*|[0-9]+(?:\.[0-9]+){1,3}(?:-[0-9].*)?|.*\^.*|" + IPV6.pattern
+)
 SCOPED = re.compile(rb"([A-Za-z][A-Za-z0-9_-]*)::(.+)")
 # Items, and braces by themselves.
 TOKEN = re.compile(rb"[{}]|[^, \t\r\n{}]+")
@@ -25,6 +29,13 @@ def name_of(item: bytes) -> tuple[str, bool]:
     return (name, True) if name else (item.upper().decode("latin-1"), False)
 
 
+@functools.lru_cache(1 << 16)
+def is_no_name(item: bytes) -> bool:
+    """Whether an item has the form of addresses, or a brace: in place of a maintainer it is no
+    name, whatever its spelling."""
+    return b"{" in item or b"}" in item or ADDRESSES.fullmatch(item) is not None
+
+
 @functools.lru_cache(1 << 10)
 def source_of(value: bytes) -> str | None:
     """The registry that a value of `source` names; nothing where it is empty, None where it can't
@@ -40,6 +51,18 @@ def is_range(item: bytes) -> bool:
 @functools.lru_cache(1 << 16)
 def is_member(number: int, item: bytes) -> bool:
     return keys.is_member(keys.CLASSES[number - 1], item)
+
+
+def braced(items: list[bytes]) -> list[bool] | None:
+    """Which items stand in braces or have one; None where a brace has no other one."""
+    found, depth = [], 0
+    for item in items:
+        opened, closed = item.count(b"{"), item.count(b"}")
+        found.append(depth > 0 or opened > 0)
+        depth += opened - closed
+        if depth < 0:
+            return None
+    return None if depth else found
 
 
 @functools.lru_cache(1 << 16)

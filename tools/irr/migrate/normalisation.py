@@ -8,7 +8,9 @@ from irr.migrate.items import (
     IPV6,
     SCOPED,
     TOKEN,
+    braced,
     is_member,
+    is_no_name,
     is_range,
     name_of,
     source_of,
@@ -39,7 +41,12 @@ LONGEST_NAME = 80
 # Why an item is taken out of a list.
 OTHER_KIND = "a set of the other kind"
 OPERATOR_AFTER = "an operator after it is apart from it"
+IN_BRACES = "it is in braces, whose operator may be its own"
 NO_SOURCE = "no `source`"
+# Why an object is left out: a list of maintainers without the item would say something else.
+NO_NAME = "a prefix or a brace among maintainers"
+ALONE = "a brace without the other one"
+BRACES = "braces of `mnt-routes` that are not a pair after a name"
 
 
 class LeftOut(Exception):
@@ -122,7 +129,7 @@ class Mender:
             else []
         )
         if number == MNTNER:
-            if not value or ITEM.fullmatch(value) is None:
+            if ITEM.fullmatch(value) is None or is_no_name(value) or b":" in value:
                 raise LeftOut("a key that can't be read")
             return self.maintainer(value), attributes
         full, key = value, ordered(number, value, origins)
@@ -173,9 +180,8 @@ class Mender:
                 changed = self.changed(attribute, lambda item: self.member(number, item))
             elif name == b"mbrs-by-ref":
                 for item in ITEM.findall(attribute.meaning()):
-                    if item.upper() != b"ANY" and not IPV6.fullmatch(item):
+                    if item.upper() != b"ANY":
                         names[self.maintainer(item)] = None
-                changed = self.changed(attribute, self.referrer)
             elif name == b"auth":
                 changed, has_auth = self.auth(attribute), True
             elif name == b"mp-members":
@@ -184,8 +190,8 @@ class Mender:
                 raise LeftOut("`password` or `delete`")
             if changed is not None:
                 kept.append(changed)
-        if grants and grants.is_open:
-            raise LeftOut("a brace of `mnt-routes` that is not closed")
+        if grants and grants.state == "ranges":
+            raise LeftOut(BRACES)
         if not has_mnt_by:
             self.use("mnt-by")
             kept.insert(source_place(kept), Attribute(b"mnt-by", [self.root]))
@@ -204,9 +210,15 @@ class Mender:
         """The attribute with each item as `change` has it; the same one where none changes."""
         items = pattern.findall(attribute.meaning())
         self.listing = attribute.name
+        in_braces = braced(items) if pattern is ITEM else [False] * len(items)
+        if in_braces is None:
+            raise LeftOut(f"{ALONE} in `{attribute.name.decode()}`")
         new: list[bytes | None] = []
-        for item, after in zip(items, [*items[1:], b""]):
-            if is_apart(item, after, pattern):
+        for item, after, is_braced in zip(items, [*items[1:], b""], in_braces):
+            if is_braced:
+                self.drop(item, "item", IN_BRACES)
+                new.append(None)
+            elif is_apart(item, after, pattern):
                 # Without its operator it would mean something else.
                 self.drop(item, "item", OPERATOR_AFTER)
                 new.append(None)
@@ -226,6 +238,10 @@ class Mender:
         return changed and changed._replace(name=b"members")
 
     def maintainer(self, item: bytes) -> str:
+        if is_no_name(item):
+            raise LeftOut(NO_NAME)
+        if b":" in item:
+            raise LeftOut(parting.JOINED)
         name, is_good = name_of(item)
         if not is_good:
             self.use("rename")
@@ -245,14 +261,10 @@ class Mender:
     def drop_unread(self, item: bytes) -> None:
         if IPV6.fullmatch(item):
             self.drop(item, "ipv6", "IPv6")
+        elif parting.JOINED_ITEM.fullmatch(item):
+            raise LeftOut(parting.JOINED)
         else:
             self.drop(item, "item", "an item that can't be read")
-
-    def referrer(self, item: bytes) -> bytes | None:
-        if IPV6.fullmatch(item):
-            self.drop_unread(item)
-            return None
-        return item
 
     def set_item(self, number: int, item: bytes) -> bytes | None:
         """An item of `member-of`, which names as-sets in an aut-num and route-sets in a route (RFC
@@ -330,33 +342,25 @@ class Grants:
     def __init__(self, mender: Mender, names: dict[str, None]) -> None:
         self.mender, self.names, self.state = mender, names, "start"
 
-    @property
-    def is_open(self) -> bool:
-        return self.state in ("ranges", "lost")
-
     def token(self, token: bytes) -> bytes | None:
         """What a token becomes."""
-        kept = self.kept(token)
-        if kept is None:
-            self.mender.drop_unread(token)
-        return kept
-
-    def kept(self, token: bytes) -> bytes | None:
-        if self.state in ("ranges", "lost"):
-            is_lost = self.state == "lost"
-            if token == b"}":
-                self.state = "start"
-            elif not is_range(token):
+        if token in (b"{", b"}"):
+            if self.state != ("named" if token == b"{" else "ranges"):
+                raise LeftOut(BRACES)
+            self.state = "ranges" if token == b"{" else "start"
+        elif self.state == "ranges":
+            if not is_range(token):
+                self.mender.drop_unread(token)
                 return None
-            return None if is_lost else self.mender.zeroed(token)
-        if token == b"{" or token.upper() == b"ANY":
-            is_named = self.state == "named"
-            self.state = ("ranges" if is_named else "lost") if token == b"{" else "start"
-            return token if is_named else None
-        if token == b"}" or IPV6.fullmatch(token):
-            return None
-        self.state = "named"
-        self.names[self.mender.maintainer(token)] = None
+            return self.mender.zeroed(token)
+        elif token.upper() == b"ANY":
+            if self.state != "named":
+                self.mender.drop_unread(token)
+                return None
+            self.state = "start"
+        else:
+            self.names[self.mender.maintainer(token)] = None
+            self.state = "named"
         return token
 
 

@@ -6,6 +6,7 @@ name of another class. So a class's name after the first line begins another obj
 import re
 from typing import NamedTuple
 
+from irr.migrate.dumps import MARK
 from irr.rpsl import keys
 from irr.rpsl.syntax import BLANKS, Block
 
@@ -16,8 +17,10 @@ FOREIGN = frozenset(
     dom-prefix ipv6-site""".split()
 )
 CLASSES = sorted(FOREIGN | {kind.encode() for kind in keys.CLASSES}, reverse=True)
-# All of these are for text in small letters. The first letters make the search quick.
-CLASS_LINE = rb"(?=[%s])(?:%s)[ \t\r]*:" % (
+# All of these are for text in small letters. The first letters make the search quick. A file that
+# was joined to another one may begin with a byte order mark.
+CLASS_LINE = rb"(?:%s)?(?=[%s])(?:%s)[ \t\r]*:" % (
+    MARK,
     b"".join({kind[:1] for kind in CLASSES}),
     b"|".join(CLASSES),
 )
@@ -28,9 +31,12 @@ LATER = re.compile(rb"\n" + CLASS_LINE + rb"|" + SOURCE_LINE)
 # A `source` after the first line, with the lines that continue it and those that are skipped,
 # directly before a class.
 SEAM = re.compile(rb"%s[^\n]*\n(?:[ \t\r+#%%][^\n]*\n)*(?=%s)" % (SOURCE_LINE, CLASS_LINE))
+# An item with the first word of another line: a class, or any name, before a colon.
+JOINED_ITEM = re.compile(rb".*(?:%s):(?!:).*|:(?!:).*|.*(?<!:):" % b"|".join(CLASSES), re.I)
 CUT_OFF = "cut off at the end of the file"
 CLASS_AGAIN = "a class again after the first line"
 SOURCE_AGAIN = "`source` twice"
+JOINED = "an item with a colon, as of two lines that were joined"
 
 
 class Part(NamedTuple):
@@ -67,6 +73,7 @@ class Part(NamedTuple):
 def parts(block: Block) -> list[Part]:
     """What a paragraph consists of: it is parted where a `source` line stands directly before a
     class line."""
+    block = unmarked(block)
     small = block.text.lower()
     if not LATER_CLASS.search(small):
         has_more = any(not is_source(line) for _, line in block.beyond)
@@ -79,10 +86,17 @@ def parts(block: Block) -> list[Part]:
             size, beyond = block.size - start, block.beyond
         own = small[start:end]
         doubt = CLASS_AGAIN if LATER_CLASS.search(own) else ""
-        found.append(part_of(Block(line, size, block.text[start:end], beyond), own, doubt))
+        own_block = unmarked(Block(line, size, block.text[start:end], beyond))
+        found.append(part_of(own_block, own, doubt))
         line += own.count(b"\n")
         start = end
     return found
+
+
+def unmarked(block: Block) -> Block:
+    """A block without a byte order mark at its beginning."""
+    text = block.text.removeprefix(MARK)
+    return block._replace(size=block.size - len(block.text) + len(text), text=text)
 
 
 def part_of(block: Block, small: bytes, doubt: str) -> Part:
@@ -98,7 +112,7 @@ def later(text: bytes, line: int) -> list[tuple[int, bytes]]:
         line += small.count(b"\n", start + 1, one.start() + 1)
         start = one.start()
         end = text.find(b"\n", start)
-        found.append((line, text[start:] if end < 0 else text[start:end]))
+        found.append((line, (text[start:] if end < 0 else text[start:end]).removeprefix(MARK)))
     return found
 
 

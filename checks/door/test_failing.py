@@ -242,8 +242,7 @@ def test_replicas_are_found_by_the_agent_and_old_ones_left_out(trial: Trial) -> 
             told["text"] = json.dumps({"replicas": entries, "fault": fault}).encode() + b"\n"
 
         def serve(listener: socket.socket) -> None:
-            while True:
-                peer, _ = listener.accept()
+            for peer in accepted(listener):
                 with peer:
                     if peer.recv(64) == b"state\n":
                         peer.sendall(told["text"])

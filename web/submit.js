@@ -305,7 +305,8 @@ async function lockouts(signal, blocks, passwords) {
     for (const block of passwords.length ? blocks : []) {
         const mntner = mntnerOf(block);
         if (!mntner?.auths.length || faultsOf(block).length) continue;
-        const {name, line, holders} = mntner, wasOwn = own.has(name), isOwn = holders.includes(name);
+        const {name, line, holders} = mntner;
+        const wasOwn = own.has(name), isOwn = holders.includes(name);
         if (isOwn) own.add(name);
         if (isOwn && await fits(mntner.auths, passwords)) continue;
         const old = wasOwn ? [name] : (await objectsAt(signal, `object mntner ${name}`))

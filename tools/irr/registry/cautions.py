@@ -158,8 +158,8 @@ def lockouts(items: list[Item], reasons: Reasons) -> Iterator[Caution]:
     """Maintainers that change themselves so that none of the given passwords would fit any more, or
     that others alone could change them."""
     secrets = submissions.given(items)
-    # Those that an earlier item has maintain themselves. It may be refused: what is registered counts
-    # beside it.
+    # Those that an earlier item has maintain themselves. It may be refused: what is registered
+    # counts beside it.
     own: set[str] = set()
     for item in items if secrets else ():
         new = item.object()

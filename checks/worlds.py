@@ -278,7 +278,7 @@ def wait_for(port: int, process: subprocess.Popen[bytes]) -> None:
 
 
 def certificate(folder: str, name: str = "127.0.0.1") -> tuple[str, str]:
-    """A certificate of an address or a host, signed by itself, and its key: made once in a folder."""
+    """A certificate of an address or a host, signed by itself, and its key; made once a folder."""
     paths = os.path.join(folder, "own.crt"), os.path.join(folder, "own.key")
     if not os.path.exists(paths[0]):
         words = "req -x509 -newkey ec -pkeyopt ec_paramgen_curve:P-256 -nodes -days 9".split()

@@ -15,7 +15,8 @@ from collections.abc import Callable
 from typing import Any, Self
 
 from checks.running import AUTH, TOP, Failure, Trial, write, write_settings
-from checks.serving import free_port
+from checks.serving import Serving, free_port
+from checks.worlds import COUNT
 
 PYTHON = "/usr/bin/python3" if os.access("/usr/bin/python3", os.X_OK) else sys.executable
 HEAD = f"mntner: ROOT-MNT\nauth: {AUTH}\nmnt-by: ROOT-MNT\nsource: TEST\n\n"
@@ -31,15 +32,15 @@ class Registries:
         self.program, self.folder = trial.program, trial.place(name)
         self.base = os.path.join(self.folder, "base")
         os.mkdir(self.base)
-        write_settings(self.base, limit=limit, name="irr.toml")
+        write_settings(self.base, limit=limit)
         write(self.base, "dump.rpsl", dump.encode())
-        words = [self.program, "load", "irr.toml", "dump.rpsl"]
+        words = [self.program, "load", "s.toml", "dump.rpsl"]
         done = subprocess.run(words, cwd=self.base, capture_output=True, check=False)
         if done.returncode:
             raise Failure(f"{name}: {done.stderr.decode()}")
         os.unlink(os.path.join(self.base, "dump.rpsl"))
         self.ports = [free_port() for _ in range(replicas + 1)]
-        self.processes: list[subprocess.Popen[bytes] | None] = [None] * len(self.ports)
+        self.servers: list[Serving | None] = [None] * len(self.ports)
 
     def __enter__(self) -> Self:
         for number in range(len(self.ports)):
@@ -54,20 +55,15 @@ class Registries:
         folder = os.path.join(self.folder, str(number))
         if not os.path.exists(folder):
             shutil.copytree(self.base, folder)
-        words = [self.program, "serve", "irr.toml", "--port", str(self.ports[number])]
-        process = subprocess.Popen(
-            [*words, "--count", "1000000"], cwd=folder, stdout=subprocess.PIPE
-        )
-        if not process.stdout.readline().startswith(b"listening"):
-            raise Failure("a registry does not serve")
-        self.processes[number] = process
+        self.servers[number] = Serving([self.program], folder, COUNT, self.ports[number])
 
     def kill(self, number: int) -> None:
-        process, self.processes[number] = self.processes[number], None
-        if process:
-            process.kill()
-            process.wait()
-            process.stdout.close()
+        server, self.servers[number] = self.servers[number], None
+        if server:
+            server.__exit__()
+
+    def pid(self, number: int) -> int:
+        return self.servers[number].process.pid
 
     @property
     def words(self) -> list[str]:

@@ -106,7 +106,7 @@ def test_queries_go_on_while_replicas_are_killed_stopped_and_started(trial: Tria
                 thread.start()
             registries.kill(1)
             time.sleep(1)
-            os.kill(registries.processes[2].pid, signal.SIGSTOP)
+            os.kill(registries.pid(2), signal.SIGSTOP)
             time.sleep(3)
             wait_until(
                 "that both are left out",
@@ -114,7 +114,7 @@ def test_queries_go_on_while_replicas_are_killed_stopped_and_started(trial: Tria
                 lambda: [one["serves"] for one in door.status()["upstreams"]]
                 == [True, False, False],
             )
-            os.kill(registries.processes[2].pid, signal.SIGCONT)
+            os.kill(registries.pid(2), signal.SIGCONT)
             registries.start(1)
             wait_until(
                 "that both are back",
@@ -242,8 +242,7 @@ def test_replicas_are_found_by_the_agent_and_old_ones_left_out(trial: Trial) -> 
             told["text"] = json.dumps({"replicas": entries, "fault": fault}).encode() + b"\n"
 
         def serve(listener: socket.socket) -> None:
-            while True:
-                peer, _ = listener.accept()
+            for peer in accepted(listener):
                 with peer:
                     if peer.recv(64) == b"state\n":
                         peer.sendall(told["text"])
@@ -297,7 +296,7 @@ def test_nobody_pays_for_a_registry_that_stands_still(trial: Trial) -> None:
     then."""
     with Registries(trial, "still", worlds.DUMP, replicas=0) as registries:
         with Opened(trial, "still-door", registries.words) as door:
-            number = registries.processes[0].pid
+            number = registries.pid(0)
             os.kill(number, signal.SIGSTOP)
             asking = threading.Thread(target=lambda: door.whois("AS1", 2, 100))
             asking.start()

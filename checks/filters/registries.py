@@ -5,7 +5,6 @@ import functools
 import json
 import os
 import re
-import socket
 import subprocess
 import tempfile
 from collections.abc import Iterator
@@ -17,6 +16,8 @@ from checks import models, rpsl
 from checks.door.opened import Bridge
 from checks.models import OUTER
 from checks.rpsl import Choices, Object, Prefix, Registry
+from checks.serving import Serving
+from checks.worlds import COUNT
 from irr.registry.server import Server
 
 NUMBERS = ("AS11", "AS12", "AS13", "AS14", "AS15")
@@ -123,15 +124,8 @@ def served(program: str, registry: Registry) -> Iterator[Server]:
             [program, "load", "s.toml", "dump"], cwd=folder, capture_output=True, check=False
         )
         assert done.returncode == 0, (done.stderr, registry.text())
-        with socket.create_server(("127.0.0.1", 0)) as probe:
-            port = str(probe.getsockname()[1])
-        words = [program, "serve", "s.toml", "--port", port, "--count", "1000000"]
-        with subprocess.Popen(words, cwd=folder, stdout=subprocess.PIPE) as process:
-            try:
-                assert process.stdout and b"listening" in process.stdout.readline()
-                yield Server(f"http://127.0.0.1:{port}")
-            finally:
-                process.kill()
+        with Serving([program], folder, COUNT) as serving:
+            yield Server(f"http://127.0.0.1:{serving.port}")
 
 
 def bridge(place: Server) -> Bridge:

@@ -15,8 +15,8 @@ AUTH = "SHA256-PW a:" + "0" * 64
 
 
 def mended(text: bytes, off: Iterable[str] = ()) -> Any:
-    """The text that a paragraph becomes and the kinds of what was mended, as a pair, or why it is left
-    out."""
+    """The text that a paragraph becomes and the kinds of what was mended, as a pair, or why it is
+    left out."""
     (block,) = syntax.blocks([text])
     (part,) = parting.parts(block)
     try:

@@ -216,12 +216,15 @@ def test_what_may_be_objects_in_a_paragraph_is_counted_and_placed() -> None:
 
 
 @pytest.mark.parametrize("most, chunk", [(1_000, 700), (997, 50), (1_000, 1 << 20), (60, 60)])
-def test_what_may_be_objects_is_told_of_a_paragraph_of_any_size(most, chunk, monkeypatch):
+def test_what_may_be_objects_is_told_of_a_paragraph_of_any_size(
+    most: int, chunk: int, monkeypatch: pytest.MonkeyPatch
+) -> None:
     """Also of what is not kept of it, and each line as it stands there."""
     monkeypatch.setattr(conversion, "MOST", most)
     monkeypatch.setattr(syntax, "CHUNK", chunk)
     again, count = "a class again after the first line", 300
-    for end in [], ["source: RIPE"], ["source: RIPE", "last-modified: 2020"]:
+    ends: list[list[str]] = [[], ["source: RIPE"], ["source: RIPE", "last-modified: 2020"]]
+    for end in ends:
         lines = [more for number in range(count) for more in (f"aut-num: AS{number}", "a: b", *end)]
         text = obj(*A) + (obj(*lines) if end[1:] else obj(*lines).replace(b"source", b"x"))
         found = [line.split("\t") for line in listed(text + obj(*A).replace(b"AS-A", b"AS-B"))]
@@ -237,7 +240,7 @@ def test_what_may_be_objects_is_told_of_a_paragraph_of_any_size(most, chunk, mon
         ], end
 
 
-def test_a_class_after_what_is_kept_is_told(monkeypatch):
+def test_a_class_after_what_is_kept_is_told(monkeypatch: pytest.MonkeyPatch) -> None:
     monkeypatch.setattr(conversion, "MOST", 1_000)
     monkeypatch.setattr(syntax, "CHUNK", 700)
     text = obj(*A, *["x: y"] * 1_000, "aut-num: AS1", *["x: y"] * 500, "Route : 10.0.0.0/8")

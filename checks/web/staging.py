@@ -7,7 +7,7 @@ import subprocess
 from collections.abc import Sequence
 
 from checks.running import AUTH, TOP, Failure, Trial, expect
-from checks.serving import Server, free_port
+from checks.serving import Server, Serving, free_port
 from checks.web.browsing import HOST, BadServer, Browser, Nginx
 from checks.web.shown import LIMIT, REGISTRY, REPLIES, large_registry
 from checks.web.tables import FILES
@@ -24,7 +24,7 @@ class Stage:
     def __init__(self, trial: Trial) -> None:
         self.trial, self.pictures, self.home = trial, os.path.join(TOP, "out", "web"), ""
         self.loading: subprocess.Popen[bytes] | None = None
-        self.large_server: subprocess.Popen[bytes] | None = None
+        self.large_server: Serving | None = None
         self.small: Server | None = None
         self.bad: BadServer | None = None
         self.nginx: Nginx | None = None
@@ -76,21 +76,7 @@ class Stage:
     def serve_large(self) -> None:
         if self.loading.wait(240):
             raise Failure("the large registry was not loaded")
-        self.large_server = subprocess.Popen(
-            [
-                self.trial.program,
-                "serve",
-                "s.toml",
-                "--port",
-                str(self.large_port),
-                "--count",
-                "1000",
-            ],
-            cwd=self.large,
-            stdin=subprocess.DEVNULL,
-            stdout=subprocess.PIPE,
-        )
-        self.large_server.stdout.readline()
+        self.large_server = Serving([self.trial.program], self.large, 1_000, self.large_port)
 
     def end(self) -> None:
         if self.browser:
@@ -101,10 +87,11 @@ class Stage:
             self.bad.shutdown()
         if self.small:
             self.small.__exit__()
-        for process in [self.loading, self.large_server]:
-            if process and process.poll() is None:
-                process.kill()
-                process.wait()
+        if self.large_server:
+            self.large_server.__exit__()
+        if self.loading and self.loading.poll() is None:
+            self.loading.kill()
+            self.loading.wait()
 
     # What cases do over and over.
 

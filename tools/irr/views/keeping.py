@@ -161,6 +161,7 @@ class View:
                 "name": self.settings.name,
                 "roas": self.settings.roas,
                 "doubts": self.roas.doubts if self.roas else [],
+                "lines": self.lines(),
                 "sources": [self.status_of(one) for one in self.settings.sources],
             }
         }

@@ -10,9 +10,9 @@ from hypothesis import given, settings
 
 from checks import models, rpsl
 from checks.rpsl import Choices, Prefix
-from irr.commands import rov
 from irr.errors import Failure
 from irr.rpsl import keys
+from irr.views import roas
 
 LONG = bool(os.environ.get("CHECKS_LONG"))
 NUMBERS = (0, 64496, 64497, 64498, (1 << 32) - 1)
@@ -45,6 +45,18 @@ class Chance:
         entries.append({"asn": "AS64496", "prefix": "2001:db8::/32", "maxLength": 48, "ta": "x"})
         return json.dumps({"metadata": {"generated": now}, "roas": entries}).encode()
 
+    def csv(self) -> bytes:
+        """The same as the programs write it in CSV."""
+        now = int(time.time())
+        lines = ["ASN,IP Prefix,Max Length,Trust Anchor"]
+        lines[0] += ",Expires" if self.is_rpki_client else ""
+        given = [(roa, now + 3_600) for roa in self.roas]
+        given += [(roa, now - 60) for roa in self.expired] if self.is_rpki_client else []
+        for (prefix, most, number), end in given:
+            line = f"AS{number},{rpsl.prefix_text(prefix)},{most},x"
+            lines.append(line + f",{end}" if self.is_rpki_client else line)
+        return "".join(f"{line}\n" for line in [*lines, "AS64496,2001:db8::/32,48,x,"]).encode()
+
     def entry(self, roa: tuple[Prefix, int, int], end: int) -> dict[str, object]:
         prefix, most, number = roa
         found: dict[str, object] = {
@@ -57,22 +69,22 @@ class Chance:
         return found | {"asn": f"AS{number}"}
 
 
-def table_of(roas: Iterable[rov.Roa]) -> dict[keys.Prefix, list[rov.Roa]]:
-    table: dict[keys.Prefix, list[rov.Roa]] = {}
-    for roa in roas:
+def table_of(found: Iterable[roas.Roa]) -> dict[keys.Prefix, list[roas.Roa]]:
+    table: dict[keys.Prefix, list[roas.Roa]] = {}
+    for roa in found:
         table.setdefault(roa.prefix, []).append(roa)
     return table
 
 
 def test_a_roa_of_all_addresses_covers_all() -> None:
-    every = rov.Roa(keys.Prefix(0, 0), 8, 64496)
+    every = roas.Roa(keys.Prefix(0, 0), 8, 64496)
     for prefix, number, wanted in [
         (keys.Prefix(0, 0), 64496, "valid"),
         (keys.Prefix(10 << 24, 8), 64496, "valid"),
         (keys.Prefix(10 << 24, 9), 64496, "invalid"),
         (keys.Prefix(255 << 24, 8), 64497, "invalid"),
     ]:
-        assert rov.judged(prefix, number, table_of([every]))[0] == wanted
+        assert roas.judged(prefix, number, table_of([every]))[0] == wanted
 
 
 @pytest.mark.parametrize("zone", ["UTC", "Asia/Tokyo", "America/Los_Angeles"])
@@ -81,8 +93,8 @@ def test_times_are_in_utc(zone: str, monkeypatch: pytest.MonkeyPatch) -> None:
     monkeypatch.setenv("TZ", zone)
     time.tzset()
     try:
-        assert rov.made_at({"buildtime": "2026-07-01T00:00:00Z"}) == 1_782_864_000
-        assert rov.made_at({"generated": 1_782_864_000}) == 1_782_864_000
+        assert roas.made_at({"buildtime": "2026-07-01T00:00:00Z"}) == 1_782_864_000
+        assert roas.made_at({"generated": 1_782_864_000}) == 1_782_864_000
     finally:
         monkeypatch.undo()
         time.tzset()
@@ -96,12 +108,13 @@ def test_states() -> None:
     def holds(chance: Chance) -> None:
         if not chance.roas:
             with pytest.raises(Failure, match="no ROA for IPv4"):
-                rov.read_roas(chance.text(), "x")
+                roas.read(chance.text(), "x")
             return
-        table = table_of(rov.read_roas(chance.text(), "x"))
+        table = table_of(roas.read(chance.text(), "x").roas)
+        assert roas.read(chance.csv(), "x").table() == roas.read(chance.text(), "x").table()
         for prefix, origin in chance.routes:
             wanted = models.validity(prefix, origin, chance.roas)
-            state, why = rov.judged(keys.Prefix(*prefix), origin, table)
+            state, why = roas.judged(keys.Prefix(*prefix), origin, table)
             assert state == wanted
             assert bool(why) == (state == "invalid")
             seen[state] += 1

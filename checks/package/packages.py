@@ -49,6 +49,20 @@ def make_release(program: str, folder: str) -> str:
     return made.stdout.strip()
 
 
+def released(folder: str) -> list[str]:
+    """The packages that were released, as git has them, written into a folder, by version."""
+    git = ["git", "-C", TOP]
+    log = [*git, "log", "--format=", "--raw", "--no-abbrev", "--diff-filter=d", "--", "dist/*.deb"]
+    told = subprocess.run(log, stdout=subprocess.PIPE, text=True, check=False).stdout
+    found = []
+    for blob, path in re.findall(r"(\w+) \w\tdist/(\S+\.deb)$", told, re.MULTILINE):
+        place = os.path.join(folder, f"{blob[:8]}-{path}")
+        with open(place, "wb") as out:
+            subprocess.run([*git, "cat-file", "blob", blob], stdout=out, check=True)
+        found.append(place)
+    return sorted(set(found), key=lambda place: place.rpartition("-")[2])
+
+
 def older_package(package: str, folder: str) -> str:
     """The same package as of a version before, which differs in its program's file and in the
     description of a unit."""

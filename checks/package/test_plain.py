@@ -21,6 +21,7 @@ from checks.package.packages import (
     lintian_is_silent,
     make_release,
     package_of,
+    released,
 )
 from checks.running import (
     DIGEST,
@@ -379,15 +380,36 @@ def test_the_package_is_installed_again(root: str, tell: Tell) -> None:
     tell("the settings stay as they were edited")
 
 
+def test_each_released_package_takes_its_place_and_gives_it_back(root: str, tell: Tell) -> None:
+    """That a registry, its settings and what is enabled stay as they are when the package goes back
+    to a released one, and comes from there again, and that nothing is asked."""
+    place = inside(root, "/srv/released")
+    os.makedirs(place)
+    # What `systemctl enable` makes.
+    links = "/etc/systemd/system/multi-user.target.wants"
+    os.makedirs(inside(root, links), exist_ok=True)
+    os.symlink("/lib/systemd/system/irrdesk.service", inside(root, f"{links}/irrdesk.service"))
+    looked = (
+        "cat /etc/irrdesk/irr.toml; stat -c '%U:%G %a' /etc/irrdesk/irr.toml /var/lib/irrdesk*;"
+        " runuser -u irrdesk -- irrdesk dump /etc/irrdesk/irr.toml --full;"
+        f" readlink {links}/irrdesk.service"
+    )
+    before, tried = done(root, looked), released(place)
+    if not tried:
+        pytest.skip("this clone has no released package")
+    for path in tried:
+        for installed in path.removeprefix(root), package(root):
+            done(root, f"dpkg --install {installed} < /dev/null")
+            expect(done(root, looked), before, f"the registry after {os.path.basename(installed)}")
+    shutil.rmtree(place)
+    tell(f"{len(tried)} packages")
+
+
 def test_the_package_is_taken_away_to_the_last_file(
     root: str, before: set[str], tell: Tell
 ) -> None:
     """That a removal keeps settings and data, a purge the data alone, and one without data
     nothing."""
-    # What `systemctl enable` makes.
-    links = inside(root, "/etc/systemd/system/multi-user.target.wants")
-    os.makedirs(links, exist_ok=True)
-    os.symlink("/lib/systemd/system/irrdesk.service", os.path.join(links, "irrdesk.service"))
     done(root, "apt-get remove --yes irrdesk")
     kept = done(root, "cd /; ls -d etc/irrdesk/* var/lib/irrdesk/* usr/*bin/irr* || true").split()
     wanted = ["etc/irrdesk/door.toml", "etc/irrdesk/irr.toml", "var/lib/irrdesk/irr.db"]

@@ -46,6 +46,7 @@ TABLE = (
     Command(
         "mirror", KEEP, "mirror", "serve replicas: copies of a registry that answer its queries"
     ),
+    Command("view", KEEP, "view", "serve several registries as one"),
     Command("backup", KEEP, "backup", "make a verified backup of a registry, served or not"),
     Command("restore", KEEP, "restore", "put a backup in the place of a registry"),
     Command("history", KEEP, "history", "keep each public state of a registry, and show what was"),

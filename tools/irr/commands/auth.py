@@ -15,6 +15,9 @@ irr auth                              an `auth` line of a new password, which th
 irr auth --ask                        of a password that you type
 irr auth --save my.password EXAMPLE-MNT > mntner.rpsl
 irr submit my.password mntner.rpsl    a new maintainer, and its registration
+
+The registry keeps one SHA-256 of the salt and the password. Who gets that tries billions of
+passwords a second: a random one of 96 bits withstands that, a short one does not.
 """
 
 
@@ -31,6 +34,7 @@ def arguments(parser: argparse.ArgumentParser) -> None:
         metavar="FILE",
         help="write the new password into a new file that only you can read, as a `password:` line",
     )
+    prompts.add_short(parser)
     parser.add_argument(
         "--source",
         metavar="NAME",
@@ -54,7 +58,9 @@ def run(options: argparse.Namespace) -> int:
         )
     if options.name:
         mntner = keys.need_maintainer(options.name), options.source or registered_source(options)
-    password = prompts.ask_twice("new password") if options.ask else hashes.new_password()
+    password = (
+        prompts.ask_new("new password", options.short) if options.ask else hashes.new_password()
+    )
     item = submissions.password_item(password, "new password")
     secret = submissions.secret_of(item.passwords()[0])
     if options.save is not None:
@@ -76,9 +82,15 @@ def run(options: argparse.Namespace) -> int:
 
 
 def registered_source(options: argparse.Namespace) -> str:
-    source = source_of(
-        server.Server.from_options(options.server, options.plain).query("less 0.0.0.0/0").objects()
-    )
+    place = server.Server.from_options(options.server, options.plain)
+    try:
+        source = source_of(place.query("less 0.0.0.0/0").objects())
+    except Failure as failure:
+        if not isinstance(failure.__context__, ConnectionRefusedError):
+            raise
+        # The root's is made before there is a registry.
+        why = f"{failure.what}, or give the registry's name by --source NAME"
+        raise Failure(failure.thing, why, failure.status) from None
     if keys.read_source(source) is None:
         raise Failure(
             options.name, "the registry does not say its name; give it by --source NAME", ARGUMENTS

@@ -1,15 +1,12 @@
 """`irr mirror FOLDER`: replicas, which are registries made of the public dump of another one."""
 import argparse
 import os
-import time
-from typing import Callable
 
 from irr.errors import ARGUMENTS, DONE, Failure
 from irr.local import replicas, temporary
 from irr.registry import server
 from irr.rpsl import keys
-from irr.system import files, units
-from irr.terminal import texts
+from irr.system import files
 
 EXAMPLES = """
 irr mirror replicas                    one replica of the registry of IRR_SERVER, at port 4345
@@ -92,46 +89,11 @@ def run(options: argparse.Namespace) -> int:
             folder, ports, replicas.Agent(options.agent) if options.agent else None, options.pause
         )
         try:
-            keep(keeper, place, options)
+            keeper.keep(
+                lambda work, known: replicas.make(place, options.limit, work, known),
+                options.limit,
+                options.every,
+            )
         finally:
             keeper.end()
     return DONE
-
-
-def keep(keeper: replicas.Keeper, place: server.Server, options: argparse.Namespace) -> None:
-    """Goes on until a signal ends it. A failure is said each time, and the replicas go on with what
-    they have."""
-    attempt(lambda: keeper.start(options.limit))
-    next_time = time.monotonic()
-    while True:
-        if time.monotonic() >= next_time:
-            if attempt(lambda: keeper.renew(place, options.limit), keeper):
-                print(
-                    texts.shown_line(f"irr mirror: the replicas have {replicas.told(keeper.made)}"),
-                    flush=True,
-                )
-            next_time = time.monotonic() + options.every
-        attempt(keeper.revive)
-        time.sleep(0.2)
-
-
-def attempt(do: Callable[[], object], keeper: replicas.Keeper | None = None) -> bool:
-    """What a step gives; a failure of it is one line, and nothing. A keeper is given with a
-    renewal, and remembers why that failed."""
-    try:
-        done = bool(do())
-    except Failure as failure:
-        fault = str(failure)
-    except OSError as error:
-        words = (error.strerror or str(error)).lower()
-        fault = f"{error.filename or 'a file'}: {words}; the replicas go on as they are"
-    else:
-        if keeper:
-            keeper.fault = ""
-            units.notify("STATUS=the replicas have what the registry has")
-        return done
-    if keeper:
-        keeper.fault = fault
-        units.notify(f"STATUS=NOT RENEWED{keeper.since()}: {texts.shown_line(fault)}")
-    texts.note(f"irr mirror: {fault}")
-    return False

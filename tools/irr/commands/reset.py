@@ -54,6 +54,7 @@ def arguments(parser: argparse.ArgumentParser) -> None:
         metavar="FILE",
         help="write the new password into a new file that only you can read, as a `password:` line",
     )
+    prompts.add_short(parser)
     parser.add_argument("name", metavar="NAME", help="the maintainer")
 
 
@@ -156,7 +157,9 @@ def new_auth(options: argparse.Namespace) -> tuple[bytes, str]:
         return value.encode("ascii"), ""
     if options.save is not None:
         files.need_new(options.save)
-    password = prompts.ask_twice("new password") if options.ask else hashes.new_password()
+    password = (
+        prompts.ask_new("new password", options.short) if options.ask else hashes.new_password()
+    )
     item = submissions.password_item(password, "new password")
     return (
         hashes.auth_of(submissions.secret_of(item.passwords()[0]), hashes.new_salt()).encode(),

@@ -158,7 +158,7 @@ class Http(Connection):
 
     def check(self, request: Request) -> None:
         """Refuses by its head what nobody answers."""
-        path = request.path
+        _, path = self.door.pool.views.at(request.path)
         allowed = (
             "POST"
             if path == "/submissions"
@@ -215,8 +215,9 @@ class Http(Connection):
             if request.path == "/dump":
                 await self.dump(request)
                 return
-            query = unquote_to_bytes(request.path[7:])
-            answer = await Asker(self.door.pool, self.client).ask(query)
+            pool, path = self.door.pool.views.at(request.path)
+            query = unquote_to_bytes(path[7:])
+            answer = await Asker(pool, self.client).ask(query)
             self.begin_reply("http", outcome_of(answer.text))
             self.finish(
                 request,

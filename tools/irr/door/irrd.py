@@ -19,6 +19,7 @@ from irr.door.cache import Answer
 from irr.door.dialects import Reply
 from irr.door.pool import Refused
 from irr.door.queries import Asker
+from irr.door.views import sources_of
 from irr.errors import Failure
 from irr.registry import answers
 from irr.rpsl import keys, syntax
@@ -354,31 +355,35 @@ class Session:
     # The registry, and the connection.
 
     async def sources(self, word: str) -> bytes:
-        """`!s-lc` and `!sNAME`: the registry's name, or whether it is that."""
-        name = self.name()
+        """`!s-lc` and `!sNAMES`: the sources that are asked, and that these are from then on."""
+        views = self.asker.pool.views
         if word.lower() == "-lc":
-            return data(name.encode())
+            self.name()
+            return data(sources_of(self.asker.pool).encode())
         if not word:
             raise Fault("Missing parameter for s query")
-        others = [one for one in word.upper().split(",") if one.strip() != name]
-        if others:
-            raise Fault(f"One or more selected sources are unavailable: {', '.join(others)}")
+        chosen = views.chosen(word)
+        if chosen is None:
+            raise Fault(
+                f"One or more selected sources are unavailable: {word.upper()}; {views.known()}"
+            )
+        self.asker = Asker(chosen, self.asker.client, self.asker.address)
         return NOTHING
 
     async def serials(self, word: str) -> bytes:
         """`!jNAME` and `!j-*`: the serials that mirrors can follow."""
-        name = self.name()
+        name = self.asker.pool.views.main.source or self.name()
         names = [name] if word == "-*" else [one.strip() for one in word.upper().split(",")]
-        kept = self.asker.pool.mirrors.told(name)
+        kept = self.asker.pool.views.main.mirrors.told(name)
         own = f"{name}:Y:{kept[0]}-{kept[1]}" if kept else f"{name}:N:-"
         lines = [own if one == name else f"{one}:X:Database unknown" for one in names]
         return data("\n".join(lines).encode())
 
     async def status(self, word: str) -> bytes:
         """`!JNAME` and `!J-*`: the same, and what is kept, in JSON."""
-        name = self.name()
+        name = self.asker.pool.views.main.source or self.name()
         names = [name] if word == "-*" else [one.strip() for one in word.upper().split(",")]
-        kept = self.asker.pool.mirrors.told(name)
+        kept = self.asker.pool.views.main.mirrors.told(name)
         known = {
             "source_type": "regular",
             "authoritative": True,

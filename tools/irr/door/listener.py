@@ -369,7 +369,8 @@ class Whois(Connection):
             return
         if self.session is None:
             self.session = irrd.Session(
-                Asker(self.door.pool, self.client, self.address), self.door.settings.strict
+                Asker(self.door.pool.views.default(), self.client, self.address),
+                self.door.settings.strict,
             )
         if line[:1] == b"!":
             quick = self.session.at_once(line)

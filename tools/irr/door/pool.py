@@ -4,7 +4,7 @@ elsewhere."""
 import time
 import asyncio
 import contextlib
-from typing import Any, Callable, Optional
+from typing import TYPE_CHECKING, Any, Callable, Optional
 
 from irr.door import upstreams
 from irr.door.budget import Client, Clients, Turn, Turns
@@ -15,6 +15,9 @@ from irr.door.nrtm import Mirrors
 from irr.door.settings import Place, Settings, place, upstream
 from irr.door.upstreams import Upstream
 from irr.errors import Failure
+
+if TYPE_CHECKING:
+    from irr.door.views import Views
 
 # Seconds without a byte in the middle of an answer, and before the first one of a cheap query,
 # after which another upstream is asked.
@@ -105,6 +108,9 @@ class Request(Turn):
 
 class Pool:
     """The upstreams, those who wait for them, and the answers that are kept."""
+
+    # What else is served: it is put together once all pools are there.
+    views: "Views"
 
     def __init__(self, loop: asyncio.AbstractEventLoop, settings: Settings) -> None:
         self.loop, self.settings = loop, settings

@@ -29,7 +29,7 @@ ROUTE_KEY = re.compile(r"([0-9./]+) ?(AS[0-9]+)", re.I)
 
 async def answer(asker: Asker, line: bytes, stays: bool) -> Reply:
     """The reply to a line. `-k` begins a kept connection, and alone ends it too."""
-    source = asker.pool.source
+    source, main = asker.pool.source, asker.pool.views.main
     try:
         flags = read(line.decode("latin-1").strip())
         if "k" in flags.letters:
@@ -37,7 +37,7 @@ async def answer(asker: Asker, line: bytes, stays: bool) -> Reply:
                 return Reply(b"" if stays else b"\n", "answered", not stays)
             stays = True
         if "g" in flags.words:
-            return mirrored(asker, flags.words["g"], stays)
+            return mirrored(Asker(main, asker.client, asker.address), flags.words["g"], stays)
         body, outcome, cost = await found(asker, flags)
     except Bad as bad:
         return Reply(
@@ -95,17 +95,20 @@ def none(source: str) -> Bad:
 async def found(asker: Asker, flags: Flags) -> tuple[list[bytes], str, float]:
     """The parts of an answer between its head and its foot, the word under which it is counted, and
     what it cost."""
-    source = asker.pool.source
+    views = asker.pool.views
     if "q" in flags.words:
-        return [told(asker, flags.words["q"])], "answered", 0.0
+        own = Asker(views.main, asker.client, asker.address)
+        return [told(own, flags.words["q"])], "answered", 0.0
     for letter in "t", "v":
         if letter in flags.words:
             return [templates.template(flags.words[letter])], "answered", 0.0
-    for name in flags.listed("s"):
-        if name.upper() != source:
-            raise Bad(
-                102, "unknown source", f"'{name.upper()}' is not a known source; there is {source}."
-            )
+    if "s" in flags.words:
+        chosen = views.chosen(flags.words["s"])
+        if chosen is None:
+            wanted = flags.words["s"].upper()
+            raise Bad(102, "unknown source", f"'{wanted}' is not a known source; {views.known()}.")
+        asker = Asker(chosen, asker.client, asker.address)
+    source = asker.pool.source
     for kind in flags.listed("T"):
         if kind not in templates.KNOWN_CLASSES:
             raise Bad(103, f"unknown object type '{kind}'")

@@ -18,6 +18,7 @@ from irr.door.pool import Pool
 from irr.door.settings import Place, Settings, place
 from irr.door.status import Counters, Status
 from irr.door.submissions import Submissions
+from irr.door.views import Views
 from irr.errors import Failure
 from irr.system.units import notify
 from irr.terminal import texts
@@ -82,7 +83,9 @@ class Service:
         self.loop, self.settings = loop, settings
         self.counters = Counters()
         self.pool = Pool(loop, settings)
-        self.pool.on_fault = self.counters.fault
+        self.views = Views(self.pool, settings)
+        for one in (self.pool, *self.views.all):
+            one.on_fault = self.counters.fault
         self.journal = Journal(settings)
         self.door = Door(loop, settings, self.pool, self.counters)
         self.submissions = Submissions(loop, settings, self.pool, self.counters, self.journal)
@@ -113,7 +116,8 @@ class Service:
             )
         for number in signal.SIGTERM, signal.SIGINT:
             self.loop.add_signal_handler(number, self.ended.set)
-        self.pool.start()
+        for one in (self.pool, *self.views.all):
+            one.start()
         sweep = self.loop.create_task(self.sweep())
         said(self.places())
         notify("READY=1")
@@ -126,7 +130,8 @@ class Service:
         await self.drain()
         sweep.cancel()
         await asyncio.wait([sweep])
-        await self.pool.close()
+        for one in (self.pool, *self.views.all):
+            await one.close()
 
     async def sweep(self) -> None:
         work = asyncio.create_task(self.door.sweep())

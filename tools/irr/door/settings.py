@@ -37,6 +37,10 @@ class Settings:
     registry: str = "http://127.0.0.1:4343"
     replica: tuple[str, ...] = ()
     agent: str = "127.0.0.1:4340"
+    # The agents of `irr view`, whose views are asked by their sources, and what is asked by those
+    # who name none: the registry, or the view of a name.
+    view: tuple[str, ...] = ()
+    default: str = ""
     # Addresses of proxies that are believed who their client is, and whether they say it by the
     # PROXY protocol on whois.
     trusted: tuple[str, ...] = ("127.0.0.1/32", "::1/128")
@@ -115,7 +119,7 @@ def read(path: str | None, given: dict[str, Any]) -> Settings:
     for name in "whois", "http":
         for text in getattr(settings, name):
             place(text)
-    for text in filter(None, (settings.status, settings.agent)):
+    for text in filter(None, (settings.status, settings.agent, *settings.view)):
         place(text)
     for text in (settings.registry, *settings.replica):
         upstream(text)

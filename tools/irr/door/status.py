@@ -77,7 +77,7 @@ class Status:
                 found.append(f"{one.name}: its state is {texts.counted(int(age), 'second')} old")
         if self.pool.told.get("fault"):
             found.append(f"replicas are not renewed: {self.pool.told['fault']}")
-        return found + self.pool.mirrors.faults()
+        return found + self.pool.mirrors.faults() + self.pool.views.faults()
 
     def all(self) -> dict[str, Any]:
         pool, counters = self.pool, self.counters
@@ -92,6 +92,10 @@ class Status:
             "waiting": pool.turns.count,
             "submissions_waiting": self.waiting(),
             "upstreams": [self.upstream(one) for one in pool.all()],
+            "views": [
+                {**view.status(), "upstreams": [self.upstream(one) for one in view.all()]}
+                for view in pool.views.pools
+            ],
             "answers_bytes": pool.ledger.used,
             "cache": {
                 "answers": len(pool.cache.entries),

@@ -20,7 +20,7 @@ from irr.local.databases import Copy
 from irr.registry import answers
 from irr.registry.server import Server
 from irr.rpsl import syntax
-from irr.system import files
+from irr.system import files, units
 from irr.terminal import texts
 
 # Seconds until a replica answers; until a proxy asked the agent; and until a peer that is being
@@ -48,6 +48,10 @@ class Made:
         if at is not None:
             os.utime(self.dump, (at, at))
         return self.dump.stat().st_mtime
+
+
+# Makes a registry in a folder; None where its dump would have the digest that is known.
+Maker = Callable[[Path, str], Made | None]
 
 
 def digest(path: Path) -> str:
@@ -244,15 +248,23 @@ class Agent:
 
 
 class Keeper:
-    """The replicas of a folder, and what they serve."""
+    """The replicas of a folder, and what they serve; what is said of them begins with `name`."""
 
-    def __init__(self, folder: Path, ports: list[int], agent: Agent | None, pause: float) -> None:
-        self.folder, self.agent, self.pause = folder, agent, pause
+    def __init__(
+        self,
+        folder: Path,
+        ports: list[int],
+        agent: Agent | None,
+        pause: float,
+        name: str = "irr mirror",
+    ) -> None:
+        self.folder, self.agent, self.pause, self.name = folder, agent, pause, name
         self.made, self.old = Made(folder / "made"), folder / "made.old.next"
         self.replicas = [Replica(folder, port) for port in ports]
         self.known, self.later = "", 0.0
-        # Why the last renewal failed.
+        # Why the last renewal failed, and what else a door is told.
         self.fault = ""
+        self.more: dict[str, Any] = {}
         if agent:
             agent.tell = self.told
 
@@ -271,6 +283,7 @@ class Keeper:
                 for one in self.replicas
             ],
             "fault": self.fault,
+            **self.more,
         }
 
     def since(self) -> str:
@@ -298,13 +311,53 @@ class Keeper:
             replica.start()
         self.known = self.made.digest()
 
-    def renew(self, place: Server, limit: int) -> bool:
-        """Lets the replicas serve what the registry has now. Whether that differs from before."""
+    def keep(self, make: Maker, limit: int, every: float) -> None:
+        """Goes on until a signal ends it. A failure is said each time, and the replicas go on with
+        what they have."""
+        self.attempt(lambda: self.start(limit))
+        next_time = time.monotonic()
+        while True:
+            if time.monotonic() >= next_time:
+                if self.attempt(lambda: self.renew(make), is_renewal=True):
+                    line = f"{self.name}: the replicas have {told(self.made)}"
+                    print(texts.shown_line(line), flush=True)
+                next_time = time.monotonic() + every
+            self.attempt(self.revive)
+            time.sleep(0.2)
+
+    def attempt(self, do: Callable[[], object], is_renewal: bool = False) -> bool:
+        """What a step gives; a failure of it is one line, and nothing. Why a renewal failed is
+        remembered."""
+        try:
+            done = bool(do())
+        except Failure as failure:
+            fault = str(failure)
+        except OSError as error:
+            words = (error.strerror or str(error)).lower()
+            fault = f"{error.filename or 'a file'}: {words}; the replicas go on as they are"
+        else:
+            if is_renewal:
+                self.fault = ""
+                units.notify(f"STATUS={self.status}")
+            return done
+        if is_renewal:
+            self.fault = fault
+            units.notify(f"STATUS=NOT RENEWED{self.since()}: {texts.shown_line(fault)}")
+        texts.note(f"{self.name}: {fault}")
+        return False
+
+    @property
+    def status(self) -> str:
+        """What is told of replicas that were renewed, on a line."""
+        return "the replicas have what the registry has"
+
+    def renew(self, make: Maker) -> bool:
+        """Lets the replicas serve what is made now. Whether that differs from before."""
         work, now = self.folder / "made.next", time.time()
         shutil.rmtree(work, ignore_errors=True)
         work.mkdir()
         try:
-            made = make(place, limit, work, self.known)
+            made = make(work, self.known)
             if made is None:
                 self.made.seen(now)
                 for one in self.replicas:
@@ -350,7 +403,7 @@ class Keeper:
             if self.known and replica.has_ended and time.monotonic() > self.later:
                 self.later = time.monotonic() + AGAIN
                 texts.note(
-                    f"irr mirror: replica at port {replica.port}:"
+                    f"{self.name}: replica at port {replica.port}:"
                     f" it has ended{replica.last_words()}; "
                     "it is started again"
                 )

@@ -230,7 +230,7 @@ class Import:
         elif self.stubs and self.root not in mntners:
             # They name it.
             self.stubs.add(self.root)
-        self.imported = {self.source_numbers[place] for place in self.places()}
+        self.imported = self.known_sources()
         self.note_lists()
         for name in self.auths:
             if (
@@ -246,6 +246,10 @@ class Import:
         """The objects that are taken."""
         for of_class in self.taken:
             yield from of_class.values()
+
+    def known_sources(self) -> set[int]:
+        """The numbers of the registries by whose names items can be scoped."""
+        return {self.source_numbers[place] for place in self.places()}
 
     def note_lists(self) -> None:
         """Notes the items that the lists of what is taken have lost, and what else is odd there."""

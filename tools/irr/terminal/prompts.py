@@ -1,8 +1,18 @@
 """Passwords that are asked for without echo, at the terminal and nowhere else."""
+import argparse
 import os
 
 from irr.errors import ARGUMENTS, Failure
 from irr.terminal import texts
+
+# What NIST asks of a password that stands alone (SP 800-63B).
+LEAST = 15
+
+
+def add_short(parser: argparse.ArgumentParser) -> None:
+    parser.add_argument(
+        "--short", action="store_true", help=f"take one of fewer than {LEAST} characters by --ask"
+    )
 
 
 def ask(prompt: str) -> str:
@@ -36,11 +46,18 @@ def ask(prompt: str) -> str:
         ) from None
 
 
-def ask_twice(prompt: str) -> str:
-    """The same, typed twice alike."""
+def ask_new(prompt: str, is_short_told: bool) -> str:
+    """A new password, typed twice alike. One of fewer than LEAST characters has to be told."""
     first = ask(f"{prompt}: ")
     if not first:
         raise Failure("", "no password was given; try again", ARGUMENTS)
     if ask(f"{prompt}, again: ") != first:
         raise Failure("", "the two passwords differ; try again", ARGUMENTS)
+    if len(first) < LEAST and not is_short_told:
+        raise Failure(
+            "",
+            f"the password has fewer than {LEAST} characters, and who gets its hash finds it soon;"
+            " leave out --ask for a random one, take a longer one, or add --short",
+            ARGUMENTS,
+        )
     return first

@@ -1,0 +1,1 @@
+"""Views: several registries as one."""

@@ -1,0 +1,116 @@
+"""Several registries by chance, and what a view of them is: from what MIRRORING and MOVING say of
+it, and not from the code that is tried."""
+import functools
+from collections.abc import Sequence
+from typing import NamedTuple
+
+from hypothesis import strategies as st
+
+from checks import models, rpsl
+from checks.filters import registries
+from checks.rpsl import Choices, Object, Prefix, Registry
+
+SOURCES = ("TEST", "RIPE", "RADB")
+SCOPES = (*SOURCES, "ARIN")
+Roas = list[tuple[Prefix, int, int]]
+
+
+class Several(NamedTuple):
+    """Registries in their order, and ROAs; none where there are no ROAs."""
+
+    registries: dict[str, Registry]
+    roas: Roas
+
+
+def several() -> st.SearchStrategy[Several]:
+    """Registries of each source, which have keys in common, and ROAs for some of their routes."""
+    each = [rpsl.drawn(functools.partial(any_of, name), 900) for name in SOURCES]
+    return st.builds(with_roas, st.tuples(*each), rpsl.drawn(lambda chance: chance, 100))
+
+
+def any_of(name: str, chance: Choices) -> Registry:
+    """A registry of a source."""
+    held = registries.any_registry(chance).objects
+    return Registry(tuple(of_source(chance, name, one) for one in held))
+
+
+def with_roas(found: tuple[Registry, ...], chance: Choices) -> Several:
+    roas: Roas = []
+    if chance.one_in(2):
+        for one in (held for registry in found for held in registry.of("route")):
+            if chance.one_in(3):
+                prefix = models.read_prefix(one.values("route")[0])
+                roas.append((prefix, prefix[1], int(chance.of(registries.NUMBERS)[2:])))
+    return Several(dict(zip(SOURCES, found)), roas)
+
+
+def of_source(chance: Choices, name: str, held: Object) -> Object:
+    """An object as a registry has it, some of whose items name registries."""
+    attributes = []
+    for attribute, value in held.attributes:
+        if attribute == "members":
+            value = ", ".join(scoped(chance, item) for item in value.split(", "))
+        attributes.append((attribute, name if attribute == "source" else value))
+    return Object((*attributes, ("descr", f"as {name} has it")))
+
+
+def scoped(chance: Choices, item: str) -> str:
+    """A set with a registry before it now and then."""
+    is_set = not models.is_number(item.partition("^")[0]) and not models.is_prefix(item)
+    return f"{chance.of(SCOPES)}::{item}" if is_set and chance.one_in(4) else item
+
+
+def key_of(held: Object) -> tuple[str, str]:
+    return held.kind, held.key.upper()
+
+
+def merged(several: Several) -> Registry:
+    """The first object of each key, without routes that are invalid; each item that names a
+    registry stands for the set that this registry has in the view, or for nothing."""
+    first: dict[tuple[str, str], tuple[str, Object]] = {}
+    for name, registry in several.registries.items():
+        for held in registry.objects:
+            if not is_invalid(held, several.roas):
+                first.setdefault(key_of(held), (name, held))
+    return Registry(tuple(unscoped(held, first) for _, held in first.values()))
+
+
+def is_invalid(held: Object, roas: Roas) -> bool:
+    if held.kind != "route" or not roas:
+        return False
+    prefix = models.read_prefix(held.values("route")[0])
+    return models.validity(prefix, int(held.values("origin")[0][2:]), roas) == "invalid"
+
+
+def unscoped(held: Object, first: dict[tuple[str, str], tuple[str, Object]]) -> Object:
+    def kept(item: str) -> str | None:
+        source, mark, name = item.partition("::")
+        if not mark:
+            return item
+        front = name.partition("^")[0]
+        if source not in SOURCES or front in ("AS-ANY", "RS-ANY"):
+            return None
+        owners = [first[kind, front][0] for kind in rpsl.SETS if (kind, front) in first]
+        return None if owners and owners != [source] else name
+
+    attributes = []
+    for attribute, value in held.attributes:
+        if attribute == "members":
+            value = ", ".join(filter(None, map(kept, value.split(", "))))
+        if attribute == "member-of" and held.kind == "route":
+            # Routes are members of route-sets (RFC 2622, 5.2).
+            value = ", ".join(item for item in value.split(", ") if "RS-" in item)
+        if value:
+            attributes.append((attribute, value))
+    return Object(tuple(attributes))
+
+
+def names(several: Several) -> Sequence[str]:
+    """The names of all sets."""
+    found = {
+        held.key: None
+        for one in several.registries.values()
+        for held in one.objects
+        if held.kind in rpsl.SETS
+    }
+    return [*found, "AS-ANY", "RS-ANY"]

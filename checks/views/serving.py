@@ -1,0 +1,101 @@
+"""Registries of others, as they are handed out: files by HTTP, and changes by NRTM, version 3."""
+import http.server
+import socketserver
+import threading
+from collections.abc import Sequence
+from typing import Any, Self
+
+
+class Files:
+    """Files at a port while a `with` block runs, each known by its path, with what tells it from a
+    later one. A status in place of a text is what is answered."""
+
+    def __init__(self) -> None:
+        self.texts: dict[str, bytes | int] = {}
+        self.asked: list[tuple[str, int]] = []
+        self.is_cut = False
+        files = self
+
+        class Handler(http.server.BaseHTTPRequestHandler):
+            def do_GET(self) -> None:
+                found = files.texts.get(self.path, 404)
+                status = found if isinstance(found, int) else 200
+                text = b"" if isinstance(found, int) else found
+                tag = f'"{hash(text)}"'
+                if status == 200 and self.headers.get("If-None-Match") == tag:
+                    status, text = 304, b""
+                files.asked.append((self.path, status))
+                self.send_response(status)
+                self.send_header("Content-Length", str(len(text)))
+                self.send_header("ETag", tag)
+                self.end_headers()
+                self.wfile.write(text[: len(text) // 2] if files.is_cut else text)
+
+            def log_message(self, *_: Any) -> None:
+                pass
+
+        self.server = http.server.ThreadingHTTPServer(("127.0.0.1", 0), Handler)
+        self.url = f"http://127.0.0.1:{self.server.server_address[1]}"
+
+    def __enter__(self) -> Self:
+        threading.Thread(target=self.server.serve_forever, daemon=True).start()
+        return self
+
+    def __exit__(self, *_: object) -> None:
+        self.server.shutdown()
+        self.server.server_close()
+
+
+class Nrtm:
+    """The changes of a registry at a port while a `with` block runs, from a first serial on."""
+
+    def __init__(self, name: str, first: int) -> None:
+        self.name, self.first = name, first
+        self.changes: list[tuple[str, str]] = []
+        # How much of an answer is handed out.
+        self.most: int | None = None
+        self.asked: list[str] = []
+        nrtm = self
+
+        class Handler(socketserver.StreamRequestHandler):
+            def handle(self) -> None:
+                line = self.rfile.readline().decode().strip()
+                nrtm.asked.append(line)
+                self.wfile.write(nrtm.answer(line).encode()[: nrtm.most])
+
+        self.server = socketserver.ThreadingTCPServer(("127.0.0.1", 0), Handler)
+        self.place = f"127.0.0.1:{self.server.server_address[1]}"
+
+    def __enter__(self) -> Self:
+        threading.Thread(target=self.server.serve_forever, daemon=True).start()
+        return self
+
+    def __exit__(self, *_: object) -> None:
+        self.server.shutdown()
+        self.server.server_close()
+
+    @property
+    def last(self) -> int:
+        return self.first + len(self.changes) - 1
+
+    def tell(self, changes: Sequence[tuple[str, str]]) -> None:
+        self.changes += changes
+
+    def forget(self) -> None:
+        """Keeps no change of before."""
+        self.first, self.changes = self.last + 1, []
+
+    def answer(self, line: str) -> str:
+        """What RIPE's server says, with a remark before it."""
+        remark = "% The objects are in RPSL format.\n%\n\n"
+        begin = int(line.rpartition(":")[2].partition("-")[0])
+        assert line == f"-g {self.name}:3:{begin}-LAST"
+        if begin == self.last + 1:
+            return remark + "% Warning: there are no newer updates available\n\n"
+        if not self.first <= begin <= self.last:
+            return remark + f"%ERROR:401: invalid range: Not within {self.first}-{self.last}\n\n"
+        parts = [f"%START Version: 3 {self.name} {begin}-{self.last}\n"]
+        for serial in range(begin, self.last + 1):
+            word, text = self.changes[serial - self.first]
+            parts.append(f"\n{word} {serial}\n\n{text}")
+        return remark + "".join(parts) + f"\n%END {self.name}\n\n"

@@ -1,0 +1,224 @@
+"""Sources of a view: followed by NRTM, and what stays where one can't be read or shrank."""
+import gzip
+import os
+import random
+from collections.abc import Iterator
+from pathlib import Path
+
+import pytest
+
+from checks.running import Trial, expect
+from checks.views.serving import Files, Nrtm
+from checks.views.test_merging import asked
+from irr.errors import Failure
+from irr.views import settings
+from irr.views.keeping import View
+
+OWN = "as-set: AS1:AS-OWN\nmembers: AS2, RIPE::AS-X\nmnt-by: A-MNT\nsource: TEST\n"
+
+
+def route(number: int, origin: int = 2, words: str = "x") -> str:
+    place = f"10.{number >> 8}.{number & 255}.0/24"
+    return f"route: {place}\norigin: AS{origin}\ndescr: {words}\nmnt-by: B-MNT\nsource: RIPE\n"
+
+
+class World:
+    """A view of a file and of a registry that is fetched and followed."""
+
+    def __init__(self, folder: Path, more: str = "") -> None:
+        self.folder, self.files, self.nrtm = folder, Files(), Nrtm("RIPE", 101)
+        (folder / "own.db").write_text(OWN)
+        self.routes = {number: route(number) for number in range(40)}
+        self.publish()
+        (folder / "view.toml").write_text(
+            f"""
+name = "ALL"
+folder = "{folder}/view"
+[[source]]
+name = "TEST"
+dump = "{folder}/own.db"
+[[source]]
+name = "RIPE"
+dump = ["{self.files.url}/ripe.db.route.gz", "{self.files.url}/ripe.db.as-set"]
+serial = "{self.files.url}/RIPE.CURRENTSERIAL"
+{more}
+"""
+        )
+        self.view = View(settings.read(str(folder / "view.toml")))
+        # What is served, and what it answers.
+        self.known, self.seen = "", ""
+
+    def publish(self) -> None:
+        """Hands out a dump of what there is, and its serial."""
+        text = "\n".join(self.routes.values()).encode()
+        self.files.texts["/ripe.db.route.gz"] = gzip.compress(text, mtime=0)
+        self.files.texts[
+            "/ripe.db.as-set"
+        ] = b"as-set: AS-X\nmembers: AS2\nmnt-by: B-MNT\nsource: RIPE\n"
+        self.files.texts["/RIPE.CURRENTSERIAL"] = f"{self.nrtm.last}\n".encode()
+
+    def renew(self) -> bool:
+        """Whether the view is another one than before."""
+        work = self.view.folder / "made"
+        os.makedirs(work, exist_ok=True)
+        for path in work.iterdir():
+            path.unlink()
+        found = self.view.make(work, self.known)
+        self.view.commit()
+        if found:
+            self.known = found.digest()
+            self.seen = asked(os.environ["IRRDESK"], work, "inverse", "origin", "AS2")
+        return found is not None
+
+    def routes_seen(self) -> int:
+        return self.seen.count("route:")
+
+
+@pytest.fixture
+def world(trial: Trial, tmp_path: Path, monkeypatch: pytest.MonkeyPatch) -> Iterator[World]:
+    monkeypatch.setenv("IRRDESK", trial.program)
+    one = World(tmp_path)
+    with one.files:
+        yield one
+
+
+@pytest.fixture
+def followed(trial: Trial, tmp_path: Path, monkeypatch: pytest.MonkeyPatch) -> Iterator[World]:
+    monkeypatch.setenv("IRRDESK", trial.program)
+    one = World(tmp_path)
+    text = (tmp_path / "view.toml").read_text() + f'nrtm = "{one.nrtm.place}"\n'
+    (tmp_path / "view.toml").write_text(text)
+    one.view = View(settings.read(str(tmp_path / "view.toml")))
+    with one.files, one.nrtm:
+        yield one
+
+
+def fault(world: World) -> str:
+    return world.view.faults.get("RIPE", "")
+
+
+def test_what_cannot_be_read_stays_as_it_was(world: World) -> None:
+    expect(world.renew(), True, "the first time")
+    expect((world.routes_seen(), fault(world)), (40, ""), "what it has")
+    expect(world.renew(), False, "nothing new")
+    expect({status for _, status in world.files.asked[-2:]}, {304}, "how it was asked again")
+    whole = world.files.texts["/ripe.db.route.gz"]
+    assert isinstance(whole, bytes)
+    spoilts: list[tuple[bytes | int, str]] = [
+        (500, "status 500"),
+        (whole[:-9], "it is cut off"),
+        (b"", "more is gone than"),
+        (b"<html>moved</html>\n", "more is gone than"),
+        (gzip.compress("\n".join(route(n) for n in range(34)).encode()), "it has 35 objects"),
+    ]
+    for spoilt, words in spoilts:
+        world.files.texts["/ripe.db.route.gz"] = spoilt
+        for _ in range(2):
+            expect(world.renew(), False, f"a view with {words}")
+            expect(words in fault(world), True, f"{words}: {fault(world)}")
+            expect(world.view.lines()[0][:22], "RIPE is not renewed si", "the status")
+    (world.folder / "own.db").write_text(OWN.replace("AS2,", "AS2, AS3,"))
+    expect(world.renew(), True, "another source that changed meanwhile")
+    expect((world.routes_seen(), bool(fault(world))), (40, True), "what it has of the spoilt one")
+    again = View(world.view.settings)
+    again.make(world.view.folder / "made", world.known)
+    expect("it has 35 objects" in again.faults["RIPE"], True, "what is known after a restart")
+    world.files.is_cut = True
+    world.files.texts["/ripe.db.route.gz"] = whole + b"x" * 9
+    world.renew()
+    expect("it was cut off after" in fault(world), True, fault(world))
+    world.files.is_cut = False
+    del world.routes[39], world.routes[38]
+    world.publish()
+    expect(world.renew(), True, "one that lost 2 of 41")
+    expect((world.routes_seen(), fault(world)), (38, ""), "what it has then")
+
+
+def test_there_is_no_view_without_a_source(world: World) -> None:
+    del world.files.texts["/ripe.db.route.gz"]
+    with pytest.raises(Failure, match="RIPE: .*status 404.*there is no view without it"):
+        world.view.make(world.folder, "")
+    world.routes = {}
+    world.publish()
+    world.files.texts["/ripe.db.as-set"] = b"as-set: AS-X\nmnt-by: B-MNT\nsource: RADB\n"
+    (world.folder / "made").mkdir()
+    with pytest.raises(Failure, match="RIPE: it has no object of its name"):
+        world.view.make(world.folder / "made", "")
+
+
+def test_a_source_is_followed_by_nrtm(followed: World, trial: Trial) -> None:
+    """After each renewal the view has what the registry has, also where the changes are no longer
+    told, or an answer is cut."""
+    world, chance = followed, random.Random(7)
+    world.nrtm.tell([("ADD", route(900))])
+    world.routes[900] = route(900)
+    world.publish()
+    expect(world.renew(), True, "the first time")
+    expect(world.nrtm.asked, [f"-g RIPE:3:{world.nrtm.last + 1}-LAST"], "what was asked")
+    dumps = len(world.files.asked)
+    for turn in range(trial.pick(12, 200)):
+        for _ in range(chance.randrange(4)):
+            number = chance.randrange(60)
+            if number in world.routes and chance.random() < 0.4 and len(world.routes) > 40:
+                world.nrtm.tell([("DEL", world.routes.pop(number))])
+            else:
+                world.routes[number] = route(number, 2, f"turn {turn}")
+                world.nrtm.tell([("ADD", world.routes[number])])
+        world.nrtm.tell([("ADD", "person: Jo Doe\nsource: RIPE\n"), ("ADD", "no object\n")])
+        if turn % 4 == 3:
+            serial = world.view.states["RIPE"].serial
+            assert serial
+            line = f"-g RIPE:3:{serial + 1}-LAST"
+            world.nrtm.most = chance.randrange(len(world.nrtm.answer(line)) - 5)
+            before = world.seen
+            expect(world.renew(), False, "an answer that is cut off")
+            expect((world.seen, bool(fault(world))), (before, True), f"turn {turn}")
+            world.nrtm.most = None
+        if turn % 6 == 5:
+            # A mirror that was away for long.
+            world.nrtm.forget()
+            world.publish()
+            dumps += 3
+        world.renew()
+        expect(fault(world), "", f"turn {turn}")
+        wanted = {(number, text.split("\n")[2]) for number, text in world.routes.items()}
+        expect(seen(world.seen), wanted, f"turn {turn}")
+        expect(len(world.files.asked), dumps, "how often a file was asked for")
+
+
+def seen(answer: str) -> set[tuple[int, str]]:
+    """The routes of an answer, each with its words."""
+    found = set()
+    for block in filter(None, answer.split("\n\n")):
+        lines = {
+            line.partition(":")[0]: line.partition(":")[2].strip() for line in block.split("\n")
+        }
+        first, second = lines["route"].split(".")[1:3]
+        found.add((int(first) << 8 | int(second), f"descr: {lines['descr']}"))
+        expect(lines["source"], "ALL # RIPE", "where it is from")
+    return found
+
+
+def test_settings_name_what_is_wrong(tmp_path: Path) -> None:
+    path = tmp_path / "view.toml"
+    good = 'name = "ALL"\nfolder = "/x"\n[[source]]\nname = "RIPE"\ndump = "/x"\n'
+    for old, new, words in [
+        ("folder", "folders", "there is no key folders"),
+        ('folder = "/x"\n', "", "it has no `folder`"),
+        ('"RIPE"', '"ALL"', "the name ALL stands twice"),
+        ('"RIPE"', '"1"', "1 is not the name of a registry"),
+        ('dump = "/x"\n', "", "give it either `registry` or `dump`"),
+        ('"/x"\n[', '"/x"\nport = [0]\n[', "it takes ports"),
+        ('"/x"\n[', '"/x"\nagent = 4445\n[', "a port stands twice"),
+        ('dump = "/x"', 'dump = "http://192.0.2.1/x"', "can be changed on the way"),
+        ('dump = "/x"', 'dump = "/x"\nnrtm = "a"', "`nrtm` needs `serial`"),
+        ('dump = "/x"', 'dump = "/x"\nserial = "/x"\nnrtm = "a:x"', "`nrtm` is HOST or HOST:PORT"),
+        ('dump = "/x"', 'dump = "/x"\nserial = "/x"\nnrtm = "a"', "NRTM can be changed"),
+        ('dump = "/x"', 'dump = "/x"\nshrink = 101', "a number from 0 to 100"),
+    ]:
+        path.write_text(good.replace(old, new, 1))
+        with pytest.raises(Failure) as failure:
+            settings.read(str(path))
+        expect(words in str(failure.value), True, f"{new}: {failure.value}")
+    path.write_text(good.replace('"RIPE"', '"ripe"'))
+    expect(settings.read(str(path)).sources[0].name, "RIPE", "a name in small letters")

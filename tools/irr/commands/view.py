@@ -1,0 +1,75 @@
+"""`irr view VIEW.toml`: replicas of a registry made of several sources."""
+import argparse
+import os
+
+from irr.errors import ARGUMENTS, DONE, Failure
+from irr.local import replicas, temporary
+from irr.rpsl import keys
+from irr.system import files
+from irr.terminal import texts
+from irr.views import settings
+from irr.views.keeping import View
+
+EXAMPLES = """
+irr view /etc/irrdesk/views/routes.toml            at the ports of the settings, until it is ended
+irr view --every 60 routes.toml                    look for what is new each minute
+
+A view has the objects of several registries. Of two with one key that of the first source stays.
+Each says on its `source` line where it is from: `source: ROUTES # RIPE`. A source that can't be
+read, or lost too much at once, stays as it was; `irr view` says which, and since when.
+"""
+
+
+def arguments(parser: argparse.ArgumentParser) -> None:
+    parser.add_argument(
+        "--every",
+        metavar="SECONDS",
+        type=keys.decimal,
+        help="when the sources are looked at again, in place of `every` of the settings",
+    )
+    parser.add_argument("settings", metavar="VIEW.toml", help="the sources and the ports")
+
+
+def run(options: argparse.Namespace) -> int:
+    wanted = settings.read(options.settings)
+    every = wanted.every if options.every is None else options.every
+    if not 1 <= every <= 1e9:
+        raise Failure("--every", "it takes seconds from 1; correct it", ARGUMENTS)
+    temporary.find_program()
+    os.umask(0o077)
+    folder = files.folder(wanted.folder, 0o700)
+    with files.locked(folder):
+        agent = replicas.Agent(wanted.agent) if wanted.agent else None
+        keeper = Keeper(folder, list(wanted.port), agent, wanted.pause, "irr view")
+        keeper.view = View(wanted)
+        try:
+            keeper.keep(keeper.view.make, wanted.limit, every)
+        finally:
+            keeper.end()
+    return DONE
+
+
+class Keeper(replicas.Keeper):
+    """The replicas of a view."""
+
+    view: View
+
+    def renew(self, make: replicas.Maker) -> bool:
+        """Renews them, and says what became of each source."""
+        before = self.view.lines()
+        try:
+            is_new = super().renew(make)
+            self.view.commit()
+        finally:
+            self.more = self.view.status()
+            for line in self.view.lines():
+                if line not in before:
+                    texts.note(f"{self.name}: {line}")
+        if is_new:
+            for name, told in self.view.told.items():
+                print(texts.shown_line(f"{self.name}: {told.line(name)}"), flush=True)
+        return is_new
+
+    @property
+    def status(self) -> str:
+        return "; ".join(self.view.lines()) or "the replicas have what the sources have"

@@ -1,0 +1,104 @@
+"""Views beside the registry: which of them answers whom who asks by sources."""
+import dataclasses
+from typing import Any, Optional
+
+from irr.door.pool import Pool
+from irr.door.settings import Settings
+from irr.door.upstreams import Upstream
+
+
+class ViewPool(Pool):
+    """The replicas of a view, of which its agent tells. Clients and memory are those of all."""
+
+    def __init__(self, main: Pool, agent: str) -> None:
+        super().__init__(main.loop, dataclasses.replace(main.settings, replica=(), agent=agent))
+        self.clients, self.turns.clients = main.clients, main.clients
+        self.ledger = main.ledger
+        self.ledger.makers.append(self.cache.shrink)
+        self.registry.is_up = False
+        self.name, self.sources = "", ""
+
+    def all(self) -> list[Upstream]:
+        return list(self.replicas)
+
+    def serving(self) -> list[Upstream]:
+        """The replicas that answer; if the states of all are old, these."""
+        found = [one for one in self.replicas if one.serves(self.settings.oldest)]
+        return found or [one for one in self.replicas if one.answers]
+
+    def heard(self, told: dict[str, Any]) -> None:
+        super().heard(told)
+        view = told["view"]
+        self.name = self.source = str(view["name"])
+        self.sources = ",".join(str(one["name"]) for one in view["sources"])
+
+    def faults(self) -> list[str]:
+        """What is wrong, in lines for people."""
+        name = f"view {self.name or (self.agent.text() if self.agent else '')}"
+        found = [] if self.answers else [f"{name} does not answer"]
+        view = self.told.get("view", {})
+        found += [f"{name}: {line}" for line in view.get("lines", [])]
+        found += [f"{name}: {line}" for line in view.get("doubts", [])]
+        if self.told.get("fault"):
+            found.append(f"{name} is not renewed: {self.told['fault']}")
+        return found
+
+    def status(self) -> dict[str, Any]:
+        """What is told of it: its sources, each with its state, and its replicas."""
+        return {"serves": self.answers, **self.told.get("view", {"name": self.name or None})}
+
+
+class Views:
+    """The registry, and the views that are served beside it."""
+
+    def __init__(self, main: Pool, settings: Settings) -> None:
+        self.main, self.wanted = main, settings.default.upper()
+        self.pools = [ViewPool(main, agent) for agent in settings.view]
+        # What nobody serves.
+        self.nowhere = ViewPool(main, "")
+        for one in (main, *self.pools, self.nowhere):
+            one.views = self
+
+    @property
+    def all(self) -> list[ViewPool]:
+        return [*self.pools, self.nowhere]
+
+    def default(self) -> Pool:
+        """What is asked by those who name no source."""
+        if not self.wanted:
+            return self.main
+        return self.chosen(self.wanted) or self.nowhere
+
+    def chosen(self, sources: str) -> Optional[Pool]:
+        """What serves these sources in their order, or is the view of this name; None if nothing
+        does."""
+        names = ",".join(one.strip() for one in sources.upper().split(",") if one.strip())
+        if names and names == self.main.source:
+            return self.main
+        return next((one for one in self.pools if names and names in (one.name, one.sources)), None)
+
+    def at(self, path: str) -> tuple[Pool, str]:
+        """What answers a path of HTTP, and the path there: a view has `/views/NAME/query/..`, and
+        no other."""
+        if not path.startswith("/views/"):
+            return self.main, path
+        name, mark, rest = path[7:].partition("/")
+        pool = self.chosen(name)
+        return (pool, mark + rest) if pool and rest.startswith("query/") else (self.nowhere, "")
+
+    def known(self) -> str:
+        """What there is, in words."""
+        found = [self.main.source] if self.main.source else []
+        found += [f"{one.name} ({one.sources})" for one in self.pools if one.name]
+        return "there is " + " and ".join(found) if found else "the registry does not answer"
+
+    def faults(self) -> list[str]:
+        found = [line for one in self.pools for line in one.faults()]
+        if self.wanted and self.default() is self.nowhere:
+            found.append(f"`default` is {self.wanted}, and {self.known()}")
+        return found
+
+
+def sources_of(pool: Pool) -> str:
+    """The names of what a pool serves."""
+    return pool.sources if isinstance(pool, ViewPool) else pool.source

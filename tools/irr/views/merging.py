@@ -1,0 +1,232 @@
+"""Several sources made into one registry: of the objects with one key that of the first source
+stays."""
+from collections import Counter
+from typing import Collection, Iterable, NamedTuple
+
+from irr.errors import Failure, reading, system_words
+from irr.migrate import conversion
+from irr.migrate.normalisation import (
+    AUT_NUM,
+    NOBODY,
+    NUMBERS,
+    ROUTE,
+    Dropped,
+    LeftOut,
+    Mended,
+    Mender,
+    source_place,
+)
+from irr.migrate.parting import Part, parts
+from irr.migrate.report import Place, Tally
+from irr.rpsl import keys
+from irr.rpsl.syntax import Attribute
+from irr.views import roas
+from irr.views.settings import Settings
+from irr.views.sources import State
+
+# The maintainer of what no source has; nobody has its password.
+ROOT = "IRR-VIEW-MNT"
+# Why an object is left out.
+OTHER_SOURCE, EARLIER = "of another source", "an earlier source has it"
+CHANGED, INVALID = "changed since the dump", "invalid by ROAs"
+# Of how many objects of a class a source does not lose all at once.
+SOME = 10
+
+
+class Counts(Tally):
+    """Counts by source what is left out, and dropped from lists. The files are known by what they
+    are of."""
+
+    def __init__(self) -> None:
+        super().__init__()
+        self.source_of: dict[str, str] = {}
+        self.left: dict[str, Counter[str]] = {}
+        self.lost: dict[str, Counter[str]] = {}
+
+    def begin(self, source: str) -> None:
+        self.left[source], self.lost[source] = Counter(), Counter()
+
+    def leave_out(self, cause: str, place: Place, text: bytes, further: Iterable[int] = ()) -> None:
+        self.left[self.source_of[place.path]][cause] += 1
+        super().leave_out(cause, place, text, further)
+
+    def drop(self, dropped: Dropped, place: Place, text: bytes) -> None:
+        self.lost[self.source_of[place.path]][dropped.cause] += 1
+        super().drop(dropped, place, text)
+
+
+class ViewMender(Mender):
+    """Mends the objects of one source after another. Each keeps the name of its source as a comment
+    on its `source`, and no password."""
+
+    def __init__(self, view: str, table: roas.Table | None, keeps_invalid: bool) -> None:
+        super().__init__(view, ROOT)
+        self.table, self.keeps_invalid = table, keeps_invalid
+        self.own, self.is_irrdesk = "", False
+        # What is of before the changes of the source; how many objects it has of each class; how
+        # many of its routes are invalid.
+        self.superseded: Collection[tuple[int, int | str]] = ()
+        self.counts = [0] * (len(NUMBERS) + 1)
+        self.invalid = 0
+
+    def begin(self, source: str, is_irrdesk: bool) -> None:
+        self.own, self.is_irrdesk = source, is_irrdesk
+        self.counts, self.invalid = [0] * (len(NUMBERS) + 1), 0
+
+    def read(self, part: Part) -> Mended:
+        """The object that the lines of a change become."""
+        return super().mend(part)
+
+    def mend(self, part: Part, is_cut: bool = False) -> Mended:
+        """The object, if the source has it still, and ROAs do not say that it is in error."""
+        mended = super().mend(part, is_cut)
+        if (mended.number, mended.key) in self.superseded:
+            raise LeftOut(CHANGED)
+        self.counts[mended.number] += 1
+        if mended.number == ROUTE and self.table is not None and self.is_invalid(int(mended.key)):
+            self.invalid += 1
+            if not self.keeps_invalid:
+                raise LeftOut(INVALID)
+        return mended
+
+    def is_invalid(self, key: int) -> bool:
+        prefix = keys.Prefix(key >> 38, key >> 32 & 63)
+        # Of the caller: there is a table.
+        return roas.judged(prefix, key & keys.TOP, self.table or {})[0] == "invalid"
+
+    def set_item(self, number: int, item: bytes) -> bytes | None:
+        # An irrdesk counts a route as a member of the as-sets that it names, which RFC 2622 does
+        # not.
+        return super().set_item(AUT_NUM if self.is_irrdesk else number, item)
+
+    def auth(self, attribute: Attribute) -> Attribute:
+        return Attribute(b"auth", [NOBODY])
+
+    def sourced(self, attributes: list[Attribute]) -> tuple[str, list[Attribute]]:
+        place = source_place(attributes)
+        found = attributes[place].meaning() if place < len(attributes) else b""
+        if found and found.upper() != self.own.encode():
+            raise LeftOut(OTHER_SOURCE)
+        line = self.source + b" # " + self.own.encode()
+        attributes[place : place + 1] = [Attribute(b"source", [line])]
+        return self.own, attributes
+
+
+class Told(NamedTuple):
+    """What became of a source: how many objects of each class it has, how many are in the view, how
+    many of its routes are invalid; what is left out and dropped from lists, by cause."""
+
+    counts: list[int]
+    taken: int
+    invalid: int
+    left: dict[str, int]
+    lost: dict[str, int]
+
+    def line(self, name: str) -> str:
+        """The same in words."""
+        words = [f"{name}: {self.taken:,} of {sum(self.counts):,} objects"]
+        words += ["left out, " + listed(self.left)] if self.left else []
+        words += ["dropped from lists, " + listed(self.lost)] if self.lost else []
+        if self.invalid and INVALID not in self.left:
+            words.append(f"{self.invalid:,} kept that are {INVALID}")
+        return "; ".join(words)
+
+
+def listed(causes: dict[str, int]) -> str:
+    pairs = sorted(causes.items(), key=lambda pair: (-pair[1], pair[0]))
+    return ", ".join(f"{cause}: {count:,}" for cause, count in pairs)
+
+
+def shrank(old: list[int], new: list[int], most: float) -> str:
+    """How a source shrank by more than `most` percent, lost all of a class, or has nothing at all;
+    no words where it did not."""
+    before, now = sum(old), sum(new)
+    if not now:
+        return "it has no object of its name that can be taken; look at `dump`"
+    how = ""
+    if (before - now) * 100 > before * most:
+        how = f"it has {now:,} objects, and had {before:,}"
+    for kind, first, last in zip(keys.CLASSES, old[1:], new[1:]):
+        if first >= SOME and not last and most < 100:
+            how = f"it has no {kind}, and had {first:,}"
+    if not how:
+        return ""
+    return f"{how}: more is gone than `shrink`, {most:g} %, allows; look what is"
+
+
+class Merge(conversion.Import):
+    """The objects of the sources of a view, in their order."""
+
+    def __init__(self, view: Settings, table: roas.Table | None) -> None:
+        self.irrdesks = {one.name for one in view.sources if one.registry}
+        self.own, self.by_source = ViewMender(view.name, table, view.keep_invalid), Counts()
+        super().__init__(self.own, {}, self.by_source)
+        self.had: dict[str, tuple[list[int], int]] = {}
+
+    @reading("a file")
+    def read_states(self, states: dict[str, State]) -> None:
+        """Reads all sources, and settles what is taken of them."""
+        try:
+            for name, state in states.items():
+                self.read_state(name, state)
+            self.spool.flush()
+        except OSError as error:
+            raise Failure(
+                "the temporary file",
+                f"{system_words(error)}; make room, or give another folder by TMPDIR",
+            ) from None
+        self.settle()
+
+    def read_state(self, name: str, state: State) -> None:
+        self.own.begin(name, name in self.irrdesks)
+        self.by_source.begin(name)
+        self.sources.setdefault(name, len(self.sources))
+        for path in (*state.parts, state.changes):
+            self.by_source.source_of[str(path)] = name
+        added = self.changed(state)
+        for path in state.parts:
+            self.read_file(str(path))
+        self.own.superseded = ()
+        self.paths.append(str(state.changes))
+        for part in added:
+            self.take(part, str(state.changes))
+        self.had[name] = self.own.counts, self.own.invalid
+
+    def changed(self, state: State) -> list[Part]:
+        """The objects that changes have added, and are there still. What they changed in the dump
+        is known from then on."""
+        last: dict[tuple[int, int | str], Part | None] = {}
+        unread: list[Part] = []
+        for is_there, block in state.told():
+            for part in parts(block):
+                try:
+                    mended = self.own.read(part)
+                except LeftOut:
+                    unread += [part] if is_there else []
+                else:
+                    last[mended.number, mended.key] = part if is_there else None
+        self.own.superseded = last.keys()
+        # What can't be taken is counted once it is tried.
+        return [*(part for part in last.values() if part), *unread]
+
+    def cause_beside(self, mended: Mended) -> str:
+        first = self.source_numbers[self.taken[mended.number][mended.key]]
+        return conversion.DUPLICATE if self.sources[mended.source] == first else EARLIER
+
+    def known_sources(self) -> set[int]:
+        return set(self.sources.values())
+
+    def outcome(self) -> dict[str, Told]:
+        """What became of each source."""
+        numbers = {number: name for name, number in self.sources.items()}
+        taken = Counter(numbers[self.source_numbers[place]] for place in self.places())
+        return {
+            name: Told(
+                counts,
+                taken[name],
+                invalid,
+                dict(self.by_source.left[name]),
+                dict(self.by_source.lost[name]),
+            )
+            for name, (counts, invalid) in self.had.items()
+        }

@@ -1,0 +1,99 @@
+"""What changed of a registry after a serial, as it is told by NRTM, version 3 (RIPE Database
+documentation, "NRTM")."""
+import contextlib
+import re
+import socket
+import time
+from typing import BinaryIO, Iterator
+
+from irr.errors import Failure, system_words
+
+# Seconds for a piece of an answer, and for all of it; the longest line, and the most bytes.
+WAITING, ANSWERING = 60, 600
+LONGEST, MOST = 1 << 20, 1 << 28
+START = re.compile(rb"%START Version: 3 ([A-Za-z][A-Za-z0-9_-]*) ([0-9]{1,18})-([0-9]{1,18})", re.I)
+CHANGE = re.compile(rb"(ADD|DEL) ([0-9]{1,18})")
+NONE_NEWER = re.compile(rb"% ?Warning:.*no newer", re.I)
+ERROR = re.compile(rb"%ERROR:([0-9]+):.*")
+WITHIN = re.compile(rb"([0-9]{1,18})-([0-9]{1,18})")
+
+
+class Behind(Exception):
+    """The changes after a serial are not told any more: a dump has to be taken."""
+
+
+def follow(place: tuple[str, int], name: str, serial: int, out: BinaryIO) -> int:
+    """Writes the changes of a registry after a serial, each a line `ADD` or `DEL` and its object
+    between empty lines, and gives the last serial; that serial where there are none. Behind where
+    they are not told any more; a Failure where the answer is not whole."""
+    thing = f"nrtm://{place[0]}:{place[1]}"
+    begun = time.monotonic()
+    try:
+        with contextlib.closing(socket.create_connection(place, WAITING)) as peer:
+            peer.sendall(f"-g {name}:3:{serial + 1}-LAST\r\n".encode())
+            with peer.makefile("rb") as answer:
+                return taken(lines(answer, thing, begun), thing, name, serial, out)
+    except OSError as error:
+        raise Failure(thing, f"it does not answer: {system_words(error)}") from None
+
+
+def lines(answer: BinaryIO, thing: str, begun: float) -> Iterator[bytes]:
+    """The lines of an answer without their ends."""
+    size = 0
+    while line := answer.readline(LONGEST):
+        size += len(line)
+        if not line.endswith(b"\n"):
+            raise Failure(thing, "its answer is cut off, or has a line without an end")
+        if size > MOST or time.monotonic() > begun + ANSWERING:
+            raise Failure(thing, "its answer does not end; look at `nrtm`")
+        yield line.rstrip(b"\r\n")
+
+
+def taken(answer: Iterator[bytes], thing: str, name: str, serial: int, out: BinaryIO) -> int:
+    """Writes the changes of an answer that is whole, in order and of this registry."""
+    last = start(answer, thing, name, serial)
+    if last == serial:
+        return last
+    before = serial
+    for line in answer:
+        if not line:
+            continue
+        if line.upper() == f"%END {name}".encode():
+            return last
+        change = CHANGE.fullmatch(line)
+        if not change or not before < int(change[2]) <= last:
+            raise Failure(thing, f"after serial {before} it tells no change")
+        before = int(change[2])
+        out.write(b"%s\n\n" % change[1])
+        text = b""
+        for part in answer:
+            if CHANGE.fullmatch(part):
+                raise Failure(thing, f"serial {before} has no whole object")
+            if part:
+                text += part + b"\n"
+            elif text:
+                break
+        out.write(text + b"\n")
+    raise Failure(thing, "its answer is cut off; it is asked again")
+
+
+def start(answer: Iterator[bytes], thing: str, name: str, serial: int) -> int:
+    """The last serial that an answer has, by its first line that is no remark."""
+    for line in answer:
+        if NONE_NEWER.match(line):
+            return serial
+        if error := ERROR.match(line):
+            within = WITHIN.search(line)
+            if error[1] == b"401" and within and int(within[2]) == serial:
+                return serial
+            if error[1] == b"401":
+                raise Behind
+            raise Failure(thing, f"it answers `{line.decode('latin-1')}`")
+        if found := START.fullmatch(line):
+            first, last = int(found[2]), int(found[3])
+            if found[1].decode().upper() != name or first != serial + 1 or last < first:
+                raise Failure(thing, f"it tells other changes than those from {serial + 1} on")
+            return last
+        if line and not line.startswith(b"%"):
+            break
+    raise Failure(thing, "its answer is none of NRTM, version 3; look at `nrtm`")

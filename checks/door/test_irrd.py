@@ -79,7 +79,7 @@ REPLIES = {
     "!r10.0.0.0/16,x": b"F Invalid route search option: x\n",
     "!s-lc": data(b"TEST"),
     "!stest": b"C\n",
-    "!sTEST,RIPE": b"F One or more selected sources are unavailable: RIPE\n",
+    "!sTEST,RIPE": b"F One or more selected sources are unavailable: TEST,RIPE; there is TEST\n",
     "!x": b"F Unrecognised command: x\n",
     "!": b"F Missing IRRD command\n",
     "!t0": b"F Invalid value for timeout: 0\n",

@@ -205,11 +205,11 @@ def test_settings_name_what_is_wrong(tmp_path: Path) -> None:
     for old, new, words in [
         ("folder", "folders", "there is no key folders"),
         ('folder = "/x"\n', "", "it has no `folder`"),
-        ('"RIPE"', '"ALL"', "the name ALL stands twice"),
+        ('"RIPE"', '"ALL"', "the name ALL appears twice"),
         ('"RIPE"', '"1"', "1 is not the name of a registry"),
         ('dump = "/x"\n', "", "give it either `registry` or `dump`"),
         ('"/x"\n[', '"/x"\nport = [0]\n[', "it takes ports"),
-        ('"/x"\n[', '"/x"\nagent = 4445\n[', "a port stands twice"),
+        ('"/x"\n[', '"/x"\nagent = 4445\n[', "a port appears twice"),
         ('dump = "/x"', 'dump = "http://192.0.2.1/x"', "can be changed on the way"),
         ('dump = "/x"', 'dump = "/x"\nnrtm = "a"', "`nrtm` needs `serial`"),
         ('dump = "/x"', 'dump = "/x"\nserial = "/x"\nnrtm = "a:x"', "`nrtm` is HOST or HOST:PORT"),

@@ -103,11 +103,11 @@ def read(path: str) -> Settings:
     if not view.port or not all(0 < one < 65_536 for one in view.port):
         raise Failure(path, "`port` lists ports from 1 to 65535; correct it", SETTINGS)
     if len(set(ports)) < len(ports):
-        raise Failure(path, "a port stands twice; give each another one", SETTINGS)
+        raise Failure(path, "a port appears twice; give each another one", SETTINGS)
     names = [view.name, *(one.name for one in sources)]
     for name in names:
         if names.count(name) > 1:
-            raise Failure(path, f"the name {name} stands twice; give each another one", SETTINGS)
+            raise Failure(path, f"the name {name} appears twice; give each another one", SETTINGS)
     return view
 
 
@@ -118,7 +118,7 @@ def read_source(thing: str, table: dict[str, Any]) -> Source:
     if bool(one.registry) == bool(one.dump):
         raise Failure(thing, "give it either `registry` or `dump`", SETTINGS)
     if one.nrtm and not one.serial:
-        raise Failure(thing, "`nrtm` needs `serial`, where the serial of the dump stands", SETTINGS)
+        raise Failure(thing, "`nrtm` needs `serial`, where the serial of the dump is", SETTINGS)
     if one.nrtm:
         try:
             host, port = one.place()

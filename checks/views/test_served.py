@@ -8,6 +8,7 @@ import subprocess
 import sys
 from collections.abc import Iterator
 from pathlib import Path
+from typing import Any
 
 import pytest
 
@@ -99,8 +100,8 @@ nrtm = "{self.nrtm.place}"
             wait_until("that the door knows it", PATIENCE, lambda: self.status().get("name"))
             yield self
 
-    def status(self) -> dict[str, object]:
-        found: dict[str, object] = self.door.status()["views"][0]
+    def status(self) -> dict[str, Any]:
+        found: dict[str, Any] = self.door.status()["views"][0]
         return found
 
     def whois(self, line: str) -> str:
@@ -168,6 +169,9 @@ def test_the_sources_are_chosen_by_name(served: Served, each: Each) -> None:
             ("/views/RIPE/query/AS-X", 404),
             ("/views/ALL/dump", 404),
             ("/views/ALL", 404),
+            ("/views/TEST/state", 404),
+            ("/views/ALL/submissions", 404),
+            ("/state", 404),
         ]:
             found, _, text = one.door.http("GET", path)
             expect(found, status, path)
@@ -175,7 +179,18 @@ def test_the_sources_are_chosen_by_name(served: Served, each: Each) -> None:
     with each("irr"):
         place = f"http://127.0.0.1:{one.door.http_port}/views/ALL"
         ran = one.tool("filter", "-s", place, "frr", "X", "AS1:AS-ALL", "-")
-        expect((ran.status, ran.printed.count(b" permit ")), (0, 2), f"{ran}")
+        expect((ran.status, ran.printed.count(b" permit ")), (0, 2), f"{ran.said!r}")
+        states = {source["name"]: source["state"] for source in one.status()["sources"]}
+        head = [
+            f"! Made by irr filter of AS1:AS-ALL at {place}",
+            f"! source TEST, state {states['TEST']}",
+            f"! source RIPE, state {states['RIPE']}, serial {one.nrtm.last}",
+        ]
+        expect(ran.printed.decode().splitlines()[:3], head, "what it was made of")
+        ran = one.tool("why", "-s", place, "10.0.1.0/24", "AS1:AS-ALL")
+        expect(ran.status, 0, f"{ran}")
+        for name in "as-set AS1:AS-ALL (TEST)", "route 10.0.1.0/24 AS3 (RIPE)":
+            expect(name in ran.printed.decode(), True, f"{name}: {ran.printed!r}")
 
 
 @pytest.mark.skipif(not BGPQ4, reason="bgpq4 is not here")

@@ -2,7 +2,7 @@
 or not at all."""
 import argparse
 import sys
-from typing import Iterator
+from typing import Any, Iterator
 
 from irr.errors import ARGUMENTS, DONE, REFUSED, Failure
 from irr.filters import sets, settings
@@ -79,7 +79,10 @@ def run(options: argparse.Namespace) -> int:
     widest = read_words(options)
     place = server.Server.from_options(options.server, options.plain)
     try:
+        before = place.view()
         found = ranges(place, options.set, options.missing)
+        if before != place.view():
+            raise Failure(place.url, "the view has changed meanwhile; ask again")
         if wide := [one.text() for one in found if one.prefix.length < widest]:
             raise Failure(
                 options.set,
@@ -90,7 +93,7 @@ def run(options: argparse.Namespace) -> int:
         text = "".join(
             line + "\n"
             for line in FORMATS[options.format](
-                options.name, found, f"{options.set.upper()} at {texts.shown_line(place.url)}"
+                options.name, found, [f"{options.set.upper()} at {place.url}", *made_of(before)]
             )
         )
         if options.file == "-":
@@ -166,9 +169,24 @@ def ranges(place: server.Server, name: str, without_missing: bool) -> list[Range
     return found
 
 
-def bird(name: str, found: list[Range], origin: str) -> Iterator[str]:
+def comments(mark: str, origin: list[str]) -> Iterator[str]:
+    """What a filter begins with: of what it was made."""
+    yield f"{mark} Made by irr filter of {texts.shown_line(origin[0])}"
+    yield from (f"{mark} {texts.shown_line(line)}" for line in origin[1:])
+
+
+def made_of(view: dict[str, Any]) -> Iterator[str]:
+    """The sources of a view, each with its state, and the ROAs by which routes were left out."""
+    for one in view.get("sources", []):
+        serial = f", serial {one.get('serial')}" if one.get("serial") is not None else ""
+        yield f"source {one.get('name')}, state {one.get('state')}{serial}"
+    if view.get("roas"):
+        yield f"ROAs, state {view['roas']}"
+
+
+def bird(name: str, found: list[Range], origin: list[str]) -> Iterator[str]:
     """A constant for BIRD 2, which writes the lengths after each prefix."""
-    yield f"# Made by irr filter of {origin}"
+    yield from comments("#", origin)
     yield f"define {name} = ["
     for place, one in enumerate(found, 1):
         yield f"    {one.prefix.text()}{{{one.low},{one.high}}}" + (
@@ -177,9 +195,9 @@ def bird(name: str, found: list[Range], origin: str) -> Iterator[str]:
     yield "];"
 
 
-def frr(name: str, found: list[Range], origin: str) -> Iterator[str]:
+def frr(name: str, found: list[Range], origin: list[str]) -> Iterator[str]:
     """A prefix-list for FRR, which refuses what it does not name."""
-    yield f"! Made by irr filter of {origin}"
+    yield from comments("!", origin)
     for place, one in enumerate(found, 1):
         least = f" ge {one.low}" if one.low > one.prefix.length else ""
         most = f" le {one.high}" if one.high > one.prefix.length else ""

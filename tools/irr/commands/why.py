@@ -89,7 +89,13 @@ def table(chains: list[list[Step]]) -> list[str]:
     for place, chain in enumerate(chains):
         rows += [[]] if place else []
         rows += [
-            [f"  {step.name}", by(step.maintainers), step.says, step.range_text()] for step in chain
+            [
+                f"  {step.name}" + (f" ({step.source})" if step.source else ""),
+                by(step.maintainers),
+                step.says,
+                step.range_text(),
+            ]
+            for step in chain
         ]
     return texts.columns(rows)
 
@@ -111,6 +117,7 @@ def json_text(
                 "mnt-by": step.maintainers,
                 "says": step.says,
                 "range": step.range.text() if step.range else None,
+                **({"source": step.source} if step.source else {}),
             }
             for step in chain
         ]

@@ -15,6 +15,7 @@ from irr.door.pool import DUMP, Refused
 from irr.door.queries import Asker
 from irr.door.status import Status
 from irr.door.submissions import Submissions, TooMuch
+from irr.door.views import ViewPool
 from irr.rpsl import keys
 
 # The longest head, its most fields, and the bytes of it that name a path.
@@ -163,10 +164,10 @@ class Http(Connection):
             "POST"
             if path == "/submissions"
             else "GET"
-            if path == "/dump" or path.startswith("/query/")
+            if path == "/dump" or path.startswith("/query/") or path != request.path
             else ""
         )
-        if not allowed:
+        if not allowed or not path:
             raise Bad(404)
         if request.method != allowed:
             raise Bad(405, f"Allow: {allowed}\r\n")
@@ -216,6 +217,12 @@ class Http(Connection):
                 await self.dump(request)
                 return
             pool, path = self.door.pool.views.at(request.path)
+            if isinstance(pool, ViewPool) and path == "/state":
+                self.begin_reply("http", "answered")
+                text = pool.made_of()
+                head = reply_head(200, len(text), request.is_kept)
+                self.finish(request, head, InMemory(text))
+                return
             query = unquote_to_bytes(path[7:])
             answer = await Asker(pool, self.client).ask(query)
             self.begin_reply("http", outcome_of(answer.text))

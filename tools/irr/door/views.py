@@ -1,5 +1,6 @@
 """Views beside the registry: which of them answers whom who asks by sources."""
 import dataclasses
+import json
 from typing import Any, Optional
 
 from irr.door.pool import Pool
@@ -47,6 +48,17 @@ class ViewPool(Pool):
         """What is told of it: its sources, each with its state, and its replicas."""
         return {"serves": self.answers, **self.told.get("view", {"name": self.name or None})}
 
+    def made_of(self) -> bytes:
+        """What everybody may know of what it is made of: the states of its sources, and the
+        ROAs."""
+        view = self.told.get("view", {})
+        sources = [
+            {name: one.get(name) for name in ("name", "state", "serial")}
+            for one in view.get("sources", [])
+        ]
+        told = {"name": self.name, "sources": sources, "roas": view.get("roas", "")}
+        return json.dumps(told).encode() + b"\n"
+
 
 class Views:
     """The registry, and the views that are served beside it."""
@@ -78,13 +90,14 @@ class Views:
         return next((one for one in self.pools if names and names in (one.name, one.sources)), None)
 
     def at(self, path: str) -> tuple[Pool, str]:
-        """What answers a path of HTTP, and the path there: a view has `/views/NAME/query/..`, and
-        no other."""
+        """What answers a path of HTTP, and the path there: below `/views/NAME` are `/query/..` and
+        `/state` alone."""
         if not path.startswith("/views/"):
             return self.main, path
         name, mark, rest = path[7:].partition("/")
         pool = self.chosen(name)
-        return (pool, mark + rest) if pool and rest.startswith("query/") else (self.nowhere, "")
+        is_known = rest.startswith("query/") or rest == "state" and isinstance(pool, ViewPool)
+        return (pool, mark + rest) if pool and is_known else (self.nowhere, "")
 
     def known(self) -> str:
         """What there is, in words."""

@@ -71,12 +71,14 @@ class Link(NamedTuple):
 
 class Step(NamedTuple):
     """An object of a chain: its class and key, its maintainers, or None where it is not registered,
-    what it says of the next one, and the range that comes of it. Nothing is left of None."""
+    what it says of the next one, the range that comes of it, and in a view the source that it is
+    of. Nothing is left of None."""
 
     name: str
     maintainers: list[str] | None
     says: str
     range: Range | None
+    source: str
 
     def range_text(self) -> str:
         return self.range.text() if self.range else "nothing"
@@ -347,20 +349,27 @@ class References:
         found: list[Step] = []
         if leaf.route:
             by = holders.by(leaf.route)
-            found.append(Step(object_name(leaf.route), by, "", leaf.range))
+            source = source_in_view(leaf.route)
+            found.append(Step(object_name(leaf.route), by, "", leaf.range, source))
         held: tuple[int, int] | None = leaf.range.low, leaf.range.high
         for node, link in zip(reversed(nodes), reversed(links)):
             held = applied(link.operator, *held) if held else None
             own = Range(leaf.range.prefix, *held) if held else None
-            found.append(Step(name_of(node), self.maintainers(node), link.says, own))
+            there = self.there(node)
+            source = source_in_view(there) if there else ""
+            found.append(Step(name_of(node), self.maintainers(node), link.says, own, source))
         return found[::-1]
+
+    def there(self, node: Node) -> Paragraph | None:
+        """The object that is reached; None where it is not registered, or never is."""
+        if node in ANY:
+            return None
+        return self.number_of(node) if isinstance(node, int) else self.set_of(node)
 
     def maintainers(self, node: Node) -> list[str] | None:
         """Who may change what is reached; nobody the sets that are never registered."""
-        if node in ANY:
-            return []
-        found = self.number_of(node) if isinstance(node, int) else self.set_of(node)
-        return holders.by(found) if found else None
+        found = self.there(node)
+        return [] if node in ANY else holders.by(found) if found else None
 
     # What is near.
 
@@ -431,6 +440,15 @@ def origin_of(route: Paragraph) -> int:
 def leaf_of(route: Paragraph) -> Leaf:
     prefix = keys.read_prefix(route.value(b"route")) or Prefix(0, 0)
     return Leaf(Range(prefix, prefix.length, prefix.length), route)
+
+
+def source_in_view(found: Paragraph) -> str:
+    """The source that an object of a view is of, which is the comment on its `source`; nothing
+    elsewhere."""
+    for one in found.attributes:
+        if one.name == b"source":
+            return keys.read_source(one.lines[0].partition(b"#")[2].strip()) or ""
+    return ""
 
 
 def object_name(found: Paragraph) -> str:

@@ -2,12 +2,13 @@
 import argparse
 import contextlib
 import http.client
+import json
 import os
 import re
 import socket
 import ssl
 import time
-from typing import Iterator
+from typing import Any, Iterator
 from urllib.parse import quote, urlsplit
 
 from irr.errors import ARGUMENTS, Failure, reading, system_words
@@ -169,6 +170,18 @@ class Server:
             self.url,
             "two answers differ: one was cut off, or the registry has changed; ask again",
         )
+
+    @reading("the server's answer")
+    def view(self) -> dict[str, Any]:
+        """What the view is made of that a door serves at this address, below `/views/`; nothing at
+        another one."""
+        if not self.path.rpartition("/")[0].endswith("/views"):
+            return {}
+        reply = self.ask("GET", "/state", replies.ANSWER._replace(most=1 << 20))
+        found = json.loads(b"".join(self.body_of(reply)))
+        if not isinstance(found, dict) or not isinstance(found.get("sources"), list):
+            raise Failure(self.url, "this is not a view; correct the address")
+        return found
 
     @reading("the server's answer")
     def submit(self, text: bytes) -> Iterator[bytes]:

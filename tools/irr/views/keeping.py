@@ -28,7 +28,9 @@ class View:
         self.shrunk: dict[str, tuple[State, str]] = {}
         self.faults: dict[str, str] = {}
         self.told: dict[str, Told] = {}
+        # The ROAs, and those of what is served.
         self.roas: roas.Read | None = None
+        self.served: roas.Read | None = None
         self.marks = ""
         for one in settings.sources:
             if state := sources.state_in(self.place(one, "now")):
@@ -144,6 +146,7 @@ class View:
                     self.states[one.name].put()
         files.sync_folder(self.folder)
         self.marks = self.mark()
+        self.served = self.roas
 
     def mark(self) -> str:
         """What a merge is made of."""
@@ -159,7 +162,7 @@ class View:
         return {
             "view": {
                 "name": self.settings.name,
-                "roas": self.settings.roas,
+                "roas": self.served.state() if self.served else "",
                 "doubts": self.roas.doubts if self.roas else [],
                 "lines": self.lines(),
                 "sources": [self.status_of(one) for one in self.settings.sources],

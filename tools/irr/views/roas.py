@@ -2,6 +2,7 @@
 route (RFC 6811)."""
 import calendar
 import csv
+import hashlib
 import json
 import math
 import time
@@ -56,6 +57,10 @@ class Read(NamedTuple):
 
     roas: set[Roa]
     doubts: list[str]
+
+    def state(self) -> str:
+        """A short name of the ROAs."""
+        return hashlib.sha256(repr(sorted(self.roas)).encode()).hexdigest()[:16]
 
     def table(self) -> Table:
         """The ROAs by their prefix."""

@@ -186,6 +186,36 @@ def test_a_source_is_followed_by_nrtm(followed: World, trial: Trial) -> None:
         expect(len(world.files.asked), dumps, "how often a file was asked for")
 
 
+def test_roas_leave_out_what_is_invalid(world: World) -> None:
+    """Or only count it; and a file of them that can't be read leaves the view as it was."""
+    path = world.folder / "vrps.csv"
+    path.write_text("ASN,IP Prefix,Max Length,Trust Anchor\nAS3,10.0.7.0/24,24,x\n")
+    asked_for = (world.folder / "view.toml").read_text()
+    for words, count in [("", 39), ("keep_invalid = true\n", 40)]:
+        text = f'roas = "{path}"\n{words}{asked_for}'
+        (world.folder / "view.toml").write_text(text)
+        world.view = View(settings.read(str(world.folder / "view.toml")))
+        expect(world.renew(), True, f"a view with {words!r}")
+        expect(world.routes_seen(), count, words)
+        expect(world.view.told["RIPE"].invalid, 1, words)
+        expect("invalid by ROAs" in world.view.told["RIPE"].line("RIPE"), True, words)
+    for spoilt in "", "ASN,IP Prefix,Max Length\nAS3,10.0.7.0/24,33\n":
+        path.write_text(spoilt)
+        with pytest.raises(Failure, match="vrps.csv: "):
+            world.view.make(world.folder, world.known)
+
+
+def test_a_stop_between_two_states_loses_neither(world: World) -> None:
+    """A source whose new state was not yet in place has the one of before."""
+    expect(world.renew(), True, "the first time")
+    folder = world.view.folder / "sources" / "RIPE"
+    (folder / "now").rename(folder / "before")
+    world.files.texts["/ripe.db.route.gz"] = 500
+    world.view = View(world.view.settings)
+    expect(world.renew(), False, "after a stop")
+    expect("status 500" in fault(world), True, fault(world))
+
+
 def seen(answer: str) -> set[tuple[int, str]]:
     """The routes of an answer, each with its words."""
     found = set()

@@ -33,7 +33,10 @@ class View:
         self.served: roas.Read | None = None
         self.marks = ""
         for one in settings.sources:
-            if state := sources.state_in(self.place(one, "now")):
+            now, before = self.place(one, "now"), self.place(one, "before")
+            if before.exists() and not now.exists():
+                before.rename(now)
+            if state := sources.state_in(now):
                 self.states[one.name] = state
 
     def place(self, source: Source, name: str) -> Path:
@@ -135,9 +138,12 @@ class View:
         for one in self.settings.sources:
             state = self.new.pop(one.name, None)
             if state:
-                now = self.place(one, "now")
-                shutil.rmtree(now, ignore_errors=True)
+                now, before = self.place(one, "now"), self.place(one, "before")
+                shutil.rmtree(before, ignore_errors=True)
+                if now.exists():
+                    now.rename(before)
                 state.folder.rename(now)
+                shutil.rmtree(before, ignore_errors=True)
                 self.states[one.name] = state._replace(folder=now)
             if one.name in self.told and one.name in self.states:
                 counts = self.told[one.name].counts

@@ -241,6 +241,8 @@ def test_settings_name_what_is_wrong(tmp_path: Path) -> None:
         ('"/x"\n[', '"/x"\nport = [0]\n[', "it takes ports"),
         ('"/x"\n[', '"/x"\nagent = 4445\n[', "a port appears twice"),
         ('dump = "/x"', 'dump = "http://192.0.2.1/x"', "can be changed on the way"),
+        ('dump = "/x"', 'registry = "http://192.0.2.1"', "can be changed on the way"),
+        ('dump = "/x"', 'registry = "x"', "this is not an address"),
         ('dump = "/x"', 'dump = "/x"\nnrtm = "a"', "`nrtm` needs `serial`"),
         ('dump = "/x"', 'dump = "/x"\nserial = "/x"\nnrtm = "a:x"', "`nrtm` is HOST or HOST:PORT"),
         ('dump = "/x"', 'dump = "/x"\nserial = "/x"\nnrtm = "a"', "NRTM can be changed"),

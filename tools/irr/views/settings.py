@@ -4,6 +4,7 @@ from typing import Any, NamedTuple
 from urllib.parse import urlsplit
 
 from irr.errors import SETTINGS, Failure, reading
+from irr.registry.server import Server
 from irr.rpsl import keys
 from irr.system import files
 
@@ -126,7 +127,10 @@ def read_source(thing: str, table: dict[str, Any]) -> Source:
             host, port = "", 0
         if not host or not 0 < port < 65_536:
             raise Failure(thing, "`nrtm` is HOST or HOST:PORT; correct it", SETTINGS)
-    for text in (*one.dump, one.serial):
+    if one.registry:
+        # It looks at the address, and asks nothing.
+        Server(one.registry, True)
+    for text in (one.registry, *one.dump, one.serial):
         if is_address(text) and not one.plain and not is_safe(text):
             raise Failure(
                 thing,

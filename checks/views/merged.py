@@ -1,7 +1,6 @@
 """Several registries by chance, and what a view of them is: from what MIRRORING and MOVING say of
 it, and not from the code that is tried."""
 import functools
-from collections.abc import Sequence
 from typing import NamedTuple
 
 from hypothesis import strategies as st
@@ -12,6 +11,7 @@ from checks.rpsl import Choices, Object, Prefix, Registry
 
 SOURCES = ("TEST", "RIPE", "RADB")
 SCOPES = (*SOURCES, "ARIN")
+ANY = ("AS-ANY", "RS-ANY")
 Roas = list[tuple[Prefix, int, int]]
 
 
@@ -72,7 +72,20 @@ def merged(several: Several) -> Registry:
         for held in registry.objects:
             if not is_invalid(held, several.roas):
                 first.setdefault(key_of(held), (name, held))
-    return Registry(tuple(unscoped(held, first) for _, held in first.values()))
+    # A set that an earlier source has too is there by a name of its own, if it is named so.
+    waiting, found, apart = [held for _, held in first.values()], [], set[tuple[str, str]]()
+    while waiting:
+        held, wanted = unscoped(waiting.pop(), several, first)
+        found.append(held)
+        for source, name in wanted - apart:
+            apart.add((source, name))
+            own = next(
+                one
+                for one in several.registries[source].objects
+                if one.kind in rpsl.SETS and one.key == name
+            )
+            waiting.append(Object(((own.kind, f"{name}--{source}"), *own.attributes[1:])))
+    return Registry(tuple(found))
 
 
 def is_invalid(held: Object, roas: Roas) -> bool:
@@ -82,7 +95,12 @@ def is_invalid(held: Object, roas: Roas) -> bool:
     return models.validity(prefix, int(held.values("origin")[0][2:]), roas) == "invalid"
 
 
-def unscoped(held: Object, first: dict[tuple[str, str], tuple[str, Object]]) -> Object:
+def unscoped(
+    held: Object, several: Several, first: dict[tuple[str, str], tuple[str, Object]]
+) -> tuple[Object, set[tuple[str, str]]]:
+    """An object without names of registries, and the sets that it names by their own source."""
+    wanted = set()
+
     def kept(item: str) -> str | None:
         source, mark, name = item.partition("::")
         if not mark:
@@ -91,7 +109,12 @@ def unscoped(held: Object, first: dict[tuple[str, str], tuple[str, Object]]) -> 
         if source not in SOURCES or front in ("AS-ANY", "RS-ANY"):
             return None
         owners = [first[kind, front][0] for kind in rpsl.SETS if (kind, front) in first]
-        return None if owners and owners != [source] else name
+        if not owners or owners == [source]:
+            return name
+        if any((front == one.key) for one in several.registries[source].objects):
+            wanted.add((source, front))
+            return f"{front}--{source}" + name[len(front) :]
+        return None
 
     attributes = []
     for attribute, value in held.attributes:
@@ -102,15 +125,9 @@ def unscoped(held: Object, first: dict[tuple[str, str], tuple[str, Object]]) -> 
             value = ", ".join(item for item in value.split(", ") if "RS-" in item)
         if value:
             attributes.append((attribute, value))
-    return Object(tuple(attributes))
+    return Object(tuple(attributes)), wanted
 
 
-def names(several: Several) -> Sequence[str]:
+def names(merged_one: Registry) -> list[str]:
     """The names of all sets."""
-    found = {
-        held.key: None
-        for one in several.registries.values()
-        for held in one.objects
-        if held.kind in rpsl.SETS
-    }
-    return [*found, "AS-ANY", "RS-ANY"]
+    return [held.key for held in merged_one.objects if held.kind in rpsl.SETS] + list(ANY)

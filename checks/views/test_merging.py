@@ -82,7 +82,7 @@ def objects_in(text: str) -> dict[tuple[str, str], rpsl.Object]:
 def test_a_view_is_the_merge_of_its_sources(program: str, monkeypatch: pytest.MonkeyPatch) -> None:
     """Its objects, with the source of each, and what each set stands for."""
     monkeypatch.setenv("IRRDESK", program)
-    seen = {"sets": 0, "missing": 0, "scoped": 0, "invalid": 0}
+    seen = {"sets": 0, "missing": 0, "scoped": 0, "apart": 0, "invalid": 0}
 
     @settings(max_examples=1_000 if LONG else 50, deadline=None, phases=[Phase.generate])
     @given(merged.several())
@@ -96,7 +96,7 @@ def test_a_view_is_the_merge_of_its_sources(program: str, monkeypatch: pytest.Mo
             ).stdout.decode("latin-1")
             need_objects(objects_in(dump), wanted)
             model = Expansion(wanted)
-            for name in merged.names(several):
+            for name in merged.names(wanted):
                 if not model.is_there(name):
                     continue
                 answer = asked(program, folder, "prefixes", name)
@@ -105,6 +105,7 @@ def test_a_view_is_the_merge_of_its_sources(program: str, monkeypatch: pytest.Mo
                 assert missing == model.missing(name), name
                 seen["sets"] += 1
                 seen["missing"] += bool(missing)
+        seen["apart"] += sum("--" in held.key for held in wanted.objects)
         seen["scoped"] += "::" in "".join(one.text() for one in several.registries.values())
         seen["invalid"] += sum(told.invalid for told in view.told.values())
 

@@ -284,6 +284,10 @@ class Import:
         place = self.taken[kind].get(name)
         return OF_ANOTHER if place is not None and self.source_numbers[place] != number else ""
 
+    def named(self, source: str, item: bytes) -> bytes:
+        """What an item becomes that named a registry, and stays."""
+        return item
+
     def routes_beside(self) -> int:
         """How many routes have an origin without an aut-num."""
         known = self.taken[AUT_NUM]
@@ -421,7 +425,7 @@ class Import:
             return text
         attributes = syntax.read_any(text).attributes
         if is_scoped:
-            attributes, _ = unscoped(attributes, self.refusal)
+            attributes, _ = unscoped(attributes, self.refusal, self.named)
         if has_new_name:
             attributes = renamed(attributes, self.new_names)
         if given:

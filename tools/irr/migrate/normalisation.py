@@ -411,10 +411,13 @@ def source_place(attributes: list[Attribute]) -> int:
 
 
 def unscoped(
-    attributes: list[Attribute], refusal: Callable[[str, bytes], str]
+    attributes: list[Attribute],
+    refusal: Callable[[str, bytes], str],
+    named: Callable[[str, bytes], bytes] = lambda _, item: item,
 ) -> tuple[list[Attribute], list[Dropped]]:
-    """The attributes of an object whose scoped items have lost the registry, or are gone where
-    `refusal` has a cause for the registry and the item; and what is gone."""
+    """The attributes of an object whose scoped items are what is `named` there without the
+    registry, or are gone where `refusal` has a cause for the registry and the item; and what is
+    gone."""
     scoped = READ[NUMBERS[attributes[0].name]] & {b"members", b"member-of"}
     kept: list[Attribute] = []
     gone: list[Dropped] = []
@@ -426,10 +429,13 @@ def unscoped(
 
         def bare(item: bytes) -> bytes | None:
             found = SCOPED.fullmatch(item)
-            cause = refusal(found[1].decode().upper(), found[2]) if found else ""
+            if not found:
+                return item
+            source = found[1].decode().upper()
+            cause = refusal(source, found[2])
             if cause:
                 gone.append(Dropped(name, item, cause))
-            return None if cause else found[2] if found else item
+            return None if cause else named(source, found[2])
 
         changed = with_items(attribute, ITEM, bare)
         if changed is not None:

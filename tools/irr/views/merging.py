@@ -10,15 +10,17 @@ from irr.migrate.normalisation import (
     NOBODY,
     NUMBERS,
     ROUTE,
+    SETS,
     Dropped,
     LeftOut,
     Mended,
     Mender,
     source_place,
+    unscoped,
 )
 from irr.migrate.parting import Part, parts
 from irr.migrate.report import Place, Tally
-from irr.rpsl import keys
+from irr.rpsl import keys, syntax
 from irr.rpsl.syntax import Attribute
 from irr.views import roas
 from irr.views.settings import Settings
@@ -162,6 +164,11 @@ class Merge(conversion.Import):
         self.own, self.by_source = ViewMender(view.name, table, view.keep_invalid), Counts()
         super().__init__(self.own, {}, self.by_source)
         self.had: dict[str, tuple[list[int], int]] = {}
+        # What is taken now; sets that an earlier source has, and the names of those that are taken
+        # under one of their own, by source and name.
+        self.at: tuple[Part, str]
+        self.beaten: dict[tuple[str, str], tuple[Mended, Part, str]] = {}
+        self.apart: dict[tuple[str, str], str] = {}
 
     @reading("a file")
     def read_states(self, states: dict[str, State]) -> None:
@@ -209,9 +216,74 @@ class Merge(conversion.Import):
         # What can't be taken is counted once it is tried.
         return [*(part for part in last.values() if part), *unread]
 
+    def take(self, part: Part, path: str, is_cut: bool = False) -> None:
+        self.at = part, path
+        super().take(part, path, is_cut)
+
     def cause_beside(self, mended: Mended) -> str:
         first = self.source_numbers[self.taken[mended.number][mended.key]]
-        return conversion.DUPLICATE if self.sources[mended.source] == first else EARLIER
+        if self.sources[mended.source] == first:
+            return conversion.DUPLICATE
+        if mended.number in SETS:
+            self.beaten.setdefault((mended.source, str(mended.key)), (mended, *self.at))
+        return EARLIER
+
+    def settle(self) -> None:
+        self.set_apart()
+        super().settle()
+
+    def set_apart(self) -> None:
+        """Takes each set that an earlier source has, and that an item names with its own source,
+        under a name of its own."""
+        waiting = [place for place in self.dropped if "scope" in self.kinds[place]]
+        while waiting:
+            wanted: dict[tuple[str, str], None] = {}
+
+            def note(source: str, item: bytes) -> str:
+                key = source, keys.read_set(item.partition(b"^")[0]) or ""
+                if key in self.beaten and key not in self.apart:
+                    wanted[key] = None
+                return ""
+
+            for place in waiting:
+                unscoped(syntax.read_any(self.text_of(place)).attributes, note)
+            added = [self.take_apart(*key) for key in wanted]
+            waiting = [place for place in added if place is not None]
+            self.spool.flush()
+
+    def take_apart(self, source: str, name: str) -> int | None:
+        """Takes a set under its name and that of its source; where it is, if its items name
+        registries."""
+        mended, part, path = self.beaten[source, name]
+        new = f"{name}--{source}"
+        if keys.read_set(new) != new or new in self.taken[mended.number]:
+            return None
+        first, *rest = syntax.read_any(mended.text).attributes
+        attributes = [first._replace(lines=[new.encode()]), *rest]
+        text = syntax.Paragraph(attributes).text()
+        if len(text) > syntax.LARGEST:
+            return None
+        self.apart[source, name] = new
+        self.paths.append(path)
+        self.keep(mended._replace(key=new, text=text), part)
+        self.tally.causes[EARLIER] -= 1
+        self.by_source.left[source][EARLIER] -= 1
+        place = len(self.starts) - 1
+        return place if "scope" in mended.kinds else None
+
+    def refusal(self, source: str, item: bytes) -> str:
+        cause = super().refusal(source, item)
+        return "" if cause == conversion.OF_ANOTHER and self.own_name(source, item) else cause
+
+    def named(self, source: str, item: bytes) -> bytes:
+        front, hat, rest = item.partition(b"^")
+        is_of_another = super().refusal(source, item) == conversion.OF_ANOTHER
+        own = self.own_name(source, item) if is_of_another else ""
+        return own.encode() + hat + rest if own else item
+
+    def own_name(self, source: str, item: bytes) -> str:
+        """The name of a set that was taken apart."""
+        return self.apart.get((source, keys.read_set(item.partition(b"^")[0]) or ""), "")
 
     def known_sources(self) -> set[int]:
         return set(self.sources.values())
@@ -225,7 +297,7 @@ class Merge(conversion.Import):
                 counts,
                 taken[name],
                 invalid,
-                dict(self.by_source.left[name]),
+                dict(+self.by_source.left[name]),
                 dict(self.by_source.lost[name]),
             )
             for name, (counts, invalid) in self.had.items()

@@ -60,7 +60,8 @@ def test_passwords_are_made_saved_asked_and_given(trial: Trial, tool: Tool, tell
             True,
             "an asked one",
         )
-        for words, status in ([], 2), (["--short"], 0):
+        tried: list[tuple[list[str], int]] = [([], 2), (["--short"], 0)]
+        for words, status in tried:
             ran = tool.on_terminal("auth", "--ask", *words, typed=b"fourteen chars\nfourteen chars")
             is_refused = b"fewer than 15 characters" in ran.printed
             expect((ran.status, is_refused), (status, status == 2), f"a short one: {words}")

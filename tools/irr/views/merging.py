@@ -48,7 +48,9 @@ class Counts(Tally):
     def begin(self, source: str) -> None:
         self.left[source], self.lost[source] = Counter(), Counter()
 
-    def leave_out(self, cause: str, place: Place, text: bytes, further: Iterable[int] = ()) -> None:
+    def leave_out(
+        self, cause: str, place: Place, text: bytes, further: Iterable[tuple[int, bytes]] = ()
+    ) -> None:
         self.left[self.source_of[place.path]][cause] += 1
         super().leave_out(cause, place, text, further)
 

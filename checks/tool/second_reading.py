@@ -464,8 +464,8 @@ class Registry:
 
 
 def odd(dump: bytes, registry: Registry) -> Iterator[tuple[object, ...]]:
-    """What is odd about the objects of a registry: the lines with `#`, `%` or a CR first, as they
-    are shown, and the first lines of those that have no `source`."""
+    """What is odd about the objects of a registry: the lines with `#` or `%` first, or a CR that is
+    not at the end, as they are shown, and the first lines of those that have no `source`."""
     lines = dump.decode("latin-1").split("\n")
     left_out = set(registry.causes)
     for piece in registry.pieces:
@@ -479,6 +479,6 @@ def odd(dump: bytes, registry: Registry) -> Iterator[tuple[object, ...]]:
             if place + 1 in (other.line for other in registry.pieces):
                 break
         for number in range(piece.line, place):
-            if lines[number][0] in "#%\r":
-                text = lines[number].rstrip(BLANKS)
+            text = lines[number].rstrip(BLANKS)
+            if text[0] in "#%" or "\r" in text:
                 yield number + 1, text.replace("\r", "\\x0d").replace("\t", "\\x09")

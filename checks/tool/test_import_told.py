@@ -165,6 +165,22 @@ def test_a_line_of_a_cr_alone_is_blank() -> None:
     ]
 
 
+def test_an_object_inside_a_line_is_told():
+    """Whose lines end in CR alone, as a file of another kind has them."""
+    inside = "remarks: x\raut-num: AS2\rmnt-by: B-MNT\rsource: RIPE\rnext: y"
+    text = obj("aut-num: AS1", "mnt-by: A-MNT", inside, "+ \r more", "descr: x \r\r ", "source: X")
+    cause = "a line with a CR inside, which may be the end of a line"
+    assert (
+        told(text)
+        == told(text.replace(b"\n", b"\r\n"))
+        == [
+            (cause, 3, "aut-num: AS1", inside.replace("\r", "\\x0d")),
+            (cause, 4, "aut-num: AS1", "+ \\x0d more"),
+        ]
+    )
+    assert f"taken, {cause}: 2\n" in "\n".join(made(text)[1].lines())
+
+
 def test_odd_lines_of_what_is_left_out_are_not_told() -> None:
     text = obj(*A, "# x") + obj(*A, "# y") + obj("person: Jo", "# z", "source: RIPE")
     assert [one[-1] for one in told(text)] == ["# x"]

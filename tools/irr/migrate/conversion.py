@@ -51,6 +51,7 @@ ALL_OF_ONE = "all of one registry of several"
 DUPLICATE, NAMESAKE = "duplicate", "a name of another registry"
 # What is odd about a line of an object that is taken.
 COMMENT, CR = "a line with # or % first, which is not kept", "a line with a CR first, which goes on"
+CR_INSIDE = "a line with a CR inside, which may be the end of a line"
 
 
 class Import:
@@ -262,9 +263,8 @@ class Import:
         for place, lines in self.odd.items():
             for number, line in lines:
                 own = Place(self.place_of(place).path, number)
-                self.tally.tell(
-                    CR if line[:1] == b"\r" else COMMENT, own, self.text_of(place), line
-                )
+                cause = {b"#": COMMENT, b"%": COMMENT, b"\r": CR}.get(line[:1], CR_INSIDE)
+                self.tally.tell(cause, own, self.text_of(place), line)
         for place in self.bare:
             self.tally.tell(NO_SOURCE, self.place_of(place), self.text_of(place))
 

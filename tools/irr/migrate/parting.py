@@ -33,6 +33,8 @@ LATER = re.compile(rb"\n" + CLASS_LINE + rb"|" + SOURCE_LINE)
 SEAM = re.compile(rb"%s[^\n]*\n(?:[ \t\r+#%%][^\n]*\n)*(?=%s)" % (SOURCE_LINE, CLASS_LINE))
 # An item with the first word of another line: a class, or any name, before a colon.
 JOINED_ITEM = re.compile(rb".*(?:%s):(?!:).*|:(?!:).*|.*(?<!:):" % b"|".join(CLASSES), re.I)
+# A CR that ends no line.
+CR_BEFORE = re.compile(rb"\r[ \t\r]*[^ \t\r\n]")
 CUT_OFF = "cut off at the end of the file"
 CLASS_AGAIN = "a class again after the first line"
 SOURCE_AGAIN = "`source` twice"
@@ -58,16 +60,15 @@ class Part(NamedTuple):
         return [one for one in found if not is_source(one[1])] or found[1:]
 
     def odd_lines(self) -> tuple[tuple[int, bytes], ...]:
-        """The lines with `#` or `%` first, which are not kept, and those with a CR first, which go
-        on with the line before: each with its number in the file."""
+        """The lines with `#` or `%` first, which are not kept, those with a CR first, which go on
+        with the line before, and those with a CR inside: each with its number in the file."""
         text = self.block.text
-        if b"\n#" not in text and b"\n%" not in text and b"\n\r" not in text:
+        has_cr = b"\r" in text and CR_BEFORE.search(text) is not None
+        if b"\n#" not in text and b"\n%" not in text and not has_cr:
             return ()
-        return tuple(
-            (number, line.rstrip(BLANKS))
-            for number, line in enumerate(text.split(b"\n"), self.block.line)
-            if line[:1] in (b"#", b"%", b"\r") and line.strip(BLANKS)
-        )
+        numbered = enumerate(text.split(b"\n"), self.block.line)
+        lines = ((number, line.rstrip(BLANKS)) for number, line in numbered)
+        return tuple(one for one in lines if one[1][:1] in (b"#", b"%") or b"\r" in one[1])
 
 
 def parts(block: Block) -> list[Part]:

@@ -117,6 +117,24 @@ def test_a_scope_that_is_not_imported() -> None:
     assert report[place + 1].endswith("as-set: AS-X  members  RADB::AS-Y")
 
 
+def test_a_scoped_item_that_is_dropped_is_told_as_it_was_read() -> None:
+    """And its host bits are mended only where it stays."""
+    text = of("RIPE", "route-set: RS-X", "members: RADB::192.0.2.5/24^+, RADB::10.0.0.1/8")
+    dump, tally = made(text)
+    assert [line.split("\t")[-1] for line in left_out(text)] == [
+        "RADB::192.0.2.5/24^+",
+        "RADB::10.0.0.1/8",
+    ]
+    assert (tally.mended["host-bits"], tally.mended["scope"]) == (0, 1)
+    assert "members" not in texts_of(dump, "route-set")[0]
+    for more in {}, {"keeps_scoped": True}:
+        own = text if more else text.replace(b"RADB::", b"RIPE::")
+        dump, tally = made(own, **more)
+        assert "members:        192.0.2.0/24^+, 10.0.0.0/8\n" in texts_of(dump, "route-set")[0]
+        assert (tally.mended["host-bits"], tally.items.causes.total()) == (1, 0)
+    assert made(text, off=["host-bits"])[1].causes == {"not mended because of --no-host-bits": 1}
+
+
 def test_kept_scopes() -> None:
     text = of("RIPE", "as-set: AS-X", "members: RADB::AS-Y")
     dump, tally = made(text, keeps_scoped=True)

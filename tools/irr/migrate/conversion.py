@@ -257,7 +257,10 @@ class Import:
         for place, gone in self.dropped.items():
             if "scope" in self.kinds[place]:
                 attributes = syntax.read_any(self.text_of(place)).attributes
-                gone = (*gone, *unscoped(attributes, self.refusal)[1])
+                _, scoped, had_host_bits = unscoped(attributes, self.refusal)
+                gone = (*gone, *scoped)
+                if had_host_bits:
+                    self.kinds[place] |= {"host-bits"}
             for dropped in gone:
                 self.tally.drop(dropped, self.place_of(place), self.text_of(place))
         for place, lines in self.odd.items():
@@ -425,7 +428,7 @@ class Import:
             return text
         attributes = syntax.read_any(text).attributes
         if is_scoped:
-            attributes, _ = unscoped(attributes, self.refusal, self.named)
+            attributes, *_ = unscoped(attributes, self.refusal, self.named)
         if has_new_name:
             attributes = renamed(attributes, self.new_names)
         if given:

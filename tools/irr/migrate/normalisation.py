@@ -282,8 +282,13 @@ class Mender:
         kept = self.scoped(item, lambda name: is_member(number, name))
         if kept is None or b"/" not in kept:
             return kept
-        scope, mark, name = kept.rpartition(b"::")
-        return scope + mark + self.zeroed(name)
+        scope, _, name = kept.rpartition(b"::")
+        if not scope:
+            return self.zeroed(name)
+        # It may be dropped: `unscoped` mends what stays.
+        if "host-bits" in self.off and without_host_bits(name) != name:
+            raise LeftOut(not_mended("host-bits"))
+        return kept
 
     def scoped(self, item: bytes, is_good: Callable[[bytes], bool]) -> bytes | None:
         """An item that can be read once it has no registry before it; None if it can't."""
@@ -414,13 +419,14 @@ def unscoped(
     attributes: list[Attribute],
     refusal: Callable[[str, bytes], str],
     named: Callable[[str, bytes], bytes] = lambda _, item: item,
-) -> tuple[list[Attribute], list[Dropped]]:
-    """The attributes of an object whose scoped items are what is `named` there without the
-    registry, or are gone where `refusal` has a cause for the registry and the item; and what is
-    gone."""
+) -> tuple[list[Attribute], list[Dropped], bool]:
+    """The attributes of an object whose scoped items are what is `named` there without the registry
+    and host bits, or are gone where `refusal` has a cause for the registry and the item; what is
+    gone; and whether any that stays had host bits."""
     scoped = READ[NUMBERS[attributes[0].name]] & {b"members", b"member-of"}
     kept: list[Attribute] = []
     gone: list[Dropped] = []
+    had_host_bits = False
     for attribute in attributes:
         if attribute.name not in scoped or b"::" not in attribute.meaning():
             kept.append(attribute)
@@ -428,6 +434,7 @@ def unscoped(
         name = attribute.name
 
         def bare(item: bytes) -> bytes | None:
+            nonlocal had_host_bits
             found = SCOPED.fullmatch(item)
             if not found:
                 return item
@@ -435,12 +442,15 @@ def unscoped(
             cause = refusal(source, found[2])
             if cause:
                 gone.append(Dropped(name, item, cause))
-            return None if cause else named(source, found[2])
+                return None
+            new = without_host_bits(found[2])
+            had_host_bits |= new != found[2]
+            return named(source, new)
 
         changed = with_items(attribute, ITEM, bare)
         if changed is not None:
             kept.append(changed)
-    return kept, gone
+    return kept, gone, had_host_bits
 
 
 def renamed(attributes: list[Attribute], new: dict[str, bytes]) -> list[Attribute]:

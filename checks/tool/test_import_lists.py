@@ -127,9 +127,9 @@ def test_a_scoped_item_that_is_dropped_is_told_as_it_was_read() -> None:
     ]
     assert (tally.mended["host-bits"], tally.mended["scope"]) == (0, 1)
     assert "members" not in texts_of(dump, "route-set")[0]
-    for more in {}, {"keeps_scoped": True}:
-        own = text if more else text.replace(b"RADB::", b"RIPE::")
-        dump, tally = made(own, **more)
+    for keeps in False, True:
+        own = text if keeps else text.replace(b"RADB::", b"RIPE::")
+        dump, tally = made(own, keeps_scoped=keeps)
         assert "members:        192.0.2.0/24^+, 10.0.0.0/8\n" in texts_of(dump, "route-set")[0]
         assert (tally.mended["host-bits"], tally.items.causes.total()) == (1, 0)
     assert made(text, off=["host-bits"])[1].causes == {"not mended because of --no-host-bits": 1}

@@ -165,7 +165,7 @@ def test_a_line_of_a_cr_alone_is_blank() -> None:
     ]
 
 
-def test_an_object_inside_a_line_is_told():
+def test_an_object_inside_a_line_is_told() -> None:
     """Whose lines end in CR alone, as a file of another kind has them."""
     inside = "remarks: x\raut-num: AS2\rmnt-by: B-MNT\rsource: RIPE\rnext: y"
     text = obj("aut-num: AS1", "mnt-by: A-MNT", inside, "+ \r more", "descr: x \r\r ", "source: X")

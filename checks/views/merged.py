@@ -55,9 +55,9 @@ def of_source(chance: Choices, name: str, held: Object) -> Object:
 
 
 def scoped(chance: Choices, item: str) -> str:
-    """A set with a registry before it now and then."""
+    """A set, of which half have a registry before them."""
     is_set = not models.is_number(item.partition("^")[0]) and not models.is_prefix(item)
-    return f"{chance.of(SCOPES)}::{item}" if is_set and chance.one_in(4) else item
+    return f"{chance.of(SCOPES)}::{item}" if is_set and chance.one_in(2) else item
 
 
 def key_of(held: Object) -> tuple[str, str]:

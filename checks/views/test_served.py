@@ -36,6 +36,17 @@ origin: AS2
 mnt-by: ROOT-MNT
 source: TEST
 
+as-set: AS1:AS-JOINED
+mbrs-by-ref: ROOT-MNT
+mnt-by: ROOT-MNT
+source: TEST
+
+route: 203.0.113.128/25
+origin: AS1
+member-of: AS1:AS-JOINED
+mnt-by: ROOT-MNT
+source: TEST
+
 as-set: AS1:AS-ALL
 members: AS2, AS3
 mnt-by: ROOT-MNT
@@ -147,6 +158,10 @@ def test_the_sources_are_chosen_by_name(served: Served, each: Each) -> None:
             words = f"F One or more selected sources are unavailable: {sources}; {known}\n"
             expect(answer, words + framed("TEST"), sources)
         expect(one.asked("ALL", "!s-lc"), "C\n" + framed("TEST,RIPE"), "what is asked")
+        joined = framed("203.0.113.128/25")
+        for sources in "TEST", "ALL":
+            # A route that names an as-set, which an irrdesk counts.
+            expect(one.asked(sources, "!a4AS1:AS-JOINED"), "C\n" + joined, sources)
         expect(one.asked("ALL", "!a4AS1:AS-FAR"), "C\n" + framed("10.0.1.0/24"), "a scope")
     with each("RIPE's flags"):
         for words, there in [

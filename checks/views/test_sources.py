@@ -198,6 +198,9 @@ def test_roas_leave_out_what_is_invalid(world: World) -> None:
         expect(world.renew(), True, f"a view with {words!r}")
         expect(world.routes_seen(), count, words)
         expect(world.view.told["RIPE"].invalid, 1, words)
+        told = world.view.status()["view"]["roas"]
+        again = View(world.view.settings).status()["view"]["roas"]
+        expect((len(told), again), (16, told), "the state of the ROAs over a restart")
         expect("invalid by ROAs" in world.view.told["RIPE"].line("RIPE"), True, words)
     for spoilt in "", "ASN,IP Prefix,Max Length\nAS3,10.0.7.0/24,33\n":
         path.write_text(spoilt)

@@ -42,6 +42,8 @@ def run(options: argparse.Namespace) -> int:
         agent = replicas.Agent(wanted.agent) if wanted.agent else None
         keeper = Keeper(folder, list(wanted.port), agent, wanted.pause, "irr view")
         keeper.view = View(wanted)
+        # What was served before is asked by its sources at once.
+        keeper.more = keeper.view.status()
         try:
             keeper.keep(keeper.view.make, wanted.limit, every)
         finally:

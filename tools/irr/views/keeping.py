@@ -28,9 +28,10 @@ class View:
         self.shrunk: dict[str, tuple[State, str]] = {}
         self.faults: dict[str, str] = {}
         self.told: dict[str, Told] = {}
-        # The ROAs, and those of what is served.
+        # The ROAs, and the state of those of what is served, which is known over a restart.
         self.roas: roas.Read | None = None
-        self.served: roas.Read | None = None
+        self.kept = self.folder / "roas"
+        self.served = self.kept.read_text(encoding="ascii") if self.kept.exists() else ""
         self.marks = ""
         for one in settings.sources:
             now, before = self.place(one, "now"), self.place(one, "before")
@@ -152,7 +153,10 @@ class View:
                     self.states[one.name].put()
         files.sync_folder(self.folder)
         self.marks = self.mark()
-        self.served = self.roas
+        served = self.roas.state() if self.roas else ""
+        if served != self.served:
+            files.put(self.kept, served.encode(), files.PRIVATE)
+            self.served = served
 
     def mark(self) -> str:
         """What a merge is made of."""
@@ -168,7 +172,7 @@ class View:
         return {
             "view": {
                 "name": self.settings.name,
-                "roas": self.served.state() if self.served else "",
+                "roas": self.served,
                 "doubts": self.roas.doubts if self.roas else [],
                 "lines": self.lines(),
                 "sources": [self.status_of(one) for one in self.settings.sources],

@@ -220,13 +220,14 @@ def test_a_long_submission_is_answered_as_irrdesk_submit_does(
     plain = world.copy(f"long-plain-{kind}")
     wanted = trial.run(plain, "submit", "s.toml", write(plain, "long.rpsl", text))
     with world, wrapped(trial, world) as tool:
-        ran = tool("submit", "--raw", write(world.folder, "long.rpsl", text))
+        ran = tool("submit", "--raw", "--anyway", write(world.folder, "long.rpsl", text))
         expect(
-            (ran.status, ran.printed == wanted.printed, ran.said),
-            (wanted.status, True, b""),
+            (ran.status, ran.printed == wanted.printed, ran.said.count(b"\n")),
+            (wanted.status, True, 1),
             "the report of a file",
         )
-        again = tool("submit", "--raw", "-", stdin=text)
+        expect(b"line 64, `descr`: its line reads as a password" in ran.said, True, "the caution")
+        again = tool("submit", "--raw", "--anyway", "-", stdin=text)
         expect(
             (again.status, again.printed.count(b": unchanged\n")),
             (1, len(parts)),

@@ -273,6 +273,7 @@ class Stores(Folder):
         ) = b"mntner:         A-MNT\n\n", b"mntner:         A-MNT\ndescr:          %s\n\n" % (
             b"x" * syntax.LARGEST
         )
+        settings.path.touch()
         for text, said, is_backup in (
             (long, fault, True),
             (short, fault, False),

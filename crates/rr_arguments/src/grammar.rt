@@ -48,7 +48,8 @@ fn with<'a>(
     command: Result<clap::Command<'a>, AllocError>,
 ) -> Result<clap::Command<'a>, AllocError>
     ensures { (above : App) → (below : App) → IsMade above program.entry
-        → IfOk command.entry (IsMade below) → IfOk result (IsMade (with_subcommand above below.top)) }
+        → IfOk command.entry (IsMade below)
+        → IfOk result (IsMade (with_subcommand above below.top)) }
 {
     program.subcommand(command?)
 }

@@ -6,10 +6,11 @@ ghost use Rattle.std.specs.Str.{bytes_eq};
 ghost use Rattle.clap.specs.Values.{kind_of};
 ghost use Rattle.clap.specs.Walk.{Text, one_of, rows_of};
 ghost use Rattle.clap.specs.Matches.{found_of};
-ghost use Rattle.rr_arguments.specs.CommandLine.{FailsToInvoke, GivesInvoked, GivesPart, Invocation};
-ghost use Rattle.rr_arguments.specs.CommandLine.{IsFlag, IsToldAs, given, helped, invoked, joined};
-ghost use Rattle.rr_arguments.specs.CommandLine.{asks_help, asks_query, invoked_by, invoked_count};
-ghost use Rattle.rr_arguments.specs.CommandLine.{invoked_port, parsed, parsed_or_helped, query};
+ghost use Rattle.rr_arguments.specs.CommandLine.{FailsToInvoke, GivesInvoked, GivesPart};
+ghost use Rattle.rr_arguments.specs.CommandLine.{Invocation, IsFlag, IsToldAs, given, helped};
+ghost use Rattle.rr_arguments.specs.CommandLine.{asks_help, asks_query, invoked, invoked_by};
+ghost use Rattle.rr_arguments.specs.CommandLine.{invoked_count, invoked_port, joined, parsed};
+ghost use Rattle.rr_arguments.specs.CommandLine.{parsed_or_helped, query};
 
 use crate::command::Command;
 use crate::fault::ArgumentsFault;

@@ -60,4 +60,5 @@ CarriesOut g calls reads listens asks serves (command.Probe settings) start end
     × ProbesBy g calls reads settings.now listens asks serves start end writer_old writer_new result
 CarriesOut g calls reads listens asks serves (command.Print text) start end
     reader_old reader_new writer_old writer_new result =
-    (end ≡ start) × (reader_new ≡ reader_old) × Prints (string_bytes text) writer_old writer_new result
+    (end ≡ start) × (reader_new ≡ reader_old)
+    × Prints (string_bytes text) writer_old writer_new result

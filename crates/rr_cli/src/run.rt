@@ -4,7 +4,8 @@ ghost use Rattle.rr_http.specs.DeskRegistrars.{serves_desk};
 ghost use Rattle.std.specs.Prelude.{IfErr, map, string_bytes};
 ghost use Rattle.rr_arguments.specs.CommandLine.{invoked};
 ghost use Rattle.rr_cli.specs.Running.{CarriesOut};
-ghost use Rattle.rr_cli.specs.Runs.{DoesAsInvoked, EndsRun, EndsUnread, IsOfArguments, IsUnread, Runs};
+ghost use Rattle.rr_cli.specs.Runs.{DoesAsInvoked, EndsRun, EndsUnread, IsOfArguments, IsUnread};
+ghost use Rattle.rr_cli.specs.Runs.{Runs};
 
 use crate::network::Network;
 use crate::probing::probe;

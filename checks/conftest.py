@@ -156,8 +156,8 @@ def said(request, program):
     messages."""
     lines = []
     yield lines
-    name = request.module.__name__.rpartition(".test_")[2]
-    keep_said(program, lines, Path(TOP, f"out/said/{name}"))
+    name = request.module.__name__.removeprefix("checks.")
+    keep_said(program, lines, Path(TOP, "out/said", name))
 
 
 @pytest.fixture

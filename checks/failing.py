@@ -6,6 +6,7 @@ import subprocess
 import tempfile
 from concurrent.futures import ThreadPoolExecutor
 
+from checks import messages
 from checks.running import TOP, Failure, expect, run, short
 
 # A number that no count comes to.
@@ -36,6 +37,13 @@ class Failing:
         ran = run([self.trial.program, *words], folder, environment=environment, **options)
         self.said.add(ran.said)
         return ran
+
+    def said_is_of_the_page(self):
+        """That each line that was said so far is of docs/MESSAGES.md; how many lines those are."""
+        lines = [line for text in self.said for line in text.decode(errors="replace").splitlines()]
+        expect(messages.unknown(lines), [], "the lines that docs/MESSAGES.md does not have")
+        met = messages.met(lines) or "none"
+        return f"{len(set(lines))} lines; of those that nothing else meets: {met}"
 
     def copied(self, base, name):
         folder = os.path.join(self.trial.work, name)

@@ -1,5 +1,5 @@
 """Small models to compare with, written from the RFCs and not from the code, and slow."""
-from collections.abc import Iterable
+from collections.abc import Collection, Iterable
 
 from checks.rpsl import Object, Prefix, Registry
 
@@ -129,13 +129,13 @@ class Expansion:
                 found.append((front, hat + rest))
         return found
 
-    def reached(self, name: str) -> set[str]:
-        """The names of sets that a set reaches, itself among them, also those that are not
-        there."""
+    def reached(self, name: str, without: Collection[str] = ()) -> set[str]:
+        """The names of sets that a set reaches, itself among them, also those that are not there;
+        none of those `without`, nor by them."""
         found, waiting = {name}, [name]
         while waiting:
             for other, _ in self.lists(waiting.pop()):
-                if not is_number(other) and other not in found:
+                if not is_number(other) and other not in found and other not in without:
                     found.add(other)
                     waiting.append(other)
         return found
@@ -173,13 +173,14 @@ class Expansion:
             found |= operated(hat + rest, 1 << node_of(read_prefix(front)))
         return found
 
-    def expanded(self, name: str) -> set[str]:
-        """The AS numbers of an as-set."""
+    def expanded(self, name: str, without: Collection[str] = ()) -> set[str]:
+        """The AS numbers of an as-set, without some, and without those of some sets alone."""
         return {
             number
-            for other in self.reached(name)
+            for other in self.reached(name, without)
             if self.is_there(other)
             for number in self.numbers_in(other)
+            if number not in without
         }
 
 

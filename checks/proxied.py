@@ -12,11 +12,16 @@ import sys
 import time
 from pathlib import Path
 
-from checks.running import TOP, Failure, write
+from checks.running import PATIENCE, TOP, Failure, write
 from checks.serving import free_port, read_all
 
 HOST = "irr.example.net"
-PAGE = {path.name: path.read_bytes() for path in sorted(Path(TOP, "web").iterdir())}
+WEB = Path(TOP, "web")
+PAGE = {
+    str(path.relative_to(WEB)): path.read_bytes()
+    for path in sorted(WEB.rglob("*"))
+    if path.is_file()
+}
 # A user of the door, and the hash of the password as crypt(5) has it, of few rounds.
 USER, PASSWORD = "holder", "a word of the door"
 
@@ -85,9 +90,7 @@ class Door:
         self.cert, self.key = certificate(trial.work)
         os.chmod(self.folder, 0o755)
         web = os.path.join(self.folder, "web")
-        os.mkdir(web)
-        for page, text in PAGE.items():
-            write(web, page, text)
+        shutil.copytree(WEB, web)
         self.context = ssl.create_default_context(cafile=self.cert)
         self.door_port, self.status_port = free_port(), free_port()
         self.door = subprocess.Popen(
@@ -106,7 +109,7 @@ class Door:
             stdout=open(os.path.join(self.folder, "log"), "wb"),
             stderr=subprocess.STDOUT,
         )
-        end = time.monotonic() + 60
+        end = time.monotonic() + PATIENCE
         while not self.listens():
             if self.process.poll() is not None or time.monotonic() > end:
                 self.__exit__()

@@ -410,7 +410,7 @@ def any_lines(chance: Choices, name: str, value: str) -> list[str]:
         mark = chance.of((" ", "\t", "+", "+ "))
         return [f"{name}: {front},", *["# inside"] * chance.below(2), mark + back]
     if style == 8:
-        return [f"{name}:{value}", chance.of(("%inside", "+", "  # more", "#"))]
+        return [f"{name}:{value}", chance.of(("%inside", "+", "  # more", "#", "\rmnt-by: B-MNT"))]
     if style == 9:
         return [f"{name}:{value} # remark"]
     return [line_of(name, value).rstrip("\n")]

@@ -1,10 +1,14 @@
 """The program while it serves, and what peers send to it and get from it."""
 import contextlib
+import fcntl
+import functools
 import itertools
 import os
 import socket
 import subprocess
+import tempfile
 import time
+from collections.abc import Iterator
 
 from checks.running import Failure, expect, limited, peak_memory
 
@@ -12,20 +16,36 @@ GIVEN = b"HTTP/1.1 200 OK\r\nContent-Type: text/plain\r\nConnection: close\r\n\r
 LONGEST = 700
 
 
-# The ports of each worker of a run, below those that Linux gives to whoever asks for none: what a
-# case was given stays its own until it listens there.
-FIRST, EACH = 10_000, 1_000
-worker = int(os.environ.get("PYTEST_XDIST_WORKER", "gw20")[2:])
-ports = itertools.cycle(range(FIRST + worker % 21 * EACH, FIRST + (worker % 21 + 1) * EACH))
+# Below the ports that Linux gives to whoever asks for none, each process has a range of its own, also
+# beside another run: what a case was given stays its own until it listens there.
+FIRST, EACH, RANGES = 10_000, 1_000, 21
 
 
-def free_port():
-    """A port of this worker that nobody has, and that no case was given lately."""
-    for port in itertools.islice(ports, EACH):
+@functools.cache
+def own_ports() -> Iterator[int]:
+    """The ports of this process, over and over. Its range is locked until it ends."""
+    for number in range(RANGES):
+        path = os.path.join(tempfile.gettempdir(), f"irrdesk-ports-{number}")
+        # Of another user's there is no lock to be had.
+        with contextlib.suppress(OSError):
+            lock = os.open(path, os.O_RDWR | os.O_CREAT, 0o600)
+            try:
+                fcntl.flock(lock, fcntl.LOCK_EX | fcntl.LOCK_NB)
+            except OSError:
+                os.close(lock)
+                raise
+            begin = FIRST + number * EACH
+            return itertools.cycle(range(begin, begin + EACH))
+    raise Failure(f"{RANGES} processes have all ports from {FIRST} on")
+
+
+def free_port() -> int:
+    """A port of this process that nobody has, and that no case was given lately."""
+    for port in itertools.islice(own_ports(), EACH):
         with socket.socket() as probe, contextlib.suppress(OSError):
             probe.bind(("127.0.0.1", port))
             return port
-    raise Failure("every port of this worker is taken")
+    raise Failure("every port of this process is taken")
 
 
 class Listening:

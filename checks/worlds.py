@@ -312,7 +312,7 @@ def answering(*replies, is_reset=False, tls=None):
                     context.wrap_socket(peer, server_side=True) if context else peer
                 ) as held,
             ):
-                held.settimeout(5)
+                held.settimeout(60)
                 asked = held.recv(65_536)
                 head, _, body = asked.partition(b"\r\n\r\n")
                 length = next(

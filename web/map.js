@@ -1,11 +1,12 @@
 // The map: the boxes of the prefix that was asked for, and the one prefix of it that is shown.
 import {
-    $, STRANGE, Trouble, Wire, addView, addressOf, around, blockOf, breather, counted, decimal, el,
-    kindOf, lastOf, link, listing, mapLink,
-    objectsOf, prefixOf, prefixText, shown, spanOf, wordsOf,
-} from './irr.js';
+    Client, STRANGE, Trouble, breather, kindOf, objectsOf, wordsOf,
+} from './lib/client.js';
+import {$, addressOf, counted, decimal, el, link, listing, mapLink, shown} from './lib/nodes.js';
+import {around, blockOf, lastOf, prefixOf, prefixText, spanOf} from './lib/rpsl.js';
+import {addView} from './page.js';
 
-const map = new Wire('map');
+const map = new Client('map');
 const canvas = $('canvas');
 const isDark = matchMedia('(prefers-color-scheme: dark)');
 const space =
@@ -205,6 +206,21 @@ async function draw(turn = space.drawings += 1) {
     canvas.dataset.drawn = prefixText(space.shown);
 }
 
+const wordsOfBox = box => shown(box.objects.filter(isShown).map(object =>
+    `${object.kind} ${object.key}, ${object.holders.join(' ')}`).join('; '));
+
+// Gives a screen reader the map as a list, of which it has one box: the first, or the chosen one.
+function offer(boxes) {
+    const at = Math.max(0, space.chosen), isChosen = space.chosen >= 0;
+    canvas.setAttribute('role', boxes.length ? 'listbox' : 'img');
+    canvas.replaceChildren(...boxes.slice(at, at + 1).map(box => el('div', {
+        id: `box-${at}`, role: 'option', 'aria-selected': String(isChosen),
+        'aria-posinset': String(at + 1), 'aria-setsize': String(boxes.length),
+    }, wordsOfBox(box))));
+    if (isChosen) canvas.setAttribute('aria-activedescendant', `box-${at}`);
+    else canvas.removeAttribute('aria-activedescendant');
+}
+
 // Points at a box: on the canvas, and in words.
 function point(box, isMarked) {
     if (isMarked) {
@@ -219,9 +235,7 @@ function point(box, isMarked) {
             pen.strokeRect(place.x * side + 2, place.y * side + 2, Math.max(3, place.w * side - 4),
             Math.max(3, place.h * side - 4));
     }
-    $('pointed').textContent = box
-        ? shown(box.objects.filter(isShown).map(object =>
-        `${object.kind} ${object.key}, ${object.holders.join(' ')}`).join('; ')) : '';
+    $('pointed').textContent = box ? wordsOfBox(box) : '';
 }
 
 const isBoxShown = box => box.objects.some(isShown);
@@ -259,6 +273,7 @@ function keyed(event) {
     else if (step && boxes.length) {
         space.chosen = space.chosen < 0 ? 0 : (space.chosen + step + boxes.length) % boxes.length;
         point(boxes[space.chosen], true);
+        offer(boxes);
     } else return;
     event.preventDefault();
 }
@@ -279,15 +294,19 @@ async function present(prefix) {
         if (turn !== space.drawings) return;
     }
     const inetnums = objects.filter(isInetnum).length;
-    const words = objects.length
-        ? `${counted(inetnums, 'inetnum')} and ${counted(objects.length - inetnums,
-        'route')} inside ${name}` : `Nothing is registered inside ${name}`;
+    const counts =
+        `${counted(inetnums, 'inetnum')} and ${counted(objects.length - inetnums, 'route')}`;
+    const words = objects.length ? `${counts} inside ${name}`
+        : `Nothing is registered inside ${name}`;
     const largest = [...holders].sort((one, other) => other[1] - one[1]).slice(0, 12);
-    $('legend').replaceChildren(el('ul', {class: 'legend'}, ...largest.map(([holder, number]) => {
+    const holderItem = ([holder, number]) => {
         const swatch = el('span', {class: 'swatch'});
         swatch.style.background = colourOf(holder);
         return el('li', {}, swatch, link(holder), ` ${counted(number, 'inetnum')}`);
-    })), ...holders.size > 12 ? [`and ${counted(holders.size - 12, 'other maintainer')}`] : []);
+    };
+    $('legend').replaceChildren(
+        el('ul', {class: 'legend', role: 'list'}, ...largest.map(holderItem)),
+        ...holders.size > 12 ? [`and ${counted(holders.size - 12, 'other maintainer')}`] : []);
     const head =
         el('tr', {},
         ...['Prefix or range', 'Class', 'Origin', 'Maintainers', 'Addresses'].map(text =>
@@ -305,19 +324,27 @@ async function present(prefix) {
         el('caption', {}, `${words}, in order of addresses.`), el('thead', {}, head), body),
         ...more);
     $('above').replaceChildren(...prefixesAround(prefix).flatMap(each =>
-        [mapLink(each), ' › ']), el('b', {}, name));
-    canvas.setAttribute('aria-label', `Map of ${name}`);
+        [mapLink(each), ' › ']), el('b', {'aria-current': 'location'}, name));
+    canvas.setAttribute('aria-label', `Map of ${name}: ${counts}`);
+    offer(space.inside.filter(isBoxShown));
     $('map-shown').hidden = false;
     point(null, false);
     map.say(`${words}.`);
     await draw(turn);
 }
 
+// Shows a prefix. Who was at a part of the old map goes on there, or at the table if it is gone.
 function showMap(given, isAnew = false) {
-    const prefix = prefixOf(given);
+    const prefix = prefixOf(given), held = document.activeElement;
+    const isInside = $('map-shown').contains(held);
+    const goOn = () => {
+        if (isInside && document.activeElement === document.body)
+            (held.isConnected ? held : $('listed')).focus();
+    };
     $('prefix').value = given;
+    $('prefix').setAttribute('aria-invalid', String(Boolean(given && !prefix)));
     if (prefix && space.root && !isAnew && space.root.first <= prefix.first
-        && lastOf(prefix) <= lastOf(space.root)) return present(prefix);
+        && lastOf(prefix) <= lastOf(space.root)) return present(prefix).then(goOn);
     map.end();
     space.root = null;
     space.drawings += 1;
@@ -334,6 +361,7 @@ function showMap(given, isAnew = false) {
         if (signal.aborted) return;
         Object.assign(space, {root: prefix, boxes});
         await present(prefix);
+        goOn();
     });
 }
 

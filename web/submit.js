@@ -1,98 +1,14 @@
 // Submitting, by a form or as text.
+import {Client, Trouble, UNKNOWN, kindOf, objectsOf} from './lib/client.js';
+import {allBlocks, closestSpan, decision, lowerNames, routeNames} from './lib/deciding.js';
+import {blocksOf, cautionsOf, faultsOf, isUsable, mntnerOf} from './lib/grammar.js';
+import {$, counted, el, link, shown} from './lib/nodes.js';
 import {
-    $, CLASSES, KINDS, Trouble, UNKNOWN, Wire, addView, around, counted, el, isAs, isMaintainer,
-    isSet, kindOf, link, objectsOf, prefixOf, prefixText, shown, spaceOf, spanOf, textOf,
-} from './irr.js';
-import {allBlocks, closestSpan, decision, lowerNames, routeNames} from './deciding.js';
-import {blocksOf, cautionsOf, faultsOf, isUsable, mntnerOf} from './grammar.js';
-
-// From here on made of tools/irr/registry/codes.py by `python3 -m checks.web.tables`.
-const CODES = {
-    E01: [
-        "The text of the paragraph has a fault.",
-        "Look for the first line that is neither `name: value` nor a continuation, " +
-            "which begins with a blank or `+`. Save the file as plain text.",
-    ],
-    E02: [
-        "The class is unknown, or `delete` is alone.",
-        "Put the class first, and leave out objects of other classes.",
-    ],
-    E03: [
-        "The key is bad; for a route also an `origin` that is missing, repeated or " +
-            "bad.",
-        "Write four numbers and a length, and name one `origin`.",
-    ],
-    E04: [
-        "An attribute that is required is missing or empty, or one that may be there " +
-            "once is repeated.",
-        "Compare the object with a registered one of its class, and put a blank line " +
-            "between objects.",
-    ],
-    E05: [
-        "An attribute that is read has a bad value.",
-        "Look at `mnt-by`, `mnt-lower`, `mnt-routes`, `members`, `mbrs-by-ref`, " +
-            "`member-of`, `auth` and `source`.",
-    ],
-    E06: [
-        "The `source` is not this registry's.",
-        "Write this registry's name as `source`.",
-    ],
-    E07: [
-        "The paragraph is over 65,536 bytes.",
-        "Put blank lines between objects, or split the object.",
-    ],
-    E10: [
-        "A maintainer that the object names is not registered.",
-        "Register the maintainer first, or correct its name.",
-    ],
-    E11: [
-        "No password given so far fits a maintainer in the `mnt-by` that applies: " +
-            "that of the registered object, or of the new one.",
-        "Give the password before the item. Make the `auth` line by `irr auth`.",
-    ],
-    E12: [
-        "Nothing covers the new object, or the parent of a set is not registered.",
-        "Register the parent first.",
-    ],
-    E13: [
-        "The object that covers the new one, or the parent of a set, does not " +
-            "authorise it.",
-        "Ask the holder to add it, or to name your maintainer in `mnt-lower`, for a " +
-            "route in `mnt-routes`.",
-    ],
-    E14: [
-        "The `origin` has no aut-num here.",
-        "Register the aut-num first.",
-    ],
-    E15: [
-        "The aut-num of the `origin` does not authorise the route.",
-        "Ask its holder to name your maintainer in `mnt-routes`.",
-    ],
-    E16: [
-        "The range overlaps another one of its class, and neither is inside the " +
-            "other.",
-        "Ask `less` for the first and for the last address: what contains exactly one" +
-            " of them overlaps. Cut the range there.",
-    ],
-    E17: [
-        "Other objects still name the maintainer that is to be deleted.",
-        "List them with `inverse mnt NAME`. Change or delete what is yours; the rest " +
-            "only its holders, or the registry's operator, can change.",
-    ],
-    E18: [
-        "There is no object of this class and key to delete.",
-        "Compare the key with that in an answer.",
-    ],
-    E90: [
-        "The server ran out of memory.",
-        "Send the item again later.",
-    ],
-    E91: [
-        "The server's database failed, and nothing after this item was read.",
-        "Tell the registry's operator, and send this item and the rest again later.",
-    ],
-};
-// As far as here.
+    KINDS, NAME, around, isAs, isMaintainer, isSet, prefixOf, prefixText, setKind, spaceOf, spanOf,
+    textOf,
+} from './lib/rpsl.js';
+import {CODES, TABLE} from './lib/tables.js';
+import {addView} from './page.js';
 
 const BODY = 1 << 20;            // bytes of a submission that the registry takes in
 const MOST_LINES = 5, MOST_DECIDED = 20;
@@ -125,9 +41,9 @@ const ATTRIBUTES = {
         'maintainers who may add routes, in place of both; after a name {192.0.2.0/24^24-26} or ' +
         'ANY', isGrants],
     'mnt-by': ['maintainers who may change and delete it', each(isMaintainer)],
-    'source': ['this registry\'s name', text => /^[a-z](?:[a-z0-9_-]*[a-z0-9])?$/i.test(text)],
+    'source': ['this registry\'s name', text => NAME.test(text)],
 };
-const asMember = item => isAs(item) || isSet(item, ['as-']) || /^as-any$/i.test(item);
+const asMember = item => isAs(item) || setKind(item) === 'as' || /^as-any$/i.test(item);
 const isGroup = name => isAs(name) || isSet(name) || /^[ar]s-any$/i.test(name);
 const rangeMember = item => isRange(item) || (isGroup(item.split('^')[0]) && isBound(item));
 const PARENT =
@@ -146,26 +62,40 @@ const FORMS = {
     'route': ['192.0.2.0/24', isPrefix,
         'the origin\'s aut-num, and the closest route around it or else the closest inetnum'],
     'as-set': ['AS64496:AS-CUSTOMERS', text =>
-        isSet(text, ['as-']), PARENT, 'AS numbers, as-sets, AS-ANY', each(asMember)],
+        setKind(text) === 'as', PARENT, 'AS numbers, as-sets, AS-ANY', each(asMember)],
     'route-set': ['AS64496:RS-OUT', text =>
-        isSet(text, ['rs-']), PARENT,
+        setKind(text) === 'rs', PARENT,
     'ranges as 192.0.2.0/24^24-26, AS numbers, sets, each of these with one operator at most',
     each(rangeMember)],
 };
 
 // The form.
-const send = new Wire('submit');
+const send = new Client('submit');
 const fields = {};
 const isSafe = location.protocol === 'https:'
     || /^(?:localhost|127(?:\.\d{1,3}){3}|\[::1\])$/.test(location.hostname);
 const isText = () => $('by-text').checked;
 
+// What is wrong with a field stands below it: a line that is empty until then. `mark` gives
+// whether it is wrong.
+const faultLine = id => el('p', {id: `fault-${id}`, class: 'fault', hidden: true});
+
+function mark(input, words) {
+    const line = $(`fault-${input.id}`);
+    line.textContent = words;
+    line.hidden = !words;
+    input.setAttribute('aria-invalid', String(Boolean(words)));
+    return Boolean(words);
+}
+
 function passwordField() {
     const number = $('passwords').childElementCount + 1;
     return el('div', {class: 'field tall'},
         el('label', {for: `password-${number}`}, `Password ${number}`),
-        el('input', {id: `password-${number}`, type: 'password', autocomplete: 'off',
-            spellcheck: 'false'}));
+        el('input', {id: `password-${number}`, type: 'password',
+            autocomplete: 'current-password', spellcheck: 'false',
+            'aria-describedby': `fault-password-${number}`}),
+        faultLine(`password-${number}`));
 }
 
 const passwordInputs = () => [...$('passwords').querySelectorAll('input')];
@@ -180,16 +110,15 @@ function addPassword(password) {
 function field(name, needs, about, check, isLong) {
     const input =
         el(isLong ? 'textarea'
-        : 'input', {id: `field-${name}`, 'aria-describedby': `about-${name} fault-${name}`,
+        : 'input', {id: `field-${name}`, 'aria-describedby': `about-${name} fault-field-${name}`,
         spellcheck: 'false', autocapitalize: 'none', ...isLong ? {rows: '3'} : {}});
-    fields[name] =
-        {input, check, needs, fault: el('p', {id: `fault-${name}`, class: 'fault', hidden: true})};
+    fields[name] = {input, check, needs};
     if (needs.startsWith('1')) input.setAttribute('aria-required', 'true');
     return el('div', {class: 'field tall', 'data-name': name},
         el('label', {for: `field-${name}`},
         (name === 'other' ? 'other attributes' : name)
         + {'1': '', '1+': ' (one or more)', '0+': ' (if any)'}[needs]),
-        input, el('p', {id: `about-${name}`, class: 'hint'}, about), fields[name].fault);
+        input, el('p', {id: `about-${name}`, class: 'hint'}, about), faultLine(`field-${name}`));
 }
 
 function showClass() {
@@ -197,7 +126,7 @@ function showClass() {
     const before = Object.entries(fields).map(([name, {input}]) => [name, input.value]);
     for (const name of Object.keys(fields)) delete fields[name];
     const rows =
-        Object.entries(CLASSES[kind]).map(([name, need]) =>
+        Object.entries(TABLE[kind]).map(([name, [need]]) =>
         field(name, need, ...ATTRIBUTES[name] ?? members, name === 'auth' || name === 'members'));
     const other =
         field('other', '0+',
@@ -224,8 +153,8 @@ async function digestOf(text) {
 // Makes an auth line of a password, which stays in the password fields.
 function digestMaker() {
     const input =
-        el('input', {id: 'new-password', type: 'password', autocomplete: 'off',
-        'aria-describedby': 'about-new'});
+        el('input', {id: 'new-password', type: 'password', autocomplete: 'new-password',
+        'aria-describedby': 'about-new fault-new-password'});
     const make = async () => {
         const salt =
             Array.from(crypto.getRandomValues(new Uint8Array(8)), byte =>
@@ -241,11 +170,13 @@ function digestMaker() {
         el('div', {class: 'field tall'}, el('label', {for: 'new-password'}, 'New password'), input,
         el('p', {id: 'about-new', class: 'hint'},
             'Its hash is made on this page. Take a long one, made by chance: others may try to ' +
-            'guess it.')),
+            'guess it.'), faultLine('new-password')),
         el('button', {type: 'button', click: () => {
             const fault = !isSafe ? 'Without TLS no password is taken.' : faultOf(input.value)
                 || (input.value ? '' : 'Write the new password first.');
-            return fault ? send.say(fault, true) : make();
+            if (!mark(input, fault)) return make();
+            send.say(fault, true);
+            input.focus();
         }}, 'Make its auth line'));
 }
 
@@ -263,7 +194,7 @@ function composed() {
     if ($('delete').checked)
         return [...lines(kind), ...lines('origin'), attributeLine('delete', 'yes')].join('\n')
         + '\n';
-    const others = Object.keys(CLASSES[kind]).filter(name => name !== 'origin');
+    const others = Object.keys(TABLE[kind]).filter(name => name !== 'origin');
     return [...lines(kind), ...lines('origin'), ...values('other'),
         ...others.flatMap(lines)].join('\n') + '\n';
 }
@@ -273,16 +204,14 @@ const preview = () => { $('preview').textContent = composed(); };
 // Marks each field that has a fault, and gives the first one.
 function faultyField() {
     const kind = $('class').value, isDeletion = $('delete').checked;
-    for (const [name, {input, check, needs, fault}] of Object.entries(fields)) {
+    const wrong = Object.entries(fields).filter(([name, {input, check, needs}]) => {
         const value = input.value.trim(),
             isAsked = !isDeletion || name === kind || name === 'origin';
-        fault.textContent = !isAsked ? '' : !value ? needs.startsWith('1') ? `${name} is needed.`
+        return mark(input, !isAsked ? '' : !value ? needs.startsWith('1') ? `${name} is needed.`
             : '' : check(value) ? ''
-            : `This is not what ${name === 'other' ? 'these attributes' : name} may have.`;
-        fault.hidden = !fault.textContent;
-        input.setAttribute('aria-invalid', String(!fault.hidden));
-    }
-    return Object.values(fields).find(one => !one.fault.hidden)?.input;
+            : `This is not what ${name === 'other' ? 'these attributes' : name} may have.`);
+    });
+    return wrong[0]?.[1].input;
 }
 
 const PASSWORD = /^password[ \t\r]*:[ \t\r]*(.*)(?:\n|$)/gim;
@@ -290,10 +219,9 @@ const PASSWORD = /^password[ \t\r]*:[ \t\r]*(.*)(?:\n|$)/gim;
 // A text has no passwords in it, since everybody near may read a text.
 function lookAtText() {
     const found = [...$('text').value.matchAll(PASSWORD)];
-    $('text-fault').hidden = $('move-passwords').hidden = !found.length;
-    $('text-fault').textContent = found.length
+    $('move-passwords').hidden = !mark($('text'), found.length
         ? `The text has ${counted(found.length,
-        'password')} in it, for all to read: move it into its field.` : '';
+        'password')} in it, for all to read: move it into its field.` : '');
     return found;
 }
 
@@ -464,7 +392,7 @@ function report(signal, text, blocks) {
         && items.every((item, at) => Number(item[1]) === at + 1);
     const isMatched = items.length === blocks.length;
     const boxes = items.map((item, at) => itemBox(item, isMatched && blocks[at]));
-    const list = el('ol', {class: 'items'}, ...boxes);
+    const list = el('ol', {class: 'items', role: 'list'}, ...boxes);
     const counts =
         ['added', 'changed', 'unchanged', 'deleted', 'refused'].map(word =>
         [items.filter(item => (item[5] ?? 'refused') === word).length, word]).filter(pair =>
@@ -487,14 +415,14 @@ function submit() {
     const stop = (words, place) => { send.say(words, true); place?.focus(); };
     if (!isSafe) return;
     if (isText() ? lookAtText().length : false)
-        return stop($('text-fault').textContent, $('move-passwords'));
+        return stop($('fault-text').textContent, $('move-passwords'));
     const wrong = isText() ? null : faultyField();
     if (wrong) return stop('A field is not as it has to be: see there.', wrong);
     const text = isText() ? $('text').value.replaceAll('\r\n', '\n') : composed(),
         blocks = blocksOf(text);
     if (!blocks.length) return stop('There is nothing to submit.', $('text'));
-    const fault = passwords.map(faultOf).find(Boolean);
-    if (fault) return stop(fault, passwordInputs()[0]);
+    const [bad] = passwordInputs().filter(input => mark(input, faultOf(input.value)));
+    if (bad) return stop(faultOf(bad.value), bad);
     const body =
         passwords.map(password => `password: ${password}\n`).join('')
         + (passwords.length ? '\n' : '') + text;
@@ -510,7 +438,10 @@ function submit() {
         if (showCautions(cautions, text)) return stop(NOT_SENT, $('anyway'));
         for (const input of passwordInputs()) input.value = '';
         await report(signal, (await send.ask(signal, '/submissions', body)).text, blocks);
-    }).finally(() => { $('send').disabled = !isSafe; });
+    }).finally(() => {
+        $('send').disabled = !isSafe;
+        if (document.activeElement === document.body) $('send').focus();
+    });
 }
 
 async function showSubmit() {

@@ -11,7 +11,14 @@ from checks.running import TOP
 
 # It looks at what other modules kept, so it comes after them.
 pytestmark = pytest.mark.alone
-KEPT = ["test_statuses", "test_unusable"]
+KEPT = [
+    "command_line.test_loads",
+    "command_line.test_registries",
+    "command_line.test_statuses",
+    "databases.test_failing",
+    "databases.test_migrations",
+    "databases.test_unusable",
+]
 
 
 @pytest.fixture(scope="module")
@@ -20,10 +27,11 @@ def said(program):
     digest = hashlib.sha256(Path(program).read_bytes()).hexdigest()
     lines = []
     for name in KEPT:
-        path = Path(TOP, "out/said", name.removeprefix("test_"))
+        path = Path(TOP, "out/said", name)
         of, *found = path.read_text(errors="replace").splitlines() if path.exists() else [""]
         if of != digest:
-            pytest.fail(f"{path}: it is not of this program: run checks/.../{name}.py on it first")
+            module = f"checks/{name.replace('.', '/')}.py"
+            pytest.fail(f"{path}: it is not of this program: run {module} on it first")
         lines += found
     return lines
 

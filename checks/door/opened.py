@@ -74,15 +74,14 @@ class Registries:
 class Opened:
     """A door, and what it is asked by."""
 
-    def __init__(self, trial, name, words, config=""):
+    def __init__(self, trial, name, words, config="", start=("-m", "irr")):
         self.folder = trial.place(name)
         self.whois_port, self.http_port, self.status_port = free_port(), free_port(), free_port()
         self.log = os.path.join(self.folder, "items.log")
         write(self.folder, "door.toml", config.encode())
         self.words = [
             PYTHON,
-            "-m",
-            "irr",
+            *start,
             "door",
             os.path.join(self.folder, "door.toml"),
             f"--whois=127.0.0.1:{self.whois_port}",
@@ -97,7 +96,8 @@ class Opened:
         self.said = os.path.join(self.folder, "said")
 
     def __enter__(self):
-        environment = {**os.environ, "PYTHONPATH": os.path.join(TOP, "tools")}
+        paths = [os.path.join(TOP, "tools"), os.environ.get("PYTHONPATH", "")]
+        environment = {**os.environ, "PYTHONPATH": os.pathsep.join(filter(None, paths))}
         with open(self.said, "wb") as said:
             self.process = subprocess.Popen(
                 self.words, stdin=subprocess.DEVNULL, stdout=said, stderr=said, env=environment

@@ -1,11 +1,14 @@
 """Submissions through the door: bounds, reports, who did what, and that old answers do not outlive
 a change."""
 
+import contextlib
+import http.client
 import json
 import os
 import socket
 import subprocess
 import sys
+import threading
 import time
 
 import pytest
@@ -78,6 +81,208 @@ def test_each_bound_is_a_413_that_says_which(door, each):
     expect(door.submit("password: x\n" * 31 + "\n" + ITEM.format("AS-T"))[0], 200, "32 passwords")
 
 
+def test_a_submission_that_is_refused_is_written_down(door):
+    before = len(door.items())
+    many = "as-set: AS-T\nmnt-by: ROOT-MNT\nsource: TEST\n\n" * 1_001
+    fields = {"X_Forwarded_For": "192.0.2.40", "X_Remote_User": "refused"}
+    door.submit(many, **fields)
+    door.submit("password: secret\n" * 33, **fields)
+    door.submit("x" * 300_000, **fields)
+    door.submit("x", Origin="https://evil.example", Host="irr.example.net", **fields)
+    entries = door.items()[before:]
+    expect(
+        [(one["outcome"], one["items"], one["client"], one["user"]) for one in entries],
+        [
+            ("413 items", 1_001, "192.0.2.40", "refused"),
+            ("413 passwords", None, "192.0.2.40", "refused"),
+            ("413 size", None, "192.0.2.40", "refused"),
+            ("403", None, "192.0.2.40", "refused"),
+        ],
+        "what is written down",
+    )
+    expect("secret" in str(entries), False, "a password")
+    printed = irr(door, "log", "--file", door.log, "--client", "refused")[1]
+    expect(
+        b"192.0.2.40 (refused): a submission of 1,001 items: refused 413 items" in printed,
+        True,
+        printed,
+    )
+    expect(b"192.0.2.40 (refused): a submission: refused 413 size" in printed, True, printed)
+
+
+def test_who_sends_what_is_refused_pushes_no_lines_out(door):
+    before, begun = len(door.items()), time.monotonic()
+    for _ in range(100):
+        door.submit("password: x\n" * 33, last=77)
+    written, took = len(door.items()) - before, time.monotonic() - begun
+    expect(60 <= written <= 61 + took, True, f"{written} lines of 100 in {took:.1f} s")
+    time.sleep(1.5)
+    door.submit("password: x\n" * 33, last=77)
+    entries = door.items()[before:]
+    untold = sum(entry["untold"] for entry in entries)
+    expect(untold + len(entries), 101, "lines, and what there is none of")
+
+
+class Chance:
+    """Submissions of items by chance: good ones, bad ones, deletions, passwords between them."""
+
+    def __init__(self, chance):
+        self.chance = chance
+
+    def item(self):
+        chance = self.chance
+        if chance.randrange(100) == 0:
+            return f"remarks: {'x' * 66_000}\n"
+        name = f"AS-P{chance.randrange(40)}"
+        return chance.choice(
+            [
+                f"as-set: {name}\nmembers: AS{chance.randrange(5)}\nmnt-by: ROOT-MNT\nsource: TEST\n",
+                f"as-set: {name}\nmnt-by: ROOT-MNT\nsource: TEST\npassword: bc\n",
+                f"as-set: {name}\nmnt-by: ROOT-MNT\nsource: TEST\nDelete: x\n",
+                "password: wrong\n",
+                "PASSWORD : b\n c\n",
+                "# a line that is skipped\n",
+                "route: 10.7.0.0/16\n# skipped\norigin: AS1\nmnt-by: ROOT-MNT\nsource: TEST\n",
+                "foo: bar\n",
+                "\tnothing\n",
+                "as-set: AS-Q\r\nmnt-by: ROOT-MNT\r\nsource: OTHER\r\n",
+            ]
+        )
+
+    def text(self):
+        count = self.chance.choice([3, 60, 120, 200])
+        text, size = "", 0
+        while count and size < 190_000:
+            item = self.item()
+            count, size = count - 1, size + len(item)
+            text += item + self.chance.choice(["\n", "\n\n", "\r\n", " \n"])
+        return text
+
+
+def test_a_submission_in_parts_has_the_report_of_one(trial):
+    """The report of a registry that gets the whole, byte for byte, and the same objects after
+    it."""
+    with Registries(trial, "parts", worlds.DUMP, replicas=0) as through:
+        with Registries(trial, "whole", worlds.DUMP, replicas=0) as alone:
+            with Opened(
+                trial, "parts-door", through.words, "burst = 100\npasswords = 1000\n"
+            ) as door:
+                chance = Chance(trial.chance("parts"))
+                for _ in range(trial.pick(12, 300)):
+                    text = chance.text().encode()
+                    wanted = direct(alone.ports[0], text)
+                    status, _, report = door.submit(text)
+                    expect((status, report), (200, wanted), f"{text[:300]!r}")
+                expect(dump_of(through.ports[0]), dump_of(alone.ports[0]), "the objects")
+
+
+def direct(port, text):
+    connection = http.client.HTTPConnection("127.0.0.1", port, timeout=60)
+    with contextlib.closing(connection):
+        connection.request("POST", "/submissions", text)
+        return connection.getresponse().read()
+
+
+def dump_of(port):
+    connection = http.client.HTTPConnection("127.0.0.1", port, timeout=60)
+    with contextlib.closing(connection):
+        connection.request("GET", "/dump")
+        return connection.getresponse().read()
+
+
+def test_others_are_served_between_the_parts_of_a_long_one(trial):
+    """A registry that takes half a second for each part: another sender has its turn after one of
+    them, and not after all."""
+    with Slow() as slow:
+        with Opened(trial, "slow-parts", [f"--registry=http://127.0.0.1:{slow.port}"]) as door:
+            many = "".join(f"as-set: AS-M{n}\nmnt-by: A-MNT\nsource: TEST\n\n" for n in range(400))
+            reports = {}
+            long = threading.Thread(target=lambda: reports.update(long=door.submit(many, 2)))
+            long.start()
+            wait_until("a part", 20, lambda: len(slow.sizes) > 1)
+            begun = time.monotonic()
+            expect(door.submit(ITEM.format("AS-T"), 3)[0], 200, "another one")
+            took = time.monotonic() - begun
+            expect(took < 2, True, f"{took:.2f} s")
+            long.join()
+            expect(reports["long"][2].splitlines()[-1], b"% items 400", "the end of the long one")
+            lines = reports["long"][2].splitlines()[:-1]
+            expect([int(line.split()[0]) for line in lines], list(range(1, 401)), "its numbers")
+            expect(max(slow.sizes) <= 50, True, f"the parts {slow.sizes}")
+
+
+def test_a_registry_that_goes_away_between_two_parts_cuts_the_report(trial):
+    with Slow(parts=2) as slow:
+        with Opened(trial, "cut-parts", [f"--registry=http://127.0.0.1:{slow.port}"]) as door:
+            many = "".join(f"as-set: AS-M{n}\nmnt-by: A-MNT\nsource: TEST\n\n" for n in range(400))
+            with pytest.raises((http.client.IncompleteRead, ConnectionResetError)):
+                door.submit(many)
+            wait_until("a line", 10, lambda: "untold" in door.items()[-1])
+            entry = door.items()[-1]
+            expect((entry["outcome"], entry["items"]), ("cut", 300), "what is written down")
+
+
+class Slow:
+    """A registry that takes its time for each submission, and adds all of its items; after some of
+    them nobody listens there."""
+
+    def __init__(self, parts=1_000):
+        self.sizes, self.parts = [], parts
+        self.listener = socket.create_server(("127.0.0.1", 0))
+        self.port = self.listener.getsockname()[1]
+
+    def __enter__(self):
+        threading.Thread(target=self.serve, daemon=True).start()
+        return self
+
+    def __exit__(self, *_):
+        self.listener.close()
+
+    def serve(self):
+        while len(self.sizes) < self.parts:
+            try:
+                peer, _ = self.listener.accept()
+            except OSError:
+                return
+            with peer:
+                text = peer.recv(1 << 16)
+                if not text.startswith(b"POST"):
+                    peer.sendall(worlds.ALL + b"\n")
+                    continue
+                head, _, body = text.partition(b"\r\n\r\n")
+                length = int(head.rpartition(b"Content-Length: ")[2])
+                while len(body) < length:
+                    body += peer.recv(1 << 16)
+                names = [line[8:].decode() for line in body.split(b"\n") if line[:7] == b"as-set:"]
+                time.sleep(0.5)
+                lines = [f"{n} as-set {name}: added\n" for n, name in enumerate(names, 1)]
+                report = "".join([*lines, f"% items {len(names)}\n"])
+                if len(self.sizes) + 1 == self.parts:
+                    self.listener.close()
+                self.sizes.append(len(names))
+                peer.sendall(b"HTTP/1.1 200 OK\r\n\r\n" + report.encode())
+
+
+def test_a_body_of_any_allowed_size_is_taken(door, each):
+    """However it comes: at once, in pieces, or behind another request."""
+    for size in 1_000, 60_000, 70_000, 262_144:
+        body = (ITEM.format("AS-LONG") + "\n#").encode()
+        body += b"x" * (size - len(body))
+        head = b"POST /submissions HTTP/1.1\r\nHost: x\r\nContent-Length: %d\r\n" % size
+        for way in "at once", "in pieces", "behind another one":
+            with each(f"{size} bytes {way}"), contextlib.closing(
+                door.connect(door.http_port, patience=20)
+            ) as peer:
+                if way == "behind another one":
+                    peer.sendall(head + b"\r\n" + body)
+                text = head + b"Connection: close\r\n\r\n" + body
+                for place in range(0, size, 10_000) if way == "in pieces" else ():
+                    peer.sendall(text[place : place + 10_000])
+                    time.sleep(0.01)
+                peer.sendall(text[place + 10_000 :] if way == "in pieces" else text)
+                expect(b"% items 1\n" in read_all(peer), True, "the report")
+
+
 def test_a_long_body_is_refused_before_it_is_sent(door):
     with socket.create_connection(("127.0.0.1", door.http_port), 30) as peer:
         peer.sendall(
@@ -104,49 +309,52 @@ def test_a_change_is_seen_at_once(door):
     expect(door.whois("AS-NEW")[:7], b"as-set:", "after")
 
 
-def test_irr_submits_and_reads_the_log_through_it(door):
+def irr(door, *words, stdin=b""):
+    """The status of `irr`, what it prints, and what it says."""
     environment = {
         **os.environ,
         "PYTHONPATH": os.path.join(TOP, "tools"),
         "IRR_SERVER": f"http://127.0.0.1:{door.http_port}",
     }
+    ran = subprocess.run(
+        [PYTHON, "-m", "irr", *words],
+        input=stdin,
+        capture_output=True,
+        env=environment,
+        check=False,
+    )
+    return ran.returncode, ran.stdout, ran.stderr
 
-    def irr(*words, stdin=b""):
-        ran = subprocess.run(
-            [PYTHON, "-m", "irr", *words],
-            input=stdin,
-            capture_output=True,
-            env=environment,
-            check=False,
-        )
-        return ran.returncode, ran.stdout, ran.stderr
 
-    status, printed, said = irr("submit", "-", stdin=ITEM.format("AS-TOOL").encode())
+def test_irr_submits_and_reads_the_log_through_it(door):
+    status, printed, said = irr(door, "submit", "-", stdin=ITEM.format("AS-TOOL").encode())
     expect((status, b"as-set AS-TOOL: added" in printed), (0, True), f"{printed!r} {said!r}")
     many = "password: bc\n\n" + "".join(
         f"as-set: AS-M{n}\nmnt-by: ROOT-MNT\nsource: TEST\n\n" for n in range(2_500)
     )
-    status, printed, said = irr("submit", "-", stdin=many.encode())
+    status, printed, said = irr(door, "submit", "-", stdin=many.encode())
     expect(
         (status, b"2500 as-set AS-M2499: added" in printed),
         (0, True),
         f"{printed[-200:]!r} {said!r}",
     )
-    expect(irr("query", "AS-TOOL")[1][:7], b"as-set:", "a query")
-    expect(irr("dump")[1].rstrip().rpartition(b"\n")[2].startswith(b"% end "), True, "the dump")
+    expect(irr(door, "query", "AS-TOOL")[1][:7], b"as-set:", "a query")
+    expect(
+        irr(door, "dump")[1].rstrip().rpartition(b"\n")[2].startswith(b"% end "), True, "the dump"
+    )
     log = ["log", "--file", door.log]
-    expect(len(irr(*log)[1].splitlines()), len(door.items()), "all lines")
-    expect(irr(*log, "--key", "AS-TOOL")[1].count(b"as-set AS-TOOL: added"), 1, "by key")
+    expect(len(irr(door, *log)[1].splitlines()), len(door.items()), "all lines")
+    expect(irr(door, *log, "--key", "AS-TOOL")[1].count(b"as-set AS-TOOL: added"), 1, "by key")
     expect(
         b"192.0.2.7 (holder): route 10.5.0.0/16 AS1: refused E11"
-        in irr(*log, "--maintainer", "A-MNT")[1],
+        in irr(door, *log, "--maintainer", "A-MNT")[1],
         True,
         "by maintainer",
     )
-    expect(len(irr(*log, "--client", "holder")[1].splitlines()), 3, "by user")
-    expect(irr(*log, "--until", "2000-01-01")[0], 1, "by time")
-    entry = json.loads(irr(*log, "--json", "--key", "AS-TOOL")[1].splitlines()[0])
-    expect(irr(*log, "--since", entry["time"], "--key", "AS-TOOL")[0], 0, "since then")
+    expect(len(irr(door, *log, "--client", "holder")[1].splitlines()), 3, "by user")
+    expect(irr(door, *log, "--until", "2000-01-01")[0], 1, "by time")
+    entry = json.loads(irr(door, *log, "--json", "--key", "AS-TOOL")[1].splitlines()[0])
+    expect(irr(door, *log, "--since", entry["time"], "--key", "AS-TOOL")[0], 0, "since then")
 
 
 def test_a_registry_that_is_down_takes_nothing(trial):
@@ -171,9 +379,8 @@ def test_files_of_the_log_are_bounded(trial):
     path = os.path.join(folder, "items.log")
     made = journal.Journal(settings.Settings(log=path, log_size=4_096, log_files=3))
     for number in range(400):
-        made.write(
-            "192.0.2.1", "", 1, Item(number + 1, f"as-set AS-{number}", "added", ""), ["A-MNT"]
-        )
+        who = journal.Who("192.0.2.1", "", 1)
+        made.item(who, Item(number + 1, f"as-set AS-{number}", "added", ""), ["A-MNT"])
     files = journal.files_of(journal.Path(path))
     expect(3 <= len(files) <= 5, True, f"{len(files)} files")
     expect(all(os.path.getsize(one) <= 4_400 for one in files), True, "their sizes")

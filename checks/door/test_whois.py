@@ -10,6 +10,7 @@ import pytest
 from checks.door import worlds
 from checks.door.opened import Opened, Registries, read_all
 from checks.running import expect
+from irr.rpsl import grammar
 
 NATIVE = [
     "AS1",
@@ -187,7 +188,21 @@ def test_what_there_is_can_be_asked(door):
         "",
     )
     expect(b"irrdesk" in door.whois("-q version"), True, "the version")
-    expect(b"\norigin:         [mandatory]  [single]" in door.whois("-t route"), True, "a template")
+    expect(
+        door.whois("-t route").split(b"\n\n")[1],
+        b"route:          [mandatory]  [single]    [primary/lookup key]\n"
+        b"origin:         [mandatory]  [single]    [primary/inverse key]\n"
+        b"member-of:      [optional]   [multiple]  [inverse key]\n"
+        b"mnt-lower:      [optional]   [multiple]  [inverse key]\n"
+        b"mnt-routes:     [optional]   [multiple]  [inverse key]\n"
+        b"mnt-by:         [mandatory]  [multiple]  [inverse key]\n"
+        b"source:         [mandatory]  [single]    [ ]",
+        "a template",
+    )
+    for kind, rules in grammar.TABLE.items():
+        rows = door.whois(f"-t {kind}").split(b"\n\n")[1].split(b"\n")
+        names = [row.partition(b":")[0].decode() for row in rows]
+        expect(names, [kind, *rules], f"the attributes of {kind}")
     expect(door.whois("help"), door.whois("?"), "help")
     expect(b"prefixes SET" in door.whois("help"), True, "help")
 

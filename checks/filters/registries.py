@@ -94,6 +94,21 @@ def registries() -> st.SearchStrategy[Registry]:
     return rpsl.drawn(any_registry, 700)
 
 
+def respelled(registry: Registry) -> Registry:
+    """The same registry with leading zeros and small letters in the lists of sets."""
+    return Registry(
+        tuple(
+            Object(
+                tuple(
+                    (name, re.sub("AS(1[1-5])", r"as0\1", value) if name == "members" else value)
+                    for name, value in held.attributes
+                )
+            )
+            for held in registry.objects
+        )
+    )
+
+
 # Served.
 
 

@@ -9,6 +9,7 @@ import shutil
 
 import pytest
 from hypothesis import given, settings
+from hypothesis import strategies as st
 
 from checks import models
 from checks.filters import registries
@@ -24,7 +25,7 @@ LONG = bool(os.environ.get("CHECKS_LONG"))
 # How bgpq4 writes a list that is called L0 for each router, with and without ranges on one line.
 ROUTERS = {
     "bird": ["-b", "-l", "define L0"],
-    "frr": ["-l", "L0"],
+    "frr": ["-s", "-l", "L0"],
     "openbgpd": ["-B", "-E", "-l", "L0"],
 }
 OPTIONS: list[list[str]] = [
@@ -140,6 +141,39 @@ def test_bgpq4_by_steps_is_the_expansion_of_numbers(program: str) -> None:
                     assert (done.returncode, done.stderr) == (0, "")
                     need_taken("frr", done.stdout, wanted)
                     seen["whole"] += 1
+
+    holds()
+    assert min(seen.values()) > 3, seen
+
+
+@pytest.mark.skipif(not shutil.which("bgpq4"), reason="bgpq4 is not here")
+def test_bgpq4_leaves_out_what_is_excepted(program: str) -> None:
+    """With EXCEPT bgpq4 asks step by step too, and takes out texts: members that are spelled with
+    leading zeros or in small letters have to be answered as everybody writes them."""
+    seen = {"whole": 0, "refused": 0, "less": 0}
+    names = st.sampled_from([*registries.NUMBERS, *registries.AS_SETS])
+
+    @settings(max_examples=1_000 if LONG else 20, deadline=None)
+    @given(registries.registries(), st.lists(names, min_size=1, max_size=3))
+    def holds(registry: Registry, excepted: list[str]) -> None:
+        model, spelled = Expansion(registry), registries.respelled(registry)
+        with registries.served(program, spelled) as place, registries.bridge(place) as port:
+            for held in registry.of("as-set")[: None if LONG else 2]:
+                without = [name for name in excepted if name != held.key]
+                words = ["EXCEPT", *without] if without else DEEP
+                done = registries.bgpq4(port, *ROUTERS["frr"], "-A", held.key, *words)
+                reached = model.reached(held.key, without)
+                if "AS-ANY" in reached or not all(map(model.is_there, reached)):
+                    assert done.returncode and not done.stdout, held.key
+                    seen["refused"] += 1
+                else:
+                    numbers = model.expanded(held.key, without)
+                    wanted = 0
+                    for number in numbers:
+                        wanted |= model.of_number(number)
+                    assert (done.returncode, done.stderr) == (0, "")
+                    need_taken("frr", done.stdout, wanted)
+                    seen["less" if numbers != model.expanded(held.key) else "whole"] += 1
 
     holds()
     assert min(seen.values()) > 3, seen

@@ -19,7 +19,7 @@ from checks.hostile.attacks import PASSWORD, Registry, made, owned
 from checks.hostile.costs import ROOT, at_most
 from checks.pace import pace
 from checks.proxied import HOST, PAGE, PASSWORD as DOOR_PASSWORD, USER, Haproxy, Nginx, parsed
-from checks.running import Failure, Skipped, expect, write
+from checks.running import PATIENCE, Failure, Skipped, expect, write
 from checks.serving import read_all
 
 # The most seconds that a client's request may keep another's waiting, beside what that waits where
@@ -471,7 +471,7 @@ def replaced_readers(trial, kind):
         registries[2].__exit__()
         comes_to({"primary"}, "with no reader")
         registries[0].__exit__()
-        end = time.monotonic() + 60
+        end = time.monotonic() + PATIENCE
         while (reply := door.get("/query/ROOT-MNT", 99))[0] != 503 and time.monotonic() < end:
             time.sleep(0.2)
         expect((reply[0], reply[2]), (503, b"% the registry does not answer\n"), "with none")

@@ -12,7 +12,7 @@ import time
 from checks.hostile import attacks
 from checks.hostile.attacks import PASSWORD, Registry, made, owned
 from checks.pace import pace
-from checks.running import DIGEST, TOP, Failure, expect, write, write_settings
+from checks.running import PATIENCE, DIGEST, TOP, Failure, expect, write, write_settings
 from checks.serving import read_all
 
 ROOT = f"mntner:ROOT-MNT\nauth:SHA256-PW a:{DIGEST}\nmnt-by:ROOT-MNT\nsource:TEST\n\n"
@@ -289,7 +289,7 @@ def modes(trial):
             cwd=folder,
             capture_output=True,
             umask=umask,
-            timeout=60,
+            timeout=PATIENCE,
             check=False,
         )
         expect((made_by.returncode, made_by.stderr), (0, b""), " ".join(words))
@@ -345,7 +345,7 @@ def pressed(trial):
 def load_pressed(trial, folder):
     """The statuses of `load` for a full dump, as it is and pressed, and whether what was loaded of
     the second is the registry."""
-    full = trial.run(folder, "dump", "s.toml", "--full", timeout=60).printed
+    full = trial.run(folder, "dump", "s.toml", "--full", timeout=PATIENCE).printed
     write(folder, "full.rpsl", full)
     subprocess.run(PRESSED, shell=True, cwd=folder, check=True)
     statuses = []
@@ -354,11 +354,11 @@ def load_pressed(trial, folder):
             os.remove(os.path.join(folder, f"{name}.db"))
         write_settings(folder, store=f"{name}.db", name=f"{name}.toml")
         statuses.append(
-            trial.run(folder, "load", f"{name}.toml", f"{name}.rpsl", timeout=60).status
+            trial.run(folder, "load", f"{name}.toml", f"{name}.rpsl", timeout=PATIENCE).status
         )
     same = (
         statuses[1] == 0
-        and trial.run(folder, "dump", "small.toml", "--full", timeout=60).printed == full
+        and trial.run(folder, "dump", "small.toml", "--full", timeout=PATIENCE).printed == full
     )
     return *statuses, same
 
@@ -488,7 +488,7 @@ def checked(trial):
 
     def status(url, *more):
         ran = subprocess.run(
-            [check, url, *more], capture_output=True, text=True, timeout=60, check=False
+            [check, url, *more], capture_output=True, text=True, timeout=PATIENCE, check=False
         )
         expect(bool(ran.stdout), ran.returncode != 0, "whether it says what it saw")
         return ran.returncode

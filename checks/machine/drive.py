@@ -12,7 +12,7 @@ import struct
 import subprocess
 import time
 
-from checks.running import Failure, expect, short
+from checks.running import PATIENCE, Failure, expect, short
 
 SECTOR = 512
 FLUSH, DISCARD = 1, 4
@@ -105,7 +105,7 @@ class Drive:
             command, stdin=subprocess.DEVNULL, stdout=subprocess.PIPE, stderr=subprocess.STDOUT
         )
         self.stack.callback(self.stop)
-        end = time.monotonic() + 60
+        end = time.monotonic() + PATIENCE
         while not os.path.ismount(self.served):
             if self.daemon.poll() is not None or time.monotonic() > end:
                 self.daemon.kill()

@@ -44,6 +44,7 @@ STEPS = [
     pytest.param("timers", "history", id="the history by its timer", marks=LONG),
     pytest.param("timers", "mirror", id="replicas", marks=LONG),
     pytest.param("timers", "filters", id="filters by their timer", marks=LONG),
+    pytest.param("timers", "mirrors", id="the dump and the serials for mirrors", marks=LONG),
     pytest.param("timers", "untouched", id="what all this left", marks=LONG),
     pytest.param("service", "taken_away", id="a removal, a purge and a new installation"),
 ]

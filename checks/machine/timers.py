@@ -4,10 +4,11 @@ from checks.machine.service import AS_OWNER, SETTINGS, TRIGGERED
 from checks.running import expect
 from checks.sums import sum_of
 
-# The example's filter, of an AS that the registry has; its number is one for documentation, which
-# bgpq4 takes with -p.
+# The example's filter by bgpq4, of an AS that the registry has; its number is one for
+# documentation, which bgpq4 takes with -p.
 FILTERS = (
-    "sed -i 's/bgpq4 /bgpq4 -p /; s/ AS64496:AS-CUSTOMERS/ AS64496/' /etc/irrdesk/filters.toml"
+    'sed -i \'/^make/d; s/^# make = "bgpq4 /make = "bgpq4 -p /;'
+    " s/ AS64496:AS-CUSTOMERS/ AS64496/' /etc/irrdesk/filters.toml"
 )
 SOON = "/run/systemd/system/irrdesk-backup.timer.d"
 
@@ -129,6 +130,18 @@ class Timers:
             "how often the replicas were started again",
         )
         return f"{len(made.splitlines())} lines for BIRD"
+
+    def mirrors(self):
+        """What a mirror begins from, and the serials that the door tells of, as another user."""
+        guest = self.service.guest
+        guest.done("systemctl enable --now irrdesk-export.timer; systemctl start irrdesk-export")
+        names = guest.done("ls /var/cache/irrdesk-export").split()
+        expect((names[0][-13:], len(names)), ("CURRENTSERIAL", 9), f"what is exported: {names}")
+        serial = guest.done("cat /var/cache/irrdesk-export/*.CURRENTSERIAL").strip()
+        asked = "exec 3<>/dev/tcp/127.0.0.1/43; echo '-q sources' >&3; cat <&3"
+        told = guest.done(f'bash -c "{asked}"')
+        expect(f"-{serial}\n" in told, True, f"whether serial {serial} is told: {told}")
+        return f"serial {serial}"
 
     def untouched(self):
         """That nothing of all this changed the registry, or failed."""

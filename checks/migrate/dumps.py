@@ -6,7 +6,7 @@ from typing import NamedTuple
 class Dump(NamedTuple):
     """The files of a dump, how many paragraphs of it are taken, how many are left out of which
     cause, what is mended, new names, what is found in the result, and how many items are dropped
-    from lists of which cause."""
+    from lists of which cause, and what is told of objects that are taken."""
 
     files: dict
     taken: int
@@ -15,6 +15,7 @@ class Dump(NamedTuple):
     renamed: dict
     texts: list
     dropped: dict
+    told: dict = {}
 
 
 RIPE = Dump(
@@ -271,6 +272,7 @@ country:     BR
         "owner:          Telecomunica\xe7\xf5es de Exemplo S/A\n",
     ],
     {},
+    {"no `source`": 2},
 )
 
 ARIN = Dump(

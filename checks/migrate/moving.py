@@ -32,6 +32,7 @@ TOP = (1 << 32) - 1
 SETS_NAMED = ["AS-X", "as-x", "RS-Z", "AS1:AS-Y", "AS01:AS-Y", "AS1:RS-Z", "AS-ANY", "FOO"]
 
 
+SOURCE_LINE = re.compile(rb"source[ \t\r]*:", re.I)
 # A registry before a name, and the classes that other registries have.
 SCOPE = re.compile(rb"^([A-Za-z][A-Za-z0-9_-]*)::")
 OF_CLASSES = set(CLASSES) | {b"person", b"role", b"inet6num", b"route6", b"organisation"}
@@ -62,6 +63,16 @@ def lists_of(number):
     )
 
 
+def is_cut(text, paragraphs):
+    """Whether the last paragraph of a text may have lost its end: it has no `source`, and most
+    others have one, or the text ends within its last line; a comment after it is an end."""
+    *others, last = [any(map(SOURCE_LINE.match, block[1:])) for block in paragraphs]
+    end = text.rstrip(b" \t\r\n").rpartition(b"\n")[2]
+    if last or end[:1] in (b"#", b"%"):
+        return False
+    return others.count(True) > others.count(False) or end == paragraphs[-1][-1].rstrip(b" \t\r")
+
+
 class Second:
     """What was read of files: each object as its other attributes in order, and the items of each
     list, whatever their spelling."""
@@ -70,10 +81,13 @@ class Second:
         self.auth, self.objects, self.read, self.causes = auth, {}, 0, {}
         self.sources = {}
         for text in texts:
-            for block in blocks(text):
+            paragraphs = list(blocks(text))
+            for place, block in enumerate(paragraphs, 1):
                 self.read += 1
                 try:
                     attributes = read(block)
+                    if place == len(paragraphs) and is_cut(text, paragraphs):
+                        raise Out("cut off")
                     order, one = self.mended(attributes)
                     source = b"".join(values(attributes, b"source")).upper()
                     if order in self.objects:

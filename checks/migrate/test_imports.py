@@ -6,6 +6,7 @@ import io
 import os
 import re
 import sys
+from collections import Counter
 
 import pytest
 
@@ -89,7 +90,9 @@ def test_a_dump_of_another_registry_is_loaded_as_its_rules_say(trial, tool, name
     )
     causes = {
         cause: int(count)
-        for cause, count in re.findall(r"^left out, (.*): ([0-9]+)$", report, re.M)
+        for cause, count in re.findall(
+            r"^left out, (.*): ([0-9]+)(?:, and with them .*)?$", report, re.M
+        )
     }
     expect(causes, dump.left_out, "causes")
     mended = {
@@ -101,12 +104,23 @@ def test_a_dump_of_another_registry_is_loaded_as_its_rules_say(trial, tool, name
         for cause, count in re.findall(r"^dropped from lists, (.*): ([0-9]+)$", report, re.M)
     }
     expect(dropped, dump.dropped, "what is dropped from lists")
+    told = {
+        cause: int(count) for cause, count in re.findall(r"^taken, (.*): ([0-9]+)$", report, re.M)
+    }
+    expect(told, dump.told, "what is told of what is taken")
     with open(os.path.join(folder, "left-out"), encoding="latin-1") as listed:
-        columns = [line.count("\t") + 1 for line in listed]
+        entries = [line.rstrip("\n").split("\t") for line in listed]
+    for what, wanted in ("left out", causes), ("dropped from lists", dropped), ("taken", told):
+        expect(
+            Counter(cause for found, cause, *_ in entries if found == what),
+            wanted,
+            f"the list of what is {what}",
+        )
+    columns = {"left out": 4, "left out with it": 4, "dropped from lists": 6}
     expect(
-        (columns.count(3), columns.count(5), len(columns)),
-        (left, sum(dropped.values()), left + sum(dropped.values())),
-        "lines of the list of what is left out",
+        [entry for entry in entries if len(entry) != columns.get(entry[0], len(entry))],
+        [],
+        "entries of the list of other columns",
     )
     with open(os.path.join(folder, "renamed"), encoding="latin-1") as listed:
         expect(dict(line.rstrip("\n").split("\t") for line in listed), dump.renamed, "new names")

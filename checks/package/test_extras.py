@@ -9,7 +9,7 @@ import subprocess
 
 import pytest
 
-from checks.running import TOP, Failure, expect, short, write, write_settings
+from checks.running import PATIENCE, TOP, Failure, expect, short, write, write_settings
 from checks.serving import free_port, read_all
 from checks.texts import item
 
@@ -60,7 +60,7 @@ def test_mandoc_finds_nothing_in_the_manual(tell):
         for command in ["mandoc", "-Tlint", path], ["groff", "-ww", "-mdoc", "-Tutf8", "-z", path]:
             if shutil.which(command[0]):
                 made = subprocess.run(
-                    command, capture_output=True, text=True, timeout=60, check=False
+                    command, capture_output=True, text=True, timeout=PATIENCE, check=False
                 )
                 told = [
                     line
@@ -166,7 +166,7 @@ def test_systemd_finds_no_fault_in_the_units(trial, tell):
         cwd=folder,
         capture_output=True,
         text=True,
-        timeout=60,
+        timeout=PATIENCE,
         check=False,
     )
     told = [line for line in made.stderr.splitlines() if any(name in line for name in units)]
@@ -237,7 +237,7 @@ def test_the_command_of_the_unit_does_within_its_limits(trial, tell):
             with contextlib.closing(socket.create_connection(("127.0.0.1", port), 30)) as peer:
                 peer.sendall(text)
                 expect(read_all(peer)[:1] in (b"m", b"H"), True, f"whether {text[:20]} is answered")
-        printed, said = process.communicate(timeout=30)
+        printed, said = process.communicate(timeout=PATIENCE)
         expect((process.returncode, printed, said), (0, b"served 3, failed 0\n", b""), "its end")
     finally:
         process.kill()

@@ -14,7 +14,7 @@ import urllib.request
 import pytest
 
 from checks.package.packages import DIST, is_released, make_release, no_error, package_of
-from checks.running import DIGEST, TOP, Failure, Skipped, expect, short, write
+from checks.running import PATIENCE, DIGEST, TOP, Failure, Skipped, expect, short, write
 from checks.serving import free_port, read_all
 from irr import VERSION
 
@@ -294,7 +294,9 @@ def served(root):
     try:
         expect(server.stdout.readline(), b"listening on 127.0.0.1:%d\n" % port, "its first line")
         yield port
-        expect((server.wait(30), server.stdout.read()), (0, b"served 4, failed 0\n"), "its end")
+        expect(
+            (server.wait(PATIENCE), server.stdout.read()), (0, b"served 4, failed 0\n"), "its end"
+        )
     finally:
         server.kill()
 

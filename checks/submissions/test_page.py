@@ -18,7 +18,7 @@ from irr.rpsl import grammar
 
 # Reads texts, and answers for each what its first paragraph has.
 SCRIPT = """
-import {blocksOf, cautionsOf, faultsOf} from './grammar.mjs';
+import {blocksOf, cautionsOf, faultsOf} from './lib/grammar.js';
 import {readFileSync} from 'node:fs';
 const answer = text => blocksOf(text).slice(0, 1).map(block => [
     faultsOf(block, 'TEST').map(one => [one.code, one.line, one.attribute, one.words]),
@@ -32,7 +32,8 @@ NODE = shutil.which("node")
 @pytest.fixture(scope="module", name="folder")
 def folder_fixture(tmp_path_factory: pytest.TempPathFactory, pytestconfig: pytest.Config) -> Path:
     folder = tmp_path_factory.mktemp("page")
-    shutil.copy(pytestconfig.rootpath / "web/grammar.js", folder / "grammar.mjs")
+    shutil.copytree(pytestconfig.rootpath / "web/lib", folder / "lib")
+    (folder / "package.json").write_text('{"type": "module"}', encoding="utf-8")
     (folder / "ask.mjs").write_text(SCRIPT, encoding="utf-8")
     return folder
 

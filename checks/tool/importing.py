@@ -3,7 +3,7 @@ import io
 import os
 import tempfile
 
-from irr.migrate import conversion
+from irr.migrate import conversion, parting
 from irr.migrate.normalisation import LeftOut, Mender
 from irr.migrate.report import Tally
 from irr.rpsl import syntax
@@ -14,8 +14,9 @@ AUTH = "SHA256-PW a:" + "0" * 64
 def mended(text, off=()):
     """The text that a paragraph becomes and the kinds of what was mended, or why it is left out."""
     (block,) = syntax.blocks([text])
+    (part,) = parting.parts(block)
     try:
-        found = Mender("TEST", "ROOT-MNT", frozenset(off)).mend(block)
+        found = Mender("TEST", "ROOT-MNT", frozenset(off)).mend(part)
     except LeftOut as cause:
         return str(cause)
     return found.text, set(found.kinds)
@@ -54,11 +55,17 @@ def keys_of(dump):
     ]
 
 
-def left_out(*texts, **more):
-    """The lines of the list of what is left out."""
+def listed(*texts, **more):
+    """The lines of the list of what is left out, dropped, or odd about what is taken."""
     out = io.BytesIO()
     made(*texts, left_out=out, **more)
     return out.getvalue().decode().splitlines()
+
+
+def left_out(*texts, **more):
+    """What is left out or dropped, without the words which of them it is."""
+    lines = [line.partition("\t") for line in listed(*texts, **more)]
+    return [rest for what, _, rest in lines if what in ("left out", "dropped from lists")]
 
 
 def texts_of(dump, *kinds):

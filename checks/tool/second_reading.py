@@ -173,19 +173,35 @@ def key_of(piece: Piece) -> object | None:
     return name[1] if name and name[0] == kind and not name[1].endswith("-ANY") else None
 
 
-def refusal(piece: Piece) -> str:
+def is_cut(dump: bytes, found: list[Piece]) -> bool:
+    """Whether the last piece of a dump may have lost its end: it has no `source`, most others have
+    one or the file ends within its last line, and no comment stands after it."""
+    end = [line for line in dump.decode("latin-1").split("\n") if line.strip(BLANKS)][-1:]
+    if not found or found[-1].kind not in CLASSES + OTHERS or end[0][0] in "#%":
+        return False
+    *others, last = found
+    have = ["source" in piece.names[1:] for piece in others]
+    is_within_line = bool(dump.decode("latin-1").rpartition("\n")[2].strip(BLANKS))
+    is_usual = have.count(True) > have.count(False)
+    return "source" not in last.names[1:] and (is_usual or is_within_line)
+
+
+def refusal(piece: Piece, is_cut_off: bool) -> str:
     """A word of the cause for which a piece by itself is left out; nothing where it is taken."""
     if any(name in CLASSES + OTHERS for name in piece.names[1:]):
         return "class again"
     if piece.names[1:].count("source") > 1:
         return "`source` twice"
+    if is_cut_off:
+        return "cut off"
     if piece.kind in OTHERS:
         return f"class {piece.kind}"
     if piece.is_broken:
         return "text"
     if piece.kind not in CLASSES:
         return "does not know"
-    if piece.kind in ("inetnum", "route") and ":" in meaning(piece.attributes[0][1]):
+    first = meaning(piece.attributes[0][1]).split(" ")[0]
+    if piece.kind in ("inetnum", "route") and ":" in first:
         return "IPv6"
     if key_of(piece) is None:
         return "key"
@@ -269,11 +285,9 @@ class Registry:
         self.causes: dict[int, str] = {}
         self.gone: list[tuple[int, str, str]] = []
         taken: dict[tuple[str, object], Piece] = {}
-        end = re.split(r"\n[ \t\r]*\n", "\n" + dump.decode("latin-1"))[-1].split("\n")
-        has_end = not end[-1].strip(BLANKS) or all(line[:1] in ("", "#", "%") for line in end)
+        is_last_cut = is_cut(dump, self.pieces)
         for piece in self.pieces:
-            is_whole = has_end or piece is not self.pieces[-1] or "source" in piece.names[1:]
-            cause = refusal(piece) or ("" if is_whole else "cut off")
+            cause = refusal(piece, is_last_cut and piece is self.pieces[-1])
             first = taken.get((piece.kind, key_of(piece))) if not cause else None
             if first:
                 sources = {"".join(one.values("source")).upper() for one in (first, piece)}
@@ -372,3 +386,24 @@ class Registry:
             return set(self.sources.values()) == {scope}
         own = self.sources.get(named, scope) if named else scope
         return own == scope and scope in self.sources.values()
+
+
+def odd(dump: bytes, registry: Registry) -> Iterator[tuple[object, ...]]:
+    """What is odd about the objects of a registry: the lines with `#`, `%` or a CR first, as they
+    are shown, and the first lines of those that have no `source`."""
+    lines = dump.decode("latin-1").split("\n")
+    left_out = set(registry.causes)
+    for piece in registry.pieces:
+        if piece.line in left_out:
+            continue
+        if not "".join(piece.values("source")):
+            yield (piece.line,)
+        place = piece.line
+        while place < len(lines) and lines[place].strip(BLANKS):
+            place += 1
+            if place + 1 in (other.line for other in registry.pieces):
+                break
+        for number in range(piece.line, place):
+            if lines[number][0] in "#%\r":
+                text = lines[number].rstrip(BLANKS)
+                yield number + 1, text.replace("\r", "\\x0d").replace("\t", "\\x09")

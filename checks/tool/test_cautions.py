@@ -11,7 +11,7 @@ from irr.registry import cautions
 from irr.registry.refusals import Reasons
 from irr.registry.server import Server
 from irr.registry.submissions import Gathered, Item
-from irr.rpsl import hashes, syntax
+from irr.rpsl import grammar, hashes, syntax
 
 HASH = hashes.auth_of(b"a secret", "ab")
 OTHER = hashes.auth_of(b"another", "cd")
@@ -56,6 +56,12 @@ def seen(text: str, registered: str = "") -> tuple[list[tuple[str, bool]], int]:
         (mntner("MD5-PW x", "PGPKEY-1", by="ROOT-MNT"), "f: line 2, `auth`", "no password", True),
         ("aut-num: AS1\npasword: x\n", "f: line 2, `pasword`", "shown to all", True),
         ("Passwrd: x\n", "f: line 1, `passwrd`", "shown to all", True),
+        ("aut-num: AS1\npasswd: x\n", "f: line 2, `passwd`", "reads as a password", True),
+        ("OVERRIDE : x\naut-num: AS1\n", "f: line 1, `override`", "reads as a password", True),
+        *(
+            (f"aut-num: AS1\n{name}: x\n", f"f: line 2, `{name}`", "write `password`", True)
+            for name in grammar.SECRETS
+        ),
         ("aut-num: AS1\nmnt-lowr: B-MNT\n", "f: line 2, `mnt-lowr`", "`mnt-lower`", False),
         ("route: 192.0.2.1/24\n", "f: line 1, `route`", "192.0.2.0/24 is registered", False),
         ("# x\n\ninetnum: 192.0.2.1/24\n", "f: line 3, `inetnum`", "192.0.2.0/24", False),
@@ -104,6 +110,8 @@ def test_seen(text: str, place: str, words: str, is_grave: bool) -> None:
         "as-set: AS-A\nmnt-routes: A-MNT {10.0.0.1/8}\n",
         "no colon 10.0.0.1/8\n",
         "person: X\nmnt-ref: A-MNT\nnotify: x\n",
+        # Names that only begin so, and a name in a value.
+        "aut-num: AS1\npassport: x\nauth-override: 20010101\nremarks: passwd: x\n",
     ],
 )
 def test_unseen(text: str) -> None:

@@ -14,6 +14,7 @@ from urllib.request import Request, urlopen
 
 import pytest
 
+from checks.running import PATIENCE
 from checks.serving import free_port
 
 from irr.main import main
@@ -63,7 +64,7 @@ class Registry:
         self.take(given(*NAMES) + "\n".join(mntners))
 
     def submit(self, body: str) -> str:
-        with urlopen(Request(f"{self.url}/submissions", body.encode()), timeout=60) as reply:
+        with urlopen(Request(f"{self.url}/submissions", body.encode()), timeout=PATIENCE) as reply:
             return str(reply.read().decode())
 
     def take(self, body: str) -> None:

@@ -7,6 +7,7 @@ import unittest
 from pathlib import Path
 from unittest import mock
 
+from checks.running import PATIENCE
 from irr.errors import UNREAD, Failure, unread
 from irr.local import history
 from irr.rpsl import keys
@@ -74,7 +75,7 @@ class Ends(unittest.TestCase):
             cwd=TOOLS,
             capture_output=True,
             text=True,
-            timeout=60,
+            timeout=PATIENCE,
             check=False,
             env=os.environ | environment,
         )
@@ -114,7 +115,7 @@ class Ends(unittest.TestCase):
                     stdout=full,
                     stderr=subprocess.PIPE,
                     text=True,
-                    timeout=60,
+                    timeout=PATIENCE,
                     check=False,
                     env=environment,
                 )
@@ -181,7 +182,7 @@ class Ends(unittest.TestCase):
                     cwd=TOOLS,
                     capture_output=True,
                     text=True,
-                    timeout=60,
+                    timeout=PATIENCE,
                     check=False,
                     preexec_fn=heard,
                 )
@@ -198,7 +199,7 @@ class Ends(unittest.TestCase):
             cwd=TOOLS,
             capture_output=True,
             text=True,
-            timeout=60,
+            timeout=PATIENCE,
             check=False,
             preexec_fn=heard,
         )

@@ -12,6 +12,7 @@ from pathlib import Path
 
 import pytest
 
+from checks.running import PATIENCE
 from checks.tool.importing import AUTH, obj
 from irr import main
 from irr.errors import FAILED, REFUSED
@@ -151,7 +152,7 @@ def test_a_pipe_whose_first_read_is_one_byte(content, folder):
         with pytest.raises(subprocess.TimeoutExpired):
             child.wait(0.5)
         child.stdin.write(content[1:])
-        out, said = child.communicate(timeout=60)
+        out, said = child.communicate(timeout=PATIENCE)
     assert (child.returncode, b"aut-num:        AS1\n" in out) == (0, True), said
 
 
@@ -164,14 +165,15 @@ def test_gzip_of_two_members():
 
 def test_a_file_name_that_is_not_utf8(folder, capsys):
     name = os.fsdecode(b"caf\xe9\t.db")
-    Path(name).write_bytes(GOOD + obj("person: Jo") + obj("as-set: AS-X", "members: ::/0"))
+    last = obj("as-set: AS-X", "members: ::/0", "source: RIPE")
+    Path(name).write_bytes(GOOD + obj("person: Jo") + last)
     assert run(name, "-o", "full", "--left-out", "list") == 0
     assert (
         "left out, class person: 1\n  caf\\xe9\\x09.db:5  person: Jo\n" in capsys.readouterr().err
     )
     assert Path("list").read_text().splitlines() == [
-        "class person\tcaf\\xe9\\x09.db:5\tperson: Jo",
-        "IPv6\tcaf\\xe9\\x09.db:7\tas-set: AS-X\tmembers\t::/0",
+        "left out\tclass person\tcaf\\xe9\\x09.db:5\tperson: Jo",
+        "dropped from lists\tIPv6\tcaf\\xe9\\x09.db:7\tas-set: AS-X\tmembers\t::/0",
     ]
 
 

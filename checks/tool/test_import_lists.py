@@ -250,7 +250,7 @@ def test_the_last_object_of_a_file_that_was_cut_off(end):
     assert line.startswith("cut off at the end of the file\t") and line.endswith("as-set: AS-X")
     assert b"AS-X" not in made(text)[0]
     # Other ends are none.
-    for good in text + b"\n", text + b"\nsource: RIPE", whole.rstrip(b"\n"), whole + b"# end":
+    for good in text + b"\nsource: RIPE", whole.rstrip(b"\n"), whole + b"# end":
         assert left_out(good) == []
 
 
@@ -294,7 +294,7 @@ def test_names_of_two_registries():
 def test_items_of_what_is_left_out_are_not_listed():
     """A duplicate, and a range that crosses another, is listed as a whole."""
     one = obj("as-set: AS-X", "members: x!", "mnt-by: A-MNT", "source: RIPE")
-    lines = left_out(one + one + obj("as-set: RS-X", "members: y!"))
+    lines = left_out(one + obj("as-set: RS-X", "members: y!") + one)
     assert sorted(line.split("\t")[0] for line in lines) == [
         "a key that can't be read",
         "an item that can't be read",

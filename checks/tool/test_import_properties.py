@@ -70,14 +70,17 @@ def compare(dump):
     wanted = second_reading.Registry(dump, "TEST", "ROOT-MNT")
     text, tally, lines = imported(dump)
     # Each piece is taken or listed, with its own line and the reason.
-    listed = {line_of(line[1]): line[0] for line in lines if len(line) == 3}
+    listed = {line_of(line[2]): line[1] for line in lines if line[0] == "left out"}
     assert sorted(listed) == sorted(wanted.causes)
     assert len(listed) + tally.taken == tally.read == len(wanted.pieces)
     for place, cause in wanted.causes.items():
         assert cause in listed[place], (cause, listed[place])
     # Each item that is gone is listed, and no other.
-    gone = [(line_of(line[1]), line[3], line[4]) for line in lines if len(line) == 5]
+    gone = [(line_of(line[2]), *line[4:]) for line in lines if line[0] == "dropped from lists"]
     assert sorted(gone) == sorted(wanted.gone)
+    # What is odd about what is taken is told, and nothing else.
+    odd = [(line_of(line[2]), *line[4:5]) for line in lines if line[0] == "taken"]
+    assert sorted(odd) == sorted(second_reading.odd(dump, wanted))
     # What is written is what was read, object by object, but for what was told.
     assert all(not is_name(old) and is_name(new) for old, new in tally.renamed.items())
     found = {(piece.kind, key_of(piece)): piece for piece in second_reading.pieces(text)}

@@ -427,8 +427,8 @@ class Importing(unittest.TestCase):
             ["route: 192.0.2.0/24 AS1", "route: 192.0.2.0/24 AS4294967296"],
         )
         self.assertEqual(
-            (len(lines), lines[14].split("\t")[0], lines[14].split("\t")[2]),
-            (16, "class person", "person: Jo 14"),
+            (len(lines), lines[14].split("\t")[:2], lines[14].split("\t")[3]),
+            (16, ["left out", "class person"], "person: Jo 14"),
         )
         report = list(tally.lines())
         self.assertEqual(

@@ -140,7 +140,7 @@ def test_a_dump_without_blank_lines_loses_nothing(monkeypatch):
     monkeypatch.setattr(syntax, "CHUNK", 700)
     lines = [line for number in range(99) for line in (f"as-set: AS-{number}", *A[1:], "# x")]
     lines[4 * 50 + 50 : 4 * 50 + 50] = ["person: Jo", "source: RIPE"]
-    dump, tally = made(obj(*lines, "person: Jo"))
+    dump, tally = made(obj(*lines, "person: Jo", "source: RIPE"))
     assert (tally.taken, dict(tally.causes)) == (99, {"class person": 2})
     assert [line.split("\t")[1].rpartition(":")[2] for line in left_out(obj(*lines))] == ["251"]
     assert tally.mended["part"] == 100

@@ -12,6 +12,7 @@ import unittest
 from pathlib import Path
 from unittest import mock
 
+from checks.running import PATIENCE
 from irr.errors import FAILED, Failure
 from irr.registry import replies, server
 from irr.registry.replies import Bounds
@@ -220,7 +221,7 @@ class Submissions(unittest.TestCase):
                         input=b"mntner: A-MNT\n",
                         stdout=out,
                         stderr=subprocess.PIPE,
-                        timeout=60,
+                        timeout=PATIENCE,
                         check=False,
                     )
                 self.assertEqual(

@@ -1,70 +1,23 @@
-"""Settings, databases held, dumps pressed, and the states of a history."""
+"""Settings, copies of databases, databases that are held, and replicas of them."""
 import contextlib
 import errno
 import os
-import resource
-import signal
 import sqlite3
 import subprocess
 import sys
 import tempfile
 import time
-import unittest
 from pathlib import Path
 from types import SimpleNamespace
 from unittest import mock
 
-from irr.commands import backup, reset
-from irr.commands.history import show
+from checks.running import PATIENCE
+from checks.tool.stores import TEXT, Folder, limited, program
+from irr.commands import backup
 from irr.errors import DATABASE, SETTINGS, Failure
-from irr.local import databases, history, replicas
+from irr.local import databases, replicas
 from irr.local.databases import Settings
 from irr.rpsl import syntax
-from irr.rpsl.keys import Key
-
-AUTH = "SHA256-PW a:" + "0" * 64
-TEXT = f'source = "TEST"\nroot = "ROOT-MNT"\nauth = "{AUTH}"\nlimit = 10\nstore = "irr.db"\n'
-
-
-@contextlib.contextmanager
-def program(words):
-    """A program in the place of irrdesk, which is these words of the shell."""
-    with tempfile.TemporaryDirectory() as folder:
-        path = Path(folder) / "irrdesk"
-        path.write_text(f"#!/bin/sh\n{words}\n")
-        path.chmod(0o755)
-        with mock.patch.dict(os.environ, {"IRRDESK": str(path)}):
-            yield
-
-
-@contextlib.contextmanager
-def limited(most):
-    """Lets no file grow above so many bytes."""
-    was = resource.getrlimit(resource.RLIMIT_FSIZE)
-    resource.setrlimit(resource.RLIMIT_FSIZE, (most, was[1]))
-    try:
-        yield
-    finally:
-        resource.setrlimit(resource.RLIMIT_FSIZE, was)
-
-
-class Folder(unittest.TestCase):
-    def setUp(self):
-        self.temporary = tempfile.TemporaryDirectory()
-        self.folder = Path(self.temporary.name).resolve()
-
-    def tearDown(self):
-        self.temporary.cleanup()
-
-    def file(self, name, text):
-        path = self.folder / name
-        path.write_bytes(text)
-        return path
-
-    def settings(self):
-        return Settings(
-            self.folder / "irr.toml", "TEST", "ROOT-MNT", AUTH, 10, self.file("irr.db", b"rows")
-        )
 
 
 class Stores(Folder):
@@ -471,120 +424,10 @@ class Stores(Folder):
         return server
 
     def wait_until_it_goes_on(self, server):
-        end = time.monotonic() + 20
+        end = time.monotonic() + PATIENCE
         while databases.is_still(server.pid):
             self.assertLess(time.monotonic(), end, "the server was left still")
             time.sleep(0.01)
-
-    def test_pressed(self):
-        long = syntax.read(
-            b"as-set: AS-LONG\n"
-            + b"".join(b"members:AS%d\n" % number for number in range(4_000))
-            + b"source: TEST\n"
-        ).text()
-        self.assertGreater(len(long), syntax.LARGEST)
-        short = b"mntner:         A-MNT\nsource:         TEST\n"
-        loadable = b"".join(databases.pressed([short + b"\n", long + b"\n"]))
-        self.assertTrue(loadable.startswith(short + b"\nas-set:AS-LONG\nmembers:AS0\n"))
-        self.assertTrue(loadable.endswith(b"source:TEST\n\n% end 2\n"))
-        self.assertEqual(
-            [len(block.text) < syntax.LARGEST for block in syntax.blocks([loadable])], [True, True]
-        )
-        self.assertEqual([p.text() for p in syntax.paragraphs([loadable])], [short, long])
-
-    def test_reset(self):
-        full = self.file(
-            "full.rpsl",
-            (
-                b"mntner:         A-MNT\nauth:           X\nremarks:        r\nauth:          "
-                b" Y\n\nmntner:         AB-MNT\nauth:           X\n\n% end 2\n"
-            ),
-        )
-        made = b"".join(reset.ended(reset.replaced(full, "A-MNT", b"Z")))
-        self.assertEqual(
-            made,
-            (
-                b"mntner:         A-MNT\nauth:           Z\nremarks:        r\n\nmntner:        "
-                b" AB-MNT\nauth:           X\n\n% end 2\n"
-            ),
-        )
-        for good in AUTH, "SHA256-PW " + "a" * 16 + ":" + "F" * 64:
-            self.assertTrue(reset.lets_in(good))
-        for bad in (
-            "NONE",
-            AUTH[:-1],
-            "SHA256-PW :" + "0" * 64,
-            AUTH + "\nauth: x",
-            "SHA256-PW " + "a" * 17 + ":" + "0" * 64,
-        ):
-            self.assertFalse(reset.lets_in(bad))
-
-    def test_handed_over(self):
-        """A new password that was saved goes again, unless the new database is in place."""
-        for is_in_place in False, True:
-            single, save = self.file("single.db", b""), self.folder / f"password-{is_in_place}"
-            with self.assertRaises(KeyboardInterrupt), reset.handed_over(
-                SimpleNamespace(save=str(save), ask=False), "word", single
-            ):
-                self.assertEqual(save.read_bytes(), b"password: word\n")
-                if is_in_place:
-                    single.unlink()
-                raise KeyboardInterrupt
-            self.assertEqual(save.exists(), is_in_place)
-
-    def test_stopped_when_saved(self):
-        """A new password goes again also if a signal comes once it is saved, and another's file
-        stays."""
-        single, save = self.file("single.db", b""), self.folder / "password"
-        options = SimpleNamespace(save=str(save), ask=False)
-
-        def put_new(path, text):
-            Path(path).write_bytes(text)
-            # To this thread: another one, which does not hold it off, would take that of the
-            # process.
-            signal.raise_signal(signal.SIGINT)
-            self.assertTrue(save.exists())
-
-        with (
-            mock.patch("irr.system.files.put_new", put_new),
-            self.assertRaises(KeyboardInterrupt),
-            reset.handed_over(options, "word", single),
-        ):
-            self.fail("the database was put in place")
-        self.assertFalse(save.exists())
-        save.write_bytes(b"another's")
-        with self.assertRaisesRegex(Failure, "there is such a file"), reset.handed_over(
-            options, "word", single
-        ):
-            self.fail("the database was put in place")
-        self.assertEqual(save.read_bytes(), b"another's")
-
-    def test_alone_in_work(self):
-        """What a reset left that was killed goes with the next one of the database, and not what
-        one of another database has."""
-        settings = self.settings()
-        for name in ".irr.db.irr-reset-abcdefgh", ".other.db.irr-reset-abcdefgh":
-            (self.folder / name).mkdir()
-        with reset.alone_in_work(settings) as work:
-            self.assertEqual(
-                sorted(os.listdir(self.folder)),
-                sorted([".other.db.irr-reset-abcdefgh", "irr.db", work.name]),
-            )
-        with (
-            databases.alone(settings),
-            self.assertRaisesRegex(Failure, "stop the server first"),
-            reset.alone_in_work(settings),
-        ):
-            pass
-
-    def test_new_auth(self):
-        for auth, save, words in ("", None, "--auth: this is not an auth line"), (
-            None,
-            str(self.folder),
-            ".*: there is such a file",
-        ):
-            with self.assertRaisesRegex(Failure, f"^{words}"):
-                reset.new_auth(SimpleNamespace(ask=False, auth=auth, save=save))
 
 
 class Replicas(Folder):
@@ -621,88 +464,3 @@ class Replicas(Folder):
                 self.assertTrue(replicas.is_connected(port))
                 peer.shutdown(socket.SHUT_WR)
                 self.assertTrue(replicas.is_connected(port))
-
-
-class Past(Folder):
-    def record(self, repository, texts, now):
-        blocks = [syntax.Block(1, len(text), text) for text in texts]
-        return repository.record(iter(blocks), lambda: "digest", now)
-
-    def test_versions(self):
-        first, second = (
-            b"aut-num:        AS64496\nsource:         TEST\n",
-            b"aut-num:        AS64496\ndescr:          x\nsource:         TEST\n",
-        )
-        other = b"route:          192.0.2.0/24\norigin:         AS64496\nsource:         TEST\n"
-        repository, key = history.Repository(self.folder), Key("aut-num", "AS64496")
-        self.assertEqual(self.record(repository, [first], 1_000), "1 added, 0 changed, 0 deleted")
-        self.assertEqual(self.record(repository, [first], 1_100), "")
-        self.assertEqual(
-            self.record(repository, [second, other], 1_200), "1 added, 1 changed, 0 deleted"
-        )
-        # A clock that goes back does not turn the order round.
-        with mock.patch("irr.terminal.texts.note") as note:
-            self.assertEqual(self.record(repository, [other], 900), "0 added, 0 changed, 1 deleted")
-        note.assert_called_once_with(
-            f"irr history: {self.folder}: the state before is dated 1970-01-01T00:20:00Z, and the"
-            " clock says 1970-01-01T00:15:00Z; this one gets the later time: look whether the"
-            " clock is right"
-        )
-        self.assertEqual(
-            [tuple(version) for version in repository.versions(key)],
-            [(1_000, "added", first), (1_200, "changed", second), (1_200, "deleted", b"")],
-        )
-        self.assertEqual(list(repository.versions(Key("aut-num", "AS1"))), [])
-        self.assertIsNone(repository.state(999))
-        # A state is that of its own second too.
-        self.assertEqual(b"".join(repository.objects(repository.state(1_000))), first + b"\n")
-        self.assertEqual(b"".join(repository.objects(repository.state(1_200))), other + b"\n")
-        self.assertEqual(b"".join(repository.objects(repository.state(1_199))), first + b"\n")
-        self.assertEqual(b"".join(repository.objects(repository.state())), other + b"\n")
-
-    def test_words(self):
-        self.assertEqual(history.read_time("1970-01-02"), 86_400)
-        self.assertEqual(history.read_time("1970-01-01T01:00+01:00"), 0)
-        self.assertRaises(Failure, history.read_time, "yesterday")
-        for words, wanted in [
-            ("192.0.2.0/24 AS64496", ["route 192.0.2.0/24 AS64496"]),
-            ("route 192.0.2.0/24 as64496", ["route 192.0.2.0/24 AS64496"]),
-            ("192.0.2.0 - 192.0.2.255", ["inetnum 192.0.2.0 - 192.0.2.255"]),
-            ("as-a", ["as-set AS-A"]),
-            ("as64496", ["mntner AS64496", "aut-num AS64496"]),
-            ("aut-num AS64496", ["aut-num AS64496"]),
-            ("as1-as2", ["mntner AS1-AS2", "as-block AS1 - AS2"]),
-        ]:
-            self.assertEqual(
-                [f"{key.kind} {key.text}" for key in history.read_keys(words.split())], wanted
-            )
-        for words in "%", "route 192.0.2.0/24", "route 192.0.2.0/24 AS1 x", "aut-num A-MNT":
-            self.assertRaises(Failure, history.read_keys, words.split())
-
-    def test_shown(self):
-        """A key without its class is that of the object which was seen, of whichever class."""
-        number, name = (
-            b"aut-num:        AS64496\nsource:         TEST\n",
-            b"mntner:         AS64497\nsource:         TEST\n",
-        )
-        repository = history.Repository(self.folder)
-        self.record(repository, [number, name], 1_000)
-        for words, text in (["AS64496"], number), (["AS64497"], name):
-            with mock.patch("irr.terminal.texts.put") as put:
-                self.assertEqual(show(repository, words), 0)
-            put.assert_called_once_with(b"% 1970-01-01T00:16:40Z added\n" + text + b"\n")
-        with mock.patch("irr.terminal.texts.note") as note:
-            self.assertEqual(show(repository, ["AS64498"]), 1)
-        note.assert_called_once_with(
-            "irr history: mntner AS64498 or aut-num AS64498: it was never seen"
-        )
-        self.record(repository, [number, name.replace(b"7", b"6")], 2_000)
-        with self.assertRaisesRegex(
-            Failure,
-            "^AS64496: mntner AS64496 and aut-num AS64496 were seen; put the class before it$",
-        ):
-            show(repository, ["AS64496"])
-
-
-if __name__ == "__main__":
-    unittest.main()

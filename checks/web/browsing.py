@@ -8,7 +8,6 @@ import socketserver
 import subprocess
 import threading
 import time
-from pathlib import Path
 
 from selenium import webdriver
 from selenium.common.exceptions import JavascriptException, WebDriverException
@@ -59,10 +58,6 @@ SERVER = """
         }}
     }}
 """
-
-# The texts and edges of the page that stand out too little from what is behind them, and how many
-# texts were looked at.
-CONTRAST = Path(__file__).with_name("contrast.js").read_text(encoding="utf-8")
 
 
 class Nginx:
@@ -336,7 +331,6 @@ def expect_all(parts, whole, what):
 __all__ = [
     "BadServer",
     "Browser",
-    "CONTRAST",
     "HOST",
     "Nginx",
     "POLICY",

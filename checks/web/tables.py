@@ -1,19 +1,19 @@
 """The tables of the tool that the page has too: `python3 -m checks.web.tables` writes them."""
 
 import json
-import os
 import sys
 import textwrap
+from pathlib import Path
 
-TOP = os.path.dirname(os.path.dirname(os.path.dirname(os.path.abspath(__file__))))
-sys.path.append(os.path.join(TOP, "tools"))
+TOP = Path(__file__).resolve().parents[2]
+sys.path.append(str(TOP / "tools"))
 
 from irr.registry.codes import TABLE  # noqa: E402
 from irr.rpsl import grammar, keys  # noqa: E402
 
-WEB = os.path.join(TOP, "web")
-FILES = sorted(os.listdir(WEB))
-END = "// As far as here.\n"
+WEB = Path(TOP, "web")
+FILES = sorted(str(path.relative_to(WEB)) for path in WEB.rglob("*") if path.is_file())
+TABLES = WEB / "lib/tables.js"
 WIDEST = 100
 
 
@@ -32,7 +32,7 @@ def codes_block() -> str:
         f"        {literal(code.remedy, 12)}\n    ],\n"
         for code in TABLE
     ]
-    return "const CODES = {\n" + "".join(lines) + "};\n"
+    return "export const CODES = {\n" + "".join(lines) + "};\n"
 
 
 def grammar_block() -> str:
@@ -47,13 +47,14 @@ def grammar_block() -> str:
                 "KEY_WORDS", {kind: literal(words, 8, "") for kind, words in grammar.KEYS.items()}
             ),
             named("WORDS", {name: literal(words, 8, "") for name, words in grammar.WORDS.items()}),
-            "const HINTS = [\n",
+            "export const HINTS = [\n",
             *(
                 f"    [{', '.join(literal(one, 8, '') for one in hint)}],\n"
                 for hint in grammar.HINTS
             ),
             "];\n",
             listed("INTERPRETED", grammar.INTERPRETED),
+            listed("SECRETS", grammar.SECRETS),
             listed("RESERVED", sorted(keys.RESERVED)),
         ]
     )
@@ -70,37 +71,21 @@ def rows(of_class: dict[str, grammar.Rule]) -> str:
 def named(name: str, values: dict[str, str]) -> str:
     """A constant that has values by names."""
     lines = [f"    {json.dumps(key)}: {value},\n" for key, value in values.items()]
-    return f"const {name} = {{\n{''.join(lines)}}};\n"
+    return f"export const {name} = {{\n{''.join(lines)}}};\n"
 
 
 def listed(name: str, words: "list[str] | tuple[str, ...]") -> str:
     """A constant that is a list of words."""
-    return f"const {name} = (\n    {literal(' '.join(words), 4, '')}\n).split(' ');\n"
+    return f"export const {name} = (\n    {literal(' '.join(words), 4, '')}\n).split(' ');\n"
 
 
-# Each file that has a table: where that begins, and what it is.
-TABLED = {
-    "submit.js": ("tools/irr/registry/codes.py", codes_block),
-    "grammar.js": ("tools/irr/rpsl/grammar.py", grammar_block),
-}
-
-
-def page_parts(name: str) -> tuple[str, str, str]:
-    """A module of the page that has a table: what comes before it, the table, and what comes
-    after."""
-    begin = f"// From here on made of {TABLED[name][0]} by `python3 -m checks.web.tables`.\n"
-    with open(os.path.join(WEB, name), encoding="utf-8") as script:
-        front, _, rest = script.read().partition(begin)
-    block, _, back = rest.partition(END)
-    return front + begin, block, back
-
-
-def main() -> None:
-    for name, (_, block) in TABLED.items():
-        front, _, back = page_parts(name)
-        with open(os.path.join(WEB, name), "w", encoding="utf-8") as script:
-            script.write(front + block() + END + back)
+def tables() -> str:
+    """The module of the page that has them all."""
+    return (
+        "// Made of tools/irr/registry/codes.py and tools/irr/rpsl/grammar.py by\n"
+        "// `python3 -m checks.web.tables`.\n" + grammar_block() + codes_block()
+    )
 
 
 if __name__ == "__main__":
-    main()
+    TABLES.write_text(tables(), encoding="utf-8")

@@ -1,26 +1,21 @@
-"""What the page may do, and the table that it has of the tool."""
+"""What the page may do, and the tables that it has of the tool."""
 
 import os
 import re
-from pathlib import Path
 
 from checks.running import TOP, Skipped, expect
 from checks.web.browsing import POLICY, expect_in
-from checks.web.tables import FILES, TABLED, WEB, page_parts
+from checks.web.tables import FILES, TABLES, WEB, tables
 from irr.registry.codes import TABLE
 
 IN_MEMORY = True
 
 
 def test_the_tables_are_those_of_the_tool(tell):
-    for name, (_, block) in TABLED.items():
-        expect(
-            page_parts(name)[1],
-            block(),
-            f"the table in web/{name} (python3 -m checks.web.tables writes it)",
-        )
+    found = TABLES.read_text(encoding="utf-8")
+    expect(found, tables(), "web/lib/tables.js (python3 -m checks.web.tables writes it)")
     text = "".join(
-        Path(WEB, name).read_text(encoding="utf-8") for name in FILES if name.endswith(".js")
+        (WEB / name).read_text(encoding="utf-8") for name in FILES if name.endswith(".js")
     )
     expect(
         re.findall(
@@ -82,6 +77,19 @@ def test_its_policy_refuses_what_comes_from_elsewhere(stage, tell):
     browser.said.clear()
     browser.requests = [url for url in browser.requests if ":9/" not in url]
     tell("a script, a style, a picture and a request from elsewhere are refused")
+
+
+def test_haproxy_serves_each_file_of_the_page():
+    """It reads no folder: the example has a line for each."""
+    with open(os.path.join(TOP, "examples/haproxy.cfg"), encoding="utf-8") as text:
+        lines = re.findall(
+            r"file /usr/share/irrdesk/web/(\S+) .* if \{ path /(\S*) \}", text.read()
+        )
+    expect(
+        sorted(lines),
+        sorted((name, "" if name == "index.html" else name) for name in FILES),
+        "the files in examples/haproxy.cfg, and their paths",
+    )
 
 
 def test_the_proxies_of_the_examples_send_the_policy(tell):

@@ -176,6 +176,7 @@ def test_nothing_that_locks_out_is_sent_unless_it_is_meant(stage, tell):
     for text, passwords, words in [
         (f"mntner: Z-MNT\nauth: MD5-PW x\n{own}", ["c"], "Line 2, auth: no password would fit"),
         (f"aut-num: AS1\npasword: x\n{own}", [], "Line 2, pasword: it is one letter off"),
+        (f"aut-num: AS1\nPasswd: x\n{own}", [], "Line 2, passwd: it reads as a password"),
         (
             f"mntner: B-MNT\nauth: {other}\nmnt-by: B-MNT\nsource: TEST\n",
             ["bc"],
@@ -207,7 +208,7 @@ def test_nothing_that_locks_out_is_sent_unless_it_is_meant(stage, tell):
         browser.text("cautions"),
         "the warnings",
     )
-    tell("four texts held back, one of them sent once that is asked for; two warnings")
+    tell("five texts held back, one of them sent once that is asked for; two warnings")
 
 
 def test_change_replaces_what_was_left(stage, tell):

@@ -1,11 +1,15 @@
-"""`irr export FOLDER`: the public dump in RIPE's split form, a gzip'd file a class."""
+"""`irr export FOLDER`: the public dump in RIPE's split form, a gzip'd file a class; with `--history`
+also in one file, with the serial from which a mirror follows it."""
 import argparse
 import contextlib
 import gzip
+import hashlib
 from pathlib import Path
-from typing import BinaryIO
+from typing import BinaryIO, Iterable, Iterator
 
-from irr.errors import DONE
+from irr.errors import ARGUMENTS, DONE, Failure
+from irr.local.history import Repository, State
+from irr.local.serials import Serials, Told
 from irr.registry import answers, server
 from irr.rpsl import keys
 from irr.system import files
@@ -14,11 +18,19 @@ from irr.terminal import texts
 EXAMPLES = """
 irr export /srv/ftp/irr                     /srv/ftp/irr/example.db.route.gz and six more
 irr export -s https://irr.example.net .     of another registry, into this folder
+irr export --history /var/lib/irrdesk-history /srv/ftp/irr
+                                            also example.db.gz and EXAMPLE.CURRENTSERIAL
 """
 
 
 def arguments(parser: argparse.ArgumentParser) -> None:
     server.add_options(parser)
+    parser.add_argument(
+        "--history",
+        metavar="FOLDER",
+        help="take the last state that `irr history` gave serials, and not the registry's; write it"
+        " in one file too, SOURCE.db.gz, and its serial into SOURCE.CURRENTSERIAL",
+    )
     parser.add_argument(
         "folder",
         metavar="FOLDER",
@@ -27,22 +39,93 @@ def arguments(parser: argparse.ArgumentParser) -> None:
 
 
 def run(options: argparse.Namespace) -> int:
-    place = server.Server.from_options(options.server, options.plain)
+    if options.history and options.server:
+        raise Failure("--history", "it takes no server; leave one of them out", ARGUMENTS)
     folder = files.folder(options.folder)
+    with files.locked(folder):
+        if options.history:
+            counts = of_history(Path(options.history), folder)
+        else:
+            place = server.Server.from_options(options.server, options.plain)
+            counts = written(place.dump(), place.url, folder, False)
+    if counts:
+        texts.note("; ".join(f"{kind} {count:,}" for kind, count in counts.items()))
+    return DONE
+
+
+def of_history(history: Path, folder: Path) -> dict[str, int]:
+    """Writes the last state that has serials, and after it its serial: who reads the serial first
+    never has one that is ahead of the dump. Nothing where it was written before."""
+    last = Serials(history).now()
+    if last is None:
+        raise Failure(str(history), "it has no serials; let `irr history` fetch a state", ARGUMENTS)
+    path, one = folder / f"{last.source}.CURRENTSERIAL", f"{last.source.lower()}.db.gz"
+    before = serial_of(path)
+    if before == last.last and (folder / one).exists():
+        return {}
+    if before is not None and before > last.last:
+        raise Failure(
+            str(path),
+            f"it has serial {before}, and the history has {last.last}: serials went back; remove"
+            f" {Serials(history).folder}, and run `irr history` and this again, so that mirrors"
+            " begin anew",
+        )
+    counts = written(dump_of(history, last), str(history), folder, True)
+    files.put(path, f"{last.last}\n".encode())
+    return counts
+
+
+def serial_of(path: Path) -> int | None:
+    """The serial that a file has; None where there is no file."""
+    if not path.exists():
+        return None
+    serial = keys.read_number(keys.as_text(files.read(str(path)).strip()), 0, 10**18 - 1)
+    if serial is None:
+        raise Failure(str(path), "it has no serial; remove it if mirrors do not follow this folder")
+    return serial
+
+
+def dump_of(history: Path, last: Told) -> Iterator[bytes]:
+    """The public dump of a state, which has to be the one that was fetched."""
+    digest, count = hashlib.sha256(), 0
+    for piece in Repository(history).objects(State(last.commit, 0, last.dump)):
+        digest.update(piece)
+        count += 1
+        yield piece
+    end = f"% end {count}\n".encode()
+    digest.update(end)
+    if digest.hexdigest() != last.dump:
+        raise Failure(
+            str(history),
+            f"commit {last.commit} does not give the dump that it was made of; the repository was"
+            " changed: take it from a backup",
+        )
+    yield end
+
+
+def written(dump: Iterable[bytes], name: str, folder: Path, is_one: bool) -> dict[str, int]:
+    """Writes the files of a dump, and counts its objects by class. All are put in place after the
+    last piece, if the dump is whole."""
     counts = dict.fromkeys(keys.CLASSES, 0)
-    with files.locked(folder), contextlib.ExitStack() as put:
-        # All are put in place after the last piece, if the dump is whole.
+    with contextlib.ExitStack() as put:
         outs: dict[str, gzip.GzipFile] = {}
-        for key, paragraph in answers.dumped(place.dump(), place.url):
+        one: gzip.GzipFile | None = None
+        for key, paragraph in answers.dumped(dump, name):
             if not outs:
                 source = keys.as_text(paragraph.value(b"source")).lower()
                 outs = {
                     kind: opened(put, folder / f"{source}.db.{kind}.gz") for kind in keys.CLASSES
                 }
-            outs[key.kind].write(paragraph.text() + b"\n")
+                one = opened(put, folder / f"{source}.db.gz") if is_one else None
+            text = paragraph.text() + b"\n"
+            outs[key.kind].write(text)
+            if one:
+                one.write(text)
             counts[key.kind] += 1
-    texts.note("; ".join(f"{kind} {count:,}" for kind, count in counts.items()))
-    return DONE
+        if one:
+            # As IRRd ends its files.
+            one.write(b"# EOF\n")
+    return counts
 
 
 def opened(put: contextlib.ExitStack, path: Path) -> gzip.GzipFile:

@@ -10,6 +10,7 @@ from typing import Iterable, Iterator
 from irr.errors import ARGUMENTS, DONE, REFUSED, Failure
 from irr.local import temporary
 from irr.local.history import Repository, note_of_age, read_keys, read_time, shown_time, told
+from irr.local.serials import Serials
 from irr.registry import answers, server
 from irr.rpsl import keys, syntax
 from irr.system import files
@@ -87,12 +88,14 @@ def record(place: Path, source: server.Server) -> int:
         files.put(dump, source.dump())
         try:
             with open(dump, "rb") as file:
-                counts = Repository(place).record(
+                repository = Repository(place)
+                counts = repository.record(
                     syntax.blocks(digested(syntax.chunks(file), digest)),
                     digest.hexdigest,
                     now,
                     source.url,
                 )
+            Serials(place).update(repository, now)
         finally:
             dump.unlink()
     if counts:

@@ -62,8 +62,8 @@ def arguments(parser: argparse.ArgumentParser) -> None:
     parser.add_argument(
         "--left-out",
         metavar="FILE",
-        help="list all that is left out: cause, place and first line, for an item of a list also "
-        "attribute and item, with tabs between them",
+        help="list all that is left out, dropped from lists, or odd about what is taken: which of "
+        "these, cause, place and first line, of an item also attribute and item, with tabs between",
     )
     parser.add_argument(
         "--renamed",

@@ -109,9 +109,16 @@ def fits(entry: dict[str, Any], options: argparse.Namespace) -> bool:
 
 def line_of(entry: dict[str, Any]) -> str:
     who = str(entry.get("client")) + (f" ({entry['user']})" if entry.get("user") else "")
-    what = (
-        f"{entry['class']} {entry['key']}" if entry.get("key") else "an item that could not be read"
-    )
-    at = str(entry.get("time")).partition(".")[0]
     outcome = str(entry.get("outcome"))
-    return f"{at}Z {who}: {what}: {f'refused {outcome}' if outcome.startswith('E') else outcome}"
+    is_refused = outcome.startswith("E")
+    if entry.get("key"):
+        what = f"{entry['class']} {entry['key']}"
+    elif "items" in entry:
+        count = entry["items"]
+        what = "a submission" + (f" of {texts.counted(count, 'item')}" if count else "")
+        is_refused = outcome[:1].isdigit()
+    else:
+        what = "an item that could not be read"
+    at = str(entry.get("time")).partition(".")[0]
+    more = f", and {entry['untold']} before it" if entry.get("untold") else ""
+    return f"{at}Z {who}: {what}: {'refused ' if is_refused else ''}{outcome}{more}"

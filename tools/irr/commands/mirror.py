@@ -8,7 +8,7 @@ from irr.errors import ARGUMENTS, DONE, Failure
 from irr.local import replicas, temporary
 from irr.registry import server
 from irr.rpsl import keys
-from irr.system import files
+from irr.system import files, units
 from irr.terminal import texts
 
 EXAMPLES = """
@@ -128,8 +128,10 @@ def attempt(do: Callable[[], object], keeper: replicas.Keeper | None = None) -> 
     else:
         if keeper:
             keeper.fault = ""
+            units.notify("STATUS=the replicas have what the registry has")
         return done
     if keeper:
         keeper.fault = fault
+        units.notify(f"STATUS=NOT RENEWED{keeper.since()}: {texts.shown_line(fault)}")
     texts.note(f"irr mirror: {fault}")
     return False

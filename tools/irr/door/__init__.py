@@ -15,6 +15,7 @@
 - An answer is kept while its state lasts: until a submission through the door changed something, a
   replica was renewed, or `keep` seconds have passed, which bound what a change past the door can be
   late.
+- `nrtm` tells mirrors what changed, from the serials of the history; nobody else waits for it.
 - `submissions` go to the registry alone, one at a time; `journal` has a line an item; `status`
   tells all of it.
 """

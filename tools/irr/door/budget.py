@@ -87,6 +87,11 @@ class Turns(Generic[One]):
         self.queues.setdefault(one.client.name, []).append(one)
         self.count += 1
 
+    def again(self, one: One) -> None:
+        """Adds one that goes on: before the others of its client."""
+        self.queues.setdefault(one.client.name, []).insert(0, one)
+        self.count += 1
+
     def remove(self, one: One) -> bool:
         """Takes one out. Whether it was there."""
         queue = self.queues.get(one.client.name, [])

@@ -1,13 +1,15 @@
 """Answers that are kept, the memory that all answers take, and what queries have cost."""
 
 from collections import OrderedDict
-from typing import Optional
+from typing import Callable, Optional
 
 # The seconds from which on an answer is worth to be kept, and a query is dear.
 DEAR = 0.05
 # How many queries are remembered by what they cost.
 REMEMBERED = 16_384
 UNKNOWN = float("inf")
+# The bytes of a short answer. An eighth of the memory of answers is for these alone.
+SHORT = 1 << 16
 # What kinds of which nothing was measured yet are taken to cost: those whose answer grows with what
 # is registered may be dear.
 GUESSES = {
@@ -20,16 +22,21 @@ class Full(Exception):
 
 
 class Ledger:
-    """The bytes that answers take in all."""
+    """The bytes that answers take in all. Where there is no room, the `makers` make some, one thing
+    each time, and say whether they had anything to give up."""
 
-    __slots__ = ("most", "used")
+    __slots__ = ("most", "used", "makers")
 
     def __init__(self, most: int) -> None:
         self.most, self.used = most, 0
+        self.makers: list[Callable[[], bool]] = []
 
-    def take(self, size: int) -> None:
-        if self.used + size > self.most:
-            raise Full
+    def take(self, size: int, before: int = 0) -> None:
+        """Takes more bytes for an answer that has some."""
+        most = self.most if before + size <= SHORT else self.most - self.most // 8
+        while self.used + size > most:
+            if size > most or not any(make_room() for make_room in self.makers):
+                raise Full
         self.used += size
 
     def release(self, size: int) -> None:

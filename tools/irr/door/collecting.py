@@ -3,7 +3,7 @@
 import tempfile
 from typing import IO, Optional, Protocol
 
-from irr.door.cache import Answer, Cache, Full, Ledger
+from irr.door.cache import Answer, Full, Ledger
 from irr.registry import answers
 
 
@@ -33,26 +33,22 @@ class InMemory:
 
 
 class Collected:
-    """An answer that is collected, of at most `largest` bytes, all counted in the ledger; kept ones
-    make room."""
+    """An answer that is collected, of at most `largest` bytes, all counted in the ledger."""
 
-    __slots__ = ("largest", "ledger", "cache", "parts", "taken")
+    __slots__ = ("largest", "ledger", "parts", "taken")
 
-    def __init__(self, largest: int, ledger: Ledger, cache: Cache) -> None:
-        self.largest, self.ledger, self.cache = largest, ledger, cache
+    def __init__(self, largest: int, ledger: Ledger) -> None:
+        self.largest, self.ledger = largest, ledger
         self.parts: list[bytes] = []
         self.taken = 0
 
     def take(self, piece: bytes) -> None:
         if self.taken + len(piece) > self.largest:
             raise ValueError("long")
-        while True:
-            try:
-                self.ledger.take(len(piece))
-                break
-            except Full:
-                if not self.cache.shrink():
-                    raise ValueError("full") from None
+        try:
+            self.ledger.take(len(piece), self.taken)
+        except Full:
+            raise ValueError("full") from None
         self.taken += len(piece)
         self.parts.append(piece)
 

@@ -5,6 +5,7 @@ from typing import Optional
 
 from irr.door import queries
 from irr.door.cache import Answer
+from irr.door.collecting import Source
 from irr.door.pool import Refused
 from irr.door.queries import Asker
 
@@ -13,15 +14,22 @@ HELP_WORDS = (b"help", b"?", b"-help", b"--help")
 
 
 class Reply:
-    """What a line is answered by: its bytes, before them a head, the word under which it is
-    counted, and whether the connection stays."""
+    """What a line is answered by: its bytes, the word under which it is counted, and whether the
+    connection stays."""
 
-    __slots__ = ("head", "text", "outcome", "stays", "source")
+    __slots__ = ("text", "outcome", "stays", "source", "body")
 
     def __init__(
-        self, text: bytes, outcome: str, stays: bool = False, source: Optional[Answer] = None
+        self,
+        text: bytes,
+        outcome: str,
+        stays: bool = False,
+        source: Optional[Answer] = None,
+        body: Optional[Source] = None,
     ) -> None:
         self.text, self.outcome, self.stays, self.source = text, outcome, stays, source
+        # What is handed out in place of a text.
+        self.body = body
 
 
 def dialect_of(line: bytes) -> str:
@@ -77,7 +85,7 @@ HELP_TEXT = """\
 %
 % RIPE's: a line with flags.
 %   -r -B -G -K -F -a   -s SOURCE   -T CLASSES   -i ATTRIBUTES   -L -l -M -m -x   -k
-%   -q sources|types|version   -t CLASS   -V CLIENT
+%   -q sources|types|version   -t CLASS   -V CLIENT   -g SOURCE:3:FIRST-LAST
 %
 % IPv6, policy, persons and mail are not kept here.
 """

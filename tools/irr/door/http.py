@@ -9,7 +9,8 @@ from urllib.parse import unquote_to_bytes, urlsplit
 from irr.door.budget import client_name
 from irr.door.collecting import Dump, InMemory
 from irr.door.dialects import outcome_of
-from irr.door.listener import LASTING, Connection, Door
+from irr.door.journal import Who
+from irr.door.listener import AHEAD, TOO_MANY, Connection, Door
 from irr.door.pool import DUMP, Refused
 from irr.door.queries import Asker
 from irr.door.status import Status
@@ -19,6 +20,8 @@ from irr.rpsl import keys
 # The longest head, its most fields, and the bytes of it that name a path.
 HEAD, FIELDS = 8_192, 64
 IDLE = 60.0
+# The bytes of a dump that a client takes each second at least.
+SLOWEST = 1 << 18
 # Seconds for which a body is read, and not looked at, that was refused.
 LINGERING = 5.0
 REASONS = {
@@ -117,12 +120,13 @@ class Http(Connection):
                 if len(self.buffer) < request.length:
                     if self.has_ended:
                         raise Bad(400)
+                    self.read_on()
                     return
             except Bad as bad:
                 self.end(bad)
                 return
             body, self.buffer = self.buffer[: request.length], self.buffer[request.length :]
-            self.request = None
+            self.request, self.ahead = None, AHEAD
             self.read_on()
             self.deadline = 0.0
             self.task = self.door.loop.create_task(self.work(request, body))
@@ -140,7 +144,7 @@ class Http(Connection):
                 self.transport.close()
             return False
         self.door.silent.pop(self, None)
-        self.deadline = time.monotonic() + LASTING
+        self.deadline = time.monotonic() + self.door.settings.patience
         request = Request(head.lstrip(b"\r\n"))
         self.buffer = rest
         self.check(request)
@@ -149,7 +153,7 @@ class Http(Connection):
             and len(rest) < request.length
         ):
             self.transport.write(b"HTTP/1.1 100 Continue\r\n\r\n")
-        self.request = request
+        self.request, self.ahead = request, max(AHEAD, request.length)
         return True
 
     def check(self, request: Request) -> None:
@@ -166,6 +170,9 @@ class Http(Connection):
             raise Bad(404)
         if request.method != allowed:
             raise Bad(405, f"Allow: {allowed}\r\n")
+        name = client_name(self.origin_of(request))
+        if not self.door.count_as(self, self.door.pool.clients.of(name, time.monotonic())):
+            raise Bad(429, "Retry-After: 10\r\n", TOO_MANY.decode())
         if allowed == "GET":
             if request.length > HEAD:
                 raise Bad(413)
@@ -179,9 +186,13 @@ class Http(Connection):
         ):
             # A browser names the site whose page sends a request. Pages of other sites may not
             # submit.
+            self.submissions.refused(self.who(request), "403")
             raise Bad(403, text="% a page of another site may not submit here\n")
-        if request.length > self.door.settings.size:
-            raise Bad(413, text=str(TooMuch("size", request.length, self.door.settings.size)))
+        try:
+            size = self.door.settings.size
+            self.submissions.bound(self.who(request), "size", request.length, size)
+        except TooMuch as too_much:
+            raise Bad(413, text=str(too_much)) from None
 
     def end(self, bad: Bad) -> None:
         """Answers what is no request, and ends the connection."""
@@ -198,10 +209,6 @@ class Http(Connection):
 
     async def work(self, request: Request, body: bytes) -> None:
         try:
-            client = self.door.pool.clients.of(
-                client_name(self.origin_of(request)), time.monotonic()
-            )
-            self.client = client
             if request.path == "/submissions":
                 await self.submit(request, body)
                 return
@@ -209,7 +216,7 @@ class Http(Connection):
                 await self.dump(request)
                 return
             query = unquote_to_bytes(request.path[7:])
-            answer = await Asker(self.door.pool, client).ask(query)
+            answer = await Asker(self.door.pool, self.client).ask(query)
             self.begin_reply("http", outcome_of(answer.text))
             self.finish(
                 request,
@@ -242,9 +249,14 @@ class Http(Connection):
                     break
         return address
 
+    def who(self, request: Request) -> Who:
+        """Who sends a submission, as the proxy says."""
+        user = request.fields.get("x-remote-user", "") if self.is_trusted else ""
+        return Who(client_name(self.origin_of(request)), user, self.number)
+
     def begin_reply(self, dialect: str, outcome: str) -> None:
         self.door.counters.query(dialect, outcome)
-        self.deadline = time.monotonic() + LASTING
+        self.deadline = time.monotonic() + self.door.settings.patience
 
     def finish(
         self, request: Request, head: bytes, source: "Optional[InMemory | Dump]" = None
@@ -267,6 +279,8 @@ class Http(Connection):
         if self.is_ending:
             self.transport.close()
             return
+        # What a proxy keeps open is nobody's but its own.
+        self.door.count_as(self, self.own)
         self.deadline = time.monotonic() + IDLE
         if self.task is None and (self.buffer or self.has_ended):
             self.door.loop.call_soon(self.pump)
@@ -281,11 +295,12 @@ class Http(Connection):
             found = await door.pool.ask(self.client, b"/dump", DUMP_REQUEST, DUMP)
             door.keep_dump(found)
         self.begin_reply("dump", "answered")
+        # It is in a file, and holds no memory: a slow line may take it.
+        self.deadline += found.size() / SLOWEST
         self.finish(request, reply_head(200, found.size(), request.is_kept), found)
 
     async def submit(self, request: Request, body: bytes) -> None:
         """Hands a submission on, and its report as it comes."""
-        user = request.fields.get("x-remote-user", "") if self.is_trusted else ""
         has_begun = False
 
         def told(text: bytes) -> None:
@@ -299,18 +314,19 @@ class Http(Connection):
             self.transport.write(b"%x\r\n%s\r\n" % (len(text), text) if request.is_new else text)
 
         try:
-            is_whole = await self.submissions.submit(
-                self.client.name, user, self.number, body, told
-            )
+            await self.submissions.submit(self.who(request), body, told)
         except TooMuch as too_much:
             self.begin_reply("submission", "large")
             self.finish(request, failed(413, "", str(too_much), request.is_kept))
             return
-        self.task = None
-        if not is_whole or not has_begun:
+        except Refused:
+            if not has_begun:
+                raise
             # The report was cut: so is the reply.
+            self.task = None
             self.abort()
             return
+        self.task = None
         if request.is_new:
             self.transport.write(b"0\r\n\r\n")
         self.is_ending = self.is_ending or not request.is_kept or not request.is_new
@@ -347,11 +363,11 @@ class StatusHttp(Http):
             text, kind, serves = (
                 self.status.json(),
                 "application/json",
-                bool(self.door.pool.serving()),
+                self.door.pool.answers,
             )
         else:
-            text, kind, serves = self.status.line(), PLAIN, bool(self.door.pool.serving())
-        self.deadline = time.monotonic() + LASTING
+            text, kind, serves = self.status.line(), PLAIN, self.door.pool.answers
+        self.deadline = time.monotonic() + self.door.settings.patience
         head = reply_head(200 if serves else 503, len(text), request.is_kept, kind)
         self.finish(request, head, InMemory(text))
 

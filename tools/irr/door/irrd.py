@@ -366,24 +366,28 @@ class Session:
         return NOTHING
 
     async def serials(self, word: str) -> bytes:
-        """`!jNAME` and `!j-*`: that nothing is mirrored from here."""
+        """`!jNAME` and `!j-*`: the serials that mirrors can follow."""
         name = self.name()
         names = [name] if word == "-*" else [one.strip() for one in word.upper().split(",")]
-        lines = [f"{one}:N:-" if one == name else f"{one}:X:Database unknown" for one in names]
+        kept = self.asker.pool.mirrors.told(name)
+        own = f"{name}:Y:{kept[0]}-{kept[1]}" if kept else f"{name}:N:-"
+        lines = [own if one == name else f"{one}:X:Database unknown" for one in names]
         return data("\n".join(lines).encode())
 
     async def status(self, word: str) -> bytes:
         """`!JNAME` and `!J-*`: the same, and what is kept, in JSON."""
         name = self.name()
         names = [name] if word == "-*" else [one.strip() for one in word.upper().split(",")]
+        kept = self.asker.pool.mirrors.told(name)
         known = {
             "source_type": "regular",
             "authoritative": True,
             "object_class_filter": list(keys.CLASSES),
             "rpki_rov_filter": False,
             "scopefilter_enabled": False,
-            "local_journal_kept": False,
-            "serial_newest_journal": None,
+            "local_journal_kept": kept is not None,
+            "serial_oldest_journal": kept[0] if kept else None,
+            "serial_newest_journal": kept[1] if kept else None,
             "serial_last_export": None,
             "serial_newest_mirror": None,
         }

@@ -1,9 +1,9 @@
-"""Who did what: one JSON line for each item that was submitted, on standard output or in a file
-that is kept within bounds.
+"""Who did what: one JSON line for each item that was submitted, and for each submission that the
+registry did not get, on standard output or in a file that is kept within bounds.
 
-It has the time, the client's address, the user that the proxy named, the connection, the item's
-number, its class and key, the maintainers in its `mnt-by`, and what came of it. It never has a
-password, a text or a hash.
+It has the time, the client's address, the user that the proxy named, the connection, and what came
+of it; of an item its number, its class and key, and the maintainers in its `mnt-by`; of a
+submission how many items it had, where that is known. It never has a password, a text or a hash.
 """
 
 import contextlib
@@ -13,7 +13,7 @@ import os
 import sys
 import time
 from pathlib import Path
-from typing import Any, BinaryIO, Iterator, Optional
+from typing import Any, BinaryIO, Iterator, NamedTuple, Optional
 
 from irr.door.settings import Settings
 from irr.registry import answers
@@ -22,6 +22,20 @@ from irr.terminal import texts
 DAY = 86_400.0
 # The most maintainers of an item that are told.
 NAMED = 20
+
+
+class Who(NamedTuple):
+    """Who sends a submission: the client's address, the user that the proxy named, if any, and the
+    connection."""
+
+    client: str
+    user: str
+    connection: int
+
+    @property
+    def name(self) -> str:
+        """Whose budget pays for it."""
+        return f"user {self.user}" if self.user else self.client
 
 
 class Journal:
@@ -40,20 +54,30 @@ class Journal:
         self.file = os.fdopen(number, "ab", 0)
         self.size = os.fstat(number).st_size
 
-    def write(
-        self, client: str, user: str, connection: int, item: answers.Item, maintainers: list[str]
-    ) -> None:
+    def item(self, who: Who, item: answers.Item, maintainers: list[str]) -> None:
+        """Has the line of an item that the registry decided."""
         kind, _, key = item.name.partition(" ")
-        entry: dict[str, Any] = {
-            "time": datetime.datetime.now(datetime.timezone.utc).isoformat(timespec="milliseconds"),
-            "client": client,
-            "user": user or None,
-            "connection": connection,
+        told = {
             "item": item.number,
             "class": kind if key else None,
             "key": key or None,
             "mnt-by": maintainers[:NAMED],
             "outcome": item.code or item.word,
+        }
+        self.write(who, told)
+
+    def refused(self, who: Who, outcome: str, items: Optional[int], untold: int) -> None:
+        """Has the line of a submission that the registry did not get, and of how many before it
+        there is none."""
+        self.write(who, {"items": items, "outcome": outcome, "untold": untold})
+
+    def write(self, who: Who, told: dict[str, Any]) -> None:
+        entry = {
+            "time": datetime.datetime.now(datetime.timezone.utc).isoformat(timespec="milliseconds"),
+            "client": who.client,
+            "user": who.user or None,
+            "connection": who.connection,
+            **told,
         }
         line = json.dumps(entry).encode() + b"\n"
         try:
@@ -109,7 +133,7 @@ def entry_of(line: bytes) -> Optional[dict[str, Any]]:
     """What a line says; None if it is none of the journal's."""
     with contextlib.suppress(ValueError):
         found = json.loads(line)
-        if isinstance(found, dict) and "outcome" in found and "item" in found:
+        if isinstance(found, dict) and "outcome" in found and ("item" in found or "items" in found):
             return found
     return None
 

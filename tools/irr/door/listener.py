@@ -8,8 +8,8 @@ import ipaddress
 from collections import OrderedDict
 from typing import Any, Optional
 
-from irr.door import dialects, irrd, ripe
-from irr.door.budget import client_name
+from irr.door import dialects, irrd, proxied, ripe
+from irr.door.budget import Client, client_name
 from irr.door.cache import Answer
 from irr.door.collecting import Dump, InMemory, Source
 from irr.door.dialects import Reply
@@ -18,8 +18,6 @@ from irr.door.queries import Asker
 from irr.door.settings import Network, Settings, networks
 from irr.door.status import Counters
 
-# Seconds for a client in all, for a request and for its answer.
-LASTING = 120.0
 # Seconds that a kept connection may be silent.
 IDLE = 30.0
 # The longest line, and the most bytes of lines that are read ahead.
@@ -28,6 +26,9 @@ LONGEST, AHEAD = 1_100, 1 << 16
 PIECE = 1 << 17
 MANY = b"% too many connections; come again later\n"
 TOO_MANY = b"% too many connections of yours; come again later\n"
+UNNAMED = b"% the proxy does not say whose connection this is; see proxied in irr-door(1)\n"
+# Seconds after which one that takes its answer slowly makes room for others.
+SLOW = 10.0
 # An answer that IRRd's clients, RIPE's and all others read.
 LONG_LINE = b"% error 2\n"
 
@@ -39,10 +40,13 @@ class Door:
         self, loop: asyncio.AbstractEventLoop, settings: Settings, pool: Pool, counters: Counters
     ) -> None:
         self.loop, self.settings, self.pool, self.counters = loop, settings, pool, counters
-        self.trusted = networks(settings.trusted)
+        self.trusted = networks(settings.trusted, "trusted")
         self.connections: set["Connection"] = set()
         # Those that have asked nothing yet, the longest silent first.
         self.silent: OrderedDict["Connection", None] = OrderedDict()
+        # Those that take a long answer, the longest at it first, and since when.
+        self.taking: OrderedDict["Connection", float] = OrderedDict()
+        pool.ledger.makers.append(self.drop_slow)
         self.number = 0
         self.is_closing = False
         self.kept_dump: Optional[tuple[Dump, int, float]] = None
@@ -78,13 +82,9 @@ class Door:
         if client.connections >= self.settings.of_client and not connection.is_trusted:
             self.counters.connection("refused")
             return TOO_MANY
-        if len(self.connections) >= self.settings.connections:
-            if not self.silent:
-                self.counters.connection("refused")
-                return MANY
-            # The longest silent one makes room.
-            oldest, _ = self.silent.popitem(last=False)
-            oldest.abort()
+        if len(self.connections) >= self.settings.connections and not self.make_room(client):
+            self.counters.connection("refused")
+            return MANY
         client.connections += 1
         self.connections.add(connection)
         self.silent[connection] = None
@@ -92,10 +92,54 @@ class Door:
         connection.number = self.number
         return None
 
+    def make_room(self, client: Client) -> bool:
+        """Ends the connection that is silent for longest; without one a connection of the client
+        that has most, if that has more than this one. Whether there was one."""
+        if self.silent:
+            oldest, _ = self.silent.popitem(last=False)
+            oldest.abort()
+            return True
+        others = [one for one in self.connections if not one.is_trusted or one.admitted != one.own]
+        most = max(others, key=lambda one: one.admitted.connections, default=None)
+        if most is None or most.admitted.connections <= client.connections + 1:
+            return False
+        self.counters.connection("pushed out")
+        most.abort()
+        self.dismiss(most)
+        return True
+
+    def drop_slow(self) -> bool:
+        """Ends the connection that has taken longest to take a long answer. Whether there was one
+        that took too long for others to lack room."""
+        for connection, since in self.taking.items():
+            if time.monotonic() - since < SLOW:
+                return False
+            self.counters.connection("slow")
+            connection.held = None
+            connection.abort()
+            self.taking.pop(connection, None)
+            return True
+        return False
+
+    def count_as(self, connection: "Connection", client: Client) -> bool:
+        """Counts a proxy's connection as one of the client that it is for, which pays for what is
+        asked there. Whether that may have one more."""
+        connection.client = client
+        if client is connection.admitted:
+            return True
+        if client is not connection.own and client.connections >= self.settings.of_client:
+            self.counters.connection("refused")
+            return False
+        connection.admitted.connections -= 1
+        client.connections += 1
+        connection.admitted = client
+        return True
+
     def dismiss(self, connection: "Connection") -> None:
         if connection in self.connections:
             self.connections.discard(connection)
             self.silent.pop(connection, None)
+            self.taking.pop(connection, None)
             connection.admitted.connections -= 1
 
     async def sweep(self) -> None:
@@ -121,6 +165,7 @@ class Connection(asyncio.Protocol):
         "door",
         "transport",
         "client",
+        "own",
         "admitted",
         "number",
         "is_trusted",
@@ -133,8 +178,8 @@ class Connection(asyncio.Protocol):
         "task",
         "has_ended",
         "is_full",
-        "local",
-        "begun",
+        "address",
+        "ahead",
     )
     port = ""
 
@@ -144,18 +189,20 @@ class Connection(asyncio.Protocol):
         self.held: Optional[Source] = None
         self.is_paused = self.is_ending = self.has_ended = self.is_trusted = self.is_full = False
         self.buffer = b""
+        # The bytes that are read before what they say is answered.
+        self.ahead = AHEAD
         self.task: Optional[asyncio.Task[None]] = None
 
     def connection_made(self, transport: asyncio.BaseTransport) -> None:
         self.transport: asyncio.Transport = transport  # type: ignore[assignment] # of TCP
         door = self.door
         peer = transport.get_extra_info("peername")
-        address = peer[0] if peer else "0.0.0.0"
+        self.address = address = peer[0] if peer else "0.0.0.0"
         now = time.monotonic()
-        self.begun = now
-        self.client = self.admitted = door.pool.clients.of(client_name(address), now)
+        # Who asks; who is connected; and as whose connection this one counts.
+        self.client = self.own = self.admitted = door.pool.clients.of(client_name(address), now)
         self.is_trusted = self.is_believed(address)
-        self.deadline = now + LASTING
+        self.deadline = now + door.settings.patience
         line = door.admit(self)
         if line is not None:
             self.is_ending = True
@@ -195,7 +242,7 @@ class Connection(asyncio.Protocol):
         self.buffer += data
         if self.task is None and self.held is None:
             self.pump()
-        if len(self.buffer) > AHEAD and not self.is_full and not self.is_ending:
+        if len(self.buffer) > self.ahead and not self.is_full and not self.is_ending:
             self.is_full = True
             self.transport.pause_reading()
 
@@ -204,7 +251,7 @@ class Connection(asyncio.Protocol):
         raise NotImplementedError
 
     def read_on(self) -> None:
-        if self.is_full and len(self.buffer) <= AHEAD and not self.is_ending:
+        if self.is_full and len(self.buffer) <= self.ahead and not self.is_ending:
             self.is_full = False
             with contextlib.suppress(RuntimeError):
                 self.transport.resume_reading()
@@ -223,6 +270,8 @@ class Connection(asyncio.Protocol):
         if head:
             self.transport.write(head)
         self.held, self.place = source, 0
+        if isinstance(source, InMemory):
+            self.door.taking[self] = time.monotonic()
         self.flow()
 
     def flow(self) -> None:
@@ -231,6 +280,7 @@ class Connection(asyncio.Protocol):
             self.place += len(piece)
             if self.place >= self.held.size():
                 self.held = None
+                self.door.taking.pop(self, None)
             self.transport.write(piece)
 
     def pause_writing(self) -> None:
@@ -259,12 +309,16 @@ class Whois(Connection):
         self.session: Optional[irrd.Session] = None
         self.stays = False
         self.idle = IDLE
-        self.is_named = not door.settings.proxied
+        self.is_named = False
 
     def is_believed(self, address: str) -> bool:
         return self.door.settings.proxied and self.door.trusts(address)
 
     def pump(self) -> None:
+        if self.is_trusted and not self.is_named and not self.is_ending:
+            self.name()
+            if not self.is_named:
+                return
         while self.task is None and self.held is None and not self.is_ending:
             line, mark, rest = self.buffer.partition(b"\n")
             if not mark:
@@ -282,6 +336,24 @@ class Whois(Connection):
             self.read_on()
             self.answer(line.removesuffix(b"\r"))
 
+    def name(self) -> None:
+        """Takes the header in which a proxy says whose connection this is."""
+        try:
+            header = proxied.read(self.buffer)
+        except proxied.Bad:
+            self.end(UNNAMED, "error")
+            return
+        if header is None:
+            if self.has_ended:
+                self.end(b"", "")
+            return
+        self.buffer, self.is_named = self.buffer[header.size :], True
+        if header.address is not None:
+            self.address = header.address
+            name = client_name(header.address)
+            if not self.door.count_as(self, self.door.pool.clients.of(name, time.monotonic())):
+                self.end(TOO_MANY, "budget")
+
     def end(self, text: bytes, outcome: str) -> None:
         """Says a last word."""
         self.is_ending = True
@@ -291,20 +363,13 @@ class Whois(Connection):
         self.transport.close()
 
     def answer(self, line: bytes) -> None:
-        if not self.is_named and self.is_trusted:
-            self.is_named = True
-            name = proxied(line)
-            if name is not None:
-                self.client = self.door.pool.clients.of(client_name(name), time.monotonic())
-                return
-        self.is_named = True
         self.door.silent.pop(self, None)
         if len(line) > LONGEST:
             self.end(LONG_LINE, "error")
             return
         if self.session is None:
             self.session = irrd.Session(
-                Asker(self.door.pool, self.client), self.door.settings.strict
+                Asker(self.door.pool, self.client, self.address), self.door.settings.strict
             )
         if line[:1] == b"!":
             quick = self.session.at_once(line)
@@ -351,8 +416,10 @@ class Whois(Connection):
         assert self.session is not None
         self.stays = reply.stays
         self.idle = self.session.seconds or IDLE
-        self.deadline = now + LASTING
-        if reply.text:
+        self.deadline = now + self.door.settings.patience
+        if reply.body is not None:
+            self.hand(b"", reply.body)
+        elif reply.text:
             self.give(b"", reply.text, reply.source)
         if self.held is None:
             self.given()
@@ -380,11 +447,3 @@ def faulty(dialect: str) -> bytes:
         if dialect == dialects.RIPE
         else b"% " + words + b"\n"
     )
-
-
-def proxied(line: bytes) -> Optional[str]:
-    """The client that a line of the PROXY protocol names (version 1); None if the line is none."""
-    words = line.split(b" ")
-    if words[0] != b"PROXY" or len(words) < 2:
-        return None
-    return words[2].decode("ascii", "replace") if len(words) > 2 else "unknown"

@@ -11,6 +11,7 @@ from irr.door.budget import Client, Clients, Turn, Turns
 from irr.door.cache import DEAR, Answer, Cache, Costs, Ledger
 from irr.door.collecting import Collected, Dump, Dumped
 from irr.door.exchange import Exchange, listens
+from irr.door.nrtm import Mirrors
 from irr.door.settings import Place, Settings, place, upstream
 from irr.door.upstreams import Upstream
 from irr.errors import Failure
@@ -111,10 +112,12 @@ class Pool:
         self.replicas = [Upstream(upstream(text)) for text in settings.replica]
         self.agent: Optional[Place] = place(settings.agent) if settings.agent else None
         self.clients = Clients(settings.refill, settings.burst)
+        self.mirrors = Mirrors(settings)
         self.turns: Turns[Request] = Turns(self.clients)
         self.running: dict[bytes, Request] = {}
         self.costs, self.ledger = Costs(), Ledger(settings.answers)
         self.cache = Cache(settings.cache, settings.keep)
+        self.ledger.makers.append(self.cache.shrink)
         self.source = ""
         self.surprise, self.surprised = SURPRISES, time.monotonic()
         self.seconds: dict[str, float] = {}
@@ -135,12 +138,20 @@ class Pool:
         return [self.registry, *self.replicas]
 
     def serving(self) -> list[Upstream]:
-        """Those that queries go to: the replicas that answer, else the registry."""
+        """Those that queries go to: the replicas that answer, else the registry, else replicas
+        whose state is old: what they answer is better than nothing."""
         found = [one for one in self.replicas if one.serves(self.settings.oldest)]
         if found:
             return found
-        # Nothing but a submission keeps a query from the registry.
-        return [self.registry] if self.registry.is_up and not self.is_held else []
+        if self.registry.is_up:
+            # Nothing but a submission keeps a query from the registry.
+            return [] if self.is_held else [self.registry]
+        return [one for one in self.replicas if one.answers]
+
+    @property
+    def answers(self) -> bool:
+        """Whether queries are answered, now or once a submission is over."""
+        return any(one.answers for one in self.all())
 
     def start(self) -> None:
         for work in self.tick(), self.follow():
@@ -239,9 +250,7 @@ class Pool:
     def begin(self, request: Request, one: Upstream) -> None:
         """Asks an upstream, and reads the whole answer before anybody gets it."""
         found: "Dumped | Collected" = (
-            Dumped()
-            if request.is_dump
-            else Collected(self.settings.largest, self.ledger, self.cache)
+            Dumped() if request.is_dump else Collected(self.settings.largest, self.ledger)
         )
 
         def ended(fault: Optional[str]) -> None:
@@ -386,12 +395,10 @@ class Pool:
 
     def others(self, one: Upstream) -> list[Upstream]:
         """Those that can be asked now in place of one."""
-        registry = [self.registry] if self.registry.is_up and not self.is_held else []
-        return [
-            other
-            for other in [*self.replicas, *registry]
-            if other is not one and other.exchange is None and other.serves(self.settings.oldest)
-        ]
+        serving = self.serving()
+        if self.registry.is_up and not self.is_held and self.registry not in serving:
+            serving = [*serving, self.registry]
+        return [other for other in serving if other is not one and other.exchange is None]
 
     async def follow(self) -> None:
         """Follows what the agent says of the replicas, and makes answers old that are of an earlier

@@ -51,10 +51,10 @@ def is_native(line: bytes) -> bool:
 class Asker:
     """Asks for one client."""
 
-    __slots__ = ("pool", "client")
+    __slots__ = ("pool", "client", "address")
 
-    def __init__(self, pool: Pool, client: Client) -> None:
-        self.pool, self.client = pool, client
+    def __init__(self, pool: Pool, client: Client, address: str = "") -> None:
+        self.pool, self.client, self.address = pool, client, address
 
     def kept(self, key: bytes) -> Optional[Answer]:
         """An answer that is kept, which costs nothing."""
@@ -98,9 +98,6 @@ class Asker:
         try:
             return Answer(text, cost, self.pool.ledger)
         except Full:
-            while self.pool.cache.shrink():
-                if self.pool.ledger.used + len(text) <= self.pool.ledger.most:
-                    return Answer(text, cost, self.pool.ledger)
             raise Refused("full", FULL) from None
 
     def keep(self, key: bytes, answer: Answer, state: int) -> None:

@@ -28,14 +28,16 @@ ROUTE_KEY = re.compile(r"([0-9./]+) ?(AS[0-9]+)", re.I)
 
 
 async def answer(asker: Asker, line: bytes, stays: bool) -> Reply:
-    """The reply to a line. `-k` alone begins and ends a kept connection."""
+    """The reply to a line. `-k` begins a kept connection, and alone ends it too."""
     source = asker.pool.source
     try:
         flags = read(line.decode("latin-1").strip())
         if "k" in flags.letters:
-            stays = not stays
             if not flags.key and not flags.words:
-                return Reply(b"\n" if stays else b"", "answered", stays)
+                return Reply(b"" if stays else b"\n", "answered", not stays)
+            stays = True
+        if "g" in flags.words:
+            return mirrored(asker, flags.words["g"], stays)
         body, outcome, cost = await found(asker, flags)
     except Bad as bad:
         return Reply(
@@ -95,12 +97,10 @@ async def found(asker: Asker, flags: Flags) -> tuple[list[bytes], str, float]:
     what it cost."""
     source = asker.pool.source
     if "q" in flags.words:
-        return [told(flags.words["q"], source)], "answered", 0.0
+        return [told(asker, flags.words["q"])], "answered", 0.0
     for letter in "t", "v":
         if letter in flags.words:
             return [templates.template(flags.words[letter])], "answered", 0.0
-    if "g" in flags.words:
-        raise Bad(402, "not authorised to mirror the database", "No mirror is served here.")
     for name in flags.listed("s"):
         if name.upper() != source:
             raise Bad(
@@ -132,10 +132,25 @@ async def found(asker: Asker, flags: Flags) -> tuple[list[bytes], str, float]:
     )
 
 
-def told(word: str, source: str) -> bytes:
+def mirrored(asker: Asker, word: str, stays: bool) -> Reply:
+    """`-g`: what changed, for a mirror. An error is one line."""
+    try:
+        found_here = asker.pool.mirrors.answer(word, asker.address)
+    except Bad as bad:
+        line = texts.shown_line(f"%ERROR:{bad.number}: {bad.title}")
+        return Reply(f"{line}\n\n".encode(), "error", stays)
+    if isinstance(found_here, bytes):
+        return Reply(found_here, "nothing", stays)
+    return Reply(b"", "answered", stays, body=found_here)
+
+
+def told(asker: Asker, word: str) -> bytes:
     """`-q`: what there is."""
     if word == "sources":
-        return f"{source}:3:N:0-0\n\n".encode()
+        source, mirrors = asker.pool.source, asker.pool.mirrors
+        first, last = mirrors.told(source) or (0, 0)
+        may = "Y" if last and mirrors.allows(asker.address) else "N"
+        return f"{source}:3:{may}:{first}-{last}\n\n".encode()
     if word == "types":
         return "".join(f"{kind}\n" for kind in keys.CLASSES).encode() + b"\n"
     if word == "version":

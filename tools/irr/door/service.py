@@ -3,8 +3,8 @@ together."""
 
 import time
 import asyncio
-import contextlib
 import gc
+import importlib
 import os
 import resource
 import signal
@@ -19,6 +19,7 @@ from irr.door.settings import Place, Settings, place
 from irr.door.status import Counters, Status
 from irr.door.submissions import Submissions
 from irr.errors import Failure
+from irr.system.units import notify
 from irr.terminal import texts
 
 # The first descriptor that systemd hands on.
@@ -167,25 +168,13 @@ class Service:
         return f"irr door: open at {', '.join(self.listening)}"
 
 
-def notify(word: str) -> None:
-    """Tells systemd how far the door is (sd_notify)."""
-    name = os.environ.get("NOTIFY_SOCKET")
-    if name:
-        with contextlib.suppress(OSError), socket.socket(
-            socket.AF_UNIX, socket.SOCK_DGRAM
-        ) as opened:
-            opened.connect("\0" + name[1:] if name.startswith("@") else name)
-            opened.send(word.encode())
-
-
 def new_loop() -> asyncio.AbstractEventLoop:
     """The event loop: uvloop's where it is installed."""
     try:
-        import uvloop
+        made: asyncio.AbstractEventLoop = importlib.import_module("uvloop").new_event_loop()
+        return made
     except ImportError:
         return asyncio.new_event_loop()
-    made: asyncio.AbstractEventLoop = uvloop.new_event_loop()
-    return made
 
 
 def run(settings: Settings, loop: Optional[asyncio.AbstractEventLoop] = None) -> None:

@@ -44,6 +44,8 @@ class Settings:
     # What a client may use of the registry's time: seconds a second, and at once.
     refill: float = 0.5
     burst: float = 3.0
+    # Seconds for a request to come, and for its answer to be taken.
+    patience: float = 120
     connections: int = 1_000
     of_client: int = 50
     largest: int = 32 * MEBIBYTE
@@ -64,11 +66,15 @@ class Settings:
     log_size: int = 16 * MEBIBYTE
     log_files: int = 20
     log_days: float = 180
+    # Who may follow the registry by NRTM, and the history whose serials they are told.
+    mirrors: tuple[str, ...] = ()
+    history: str = "/var/lib/irrdesk-history"
 
 
 BOUNDS: dict[str, tuple[float, float]] = {
     "refill": (0.001, 1_000),
     "burst": (0.001, 10_000),
+    "patience": (1, 3_600),
     "connections": (1, 100_000),
     "of_client": (1, 100_000),
     "largest": (65_536, 1 << 32),
@@ -113,7 +119,8 @@ def read(path: str | None, given: dict[str, Any]) -> Settings:
         place(text)
     for text in (settings.registry, *settings.replica):
         upstream(text)
-    networks(settings.trusted)
+    networks(settings.trusted, "trusted")
+    networks(settings.mirrors, "mirrors")
     return settings
 
 
@@ -171,14 +178,14 @@ def upstream(text: str) -> Place:
     )
 
 
-def networks(texts: tuple[str, ...]) -> tuple[Network, ...]:
-    """The networks that these name, each an address or a prefix."""
+def networks(texts: tuple[str, ...], name: str) -> tuple[Network, ...]:
+    """The networks that these name, each an address or a prefix, of the setting of a name."""
     found: list[Network] = []
     for text in texts:
         try:
             found.append(ipaddress.ip_network(text))
         except ValueError:
             raise Failure(
-                text, "this is not an address or prefix; correct `trusted`", SETTINGS
+                text, f"this is not an address or prefix; correct `{name}`", SETTINGS
             ) from None
     return tuple(found)

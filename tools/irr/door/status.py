@@ -77,15 +77,15 @@ class Status:
                 found.append(f"{one.name}: its state is {texts.counted(int(age), 'second')} old")
         if self.pool.told.get("fault"):
             found.append(f"replicas are not renewed: {self.pool.told['fault']}")
-        return found
+        return found + self.pool.mirrors.faults()
 
     def all(self) -> dict[str, Any]:
         pool, counters = self.pool, self.counters
         return {
             "version": VERSION,
             "source": pool.source or None,
-            "well": not self.faults() and bool(pool.serving()),
-            "serves": bool(pool.serving()),
+            "well": not self.faults() and pool.answers,
+            "serves": pool.answers,
             "faults": self.faults(),
             "running": round(time.time() - counters.begun, 1),
             "connections": self.connections(),
@@ -100,6 +100,7 @@ class Status:
                 "misses": pool.cache.misses,
             },
             "refused": dict(pool.refused),
+            "serials": pool.mirrors.status(),
         }
 
     def json(self) -> bytes:

@@ -1,5 +1,9 @@
 """Submissions: bounded before the registry sees them, one at a time, to the registry alone, and in
-turn by who sends them."""
+turn by who sends them.
+
+A long one goes in parts, so that others have their turn between two of them. The registry judges
+item by item, so the report is the same: the numbers of a later part go on from those before it.
+"""
 
 import time
 import asyncio
@@ -8,16 +12,18 @@ from typing import Any, Callable, Optional
 
 from irr.door.budget import Clients, Turn, Turns
 from irr.door.exchange import Exchange
-from irr.door.journal import Journal
+from irr.door.journal import Journal, Who
 from irr.door.pool import ANSWERING, DOWN, NOBODY, Pool, Refused
 from irr.door.settings import Settings
 from irr.door.status import Counters
 from irr.errors import Failure
 from irr.registry import answers
-from irr.registry.submissions import Item
+from irr.registry.submissions import Item, Part, given
 from irr.rpsl import syntax
 
 PASSWORD = re.compile(rb"^password[ \t\r]*:", re.I | re.M)
+# The items that the registry gets at once.
+AT_ONCE = 50
 # Seconds that a submission may wait for its turn, and for the registry to answer at all.
 WAITING = 300.0
 # Submissions of one sender that wait at most.
@@ -25,6 +31,8 @@ QUEUED = 16
 # The least seconds that its sender pays for one in which a password did not fit (E11): who guesses
 # is slowed down.
 GUESS = 0.25
+# Of how many refused submissions of a sender the journal has a line: a second, and at once.
+TOLD, TOLD_AT_ONCE = 1.0, 60.0
 CHANGES = frozenset(("added", "changed", "deleted"))
 
 
@@ -43,24 +51,17 @@ class TooMuch(Exception):
 
 
 class Submission(Turn):
-    """A submission on its way."""
+    """A submission on its way: its parts, and how many items were decided before the first of
+    them."""
 
-    __slots__ = ("address", "user", "number", "body", "items", "told", "future", "is_begun")
+    __slots__ = ("who", "items", "parts", "before", "told", "future", "is_begun", "has_guess")
 
-    def __init__(
-        self, client: Any, address: str, user: str, number: int, body: bytes, items: list[Item]
-    ) -> None:
+    def __init__(self, client: Any, who: Who, items: list[Item], parts: list[bytes]) -> None:
         super().__init__(client)
-        self.address, self.user, self.number, self.body, self.items = (
-            address,
-            user,
-            number,
-            body,
-            items,
-        )
+        self.who, self.items, self.parts, self.before = who, items, parts, 0
         self.told: Callable[[bytes], None] = lambda text: None
-        self.future: "asyncio.Future[bool]" = asyncio.get_running_loop().create_future()
-        self.is_begun = False
+        self.future: "asyncio.Future[None]" = asyncio.get_running_loop().create_future()
+        self.is_begun = self.has_guess = False
 
 
 class Submissions:
@@ -82,59 +83,76 @@ class Submissions:
             journal,
         )
         self.senders = Clients(settings.refill, settings.burst)
+        # What the journal still takes of a sender's refused submissions, and how many it has not.
+        self.tellers, self.untold = Clients(TOLD, TOLD_AT_ONCE), 0
         self.turns: Turns[Submission] = Turns(self.senders)
         self.running: Optional[Submission] = None
         self.down: Optional[float] = None
         self.wake: Optional[asyncio.TimerHandle] = None
         pool.freed = self.turn
 
-    def check(self, body: bytes) -> list[Item]:
-        """The items of a submission; TooMuch if it is over a bound."""
-        settings = self.settings
-        for what, count, most in (
-            ("size", len(body), settings.size),
-            ("passwords", len(PASSWORD.findall(body)), settings.passwords),
-        ):
-            if count > most:
-                self.counters.submissions[f"413 {what}"] += 1
-                raise TooMuch(what, count, most)
-        items = [Item("", block) for block in syntax.blocks([body], syntax.LARGEST + 1)]
-        items = [item for item in items if item.is_item]
-        if len(items) > settings.items:
-            self.counters.submissions["413 items"] += 1
-            raise TooMuch("items", len(items), settings.items)
-        return items
+    def bound(self, who: Who, what: str, count: int, most: int) -> None:
+        """TooMuch if there are more than `most`."""
+        if count > most:
+            self.refused(who, f"413 {what}", count if what == "items" else None)
+            raise TooMuch(what, count, most)
 
-    async def submit(
-        self, address: str, user: str, number: int, body: bytes, told: Callable[[bytes], None]
-    ) -> bool:
-        """Hands a submission on once its turn has come; `told` gets its report as it comes. Whether
-        that is whole."""
-        items = self.check(body)
+    def refused(self, who: Who, outcome: str, items: Optional[int] = None) -> None:
+        """Counts a submission that the registry did not get, and has the journal know; one that
+        sends many of them pushes no other lines out of it."""
+        self.counters.submissions[outcome] += 1
         now = time.monotonic()
-        sender = self.senders.of(f"user {user}" if user else address, now)
+        teller = self.tellers.of(who.name, now)
+        if self.tellers.left(teller, now) < 1:
+            self.untold += 1
+            return
+        self.tellers.charge(teller, 1, now)
+        self.journal.refused(who, outcome, items, self.untold)
+        self.untold = 0
+
+    def check(self, who: Who, body: bytes) -> tuple[list[Item], list[bytes]]:
+        """The items of a submission, and the parts in which it is sent; TooMuch if it is over a
+        bound."""
+        settings = self.settings
+        self.bound(who, "size", len(body), settings.size)
+        self.bound(who, "passwords", len(PASSWORD.findall(body)), settings.passwords)
+        blocks = [Item("", block) for block in syntax.blocks([body], syntax.LARGEST + 1)]
+        items = [item for item in blocks if item.is_item]
+        self.bound(who, "items", len(items), settings.items)
+        return items, [body] if len(items) <= AT_ONCE else parts(blocks)
+
+    async def submit(self, who: Who, body: bytes, told: Callable[[bytes], None]) -> None:
+        """Hands a submission on once its turn has come; `told` gets its report as it comes. Refused
+        if that does not come whole."""
+        items, sent = self.check(who, body)
+        now = time.monotonic()
+        sender = self.senders.of(who.name, now)
         if self.turns.waiting(sender) >= QUEUED:
-            self.counters.submissions["429"] += 1
+            self.refused(who, "429", len(items))
             raise Refused(
                 "budget",
                 "you have sent too much; send it again later",
                 int(self.senders.wait(sender, now)) + 10,
             )
-        submission = Submission(sender, address, user, number, body, items)
+        submission = Submission(sender, who, items, sent)
         submission.told = told
         self.turns.add(submission)
         self.turn()
-        try:
-            async with asyncio.timeout(WAITING):
-                return await asyncio.shield(submission.future)
-        except (asyncio.CancelledError, TimeoutError) as error:
-            if not submission.is_begun:
-                self.turns.remove(submission)
-            if isinstance(error, asyncio.CancelledError):
+        while True:
+            try:
+                async with asyncio.timeout(WAITING):
+                    return await asyncio.shield(submission.future)
+            except asyncio.CancelledError:
                 # What was begun goes on to its end, and the journal has it.
                 submission.told = lambda text: None
+                if not submission.is_begun:
+                    self.turns.remove(submission)
                 raise
-            raise Refused("busy", "the registry is busy; send it again later", 30) from None
+            except TimeoutError:
+                if not submission.is_begun:
+                    self.turns.remove(submission)
+                    self.refused(who, "503", len(items))
+                    raise Refused("busy", "the registry is busy; send it again later", 30) from None
 
     def turn(self) -> None:
         """Begins the next submission, if the registry is free."""
@@ -172,10 +190,12 @@ class Submissions:
             return False
         for submission in list(self.turns.all()):
             self.turns.remove(submission)
-            self.counters.submissions["503"] += 1
-            if not submission.future.done():
-                submission.future.set_exception(Refused("down", NOBODY))
+            self.fail(submission, "cut" if submission.before else "503", NOBODY)
         return True
+
+    def fail(self, submission: Submission, outcome: str, why: str) -> None:
+        self.refused(submission.who, outcome, len(submission.items) - submission.before)
+        submission.future.set_exception(Refused("down", why))
 
     def look_again(self) -> None:
         if self.wake is None:
@@ -186,12 +206,12 @@ class Submissions:
         self.turn()
 
     def begin(self, submission: Submission) -> None:
-        """Sends a submission, and hands on what comes."""
+        """Sends the next part of a submission, and hands on what comes."""
         submission.is_begun = True
-        report = Handed(self, submission)
+        report, body = Handed(self, submission), submission.parts[0]
         head = (
             "POST /submissions HTTP/1.1\r\nHost: 127.0.0.1\r\nConnection: close\r\n"
-            f"Content-Length: {len(submission.body)}\r\n\r\n"
+            f"Content-Length: {len(body)}\r\n\r\n"
         )
         registry = self.pool.registry
 
@@ -201,51 +221,48 @@ class Submissions:
             registry.exchange = None
             registry.is_held = self.pool.is_held = False
             registry.seconds += seconds
-            paid = max(seconds, GUESS) if report.has_guess else seconds
+            paid = seconds
+            if report.has_guess and not submission.has_guess:
+                submission.has_guess, paid = True, max(seconds, GUESS)
             self.senders.charge(submission.client, paid, now)
             self.pool.seconds["submission"] = self.pool.seconds.get("submission", 0.0) + seconds
             self.running = None
-            submission.body = b""
+            if report.has_changed:
+                self.pool.cache.renew()
             if fault == "ECONNREFUSED" and not exchange.size:
                 # Nothing was sent.
                 registry.fall("nobody listens there", now)
-                submission.is_begun = False
-                self.turns.add(submission)
+                submission.is_begun = bool(submission.before)
+                self.turns.again(submission)
             else:
                 if fault is not None:
                     registry.fall(f"it does not answer ({fault})", now)
-                self.finish(submission, report)
+                submission.parts.pop(0)
+                if report.goes_on:
+                    submission.before += report.report.count
+                    self.turns.again(submission)
+                else:
+                    self.finish(submission, report)
             self.pool.turn()
             self.turn()
 
         registry.asked += 1
-        exchange = Exchange(
-            self.loop, registry.place, head.encode() + submission.body, report.take, ended
-        )
+        exchange = Exchange(self.loop, registry.place, head.encode() + body, report.take, ended)
         registry.exchange = exchange
 
     def finish(self, submission: Submission, report: "Handed") -> None:
-        if report.has_changed:
-            self.pool.cache.renew()
-        if submission.future.done():
-            return
         if report.status not in (0, 200):
-            self.counters.submissions[str(report.status)] += 1
             words = (
                 "the registry's database has failed"
                 if report.status == 503
                 else f"the registry answers status {report.status}"
             )
-            submission.future.set_exception(Refused("down", words))
-        elif not report.status:
-            self.counters.submissions["cut"] += 1
-            submission.future.set_exception(
-                Refused(
-                    "down", "the registry did not answer; look what came of it, and send it again"
-                )
-            )
+            self.fail(submission, str(report.status), words)
+        elif not report.last_line:
+            words = "the registry did not answer; look what came of it, and send it again"
+            self.fail(submission, "cut", words)
         else:
-            submission.future.set_result(report.is_whole)
+            submission.future.set_result(None)
 
     def slow(self) -> None:
         """Ends a submission that the registry does not answer."""
@@ -259,13 +276,24 @@ class Handed:
 
     def __init__(self, submissions: Submissions, submission: Submission) -> None:
         self.submissions, self.submission = submissions, submission
-        self.head, self.rest, self.status = b"", b"", 0
-        self.report = answers.Report()
+        self.head, self.status = b"", 0
+        self.report = answers.Report(submission.before)
+        self.has_next = len(submission.parts) > 1
         self.has_changed = self.has_guess = False
 
     @property
-    def is_whole(self) -> bool:
-        return bool(self.report.end)
+    def goes_on(self) -> bool:
+        """Whether this part is over, and another one follows."""
+        return self.report.is_whole and self.has_next
+
+    @property
+    def last_line(self) -> str:
+        """The line that ends the report of all parts; nothing where that has no end yet."""
+        count, end = self.report.before + self.report.count, self.report.end
+        if end == "items":
+            return f"% items {count}" if self.report.is_whole and not self.has_next else ""
+        line = f"% {end} after {count} items"
+        return line if answers.END.fullmatch(line) else ""
 
     def take(self, piece: bytes) -> None:
         if not self.status:
@@ -281,15 +309,16 @@ class Handed:
             self.status = int(words[1])
         if self.status != 200 or not piece:
             return
-        text, mark, self.rest = (self.rest + piece).rpartition(b"\n")
-        if not mark:
-            return
-        self.submission.told(text + mark)
+        lines: list[str] = []
         try:
-            for line in self.report.read(text + mark):
+            for line in self.report.read(piece):
+                lines.append(line.text())
                 self.note(line)
         except Failure:
             raise ValueError("EPROTO") from None
+        lines += [self.last_line] if self.last_line else []
+        if lines:
+            self.submission.told("".join(f"{line}\n" for line in lines).encode())
 
     def note(self, line: answers.Item) -> None:
         """Counts an item, and has the journal know who did it."""
@@ -297,7 +326,7 @@ class Handed:
         self.has_changed = self.has_changed or line.word in CHANGES
         self.has_guess = self.has_guess or line.code == "E11"
         self.submissions.counters.submissions[outcome] += 1
-        items, submission = self.submission.items, self.submission
+        items = self.submission.items
         item = items[line.number - 1] if line.number <= len(items) else None
         paragraph = item.paragraph if item else None
         named = (
@@ -305,6 +334,20 @@ class Handed:
             if paragraph
             else []
         )
-        self.submissions.journal.write(
-            submission.address, submission.user, submission.number, line, named
-        )
+        self.submissions.journal.item(self.submission.who, line, named)
+
+
+def parts(blocks: list[Item]) -> list[bytes]:
+    """A submission in parts of some items each, with the passwords before them: they count for all
+    that follows."""
+    found: list[bytes] = []
+    passwords: dict[bytes, bytes] = {}
+    part, count = Part([], passwords), 0
+    for block in blocks:
+        if count == AT_ONCE and block.is_item:
+            found.append(part.body())
+            passwords = passwords | given(part.items)
+            part, count = Part([], passwords), 0
+        part.items.append(block)
+        count += block.is_item
+    return [*found, part.body()]

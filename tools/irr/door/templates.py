@@ -2,7 +2,7 @@
 and `-T` take."""
 
 from irr.door.flags import Bad
-from irr.rpsl import keys
+from irr.rpsl import grammar, keys
 
 # All classes of RPSL and of RIPE's database: one that is none of ours has no objects, another word
 # is no class.
@@ -29,54 +29,23 @@ SHORT = dict(
         "route-set=rs source=so sponsoring-org=sp status=st tech-c=tc upd-to=dt"
     ).split()
 )
-MANDATORY, OPTIONAL, SINGLE, MULTIPLE = "mandatory", "optional", "single", "multiple"
-KEY, INDEXED, NONE = "primary/lookup key", "inverse key", " "
-# The attributes that the registry reads in each class, beside `mnt-by` and `source` (PROFILE.md).
-READ = {
-    "mntner": (("auth", MANDATORY, MULTIPLE, NONE),),
-    "as-block": (("mnt-lower", OPTIONAL, MULTIPLE, INDEXED),),
-    "aut-num": (
-        ("member-of", OPTIONAL, MULTIPLE, INDEXED),
-        ("mnt-lower", OPTIONAL, MULTIPLE, INDEXED),
-        ("mnt-routes", OPTIONAL, MULTIPLE, INDEXED),
-    ),
-    "inetnum": (
-        ("mnt-lower", OPTIONAL, MULTIPLE, INDEXED),
-        ("mnt-routes", OPTIONAL, MULTIPLE, INDEXED),
-    ),
-    "route": (
-        ("origin", MANDATORY, SINGLE, "primary/inverse key"),
-        ("member-of", OPTIONAL, MULTIPLE, INDEXED),
-        ("mnt-lower", OPTIONAL, MULTIPLE, INDEXED),
-        ("mnt-routes", OPTIONAL, MULTIPLE, INDEXED),
-    ),
-    "as-set": (
-        ("members", OPTIONAL, MULTIPLE, NONE),
-        ("mbrs-by-ref", OPTIONAL, MULTIPLE, INDEXED),
-        ("mnt-lower", OPTIONAL, MULTIPLE, INDEXED),
-    ),
-    "route-set": (
-        ("members", OPTIONAL, MULTIPLE, NONE),
-        ("mbrs-by-ref", OPTIONAL, MULTIPLE, INDEXED),
-        ("mnt-lower", OPTIONAL, MULTIPLE, INDEXED),
-    ),
-}
+# The attributes by which this registry finds objects, beside the key.
+FOUND_BY = ("origin", "mnt-by", "mnt-lower", "mnt-routes", "mbrs-by-ref", "member-of")
 
 
 def template(word: str) -> bytes:
     """The attributes of a class: how often each is there, and what finds it. Any other attribute is
     kept as text."""
     kind = word.lower()
-    if kind not in READ:
+    if kind not in grammar.TABLE:
         raise Bad(103, f"unknown object type '{kind}'")
-    rows = [
-        (kind, MANDATORY, SINGLE, KEY),
-        *READ[kind],
-        ("mnt-by", MANDATORY, MULTIPLE, INDEXED),
-        ("source", MANDATORY, SINGLE, NONE),
-    ]
+    rows = [(kind, grammar.ONCE, "primary/lookup key")]
+    for name, rule in grammar.TABLE[kind].items():
+        way = "primary/inverse key" if name == "origin" else "inverse key"
+        rows.append((name, rule.occurs, way if name in FOUND_BY else " "))
     lines = [
-        f"{name + ':':15} {'[' + need + ']':12} {'[' + often + ']':11} [{key}]"
-        for name, need, often, key in rows
+        f"{name + ':':15} {'[optional]' if occurs == grammar.FREELY else '[mandatory]':12} "
+        f"{'[single]' if occurs == grammar.ONCE else '[multiple]':11} [{way}]\n"
+        for name, occurs, way in rows
     ]
-    return "".join(f"{line}\n" for line in lines).encode() + b"\n"
+    return "".join(lines).encode() + b"\n"

@@ -48,10 +48,14 @@ class Upstream:
         tells."""
         return max(0.0, time.time() - self.seen) if self.seen else None
 
+    @property
+    def answers(self) -> bool:
+        return self.is_up and not self.is_draining
+
     def serves(self, oldest: float) -> bool:
-        """Whether it may be asked."""
+        """Whether it answers, and its state is not too old."""
         age = self.age()
-        return self.is_up and not self.is_draining and (age is None or age <= oldest)
+        return self.answers and (age is None or age <= oldest)
 
     def fall(self, why: str, now: float) -> None:
         """Leaves it out until it answers again."""

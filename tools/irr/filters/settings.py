@@ -213,8 +213,8 @@ def printed(words: list[str]) -> bytes:
 
 
 def fault_line(stream: IO[bytes], pattern: re.Pattern[bytes]) -> bytes:
-    """The first line of a stream that has a pattern, of which 400 bytes before it and after it;
-    nothing where none has."""
+    """The first line of a stream that has a pattern, of which 400 bytes before it and after it,
+    with the reply of the door that bgpq4 shows on the next one; nothing where none has."""
     if not os.fstat(stream.fileno()).st_size:
         return b""
     with mmap.mmap(stream.fileno(), 0, access=mmap.ACCESS_READ) as text:
@@ -222,10 +222,9 @@ def fault_line(stream: IO[bytes], pattern: re.Pattern[bytes]) -> bytes:
         if not found:
             return b""
         begin, end = max(found.start() - 400, 0), found.end() + 400
-        return (
-            text[begin : found.start()].rpartition(b"\n")[2]
-            + text[found.start() : end].partition(b"\n")[0]
-        )
+        line, _, after = text[found.start() : end].partition(b"\n")
+        reply = b"\n" + after.partition(b"\n")[0] if after.startswith(b"F ") else b""
+        return text[begin : found.start()].rpartition(b"\n")[2] + line + reply
 
 
 def look(router: str, new: Path) -> None:

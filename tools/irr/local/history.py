@@ -18,6 +18,8 @@ BRANCH = "refs/heads/main"
 CHANGE = re.compile(rb":[0-7]{6} [0-7]{6} ([0-9a-f]{40}) ([0-9a-f]{40}) ([AMD])\t")
 WORDS = {"A": "added", "M": "changed", "D": "deleted"}
 WHO = "irr <irr@localhost>"
+# How many files are asked for at once.
+TOGETHER = 10_000
 
 
 class State(NamedTuple):
@@ -115,20 +117,25 @@ class Repository:
         """Makes the repository where there is none."""
         if not self.is_there:
             self.git("init", "--quiet", "--bare", "--object-format=sha1", "--initial-branch=main")
+        for left in f"{BRANCH}.lock", "packed-refs.lock":
+            # Of a run that was stopped by force: this one alone works here.
+            (self.folder / left).unlink(missing_ok=True)
 
     @reading("the history")
-    def state(self, before: int | None = None) -> State | None:
-        """The last commit, or the last one that is not after a time."""
-        found = self.git("for-each-ref", "--format=%(objectname)", BRANCH).decode().strip()
-        if not found:
-            return None
+    def states(self) -> list[State]:
+        """All commits, the last one first."""
+        if not self.git("for-each-ref", "--format=%(objectname)", BRANCH).strip():
+            return []
         lines = (
             self.git("log", "--format=%H %ct %(trailers:key=Dump,valueonly,separator=%x2C)", BRANCH)
             .decode()
             .splitlines()
         )
-        states = (State(commit, int(time), dump) for commit, time, dump in map(str.split, lines))
-        return next((state for state in states if before is None or state.time <= before), None)
+        return [State(commit, int(time), dump) for commit, time, dump in map(str.split, lines)]
+
+    def state(self, before: int | None = None) -> State | None:
+        """The last commit, or the last one that is not after a time."""
+        return next((one for one in self.states() if before is None or one.time <= before), None)
 
     def first(self) -> int:
         """The time of the first commit."""
@@ -246,12 +253,33 @@ class Repository:
 
     @reading("the history")
     def objects(self, state: State) -> Iterator[bytes]:
-        """The objects of a commit, each with an empty line after it, classes in the order of a
-        dump."""
+        """The objects of a commit, each with an empty line after it, in the order of a dump."""
         blobs = self.blobs(state)
-        order = sorted(blobs, key=lambda path: (CLASSES.index(path.partition("/")[0]), path))
-        for text in self.texts(blobs[path] for path in order):
-            yield text + b"\n"
+        order = sorted(blobs, key=order_of)
+        for place in range(0, len(order), TOGETHER):
+            for text in self.texts(blobs[path] for path in order[place : place + TOGETHER]):
+                yield text + b"\n"
+
+    @reading("the history")
+    def between(self, before: State, state: State) -> tuple[list[bytes], list[bytes], list[bytes]]:
+        """The objects that a commit added to those of the one before it, those that it changed, as
+        they became, and those that it deleted, as they were."""
+        out = self.git(
+            "diff-tree", "-r", "--no-renames", "--no-abbrev", "--raw", before.commit, state.commit
+        )
+        seen = [found.groups() for found in map(CHANGE.match, out.split(b"\n")) if found]
+        bodies = self.texts((old if kind == b"D" else new).decode() for old, new, kind in seen)
+        found: dict[bytes, list[bytes]] = {b"A": [], b"M": [], b"D": []}
+        for (_, _, kind), text in zip(seen, bodies):
+            found[kind].append(text)
+        return found[b"A"], found[b"M"], found[b"D"]
+
+
+def order_of(path: str) -> tuple[int, list[int], str]:
+    """What the paths of objects are in order of in a dump: the numbers or the name of a key stand in
+    its path."""
+    kind, _, name = path.split("/")
+    return keys.order(Key(kind, name))
 
 
 @reading("the history")

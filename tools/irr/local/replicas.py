@@ -273,6 +273,12 @@ class Keeper:
             "fault": self.fault,
         }
 
+    def since(self) -> str:
+        """Since when the replicas have not been renewed, in words."""
+        seen = min((one.seen for one in self.replicas if one.seen), default=0.0)
+        stamp = time.strftime("%Y-%m-%dT%H:%M:%SZ", time.gmtime(seen))
+        return f" since {stamp}" if seen else ", and there are none"
+
     def start(self, limit: int) -> None:
         """Serves what was made before, if anything was, so that replicas answer while there is no
         primary."""

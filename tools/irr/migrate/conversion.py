@@ -18,6 +18,7 @@ from irr.migrate.normalisation import (
     AUT_NUM,
     INETNUM,
     MNTNER,
+    NO_SOURCE,
     NOBODY,
     ROUTE,
     ROUTE_SET,
@@ -37,6 +38,8 @@ from irr.terminal import texts
 
 # Of a paragraph so many bytes are looked at: one that is larger is not taken.
 MOST = 1 << 20
+# So many bytes have the last line of a file, if that is a comment.
+TAIL = 4_096
 PROGRESS_SECONDS, PROGRESS_EACH = 0.5, 1_000
 EVERYTHING = {AS_BLOCK: [(0, 65_535), (65_536, keys.TOP)], INETNUM: [(0, keys.TOP)]}
 # Why a scoped item is dropped.
@@ -46,6 +49,8 @@ ALL_OF_ONE = "all of one registry of several"
 # Why an object is left out whose key was there before: it is the same, or of another registry,
 # whose objects name it.
 DUPLICATE, NAMESAKE = "duplicate", "a name of another registry"
+# What is odd about a line of an object that is taken.
+COMMENT, CR = "a line with # or % first, which is not kept", "a line with a CR first, which goes on"
 
 
 class Import:
@@ -70,6 +75,9 @@ class Import:
         self.sources: dict[str, int] = {}
         # Of the objects whose lists have lost items, or have scoped ones: the lost ones.
         self.dropped: dict[int, tuple[Dropped, ...]] = {}
+        # Of those that have odd lines, which and where; those that have no `source`.
+        self.odd: dict[int, tuple[tuple[int, bytes], ...]] = {}
+        self.bare: dict[int, None] = {}
         self.names: list[tuple[str, ...]] = []
         self.kinds: list[frozenset[str]] = []
         # Equal ones are held once.
@@ -99,34 +107,52 @@ class Import:
     def read_file(self, path: str) -> None:
         self.paths.append(path)
         self.tally.files += 1
+        self.tail = b""
         # The line after the last block: one that begins there was cut off from it.
-        after = 0
-        seam = parting.no_seam if "part" in self.off else parting.last_seam
+        after = count = with_source = 0
+        waiting: parting.Part | None = None
+        is_off = "part" in self.off
+        seam = parting.no_seam if is_off else parting.last_seam
         for block in syntax.blocks(self.sized(pieces_of(path)), MOST, seam):
-            parts = parting.parts(block)
-            if len(parts) > 1 and "part" in self.off:
-                self.tally.read += 1
-                self.tally.leave_out(not_mended("part"), Place(path, block.line), block.text)
-                continue
-            for part in parts:
-                if part.line > block.line or part.line == after:
-                    self.tally.part(Place(path, part.line), part.text)
-                self.tally.read += 1
-                self.take(part, path)
-                if not self.tally.read % PROGRESS_EACH:
-                    self.show_progress()
+            found = parting.parts(block)
+            if len(found) > 1 and is_off:
+                found = [parting.Part(block, not_mended("part"), True)]
+            for part in found:
+                if part.block.line > block.line or part.block.line == after:
+                    self.tally.part(Place(path, part.block.line), part.block.text)
+                if waiting:
+                    self.take(waiting, path)
+                waiting = part
+                count += 1
+                with_source += part.has_source
             after = block.line + block.text.count(b"\n")
+        if waiting:
+            is_usual = 2 * with_source > count - 1
+            self.take(waiting, path, not waiting.has_source and self.is_cut(waiting, is_usual))
+
+    def is_cut(self, last: parting.Part, is_usual: bool) -> bool:
+        """Whether the last object of a file that has no `source` may have lost its end: the file
+        ends within a line, or where the next one would begin, and a `source` is usual in it."""
+        text = last.block.text
+        end = self.tail.rstrip(syntax.BLANKS + b"\n").rpartition(b"\n")[2]
+        if len(text) < last.block.size or end[:1] in (b"#", b"%"):
+            return False
+        return is_usual or not text.endswith(b"\n")
 
     def sized(self, pieces: Iterator[bytes]) -> Iterator[bytes]:
         for piece in pieces:
             self.tally.size += len(piece)
+            self.tail = (self.tail + piece[-TAIL:])[-TAIL:]
             yield piece
 
-    def take(self, block: syntax.Block, path: str) -> None:
+    def take(self, part: parting.Part, path: str, is_cut: bool = False) -> None:
         """Takes a paragraph, or leaves it out."""
-        place = Place(path, block.line)
+        self.tally.read += 1
+        if not self.tally.read % PROGRESS_EACH:
+            self.show_progress()
+        place = Place(path, part.block.line)
         try:
-            mended = self.mender.mend(block)
+            mended = self.mender.mend(part, is_cut)
             if mended.key in self.taken[mended.number]:
                 if "duplicate" in self.off:
                     raise Failure(
@@ -137,9 +163,10 @@ class Import:
                     )
                 raise LeftOut(self.cause_beside(mended))
         except LeftOut as cause:
-            self.tally.leave_out(str(cause), place, block.text)
+            further = part.further() if part.doubt else ()
+            self.tally.leave_out(str(cause), place, part.block.text, further)
             return
-        self.keep(mended, block.line)
+        self.keep(mended, part)
 
     def cause_beside(self, mended: Mended) -> str:
         """Why an object is left out whose key was there before. Objects refer to maintainers and
@@ -148,16 +175,20 @@ class Import:
         is_named = mended.number in (MNTNER, AS_SET, ROUTE_SET)
         return NAMESAKE if is_named and self.sources.get(mended.source) != first else DUPLICATE
 
-    def keep(self, mended: Mended, line: int) -> None:
+    def keep(self, mended: Mended, part: parting.Part) -> None:
         place = len(self.starts)
         self.taken[mended.number][mended.key] = place
+        if odd := part.odd_lines():
+            self.odd[place] = odd
+        if not mended.source:
+            self.bare[place] = None
         if mended.dropped or "scope" in mended.kinds:
             self.dropped[place] = mended.dropped
         self.spool.write(mended.text)
         self.starts.append(self.end)
         self.sizes.append(len(mended.text))
         self.end += len(mended.text)
-        self.lines.append(line)
+        self.lines.append(part.block.line)
         self.path_numbers.append(len(self.paths) - 1)
         self.source_numbers.append(self.sources.setdefault(mended.source, len(self.sources)))
         self.names.append(self.shared_names.setdefault(mended.names, mended.names))
@@ -198,7 +229,7 @@ class Import:
             # They name it.
             self.stubs.add(self.root)
         self.imported = {self.source_numbers[place] for place in self.places()}
-        self.note_dropped()
+        self.note_lists()
         for name in self.auths:
             if (
                 name not in self.stubs
@@ -214,14 +245,22 @@ class Import:
         for of_class in self.taken:
             yield from of_class.values()
 
-    def note_dropped(self) -> None:
-        """Notes the items that the lists of what is taken have lost."""
+    def note_lists(self) -> None:
+        """Notes the items that the lists of what is taken have lost, and what else is odd there."""
         for place, gone in self.dropped.items():
             if "scope" in self.kinds[place]:
                 attributes = syntax.read_any(self.text_of(place)).attributes
                 gone = (*gone, *unscoped(attributes, self.refusal)[1])
             for dropped in gone:
                 self.tally.drop(dropped, self.place_of(place), self.text_of(place))
+        for place, lines in self.odd.items():
+            for number, line in lines:
+                own = Place(self.place_of(place).path, number)
+                self.tally.tell(
+                    CR if line[:1] == b"\r" else COMMENT, own, self.text_of(place), line
+                )
+        for place in self.bare:
+            self.tally.tell(NO_SOURCE, self.place_of(place), self.text_of(place))
 
     def refusal(self, source: str, item: bytes) -> str:
         """Why an item that names a registry is dropped; nothing where it stays without that."""
@@ -267,6 +306,8 @@ class Import:
         """Leaves out an object that was taken before."""
         place = self.taken[number].pop(key)
         self.dropped.pop(place, None)
+        self.odd.pop(place, None)
+        self.bare.pop(place, None)
         self.tally.leave_out(cause, self.place_of(place), self.text_of(place))
 
     def leave_out_nameless(self) -> None:

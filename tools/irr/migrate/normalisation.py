@@ -15,17 +15,23 @@ from irr.migrate.items import (
     with_items,
     without_host_bits,
 )
-from irr.rpsl import holders, keys, syntax
+from irr.rpsl import grammar, holders, keys, syntax
 from irr.rpsl.syntax import ITEM, Attribute, Paragraph
 
 NUMBERS = {kind.encode(): number for number, kind in enumerate(keys.CLASSES, 1)}
 MNTNER, AS_BLOCK, AUT_NUM, INETNUM, ROUTE, AS_SET, ROUTE_SET = range(1, 8)
 SETS = (AS_SET, ROUTE_SET)
 SHORT_PREFIX = re.compile(rb"([0-9]{1,3}(?:\.[0-9]{1,3}){0,2})\.?/([0-9]{1,2})")
-READ = frozenset(
-    b"""mnt-by mnt-lower mnt-routes member-of members mp-members mbrs-by-ref auth password
-    delete""".split()
-)
+# The attributes that are read in each class, by its number, but those of keys and `source`; and
+# what becomes one of them, or is none of an object.
+READ = [
+    frozenset[bytes](),
+    *(
+        frozenset(name.encode() for name in grammar.TABLE[kind]) - {b"origin", b"source"}
+        for kind in keys.CLASSES
+    ),
+]
+OTHERS = frozenset((b"mp-members", b"password", b"delete"))
 # An `auth` of a password, one that lets nobody in, and the longest name of a maintainer.
 PASSWORD = re.compile(rb"SHA256-PW [A-Za-z0-9]{0,16}:[0-9A-Fa-f]{64}", re.I)
 NOBODY = b"FILTERED"
@@ -33,6 +39,7 @@ LONGEST_NAME = 80
 # Why an item is taken out of a list.
 OTHER_KIND = "a set of the other kind"
 OPERATOR_AFTER = "an operator after it is apart from it"
+NO_SOURCE = "no `source`"
 
 
 class LeftOut(Exception):
@@ -50,8 +57,8 @@ class Dropped(NamedTuple):
 class Mended(NamedTuple):
     """An object that irrdesk takes once the names of its maintainers are settled, and its scoped
     items: its class's number, its key, which orders those of a class, the registry that it is of,
-    the maintainers that it names, its text, the kinds of what was mended, and the items that are
-    gone."""
+    which has no name where it has no `source`, the maintainers that it names, its text, the kinds
+    of what was mended, and the items that are gone."""
 
     number: int
     key: int | str
@@ -73,13 +80,15 @@ class Mender:
         # The attribute whose items are looked at.
         self.listing = b""
 
-    def mend(self, block: syntax.Block) -> Mended:
-        """The object that a block becomes; LeftOut with the cause where it becomes none. Scoped
-        items stay in its text."""
-        doubt = parting.doubt(block.text)
-        if doubt:
-            raise LeftOut(doubt)
+    def mend(self, part: parting.Part, is_cut: bool = False) -> Mended:
+        """The object that the lines of a part become; LeftOut with the cause where they become
+        none, as where the file was cut off there. Scoped items stay in its text."""
+        if part.doubt:
+            raise LeftOut(part.doubt)
+        block = part.block
         name = block.text.partition(b":")[0].strip(syntax.BLANKS).lower()
+        if is_cut and (name in NUMBERS or name in parting.FOREIGN):
+            raise LeftOut(parting.CUT_OFF)
         if name in parting.FOREIGN:
             raise LeftOut(f"class {name.decode()}")
         if block.size > len(block.text):
@@ -94,8 +103,6 @@ class Mender:
         self.kinds, self.drops = set(), []
         key, attributes = self.keyed(number, attributes)
         names, attributes = self.listed(number, attributes)
-        if parting.is_cut(block.text):
-            raise LeftOut(parting.CUT_OFF)
         source, attributes = self.sourced(attributes)
         text = self.written(names, attributes)
         return Mended(number, key, source, names, text, frozenset(self.kinds), tuple(self.drops))
@@ -145,42 +152,43 @@ class Mender:
         names: dict[str, None] = {}
         kept: list[Attribute] = []
         has_mnt_by = has_auth = False
-        grants = Grants(self, names)
+        grants: Grants | None = None
         for attribute in attributes:
             name = attribute.name
             changed: Attribute | None = attribute
-            if name not in READ:
+            if name not in READ[number] and name not in OTHERS:
                 kept.append(attribute)
                 continue
-            if name == b"mnt-by" or (name == b"mnt-lower" and number != MNTNER):
+            if name in (b"mnt-by", b"mnt-lower"):
                 listed = ITEM.findall(attribute.meaning())
                 has_mnt_by |= name == b"mnt-by" and bool(listed)
                 for item in listed:
                     names[self.maintainer(item)] = None
-            elif name == b"mnt-routes" and number in (AUT_NUM, INETNUM, ROUTE):
+            elif name == b"mnt-routes":
+                grants = grants or Grants(self, names)
                 changed = self.changed(attribute, grants.token, TOKEN)
-            elif name == b"member-of" and number in (AUT_NUM, ROUTE):
+            elif name == b"member-of":
                 changed = self.changed(attribute, lambda item: self.set_item(number, item))
-            elif name == b"members" and number in SETS:
+            elif name == b"members":
                 changed = self.changed(attribute, lambda item: self.member(number, item))
-            elif name == b"mp-members" and number == ROUTE_SET:
-                changed = self.of_both_families(attribute)
-            elif name == b"mbrs-by-ref" and number in SETS:
+            elif name == b"mbrs-by-ref":
                 for item in ITEM.findall(attribute.meaning()):
                     if item.upper() != b"ANY" and not IPV6.fullmatch(item):
                         names[self.maintainer(item)] = None
                 changed = self.changed(attribute, self.referrer)
-            elif name == b"auth" and number == MNTNER:
+            elif name == b"auth":
                 changed, has_auth = self.auth(attribute), True
-            elif name in (b"password", b"delete"):
+            elif name == b"mp-members":
+                changed = self.of_both_families(attribute) if number == ROUTE_SET else attribute
+            else:
                 raise LeftOut("`password` or `delete`")
             if changed is not None:
                 kept.append(changed)
-        if grants.is_open:
+        if grants and grants.is_open:
             raise LeftOut("a brace of `mnt-routes` that is not closed")
         if not has_mnt_by:
             self.use("mnt-by")
-            kept.insert(last_place(kept, b"source"), Attribute(b"mnt-by", [self.root]))
+            kept.insert(source_place(kept), Attribute(b"mnt-by", [self.root]))
             names[self.root.decode()] = None
         if number == MNTNER and not has_auth:
             self.use("auth")
@@ -285,16 +293,18 @@ class Mender:
 
     def sourced(self, attributes: list[Attribute]) -> tuple[str, list[Attribute]]:
         """The registry that an object is of, and its attributes with `source` for this one."""
-        place = last_place(attributes, b"source")
+        place = source_place(attributes)
         found = attributes[place].meaning() if place < len(attributes) else b""
         name = source_of(found)
         if name is None:
             raise LeftOut("a `source` that can't be read")
         if found.upper() == self.source:
             return name, attributes
+        if not name and "source" in self.off:
+            raise LeftOut(f"{NO_SOURCE}, {not_mended('source')}")
         self.use("source")
-        new = Attribute(b"source", [self.source])
-        return name, [*attributes[:place], new, *attributes[place + 1 :]]
+        attributes[place : place + 1] = [Attribute(b"source", [self.source])]
+        return name, attributes
 
     def written(self, names: tuple[str, ...], attributes: list[Attribute]) -> bytes:
         """The text of an object, which has room for new names."""
@@ -388,12 +398,12 @@ def first_of(number: int, key: int | str) -> int:
     return int(key) >> (38 if number == ROUTE else 32)
 
 
-def last_place(attributes: list[Attribute], name: bytes) -> int:
-    """The place of the first attribute of a name, otherwise the end."""
-    return next(
-        (place for place, attribute in enumerate(attributes) if attribute.name == name),
-        len(attributes),
-    )
+def source_place(attributes: list[Attribute]) -> int:
+    """The place of `source`, of which there is one at most, otherwise the end."""
+    for place in range(len(attributes) - 1, 0, -1):
+        if attributes[place].name == b"source":
+            return place
+    return len(attributes)
 
 
 def unscoped(
@@ -401,10 +411,11 @@ def unscoped(
 ) -> tuple[list[Attribute], list[Dropped]]:
     """The attributes of an object whose scoped items have lost the registry, or are gone where
     `refusal` has a cause for the registry and the item; and what is gone."""
+    scoped = READ[NUMBERS[attributes[0].name]] & {b"members", b"member-of"}
     kept: list[Attribute] = []
     gone: list[Dropped] = []
     for attribute in attributes:
-        if attribute.name not in (b"members", b"member-of") or b"::" not in attribute.meaning():
+        if attribute.name not in scoped or b"::" not in attribute.meaning():
             kept.append(attribute)
             continue
         name = attribute.name

@@ -2,11 +2,12 @@
 
 No class of RFC 2622, 2725, 2726 and 4012, of the RIPE Database or of IRRd has an attribute with the
 name of another class. So a class's name after the first line begins another object, and a second
-`source` ends one."""
+`source` ends one. A name that is none of theirs is an attribute."""
 import re
+from typing import NamedTuple
 
 from irr.rpsl import keys
-from irr.rpsl.syntax import Block
+from irr.rpsl.syntax import BLANKS, Block
 
 # Other classes of RPSL (RFC 2622, 2725, 2726, 4012), of the RIPE Database, of IRRd and of RIPE-181.
 FOREIGN = frozenset(
@@ -31,19 +32,54 @@ CLASS_AGAIN = "a class again after the first line"
 SOURCE_AGAIN = "`source` twice"
 
 
-def parts(block: Block) -> list[Block]:
-    """The blocks that a paragraph consists of: it is parted where a `source` line stands directly
-    before a class line."""
+class Part(NamedTuple):
+    """Lines of a paragraph that may be one object: why they are not, if that is known, and whether
+    a `source` stands after the first one."""
+
+    block: Block
+    doubt: str
+    has_source: bool
+
+    def further(self) -> list[int]:
+        """The lines, from 0, at which further objects may begin, or end, in what is not one."""
+        small = self.block.text.lower()
+        found = [*LATER_CLASS.finditer(small)] or [*LATER_SOURCE.finditer(small)][1:]
+        return [small.count(b"\n", 0, one.start() + 1) for one in found]
+
+    def odd_lines(self) -> tuple[tuple[int, bytes], ...]:
+        """The lines with `#` or `%` first, which are not kept, and those with a CR first, which go
+        on with the line before: each with its number in the file."""
+        text = self.block.text
+        if b"\n#" not in text and b"\n%" not in text and b"\n\r" not in text:
+            return ()
+        return tuple(
+            (number, line.rstrip(BLANKS))
+            for number, line in enumerate(text.split(b"\n"), self.block.line)
+            if line[:1] in (b"#", b"%", b"\r") and line.strip(BLANKS)
+        )
+
+
+def parts(block: Block) -> list[Part]:
+    """What a paragraph consists of: it is parted where a `source` line stands directly before a
+    class line."""
     small = block.text.lower()
     if not LATER_CLASS.search(small):
-        return [block]
-    found: list[Block] = []
+        return [part_of(block, small, "")]
+    found: list[Part] = []
     start, line = 0, block.line
-    for seam in SEAM.finditer(small):
-        found.append(Block(line, seam.end() - start, block.text[start : seam.end()]))
-        line += small.count(b"\n", start, seam.end())
-        start = seam.end()
-    return [*found, Block(line, block.size - start, block.text[start:])]
+    for end in [*(seam.end() for seam in SEAM.finditer(small)), len(small)]:
+        size = end - start if end < len(small) else block.size - start
+        own = small[start:end]
+        doubt = CLASS_AGAIN if LATER_CLASS.search(own) else ""
+        found.append(part_of(Block(line, size, block.text[start:end]), own, doubt))
+        line += own.count(b"\n")
+        start = end
+    return found
+
+
+def part_of(block: Block, small: bytes, doubt: str) -> Part:
+    count = len(LATER_SOURCE.findall(small))
+    return Part(block, doubt or (SOURCE_AGAIN if count > 1 else ""), count > 0)
 
 
 def no_seam(_: bytes) -> int:
@@ -56,17 +92,3 @@ def last_seam(text: bytes) -> int:
     for seam in SEAM.finditer(text.lower()):
         end = seam.end()
     return end
-
-
-def doubt(text: bytes) -> str:
-    """Why the lines of a paragraph are not those of one object; nothing where they may be."""
-    small = text.lower()
-    if LATER_CLASS.search(small):
-        return CLASS_AGAIN
-    return SOURCE_AGAIN if len(LATER_SOURCE.findall(small)) > 1 else ""
-
-
-def is_cut(text: bytes) -> bool:
-    """Whether a paragraph ends within a line and before its `source`, as the last one of a file
-    does that did not come whole: `AS64` may have been `AS64496`."""
-    return not text.endswith(b"\n") and not LATER_SOURCE.search(text.lower())

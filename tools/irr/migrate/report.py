@@ -1,7 +1,7 @@
 """What an import read, took, mended and left out, and the report of it."""
 import re
 from collections import Counter
-from typing import BinaryIO, Iterator, NamedTuple
+from typing import BinaryIO, Iterable, Iterator, NamedTuple
 
 from irr.migrate.kinds import KINDS
 from irr.migrate.normalisation import Dropped
@@ -24,10 +24,14 @@ class Place(NamedTuple):
 
 
 class Listed:
-    """The causes of what is listed, each with its number and its first entries."""
+    """The causes of what is listed, each with its number and its first entries; what it is is the
+    first word of each entry in the file."""
 
-    def __init__(self) -> None:
+    def __init__(self, what: str) -> None:
+        self.what = what
         self.causes: Counter[str] = Counter()
+        # What may be objects more, of those that are left out together.
+        self.more: Counter[str] = Counter()
         self.first: dict[str, list[str]] = {}
 
     def add(self, cause: str, words: str) -> None:
@@ -36,10 +40,12 @@ class Listed:
         if len(listed) < SHOWN:
             listed.append(words.replace("\t", "  "))
 
-    def lines(self, what: str) -> Iterator[str]:
+    def lines(self) -> Iterator[str]:
         """The most frequent cause first."""
         for cause, count in sorted(self.causes.items(), key=lambda pair: (-pair[1], pair[0])):
-            yield f"{what}, {cause}: {count:,}"
+            more = self.more[cause]
+            with_it = f", and with them {more:,} that may be objects" if more else ""
+            yield f"{self.what}, {cause}: {count:,}{with_it}"
             yield from shown(self.first[cause], count)
 
 
@@ -49,7 +55,8 @@ class Tally:
 
     def __init__(self, file: BinaryIO | None = None) -> None:
         self.file, self.read, self.files, self.size = file, 0, 0, 0
-        self.left_out, self.items = Listed(), Listed()
+        self.left_out, self.items = Listed("left out"), Listed("dropped from lists")
+        self.told = Listed("taken")
         self.mended: Counter[str] = Counter()
         self.parted: list[str] = []
         self.renamed: dict[str, str] = {}
@@ -60,19 +67,33 @@ class Tally:
         """How many paragraphs are left out, by cause."""
         return self.left_out.causes
 
-    def leave_out(self, cause: str, place: Place, text: bytes) -> None:
-        """Notes a paragraph that is not taken."""
+    def leave_out(self, cause: str, place: Place, text: bytes, further: Iterable[int] = ()) -> None:
+        """Notes a paragraph that is not taken, and the lines, from 0, at which further objects may
+        begin in it."""
         self.note(self.left_out, cause, entry(place, text))
+        lines = text.split(b"\n") if further else []
+        for number in further:
+            self.left_out.more[cause] += 1
+            own = entry(place._replace(line=place.line + number), lines[number])
+            self.write("left out with it", cause, own)
 
     def drop(self, dropped: Dropped, place: Place, text: bytes) -> None:
         """Notes an item that is taken out of a list of an object."""
         words = [texts.shown_line(part) for part in (dropped.attribute, dropped.item)]
         self.note(self.items, dropped.cause, "\t".join([entry(place, text), *words]))
 
+    def tell(self, cause: str, place: Place, text: bytes, line: bytes = b"") -> None:
+        """Notes what is odd about an object that is taken, and the line of it that is."""
+        words = [texts.shown_line(line).replace("\t", "\\x09")] if line else []
+        self.note(self.told, cause, "\t".join([entry(place, text), *words]))
+
     def note(self, listed: Listed, cause: str, words: str) -> None:
         listed.add(cause, words)
+        self.write(listed.what, cause, words)
+
+    def write(self, what: str, cause: str, words: str) -> None:
         if self.file:
-            self.file.write(f"{cause}\t{words}\n".encode())
+            self.file.write(f"{what}\t{cause}\t{words}\n".encode())
 
     def part(self, place: Place, text: bytes) -> None:
         """Notes a paragraph that begins without a blank line before it."""
@@ -108,8 +129,8 @@ class Tally:
                 texts.columns([old, new] for old, new in sorted(self.renamed.items())[:SHOWN]),
                 len(self.renamed),
             )
-        yield from self.items.lines("dropped from lists")
-        yield from self.left_out.lines("left out")
+        for listed in self.told, self.items, self.left_out:
+            yield from listed.lines()
 
 
 def shown(first: list[str], count: int) -> Iterator[str]:

@@ -19,8 +19,8 @@ MNTNER = re.compile(rb"^mntner[ \t\r]*:", re.I | re.M)
 NAMES = re.compile(rb"^[A-Za-z][A-Za-z0-9_-]*", re.M)
 PREFIX = re.compile(rb"[0-9]{1,3}(?:\.[0-9]{1,3}){3}/[0-9]{1,2}")
 HELP = (
-    "send it even if a maintainer would be left without a password that fits, or a mistyped "
-    "`password:` would be shown to all"
+    "send it even if a maintainer would be left without a password that fits, or what reads as a "
+    "password, such as `passwd:`, would be shown to all"
 )
 ANYWAY = "nothing was sent; correct the text, or add --anyway if it is meant so"
 
@@ -87,7 +87,7 @@ def is_suspect(text: bytes) -> bool:
     """Whether it is worth reading: most objects are not, and a submission may have many."""
     return (
         MNTNER.search(text) is not None
-        or any(map(misspelt, NAMES.findall(text)))
+        or any(misspelt(name) or is_secret(name) for name in NAMES.findall(text))
         or any(map(rounded, PREFIX.findall(text)))
     )
 
@@ -95,6 +95,10 @@ def is_suspect(text: bytes) -> bool:
 @functools.lru_cache(4_096)
 def misspelt(name: bytes) -> str | None:
     return grammar.misspelt(name.lower())
+
+
+def is_secret(name: bytes) -> bool:
+    return keys.as_text(name).lower() in grammar.SECRETS
 
 
 @functools.lru_cache(4_096)
@@ -112,9 +116,12 @@ def at(item: Item, one: Placed, line: int) -> str:
 
 
 def of_name(item: Item, one: Placed) -> Iterator[Caution]:
-    """An attribute that is one letter off another one."""
+    """An attribute that is one letter off another one, or reads as a secret."""
     meant = misspelt(one.name)
-    if meant == "password":
+    if is_secret(one.name):
+        words = "it reads as a password, and would be shown to all as a text; write `password`"
+        yield Caution(at(item, one, one.numbers[0]), words, True)
+    elif meant == "password":
         words = "it is one letter off `password`, and would be shown to all as a text"
         yield Caution(at(item, one, one.numbers[0]), words, True)
     elif meant:

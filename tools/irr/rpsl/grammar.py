@@ -202,6 +202,14 @@ INTERPRETED = tuple(
 )
 
 
+# What reads as a secret, and is more than a letter off `password`. `override` and `api-key` are
+# those of other registries.
+SECRETS = tuple(
+    """pass pass-word pass_word passcode passphrase passw passwd paswd paswrd psswd
+    pw pwd secret override api-key apikey""".split()
+)
+
+
 def classes_with(attribute: str) -> tuple[str, ...]:
     """The classes in which an attribute is read."""
     return tuple(kind for kind, rules in TABLE.items() if attribute in rules)

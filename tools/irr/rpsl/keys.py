@@ -138,8 +138,11 @@ def read_number(text: str, least: int, most: int) -> int | None:
 
 def read_address(value: bytes | str) -> int | None:
     found = ADDRESS.fullmatch(as_text(value))
-    parts = [int(part) for part in found.groups()] if found else [256]
-    return int.from_bytes(bytes(parts), "big") if max(parts) < 256 else None
+    if not found:
+        return None
+    one, two, three, four = map(int, found.groups())
+    is_good = one < 256 and two < 256 and three < 256 and four < 256
+    return one << 24 | two << 16 | three << 8 | four if is_good else None
 
 
 def address_text(number: int) -> str:

@@ -4,6 +4,7 @@ attributes of a block, and canonical text.
 All of it is bytes, since a registry's text is in no one encoding. Lines end in LF alone; a blank is
 a space, a tab or a CR.
 """
+import functools
 import re
 from typing import BinaryIO, Callable, Iterable, Iterator, NamedTuple
 
@@ -19,8 +20,8 @@ BETWEEN = re.compile(rb"\n[ \t\r]*\n(?:[ \t\r]*\n)*")
 # Whole lines that are skipped.
 SKIPPED = re.compile(rb"(?:[#%][^\n]*\n)+")
 CHUNK = 1 << 20
-# What a line begins with that goes on with the attribute before it.
-CONTINUED = (b" ", b"\t", b"\r", b"+")
+# What a line begins with that is skipped, and that goes on with the attribute before it.
+PASSED_OVER, CONTINUED = frozenset((b"#", b"%")), frozenset((b" ", b"\t", b"\r", b"+"))
 # The end of the last one of several objects in a text, at which it may be cut in two; 0 for none.
 Seam = Callable[[bytes], int]
 
@@ -128,25 +129,33 @@ def read_any(text: bytes) -> Paragraph:
     attributes: list[Attribute] = []
     has_bad = BAD_BYTE.search(text)
     for number, line in enumerate(text.removesuffix(b"\n").split(b"\n")):
-        if line[:1] in (b"#", b"%"):
+        mark = line[:1]
+        if mark in PASSED_OVER:
             continue
         if has_bad and BAD_BYTE.search(line):
             raise TextFault("E01", "it has a control character", number)
-        if line[:1] in CONTINUED:
+        if mark in CONTINUED:
             if not attributes:
                 raise TextFault("E01", "it begins with a continuation line", number)
             attributes[-1].lines.append(line[1:].strip(BLANKS))
             continue
-        name, colon, value = line.partition(b":")
-        name = name.rstrip(BLANKS)
+        front, colon, value = line.partition(b":")
         if not colon:
             raise TextFault("E01", "it has a line without a colon", number)
-        if not NAME.fullmatch(name):
+        name = name_of(front)
+        if name is None:
             raise TextFault(
                 "E01", "it has a line whose name is not the name of an attribute", number
             )
-        attributes.append(Attribute(name.lower(), [value.strip(BLANKS)]))
+        attributes.append(Attribute(name, [value.strip(BLANKS)]))
     return Paragraph(attributes)
+
+
+@functools.lru_cache(1 << 12)
+def name_of(front: bytes) -> bytes | None:
+    """The name that stands before a colon, in small letters; None where it is none."""
+    name = front.rstrip(BLANKS)
+    return name.lower() if NAME.fullmatch(name) else None
 
 
 def line_numbers(text: bytes) -> list[list[int]]:
@@ -154,7 +163,7 @@ def line_numbers(text: bytes) -> list[list[int]]:
     from 0."""
     found: list[list[int]] = []
     for number, line in enumerate(text.removesuffix(b"\n").split(b"\n")):
-        if line[:1] in (b"#", b"%"):
+        if line[:1] in PASSED_OVER:
             continue
         if line[:1] in CONTINUED:
             found[-1].append(number)

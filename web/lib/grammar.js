@@ -1,120 +1,10 @@
 // What is wrong with an object, line by line, as `irr` tells it; and what looks like a mistake. It
 // says nothing where it finds another fault than the registry.
+import {NAME, asNumber, isAs, isMaintainer, setKind} from './rpsl.js';
+import {FORMS, HINTS, INTERPRETED, KEY_WORDS, SECRETS, TABLE, WORDS} from './tables.js';
 
-// From here on made of tools/irr/rpsl/grammar.py by `python3 -m checks.web.tables`.
-const TABLE = {
-    "mntner": {
-        "auth": ["1+", "whole", "auth"],
-        "mnt-by": ["1+", "items", "maintainer"],
-        "source": ["1", "whole", "source"],
-    },
-    "as-block": {
-        "mnt-lower": ["0+", "items", "maintainer"],
-        "mnt-by": ["1+", "items", "maintainer"],
-        "source": ["1", "whole", "source"],
-    },
-    "aut-num": {
-        "member-of": ["0+", "items", "set"],
-        "mnt-lower": ["0+", "items", "maintainer"],
-        "mnt-routes": ["0+", "braced", "grants"],
-        "mnt-by": ["1+", "items", "maintainer"],
-        "source": ["1", "whole", "source"],
-    },
-    "inetnum": {
-        "mnt-lower": ["0+", "items", "maintainer"],
-        "mnt-routes": ["0+", "braced", "grants"],
-        "mnt-by": ["1+", "items", "maintainer"],
-        "source": ["1", "whole", "source"],
-    },
-    "route": {
-        "origin": ["1", "whole", "as"],
-        "member-of": ["0+", "items", "set"],
-        "mnt-lower": ["0+", "items", "maintainer"],
-        "mnt-routes": ["0+", "braced", "grants"],
-        "mnt-by": ["1+", "items", "maintainer"],
-        "source": ["1", "whole", "source"],
-    },
-    "as-set": {
-        "members": ["0+", "items", "as-member"],
-        "mbrs-by-ref": ["0+", "items", "referrer"],
-        "mnt-lower": ["0+", "items", "maintainer"],
-        "mnt-by": ["1+", "items", "maintainer"],
-        "source": ["1", "whole", "source"],
-    },
-    "route-set": {
-        "members": ["0+", "items", "range-member"],
-        "mbrs-by-ref": ["0+", "items", "referrer"],
-        "mnt-lower": ["0+", "items", "maintainer"],
-        "mnt-by": ["1+", "items", "maintainer"],
-        "source": ["1", "whole", "source"],
-    },
-};
-const FORMS = {
-    "auth": "a scheme with what it says",
-    "maintainer": "a maintainer's name",
-    "source": "the name of a registry",
-    "set": "the name of a set",
-    "grants": "a maintainer's name",
-    "as": "an AS number",
-    "as-member": "an AS number or an as-set",
-    "referrer": "a maintainer's name or `ANY`",
-    "range-member": "a prefix, an AS number or a set",
-};
-const KEY_WORDS = {
-    "mntner": "a maintainer's name, as EXAMPLE-MNT",
-    "as-block": "a range of AS numbers, as AS64496 - AS64511",
-    "aut-num": "an AS number, as AS64496",
-    "inetnum": "a range of addresses, as 192.0.2.0/24 or 192.0.2.0 - 192.0.2.255",
-    "route": "a prefix, as 192.0.2.0/24",
-    "as-set": "the name of an as-set, as AS64496:AS-CUSTOMERS",
-    "route-set": "the name of a route-set, as AS64496:RS-OUT",
-};
-const WORDS = {
-    "alone": "it is alone; write the class and the key of the object above it",
-    "near": "this is not a class; did you mean `{0}`?",
-    "later": "this is not a class; if the object is of class `{0}`, put that first",
-    "class": "this registry keeps no such class; it keeps {0}",
-    "no key": "it is empty; write {0}",
-    "not one": "`{0}` is not {1}",
-    "no origin": "the `origin` is missing",
-    "empty origin": "it has no AS number",
-    "again": "it is here again; is a blank line missing above, between two objects?",
-    "missing": "`{0}` is missing",
-    "empty": "it has not {0}",
-    "filtered": "`# filtered` is what answers show in its place; write the line itself",
-    "empty auth": "it is empty; make the line by `irr auth`",
-    "bad auth": "after `SHA256-PW` comes one word: a salt of at most 16 letters or digits, a " +
-        "colon, and 64 hexadecimal digits; make the line by `irr auth`",
-    "nameless": "no maintainer's name is before `{0}`",
-    "open": "the brace `{` is not closed by `}`",
-    "other source": "`{0}` is not this registry, which is {1}",
-};
-const HINTS = [
-    ["\\u00a0", "it has a no-break space; write plain blanks", ""],
-    ["[^\\x00-\\x7f]", "it has a letter that is not ASCII", ""],
-    ["^([0-9]{1,10})$", "write AS{1}", "AS number"],
-    ["^([a-z][a-z0-9_-]*)::.", "leave out `{1}::`", ""],
-    ["^(?=.*:)(?!:$)[0-9a-f:.]+(?:/[0-9]{1,3})?(?:\\^.*)?$", "this registry has no IPv6", ""],
-    ["^:|:$", "a colon is too many", ""],
-    [";", "write commas between items", ""],
-    ["\\^.*\\^", "one operator is the most", ""],
-    ["^([0-9]{1,3}(?:\\.[0-9]{1,3}){3})$", "write its length too, as {1}/32", ""],
-    ["^(?:accept|action|and|announce|any|as-any|at|atomic|except|from|inbound|into|net" +
-        "works|not|or|outbound|peeras|refine|rs-any|to)$", "the word is reserved", ""],
-    ["[{}]", "braces stand in `mnt-routes` alone", ""],
-];
-const INTERPRETED = (
-    "auth mnt-by source mnt-lower member-of mnt-routes origin members mbrs-by-ref " +
-    "password delete"
-).split(' ');
-const RESERVED = (
-    "accept action and announce any as-any at atomic except from inbound into networks " +
-    "not or outbound peeras refine rs-any to"
-).split(' ');
-// As far as here.
-
-const PSEUDO = ['password', 'delete'], LONGEST_SHOWN = 60, TOP = 2 ** 32 - 1, LARGEST = 65536;
-const NAME = /^[a-z](?:[a-z0-9_-]{0,78}[a-z0-9])?$/i, ATTRIBUTE = /^[a-z][a-z0-9_-]{0,63}$/i;
+const PSEUDO = ['password', 'delete'], LONGEST_SHOWN = 60, LARGEST = 65536;
+const ATTRIBUTE = /^[a-z][a-z0-9_-]{0,63}$/i;
 const DASHED = /^([^- \t\r]+)[ \t\r]*-[ \t\r]*([^- \t\r]+)$/;
 const trimmed = text => text.replace(/^[ \t\r]+|[ \t\r]+$/g, '');
 const meant = line => line.split('#', 1)[0];
@@ -122,16 +12,10 @@ const itemsOf = text => text.match(/[^, \t\r\n]+/g) ?? [];
 const isControl = code => code < 9 || code === 11 || code === 12 || (code > 13 && code < 32) ||
     code === 127;
 
-// Names, numbers and prefixes: what each reader gives is null for another spelling.
-const isName = text => NAME.test(text) && !RESERVED.includes(text.toLowerCase());
-const isMaintainer = text => isName(text) && !/^[ar]s-/i.test(text);
+// Numbers, prefixes and sets: what each reader gives is null for another spelling.
 const isReferrer = text => /^any$/i.test(text) || isMaintainer(text);
-const isAny = text => /^[ar]s-any$/i.test(text);
-
-function asNumber(text) {
-    const found = /^as([0-9]{1,10})$/i.exec(text);
-    return found && Number(found[1]) <= TOP ? Number(found[1]) : null;
-}
+const groupKind = text => /^[ar]s-any$/i.test(text) ? text.slice(0, 2).toLowerCase()
+    : setKind(text);
 
 function address(text) {
     const found = /^([0-9]{1,3})\.([0-9]{1,3})\.([0-9]{1,3})\.([0-9]{1,3})$/.exec(text);
@@ -150,15 +34,6 @@ const isPrefix = text => prefix(text) !== null;
 function isSpan(text, read) {
     const found = DASHED.exec(text), ends = found ? [read(found[1]), read(found[2])] : [null];
     return !ends.includes(null) && ends[0] <= ends[1];
-}
-
-function setKind(text) {
-    if (isAny(text)) return text.slice(0, 2).toLowerCase();
-    const names = text.split(':').filter(part => asNumber(part) === null);
-    const kinds = new Set(names.map(part => isName(part) ? part.slice(0, 3).toLowerCase() : ''));
-    const [kind] = kinds;
-    const isOne = kinds.size === 1 && /^[ar]s-$/.test(kind) && text.length <= 255;
-    return isOne ? kind.slice(0, 2) : null;
 }
 
 function isOperator(text) {
@@ -181,7 +56,7 @@ function isRange(item) {
 function isRangeMember(item) {
     const [front, operator] = parted(item);
     return isOperator(operator) &&
-        (isPrefix(front) || asNumber(front) !== null || setKind(front) !== null);
+        (isPrefix(front) || isAs(front) || groupKind(front) !== null);
 }
 
 const wordsOf = value => value.match(/[^ \t\r]+/g) ?? [];
@@ -195,23 +70,23 @@ export function isUsable(value) {
 
 const READERS = {
     'maintainer': isMaintainer,
-    'set': item => setKind(item) !== null,
+    'set': item => groupKind(item) !== null,
     'referrer': isReferrer,
-    'as-member': item => asNumber(item) !== null || setKind(item) === 'as',
+    'as-member': item => isAs(item) || groupKind(item) === 'as',
     'range-member': isRangeMember,
     'auth': value => wordsOf(value).length > 0 &&
         (wordsOf(value)[0].toUpperCase() !== 'SHA256-PW' || isUsable(value)),
     'source': text => NAME.test(text),
-    'as': item => asNumber(item) !== null,
+    'as': isAs,
 };
 const KEYS = {
     'mntner': isMaintainer,
     'as-block': text => isSpan(text, asNumber),
-    'aut-num': text => asNumber(text) !== null,
+    'aut-num': isAs,
     'inetnum': text => isPrefix(text) || isSpan(text, address),
     'route': isPrefix,
-    'as-set': text => setKind(text) === 'as' && !isAny(text),
-    'route-set': text => setKind(text) === 'rs' && !isAny(text),
+    'as-set': text => setKind(text) === 'as',
+    'route-set': text => setKind(text) === 'rs',
 };
 
 // The paragraphs of a text: each with its lines, numbered from 1, and its attributes; none of these
@@ -330,7 +205,7 @@ function keyFaults(kind, own) {
     if (!origins.length) found.push(fault('E03', firstOf(own[0]), kind, say('no origin')));
     for (const one of origins) {
         const item = meaningOf(one), words = item ? notOne(item, FORMS.as) : say('empty origin');
-        if (asNumber(item) === null) found.push(fault('E03', firstOf(one), 'origin', words));
+        if (!isAs(item)) found.push(fault('E03', firstOf(one), 'origin', words));
     }
     return found;
 }
@@ -417,7 +292,10 @@ export function cautionsOf(block) {
     const kind = ownOf(attributes)[0]?.name;
     for (const one of attributes) {
         const near = misspelt(one.name);
-        if (near) {
+        if (SECRETS.includes(one.name)) {
+            caution(firstOf(one), one.name,
+                'it reads as a password, and would be shown to all as a text; give it below', true);
+        } else if (near) {
             caution(firstOf(one), one.name, near === 'password' ?
                 'it is one letter off `password`, and would be shown to all as a text' :
                 `it is one letter off \`${near}\`, and would be kept as a text without meaning`,

@@ -1,5 +1,6 @@
 // Whose word a new object needs: the object that decides, and whom it names (RFC 2725, 9).
-import {isAs, lastOf, objectsOf, prefixOf, spanOf} from './irr.js';
+import {objectsOf} from './client.js';
+import {isAs, lastOf, prefixOf, spanOf} from './rpsl.js';
 
 const MOST = 32 << 20;           // bytes of a dump that are read for its as-blocks
 const upper = names => [...new Set(names.map(name => name.toUpperCase()))];

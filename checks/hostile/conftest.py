@@ -1,0 +1,15 @@
+"""The fixture of the sweeps of failing calls."""
+
+import shutil
+
+import pytest
+
+from checks.failing import Failing
+
+
+@pytest.fixture(scope="module")
+def failing(trial):
+    """Runs of the program in which calls fail, and all that it said under them."""
+    if shutil.which("gcc") is None or shutil.which("sqlite3") is None:
+        pytest.skip("gcc or sqlite3 is not here")
+    return Failing(trial)

@@ -1,0 +1,1 @@
+"""Mirrors of a registry: serials, NRTM, dumps with serials, and a mirror that follows."""

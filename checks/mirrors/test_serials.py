@@ -1,0 +1,258 @@
+"""The serials of a history: each change has one, they never go back, and they begin anew where it
+is not known what was between."""
+
+import hashlib
+import os
+import shutil
+from pathlib import Path
+
+import pytest
+from hypothesis import given
+from hypothesis import strategies as st
+
+from checks.mirrors.client import key_of
+from checks.running import expect
+from irr.local import changes, serials
+from irr.local.history import Repository
+from irr.rpsl import syntax
+
+IN_MEMORY = True
+ROOT = "mntner:         ROOT-MNT\nauth:           # filtered\nmnt-by:         ROOT-MNT\n"
+NOW = 1_800_000_000
+
+
+def aut_num(number, source="TEST"):
+    return f"aut-num:        AS{number}\nmnt-by:         ROOT-MNT\nsource:         {source}\n"
+
+
+class States:
+    """A history whose states are given, at times that are given."""
+
+    def __init__(self, folder):
+        self.folder = Path(folder)
+        self.repository, self.serials = Repository(self.folder), serials.Serials(self.folder)
+
+    def commit(self, *objects, source="TEST", now=NOW):
+        blocks = [f"{ROOT}source:         {source}\n", *objects]
+        text = "".join(f"{block}\n" for block in blocks) + f"% end {len(blocks)}\n"
+        digest = hashlib.sha256(text.encode()).hexdigest()
+        self.repository.record(syntax.blocks([text.encode()]), lambda: digest, now)
+
+    def update(self, now=NOW):
+        self.serials.update(self.repository, now)
+        return self.serials.range()
+
+    def add(self, *objects, source="TEST", now=NOW):
+        self.commit(*objects, source=source, now=now)
+        return self.update(now)
+
+    def told(self, first, last):
+        """The changes of a range, each as its words and its key."""
+        text = b""
+        for part in self.serials.parts(first, last):
+            with open(part.path, "rb") as file:
+                text += file.read()[part.begin : part.end]
+        blocks = text.decode().strip("\n").split("\n\n")
+        return [(word, key_of(block)[1]) for word, block in zip(blocks[::2], blocks[1::2])]
+
+
+@pytest.fixture
+def states(trial, request):
+    return States(trial.place(request.node.name))
+
+
+def test_each_change_has_the_next_serial(states):
+    found = states.add()
+    begun = NOW // 10
+    expect((found.first, found.last), (begun + 1, begun), "the first state has no change")
+    found = states.add(aut_num(1), aut_num(2))
+    expect((found.first, found.last), (begun + 1, begun + 2), "two objects that came")
+    states.add(aut_num(2), aut_num(3))
+    wanted = [
+        (f"ADD {begun + 1}", "AS2"),
+        (f"ADD {begun + 2}", "AS1"),
+        (f"ADD {begun + 3}", "AS3"),
+        (f"DEL {begun + 4}", "AS1"),
+    ]
+    expect(states.told(begun + 1, begun + 4), wanted, "all of them")
+    expect(states.told(begun + 3, begun + 4), wanted[2:], "one that came, and one that went")
+    for serial in range(begun + 1, begun + 5):
+        words = [word for word, _ in states.told(serial, serial)]
+        expect([word.split()[1] for word in words], [str(serial)], "each alone")
+    expect(len(states.told(begun + 2, begun + 3)), 2, "from the midst of one file to another's")
+
+
+def test_what_a_stop_left_out_is_made_up_for(states):
+    states.add()
+    states.commit(aut_num(1))
+    states.commit(aut_num(1), aut_num(2))
+    # What a run leaves that was stopped while it wrote.
+    (states.serials.folder / ".0000000007.x").write_text("")
+    found = states.update()
+    begun = NOW // 10
+    expect(
+        states.told(begun + 1, found.last),
+        [(f"ADD {begun + 1}", "AS1"), (f"ADD {begun + 2}", "AS2")],
+        "two states of which none had a serial",
+    )
+    expect(states.update(NOW + 900), found, "a run without a change")
+    expect(
+        [name for name in os.listdir(states.serials.folder) if name[0] == "."], [], "what is left"
+    )
+
+
+def test_serials_that_were_lost_are_followed_by_higher_ones(states):
+    states.add()
+    before = states.add(aut_num(1), aut_num(2))
+    shutil.rmtree(states.serials.folder)
+    after = states.update(NOW + 3_600)
+    expect(
+        (after.first, after.last), ((NOW + 3_600) // 10 + 1, (NOW + 3_600) // 10), "the new ones"
+    )
+    expect(after.last > before.last, True, "whether they are higher")
+
+
+def test_a_history_that_is_not_the_one_that_had_serials_begins_anew_above_them(states):
+    states.add()
+    before = states.add(aut_num(1))
+    for path in states.folder.iterdir():
+        if path.name != "serials":
+            shutil.rmtree(path) if path.is_dir() else path.unlink()
+    after = states.add(aut_num(5))
+    expect((after.first, after.last), (before.last + 2, before.last + 1), "in the same second")
+    expect(states.serials.kept(), [after.last], "what is kept")
+
+
+def test_a_registry_of_another_name_begins_anew_above_the_one_before(states):
+    states.add()
+    before = states.add(aut_num(1))
+    after = states.add(aut_num(1, "OTHER"), source="OTHER")
+    expect((after.source, after.first), ("OTHER", after.last + 1), "whose serials they are")
+    expect(after.last > before.last, True, "whether they are higher")
+    expect(states.serials.kept(), [after.last], "what is kept")
+
+
+def test_a_registry_that_went_back_goes_on_with_higher_serials(states):
+    states.add()
+    states.add(aut_num(1))
+    before = states.add(aut_num(1), aut_num(2))
+    after = states.add(aut_num(1))
+    expect((after.first, after.last), (before.first, before.last + 1), "the serials")
+    expect(states.told(after.last, after.last), [(f"DEL {after.last}", "AS2")], "what it told")
+
+
+def test_the_clock_never_lets_serials_go_back(states):
+    states.add()
+    before = states.add(aut_num(1), now=NOW - 10**9)
+    expect(before.last, NOW // 10 + 1, "after a clock that went back")
+    expect(states.add(now=NOW + 10**9).last, before.last + 1, "after one that went ahead")
+
+
+def test_the_last_states_are_kept(states, monkeypatch):
+    monkeypatch.setattr(serials, "MOST_STATES", 3)
+    states.add()
+    for number in range(6):
+        found = states.add(aut_num(number))
+    expect(len(states.serials.kept()), 3, "how many")
+    expect((found.first, found.last), (found.last - 5, found.last), "the range")
+    expect(len(states.told(found.first, found.last)), 6, "what it has")
+    monkeypatch.setattr(serials, "MOST_BYTES", 1)
+    found = states.add()
+    expect(states.serials.kept(), [found.last], "the last one, of whatever size")
+
+
+# The order of changes.
+
+NAMES = (
+    [("mntner", f"M{number}-MNT") for number in range(4)]
+    + [("aut-num", f"AS{number}") for number in range(1, 4)]
+    + [("inetnum", f"10.{low}.0.0 - 10.{high}.255.255") for low, high in [(0, 1), (1, 2), (0, 7)]]
+    + [("as-set", name) for name in ("AS-A", "AS1:AS-B", "AS1:AS-B:AS-C")]
+    + [("route-set", name) for name in ("RS-A", "AS1:RS-B")]
+    + [("route", f"10.0.{number}.0/24") for number in range(3)]
+)
+LISTED = {"as-set": ("aut-num", "as-set"), "route-set": ("aut-num", "as-set", "route-set")}
+
+
+@st.composite
+def states_of(draw):
+    """A state in which each object names some of those that come before it, whether they are there
+    or not."""
+    found = {}
+    for place, (kind, name) in enumerate(NAMES):
+        if not draw(st.booleans()):
+            continue
+        before = NAMES[:place]
+
+        def some(*kinds, least=0):
+            names = [own for of, own in before if of in kinds]
+            return (
+                draw(st.lists(st.sampled_from(names), min_size=least, max_size=2)) if names else []
+            )
+
+        by = some("mntner", least=1) or [name]
+        lines = [f"{kind}: {name}", f"mnt-by: {', '.join(by)}"]
+        lines += [f"members: {', '.join(some(*LISTED[kind]))}"] if kind in LISTED else []
+        lines += [f"origin: AS{draw(st.integers(1, 3))}"] if kind == "route" else []
+        listed = some("route-set") if kind == "route" else []
+        lines += [f"member-of: {', '.join(listed)}"] if listed else []
+        text = "\n".join([*lines, "source: TEST\n"])
+        found[key_of(text)] = text
+    return found
+
+
+def unmet(state):
+    """The references to what is not there, as the lines that make them and what they name."""
+    names = {key[1] for key in state}
+    found = set()
+    for key, text in state.items():
+        parent = key[1].rpartition(":")[0] if key[0].endswith("-set") else ""
+        found |= {(key, parent)} if parent and parent not in names else set()
+        for line in text.split("\n"):
+            name, _, value = line.partition(": ")
+            if name in ("mnt-by", "members", "member-of", "origin"):
+                words = [word.strip() for word in value.split(",")]
+                found |= {(key, word) for word in words if word and word not in names}
+    return found
+
+
+def crossing(state):
+    """The inetnums that overlap, neither inside the other."""
+    spans = [
+        tuple(int(part.split(".")[1]) for part in key[1].split(" - "))
+        for key in state
+        if key[0] == "inetnum"
+    ]
+    return [(a, b) for a in spans for b in spans if a[0] < b[0] <= a[1] < b[1]]
+
+
+@given(states_of(), states_of())
+def test_no_reference_is_unmet_but_where_a_state_leaves_it_so(before, after):
+    def texts(keys, state):
+        return [state[key].encode() for key in keys]
+
+    added, gone = after.keys() - before.keys(), before.keys() - after.keys()
+    changed = {key for key in after.keys() & before.keys() if after[key] != before[key]}
+    state, allowed = dict(before), unmet(before) | unmet(after)
+    many = bool(crossing(before) or crossing(after))
+    count = 0
+    for change in changes.in_order(
+        texts(sorted(added), after), texts(sorted(changed), after), texts(sorted(gone), before), "x"
+    ):
+        text = plain(change.text.decode())
+        if change.word == "ADD":
+            state[key_of(text)] = text
+        else:
+            del state[key_of(text)]
+        count += 1
+        assert unmet(state) <= allowed
+        assert many or not crossing(state)
+        assert before.keys() & after.keys() <= state.keys()
+    assert state == after
+    assert count == len(added) + len(changed) + len(gone)
+
+
+def plain(text):
+    """A text without the blanks of canonical texts."""
+    lines = [line.partition(":") for line in text.split("\n") if line]
+    return "".join(f"{name}: {value.strip()}\n" for name, _, value in lines)

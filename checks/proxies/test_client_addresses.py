@@ -1,0 +1,177 @@
+"""HAProxy and nginx before whois: the door learns by the PROXY protocol whose connection it is."""
+
+import contextlib
+import os
+import shutil
+import socket
+import struct
+import subprocess
+from pathlib import Path
+
+import pytest
+
+from checks.door import worlds
+from checks.door.opened import Opened, Registries, read_all, wait_until
+from checks.running import expect, write
+from checks.serving import free_port
+from irr.door import proxied
+
+STREAM = "/usr/lib/nginx/modules/ngx_stream_module.so"
+HAPROXY = """defaults
+    mode tcp
+    timeout connect 5s
+    timeout client 60s
+    timeout server 60s
+listen whois
+    bind 127.0.0.1:{port}
+    server door 127.0.0.1:{door} {send}
+"""
+NGINX = """{module}pid {folder}/pid;
+error_log {folder}/log;
+daemon off;
+events {{ worker_connections 400; }}
+stream {{
+    server {{ listen 127.0.0.1:{port}; proxy_pass 127.0.0.1:{door}; proxy_protocol on; }}
+}}
+"""
+PROXIES = {
+    "haproxy send-proxy": (HAPROXY, "send-proxy"),
+    "haproxy send-proxy-v2": (HAPROXY, "send-proxy-v2"),
+    "nginx proxy_protocol": (NGINX, ""),
+}
+FIRST = b"PROXY TCP4 192.0.2.7 192.0.2.1 4000 43\r\n"
+
+
+def second(address, command=0x21, family=0x11, more=b""):
+    packed = ipv(address) * 2 + struct.pack(">HH", 4_000, 43) + more
+    return proxied.SECOND + bytes([command, family]) + struct.pack(">H", len(packed)) + packed
+
+
+def ipv(address):
+    return socket.inet_pton(socket.AF_INET6 if ":" in address else socket.AF_INET, address)
+
+
+@pytest.fixture(scope="module")
+def registries(trial):
+    with Registries(trial, "registries", worlds.DUMP, replicas=0) as made:
+        yield made
+
+
+@pytest.fixture(scope="module")
+def door(trial, registries):
+    settings = 'proxied = true\ntrusted = ["127.0.0.1"]\nof_client = 6\n'
+    with Opened(trial, "door", registries.words, settings) as opened:
+        yield opened
+
+
+@contextlib.contextmanager
+def proxy(trial, door, name):
+    """The port of a proxy before the door."""
+    config, send = PROXIES[name]
+    kind = name.split()[0]
+    if not shutil.which(kind) or (kind == "nginx" and not has_stream()):
+        pytest.skip(f"{kind} is not here, or has no streams")
+    folder, port = trial.place(name.replace(" ", "-")), free_port()
+    module = f"load_module {STREAM};\n" if os.path.exists(STREAM) else ""
+    words = {"port": port, "door": door.whois_port, "send": send, "folder": folder}
+    path = write(folder, "config", config.format(module=module, **words).encode())
+    command = ["haproxy", "-db", "-f", path] if kind == "haproxy" else ["nginx", "-c", path]
+    with open(os.path.join(folder, "said"), "wb") as said:
+        process = subprocess.Popen(command, stdout=said, stderr=said, cwd=folder)
+    try:
+        wait_until(name, 30, lambda: listens(port) or process.poll() is not None)
+        expect(process.poll(), None, Path(folder, "said").read_text(encoding="utf-8"))
+        yield port
+    finally:
+        process.terminate()
+        process.wait(20)
+
+
+def has_stream():
+    said = subprocess.run(["nginx", "-V"], capture_output=True, text=True, check=False).stderr
+    return os.path.exists(STREAM) or "--with-stream " in said
+
+
+def listens(port):
+    with contextlib.suppress(OSError), socket.create_connection(("127.0.0.1", port), 1):
+        return True
+    return False
+
+
+@pytest.mark.parametrize("name", PROXIES)
+def test_a_client_behind_a_proxy_is_known_by_its_own_address(trial, door, name):
+    with proxy(trial, door, name) as port:
+        peers = [door.connect(port, 50) for _ in range(6)]
+        try:
+            for peer in peers:
+                peer.sendall(b"!!\n!s-lc\n")
+                expect(peer.recv(64), b"A5\nTEST\nC\n", "an answer")
+            with door.connect(port, 50) as peer:
+                peer.sendall(b"AS1\n")
+                expect(b"connections of yours" in read_all(peer), True, "a seventh")
+            with door.connect(port, 51) as peer:
+                peer.sendall(b"AS1\r\n")
+                expect(read_all(peer), worlds.AS1 + b"\n", "another client")
+        finally:
+            for peer in peers:
+                peer.close()
+        if shutil.which("whois"):
+            words = ["whois", "-h", "127.0.0.1", "-p", str(port), "AS1"]
+            printed = subprocess.run(words, capture_output=True, timeout=60, check=False).stdout
+            expect(worlds.AS1 in printed.replace(b"\r", b""), True, "Debian's whois")
+
+
+def test_a_header_is_taken_of_trusted_addresses_alone(door, each):
+    for text, last, wanted in [
+        (FIRST + b"AS1\r\n", 1, worlds.AS1 + b"\n"),
+        (b"PROXY UNKNOWN\r\nAS1\r\n", 1, worlds.AS1 + b"\n"),
+        (second("192.0.2.7") + b"AS1\r\n", 1, worlds.AS1 + b"\n"),
+        (second("2001:db8::7", family=0x21, more=b"\4\0\1x") + b"AS1\n", 1, worlds.AS1 + b"\n"),
+        (second("192.0.2.7", command=0x20) + b"AS1\r\n", 1, worlds.AS1 + b"\n"),
+        (b"AS1\r\n", 1, b"% the proxy does not say"),
+        (b"PROXY TCP4 nonsense\r\nAS1\r\n", 1, b"% the proxy does not say"),
+        (second("192.0.2.7", command=0x31) + b"AS1\r\n", 1, b"% the proxy does not say"),
+        (b"", 1, b""),
+        (FIRST[:9], 1, b""),
+        (b"AS1\r\n", 9, worlds.AS1 + b"\n"),
+        (FIRST + b"AS1\r\n", 9, b"% This is the TEST registry"),
+    ]:
+        with each(f"{text[:40]!r} from 127.0.0.{last}"), door.connect(
+            door.whois_port, last
+        ) as peer:
+            peer.sendall(text)
+            peer.shutdown(socket.SHUT_WR)
+            answer = read_all(peer)
+            expect(answer[: len(wanted)] if wanted else answer, wanted, f"{text!r}")
+
+
+def test_a_header_may_come_byte_by_byte():
+    for text in FIRST, second("192.0.2.7", more=b"\4\0\1x"):
+        for size in range(len(text)):
+            expect(proxied.read(text[:size]), None, f"{size} bytes of {text!r}")
+        header = proxied.read(text + b"AS1\r\n")
+        expect(header, proxied.Header("192.0.2.7", len(text)), f"{text!r}")
+    expect(proxied.read(second("2001:db8::7", family=0x21)).address, "2001:db8::7", "version 6")
+
+
+def test_no_client_takes_all_that_a_proxy_of_http_has(door):
+    """Six requests of one client are on their way through a proxy: another client's is answered."""
+    body = b"POST /submissions HTTP/1.1\r\nX-Forwarded-For: 192.0.2.%d\r\nContent-Length: 9\r\n\r\n"
+    peers = [door.connect(door.http_port) for _ in range(7)]
+    try:
+        for peer in peers:
+            peer.sendall(body % 7)
+        ended = [peer for peer in peers if is_answered(peer)]
+        expect(len(ended), 1, "how many of seven are refused")
+        expect(ended[0].recv(20).split(b" ")[1], b"429", "the status")
+        expect(door.http("GET", "/query/AS1", X_Forwarded_For="192.0.2.8")[0], 200, "another's")
+    finally:
+        for peer in peers:
+            peer.close()
+
+
+def is_answered(peer):
+    peer.settimeout(0.5)
+    with contextlib.suppress(TimeoutError):
+        return bool(peer.recv(1, socket.MSG_PEEK))
+    return False

@@ -1,0 +1,53 @@
+"""The cases of a module of peers: each in a thread of its own, because most of them wait."""
+
+import concurrent.futures
+import os
+import shutil
+
+import pytest
+
+from checks.running import Failure, write_settings
+from checks.server.peers import INETNUM, run
+
+
+def make_registry(program, folder, submission):
+    os.mkdir(folder)
+    write_settings(folder)
+    with open(os.path.join(folder, "first.rpsl"), "w", encoding="ascii") as out:
+        out.write("password: bc\n\n" + submission)
+    for words in [["init", "s.toml"], ["submit", "s.toml", "first.rpsl"]]:
+        status, printed, said = run(program, folder, *words)
+        if status != 0:
+            raise Failure(f"{' '.join(words)} ended with {status}: {said}{printed[-300:]}")
+
+
+@pytest.fixture(scope="module")
+def running(request, trial):
+    """What became of each case that was chosen, once it is done: all of them run at once."""
+    missing = [command for command in ("whois", "curl") if shutil.which(command) is None]
+    if missing:
+        pytest.skip(f"{' and '.join(missing)} is not here")
+    large = [INETNUM.format(f"10.{n}.0.0/16") + "descr: " + "x" * 60_000 + "\n" for n in range(200)]
+    stores = {
+        "small": INETNUM.format("10.0.0.0/8"),
+        "medium": "\n".join(large[:64]),
+        "large": "\n".join(large),
+    }
+    chosen = [
+        item.callspec.params["check"]
+        for item in request.session.items
+        if item.module is request.module
+    ]
+    for store in {store for store, _ in chosen}:
+        make_registry(trial.program, os.path.join(trial.work, store), stores[store])
+    with concurrent.futures.ThreadPoolExecutor(max_workers=len(chosen)) as pool:
+        yield {
+            function: pool.submit(
+                function,
+                trial.program,
+                shutil.copytree(
+                    os.path.join(trial.work, store), trial.place(f"of-{number}"), dirs_exist_ok=True
+                ),
+            )
+            for number, (store, function) in enumerate(chosen)
+        }

@@ -1,0 +1,218 @@
+"""What an import tells of objects that it takes, and which of its list is which."""
+import re
+from collections import Counter
+
+import pytest
+
+from checks.tool.importing import left_out, listed, made, mended, obj, texts_of
+
+A = ("as-set: AS-A", "members: AS1", "mnt-by: A-MNT", "source: RIPE")
+CUT = "cut off at the end of the file"
+
+
+def told(*texts, **more):
+    """What is told of objects that are taken: cause, line, first line, and the odd line."""
+    lines = [line.split("\t") for line in listed(*texts, **more)]
+    return [
+        (one[1], int(one[2].rpartition(":")[2]), *one[3:]) for one in lines if one[0] == "taken"
+    ]
+
+
+# Objects without a `source`.
+
+
+def test_objects_without_a_source_are_told_with_their_places():
+    text = obj("aut-num: AS1") + obj(*A) + obj("route: 10.0.0.0/8", "origin: AS1", "source:")
+    assert told(text + obj("as-set: AS-B") + obj(*A).replace(b"AS-A", b"AS-C")) == [
+        ("no `source`", 1, "aut-num: AS1"),
+        ("no `source`", 8, "route: 10.0.0.0/8 AS1"),
+        ("no `source`", 12, "as-set: AS-B"),
+    ]
+    report = list(made(text)[1].lines())
+    place = report.index("taken, no `source`: 2")
+    assert [line.partition(":")[2] for line in report[place + 1 : place + 3]] == [
+        "1  aut-num: AS1",
+        "8  route: 10.0.0.0/8 AS1",
+    ]
+
+
+def test_no_source_is_told_of_what_stays_alone():
+    text = obj("inetnum: 10.0.0.0 - 10.0.0.9") + obj("inetnum: 10.0.0.5 - 10.0.0.12")
+    assert told(text) == [("no `source`", 1, "inetnum: 10.0.0.0 - 10.0.0.9")]
+
+
+def test_no_source_is_the_cause_where_that_is_not_mended():
+    text = obj("aut-num: AS1") + obj(*A)
+    assert sorted(line.split("\t")[0] for line in left_out(text, off=["source"])) == [
+        "no `source`, not mended because of --no-source",
+        "not mended because of --no-source",
+    ]
+
+
+# Files that were cut off at the end of a line.
+
+
+@pytest.mark.parametrize("off", [[], ["source"], ["mnt-by"], ["source", "mnt-by", "part"]])
+@pytest.mark.parametrize(
+    "last",
+    [
+        ("as-set: AS-X", "members: AS1,"),
+        ("as-set: AS-X", "members: AS1,", " AS2", "mnt-by: A-MNT"),
+        ("as-set: AS-X",),
+        ("person: Jo Doe", "nic-hdl: J"),
+        ("route: 2001:db8::/32",),
+        ("route: 10.0.0.0/8",),
+    ],
+)
+@pytest.mark.parametrize("end", ["", "\n", "\n\n \n"])
+def test_a_file_that_was_cut_off_at_a_lines_end(last, end, off):
+    """Its last object has no `source`, and the others have one: also where no source is mended."""
+    text = obj(*A) + ("\n".join(last) + end).encode()
+    lines = [line.split("\t") for line in left_out(text, off=off)]
+    assert [(one[0], one[2].partition(" ")[0]) for one in lines if one[0] == CUT] == [
+        (CUT, last[0].partition(" ")[0])
+    ]
+    assert b"AS-X" not in made(text, off=off)[0]
+
+
+def test_a_file_that_was_cut_off_in_a_paragraph_that_is_parted():
+    text = obj(*A, "route-set: RS-B", "members: 10.0.0.0/8").rstrip() + b"\n"
+    assert [line.split("\t")[0] for line in left_out(text)] == [CUT]
+    assert made(text)[1].taken == 1
+
+
+def test_what_is_not_cut_off():
+    """Where most objects have no `source`, or a comment stands after the last one. Each file is
+    judged by itself."""
+    last = obj("as-set: AS-X", "members: AS1")
+    for text in (
+        last,
+        obj("aut-num: AS1") + last,
+        obj(*A) + obj("aut-num: AS1") + last,
+        obj(*A) + last + b"# EOF\n",
+        obj(*A) + last.rstrip() + b"\n# EOF",
+        obj(*A) + last + b"% end 2\n\n",
+    ):
+        assert left_out(text) == []
+        assert told(text)[-1][::2] == ("no `source`", "as-set: AS-X")
+    assert left_out(last, obj(*A)) == left_out(obj(*A), last) == []
+    assert [line.split("\t")[0] for line in left_out(obj(*A) * 2 + obj("aut-num: AS1") + last)] == [
+        "duplicate",
+        CUT,
+    ]
+
+
+# Lines that the registry's rules read in another way than some readers do.
+
+
+def test_lines_that_are_not_kept_and_lines_that_go_on_are_told():
+    text = b"# of the file\n\n# of the object\n" + obj(
+        *A[:1], "# a comment", "members: AS1,", "% AS2,\t#", " AS3", "\rmembers: AS4", *A[2:]
+    )
+    goes_on, gone = (
+        "a line with a CR first, which goes on",
+        "a line with # or % first, which is not kept",
+    )
+    assert told(text) == [
+        (gone, 5, "as-set: AS-A", "# a comment"),
+        (gone, 7, "as-set: AS-A", "% AS2,\\x09#"),
+        (goes_on, 9, "as-set: AS-A", "\\x0dmembers: AS4"),
+    ]
+    (own,) = texts_of(made(text)[0], "as-set")
+    assert "#" not in own and "%" not in own
+    report = "\n".join(made(text)[1].lines())
+    assert f"taken, {gone}: 2\n" in report and f"taken, {goes_on}: 1\n" in report
+
+
+def test_a_line_of_a_cr_alone_is_blank():
+    assert (
+        told(obj(*A).replace(b"\n", b"\r\n") + b"\r\n\r" + obj("as-set: AS-B", "source: X")) == []
+    )
+    assert [one[1:] for one in told(obj(*A, "# x").replace(b"\n", b"\r\n"))] == [
+        (5, "as-set: AS-A", "# x")
+    ]
+
+
+def test_odd_lines_of_what_is_left_out_are_not_told():
+    text = obj(*A, "# x") + obj(*A, "# y") + obj("person: Jo", "# z", "source: RIPE")
+    assert [one[-1] for one in told(text)] == ["# x"]
+
+
+# One rule for scopes: what is read in the class.
+
+
+@pytest.mark.parametrize(
+    "kind, text, read",
+    [
+        ("as-set: AS-X", "member-of: RADB::AS-Z", "members: RADB::AS-Y, AS1"),
+        ("route-set: RS-X", "member-of: RIPE::RS-Z", "members: RADB::RS-Y, AS1"),
+        ("aut-num: AS1", "members: RIPE::AS-Z, AS2", "member-of: RADB::AS-Y"),
+    ],
+)
+def test_scopes_of_attributes_that_are_text_stay(kind, text, read):
+    own = obj(kind, text, read, "mnt-by: A-MNT", "source: RIPE")
+    for keeps in False, True:
+        dump, tally = made(own, keeps_scoped=keeps)
+        name, _, value = text.partition(": ")
+        assert f"{name + ':':15} {value}\n" in texts_of(dump, kind.partition(":")[0])[0]
+        assert tally.items.causes.total() == (0 if keeps else 1)
+
+
+# Paragraphs of several objects, of which nobody knows where each ends.
+
+
+def test_what_may_be_objects_in_a_paragraph_is_counted_and_placed():
+    text = b"\n" + obj("as-set: AS-X", "route-set: RS-Y", "descr: x", "PERSON : Jo", "source: RIPE")
+    text += obj("aut-num: AS1", "source: RIPE", "x-new: y", "source: RIPE")
+    again, twice = "a class again after the first line", "`source` twice"
+    lines = [line.split("\t") for line in listed(text)]
+    assert [(*one[:2], int(one[2].rpartition(":")[2]), one[3]) for one in lines] == [
+        ("left out", again, 2, "as-set: AS-X"),
+        ("left out with it", again, 3, "route-set: RS-Y"),
+        ("left out with it", again, 5, "PERSON : Jo"),
+        ("left out", twice, 8, "aut-num: AS1"),
+        ("left out with it", twice, 11, "source: RIPE"),
+    ]
+    report = "\n".join(made(text)[1].lines())
+    assert f"left out, {again}: 1, and with them 2 that may be objects\n" in report
+    assert f"left out, {twice}: 1, and with them 1 that may be objects\n" in report
+    (line, more) = [one.split("\t") for one in listed(obj(*A, *A), off=["part"])]
+    assert (line[:2], more[:2]) == (
+        ["left out", "not mended because of --no-part"],
+        ["left out with it", "not mended because of --no-part"],
+    )
+
+
+# The list beside the report.
+
+
+def test_the_list_says_what_each_entry_is_and_agrees_with_the_report():
+    text = (
+        obj("as-set: AS-X", "members: ::/0, x!", "# c", "source: RIPE")
+        + obj("as-set: AS-X", "members: ::/0")
+        + obj("person: Jo", "role: X", "source: RIPE")
+        + obj("route: 10.0.0.1/8", "origin: AS1", "mnt-routes: A-MNT {::/0}")
+        + obj("person: Jo", "source: RIPE") * 12
+    )
+    counted = Counter(tuple(line.split("\t")[:2]) for line in listed(text))
+    report = "\n".join(made(text)[1].lines())
+    found = re.findall(
+        r"^(left out|taken|dropped from lists), (.*?): (\d+)(?:, and with them (\d+) that .*)?$",
+        report,
+        re.M,
+    )
+    wanted = Counter({(what, cause): int(count) for what, cause, count, _ in found})
+    wanted.update({("left out with it", cause): int(more) for _, cause, _, more in found if more})
+    assert counted == wanted
+    assert {what for what, _ in counted} == {
+        "left out",
+        "left out with it",
+        "taken",
+        "dropped from lists",
+    }
+    assert counted["left out", "class person"] == 12
+
+
+def test_a_class_that_nobody_knows_is_an_attribute():
+    text = obj("as-set: AS-X", "x-new: y", "mnt-by: A-MNT", "source: TEST")
+    assert mended(text)[0].split(b"\n")[1] == b"x-new:          y"

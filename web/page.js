@@ -34,14 +34,13 @@ function show(isAnew = false) {
         if (at.dataset.view === view) at.setAttribute('aria-current', 'page');
         else at.removeAttribute('aria-current');
     }
-    document.title =
-        `${view === 'look' ? shown(given) || 'Look up' : view === 'map' ? `Map ${shown(given)}`
-        : 'Submit'} · routing registry`;
-    if (isMoved) $(`${view}-title`).focus();
+    const heading = $(`${view}-title`);
+    const words = view === 'look' && given ? given : `${heading.textContent} ${given}`.trim();
+    document.title = `${shown(words)} · routing registry`;
+    if (isMoved) heading.focus();
     if (view in views) views[view].show(given, isAnew);
     else if (!areAllHere) $(`${view}-said`).textContent = COMING;
-    else $(view).replaceChildren($(`${view}-title`),
-        el('p', {class: 'warn', role: 'alert'}, LACKING));
+    else $(view).replaceChildren(heading, el('p', {class: 'warn', role: 'alert'}, LACKING));
 }
 
 function asked(view, input) {

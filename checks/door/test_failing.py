@@ -275,3 +275,37 @@ def test_replicas_are_found_by_the_agent_and_old_ones_left_out(trial):
                     in door.status()["faults"],
                 )
                 expect(door.metrics()["irrdesk_door_renewal_failed"], 1.0, "the figure")
+                tell([500, 500], "no server listens there")
+                wait_until(
+                    "that both are old",
+                    20,
+                    lambda: not any(one["serves"] for one in door.status()["upstreams"][1:]),
+                )
+                expect(door.whois("AS1")[:8], b"aut-num:", "the registry's answer")
+                registries.kill(0)
+                wait_until(
+                    "that the registry is down", 20, lambda: not door.status()["upstreams"][0]["up"]
+                )
+                expect(door.whois("AS2"), worlds.AS2 + b"\n", "an old answer in place of none")
+                status, _, said = door.http("GET", "/status", port=door.status_port)
+                expect((status, said[:7]), (200, b"in part"), "the status")
+
+
+def test_nobody_pays_for_a_registry_that_stands_still(trial):
+    """One that was stopped in mid-answer, and goes on: who had asked it is answered at once
+    then."""
+    with Registries(trial, "still", worlds.DUMP, replicas=0) as registries:
+        with Opened(trial, "still-door", registries.words) as door:
+            number = registries.processes[0].pid
+            os.kill(number, signal.SIGSTOP)
+            asking = threading.Thread(target=lambda: door.whois("AS1", 2, 100))
+            asking.start()
+            time.sleep(8)
+            registries.kill(0)
+            registries.start(0)
+            asking.join()
+            wait_until("that it answers", 20, lambda: door.status()["upstreams"][0]["up"])
+            begun = time.monotonic()
+            expect(door.whois("AS2", 2), worlds.AS2 + b"\n", "an answer")
+            expect(time.monotonic() - begun < 5, True, "how long it took")
+        expect("Task was destroyed" in door.words_said(), False, door.words_said())

@@ -117,7 +117,7 @@ class Client(threading.Thread):
 
 
 def test_lines_of_chance_end_and_leave_no_trace(trial, door, tell):
-    seconds = trial.pick(10, 600)
+    seconds = trial.pick(20, 600)
     first = door.memory()
     for part in range(2):
         clients = [

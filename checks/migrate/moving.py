@@ -65,12 +65,13 @@ def lists_of(number):
 
 def is_cut(text, paragraphs):
     """Whether the last paragraph of a text may have lost its end: it has no `source`, and most
-    others have one, or the text ends within its last line; a comment after it is an end."""
+    others have one, or the text ends within its last line; comments by themselves after it are an
+    end."""
     *others, last = [any(map(SOURCE_LINE.match, block[1:])) for block in paragraphs]
-    end = text.rstrip(b" \t\r\n").rpartition(b"\n")[2]
-    if last or end[:1] in (b"#", b"%"):
+    end, own = text.rstrip(b" \t\r\n").rpartition(b"\n")[2], paragraphs[-1][-1]
+    if last or (end[:1] in (b"#", b"%") and end != own.rstrip(b" \t\r\n")):
         return False
-    return others.count(True) > others.count(False) or end == paragraphs[-1][-1].rstrip(b" \t\r")
+    return others.count(True) > others.count(False) or end == own.rstrip(b" \t\r")
 
 
 class Second:

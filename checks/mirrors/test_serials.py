@@ -10,8 +10,10 @@ import pytest
 from hypothesis import given
 from hypothesis import strategies as st
 
-from checks.mirrors.client import key_of
+from checks.mirrors.client import Mirror, key_of
 from checks.running import expect
+from irr.door import flags, nrtm
+from irr.door.settings import Settings
 from irr.local import changes, serials
 from irr.local.history import Repository
 from irr.rpsl import syntax
@@ -159,6 +161,79 @@ def test_the_last_states_are_kept(states, monkeypatch):
     monkeypatch.setattr(serials, "MOST_BYTES", 1)
     found = states.add()
     expect(states.serials.kept(), [found.last], "the last one, of whatever size")
+
+
+def test_letter_case_tells_no_registries_apart(states):
+    states.add(source="Test")
+    found = states.add(aut_num(1, "tEST"), source="Test")
+    expect((found.source, found.last - found.first), ("TEST", 0), "the registry, and one change")
+
+
+def test_an_answer_whose_file_is_gone_lacks_its_last_line(states):
+    states.add()
+    states.add(aut_num(1))
+    found = states.add(aut_num(1), aut_num(2))
+    parts = states.serials.parts(found.first, found.last)
+    whole, cut = (nrtm.Changes("TEST", found.first, parts) for _ in range(2))
+    expect(handed(whole).endswith(b"\n%END TEST\n\n"), True, "the whole answer")
+    parts[1].path.unlink()
+    text = handed(cut)
+    expect((b"AS1\n" in text, b"%END" in text), (True, False), "the answer")
+
+
+@pytest.fixture(scope="module")
+def kept(trial):
+    """A history of some states, the door's view of it, and all changes as one answer."""
+    states = States(trial.place("kept"))
+    states.add()
+    for number in range(1, 9):
+        states.add(*(aut_num(own) for own in range(number, 2 * number, 1 + number % 2)))
+    mirrors = nrtm.Mirrors(Settings(mirrors=("192.0.2.1",), history=str(states.folder)))
+    found = states.serials.range()
+    return mirrors, found, states.told(found.first, found.last)
+
+
+@given(st.integers(-3, 60), st.integers(-3, 60), st.booleans())
+def test_a_range_is_told_exactly_or_refused(kept, first, last, is_open):
+    mirrors, found, all_of_it = kept
+    first, last = first + found.first, found.last if is_open else last + found.first
+    asked = f"TEST:3:{first}-{'LAST' if is_open else last}"
+    try:
+        answer = mirrors.answer(asked, "192.0.2.1")
+    except flags.Bad as bad:
+        assert bad.number == 401
+        assert not found.first <= first <= last <= found.last
+        assert not (is_open and first == found.last + 1)
+        return
+    if is_open and first == found.last + 1:
+        assert answer == nrtm.NO_NEWER
+        return
+    mirror, seen = Mirror("TEST"), []
+    mirror.serial = first - 1
+    text = handed(answer).decode()
+    assert mirror.take(text, lambda one: seen.append(one.serial)) == last - first + 1
+    assert seen == list(range(first, last + 1))
+    blocks = text.strip("\n").split("\n\n")[1:-1]
+    told = [(word, key_of(block)[1]) for word, block in zip(blocks[::2], blocks[1::2])]
+    assert told == all_of_it[first - found.first : last - found.first + 1]
+
+
+@given(st.text() | st.from_regex(nrtm.ASKED), st.text() | st.ip_addresses().map(str))
+def test_no_words_of_a_mirror_do_more_than_be_refused(kept, words, address):
+    try:
+        answer = kept[0].answer(words, address)
+    except flags.Bad as bad:
+        assert bad.number in (401, 402, 403, 405)
+        return
+    assert address == "192.0.2.1" and answer
+
+
+def handed(answer):
+    """What the door hands out of an answer."""
+    text = b""
+    while len(text) < answer.size():
+        text += answer.piece(len(text), 97)
+    return text
 
 
 # The order of changes.

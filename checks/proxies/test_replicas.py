@@ -1,7 +1,10 @@
 """Replicas on this machine: what they answer beside the registry, and without it."""
 
+import contextlib
 import os
+import re
 import signal
+import socket
 import sys
 import time
 
@@ -83,8 +86,16 @@ def test_replicas_answer_as_the_registry_does_while_it_changes(trial, tool, tell
             )
         expect([port for port in ports if is_served(port)], [], "replicas that go on alone")
         world.server.__exit__()
-        with running(words, log, env=tool.environment) as mirror:
+        told = Told(folder + ".socket")
+        environment = tool.environment | {"NOTIFY_SOCKET": told.path}
+        with running(words, log, env=environment) as mirror:
             wait_until("replicas without a registry", PATIENCE, lambda: all(map(is_served, ports)))
+            wait_until(
+                "what systemd is told", 30, lambda: told.last().startswith("STATUS=NOT RENEWED")
+            )
+            since = re.search(" since (\\S+Z): .*no server listens there", told.last())
+            expect(bool(since), True, told.last())
+            expect(all(map(is_served, ports)), True, "replicas that still answer")
             expect(
                 [whois_answer(ports[1], query.encode()) for query in QUERIES],
                 wanted,
@@ -102,6 +113,21 @@ def test_replicas_answer_as_the_registry_does_while_it_changes(trial, tool, tell
             )
     expect_line(tool("mirror", "--port", "1", "--port", "1", "x"), 2, ".*ports.*", "one port twice")
     tell(f"{len(QUERIES)} queries and the dump, 2 replicas")
+
+
+class Told:
+    """What a unit tells systemd."""
+
+    def __init__(self, path):
+        self.path, self.text = path, ""
+        self.socket = socket.socket(socket.AF_UNIX, socket.SOCK_DGRAM | socket.SOCK_NONBLOCK)
+        self.socket.bind(path)
+
+    def last(self):
+        with contextlib.suppress(BlockingIOError):
+            while True:
+                self.text = self.socket.recv(4_096).decode()
+        return self.text
 
 
 def same_answers(world, ports, tools):

@@ -175,9 +175,11 @@ def key_of(piece: Piece) -> object | None:
 
 def is_cut(dump: bytes, found: list[Piece]) -> bool:
     """Whether the last piece of a dump may have lost its end: it has no `source`, most others have
-    one or the file ends within its last line, and no comment stands after it."""
-    end = [line for line in dump.decode("latin-1").split("\n") if line.strip(BLANKS)][-1:]
-    if not found or found[-1].kind not in CLASSES + OTHERS or end[0][0] in "#%":
+    one or the file ends within its last line, and no paragraph of comments stands after it."""
+    text = dump.decode("latin-1").rstrip(BLANKS + "\n")
+    end = re.split(r"\n[ \t\r]*\n", text)[-1].split("\n")
+    is_ended = all(not line.strip(BLANKS) or line[0] in "#%" for line in end)
+    if not found or found[-1].kind not in CLASSES + OTHERS or is_ended:
         return False
     *others, last = found
     have = ["source" in piece.names[1:] for piece in others]

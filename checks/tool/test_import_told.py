@@ -90,7 +90,7 @@ def test_what_is_not_cut_off():
         obj("aut-num: AS1") + last,
         obj(*A) + obj("aut-num: AS1") + last,
         obj(*A) + last + b"# EOF\n",
-        obj(*A) + last.rstrip() + b"\n# EOF",
+        obj(*A) + last + b"\n\n# EOF",
         obj(*A) + last + b"% end 2\n\n",
     ):
         assert left_out(text) == []
@@ -100,6 +100,25 @@ def test_what_is_not_cut_off():
         "duplicate",
         CUT,
     ]
+
+
+def test_no_cut_of_a_file_makes_another_object_in_silence():
+    """A dump in which each object has a `source`, cut at each byte: an object that is written is
+    one of the whole dump, unless its file has no other and the cut is at the end of a line."""
+    whole = (
+        obj("aut-num: AS64496", "mnt-by: ROOT-MNT", "source: TEST")
+        + obj("as-set: AS-X", "members: AS64496,", "# inside", " AS64497", "mnt-by: A-MNT", A[-1])
+        + obj("person: Jo", "source: TEST")
+        + obj("route: 10.0.0.0/8", "origin: AS64496", "descr: x", "+", "mnt-by: A-MNT", A[-1])
+    )
+    known = texts_of(made(whole)[0], "aut-num", "as-set", "route")
+    for end in range(whole.index(b"as-set"), len(whole)):
+        listed_lines = listed(whole[:end])
+        found = texts_of(made(whole[:end])[0], "aut-num", "as-set", "route")
+        assert set(found) <= set(known), whole[:end]
+        begun = whole[:end].count(b"\n\n") + (whole[:end][-2:] != b"\n\n")
+        gone = [line for line in listed_lines if line.startswith("left out\t")]
+        assert len(found) + len(gone) == begun, whole[:end]
 
 
 # Lines that the registry's rules read in another way than some readers do.

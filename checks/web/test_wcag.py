@@ -32,6 +32,20 @@ return [...document.querySelectorAll('a[href], button:enabled, input:enabled, se
     .filter(one => one.checkVisibility() && (one.type !== 'radio' || one.checked))
     .map(one => one.id || (one.closest('label') ?? one).textContent.trim());
 """
+# How wide the page is, and what of it reaches out of 320 points, but for the table of a map.
+WIDE = """
+return [document.documentElement.scrollWidth, ...[...document.querySelectorAll('body *')]
+    .filter(one => one.checkVisibility() && one.getBoundingClientRect().right > 321 &&
+        !one.closest('#listed'))
+    .map(one => one.tagName + one.id).slice(0, 5)];
+"""
+# The space in texts that a reader may ask for.
+SPACED = """
+const sheet = new CSSStyleSheet();
+sheet.replaceSync('* { line-height: 1.5 !important; letter-spacing: .12em !important;' +
+    'word-spacing: .16em !important } p { margin-bottom: 2em !important }');
+document.adoptedStyleSheets = [sheet];
+"""
 VIEWS = {
     "the front": ("#q=", "document.querySelector('#queries').open"),
     "objects": ("#q=A-MNT", "document.querySelector('#answer .object')"),
@@ -119,13 +133,12 @@ def test_it_meets_what_a_program_can_see(stage, tell, state):
             deviceScaleFactor=2,
             mobile=True,
         )
-        wide = browser.js(
-            "return [document.documentElement.scrollWidth, ...[...document.querySelectorAll('body"
-            " *')].filter(one => one.checkVisibility() && one.getBoundingClientRect().right > 321"
-            " && !one.closest('#listed')).map(one => one.tagName + one.id).slice(0, 5)]"
-        )
+        wide = browser.js(WIDE)
         bad += [f"1.4.10: {wide} at 320 points"] if wide != [320] else []
         bad += [f"{one}, at 320 points" for one in browser.js(WALK)[0]]
+        browser.js(SPACED)
+        wide = browser.js(WIDE)
+        bad += [f"1.4.12: {wide} with more space in texts"] if wide != [320] else []
     finally:
         scheme(browser, "light")
         browser.call("Emulation.clearDeviceMetricsOverride")

@@ -53,20 +53,22 @@ for (const one of all("button:enabled, input:not([type=checkbox], [type=radio]),
 // 2.5.8: targets of 24 by 24 points, or so far apart; links within a line of text are left out.
 const targets = all("a[href], button, input, select, textarea, summary, canvas").map(one => {
     const holder = one.labels?.length && /checkbox|radio/.test(one.type) ? one.labels[0] : one;
-    return {one, box: holder.getBoundingClientRect()};
+    const box = holder.getBoundingClientRect();
+    return {one, box, x: box.left + box.width / 2, y: box.top + box.height / 2,
+        isSmall: Math.min(box.width, box.height) < 24};
 });
-const isInline = one => one.matches("p a, dd a, td a, .warn a, #legend a");
+const isInline = one => one.matches("p:not(.also) a, dd a, .warn a, #legend a");
 const gap = (x, y, box) => Math.hypot(
     Math.max(box.left - x, 0, x - box.right), Math.max(box.top - y, 0, y - box.bottom));
-for (const {one, box} of targets) {
-    if (Math.min(box.width, box.height) >= 24 || isInline(one)) continue;
-    const x = box.left + box.width / 2, y = box.top + box.height / 2;
-    const near = targets.find(other => other.one !== one && gap(x, y, other.box) < 12);
+for (const {one, x, y, isSmall} of targets) {
+    if (!isSmall || isInline(one)) continue;
+    const near = targets.find(other => other.one !== one && (gap(x, y, other.box) < 12 ||
+        other.isSmall && !isInline(other.one) && Math.hypot(other.x - x, other.y - y) < 24));
     if (near) bad("2.5.8", one, `is small, and beside ${told(near.one)}`);
 }
 
 // 1.3.1, 2.4.6 and 3.3.2: headings, labels and lists; 3.1.1 and 2.4.2: language and title.
-const levels = all("h1, h2, h3, h4").map(one => Number(one.tagName[1]));
+const levels = all("h1, h2, h3, h4, h5, h6").map(one => Number(one.tagName[1]));
 if (levels.filter(level => level === 1).length !== 1 || levels[0] !== 1) {
     found.push(`1.3.1: headings ${levels}`);
 }

@@ -5,6 +5,8 @@ import time
 import asyncio
 import contextlib
 import ipaddress
+import socket
+import struct
 from collections import OrderedDict
 from typing import Any, Optional
 
@@ -27,6 +29,8 @@ PIECE = 1 << 17
 MANY = b"% too many connections; come again later\n"
 TOO_MANY = b"% too many connections of yours; come again later\n"
 UNNAMED = b"% the proxy does not say whose connection this is; see proxied in irr-door(1)\n"
+# That a connection ends without a wait for what is on its way.
+AT_ONCE = struct.pack("ii", 1, 0)
 # Seconds after which one that takes its answer slowly makes room for others.
 SLOW = 10.0
 # An answer that IRRd's clients, RIPE's and all others read.
@@ -115,8 +119,8 @@ class Door:
             if time.monotonic() - since < SLOW:
                 return False
             self.counters.connection("slow")
-            connection.held = None
             connection.abort()
+            connection.held = None
             self.taking.pop(connection, None)
             return True
         return False
@@ -225,6 +229,12 @@ class Connection(asyncio.Protocol):
 
     def abort(self) -> None:
         self.is_ending = True
+        opened = self.transport.get_extra_info("socket")
+        is_behind = self.held is not None or self.transport.get_write_buffer_size() > 0
+        if opened is not None and is_behind:
+            # Else the kernel would go on with what the client has not taken.
+            with contextlib.suppress(OSError):
+                opened.setsockopt(socket.SOL_SOCKET, socket.SO_LINGER, AT_ONCE)
         self.transport.abort()
 
     def eof_received(self) -> bool:

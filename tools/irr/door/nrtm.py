@@ -63,6 +63,11 @@ class Mirrors:
             return None
         return min(found.first, found.last), found.last
 
+    def last(self) -> int:
+        """The last serial; 0 where none is kept."""
+        found = self.range()
+        return found.last if found else 0
+
     def answer(self, word: str, address: str) -> "bytes | Changes":
         """What `-g` and its word are answered; Bad where that is an error."""
         if not self.allows(address):
@@ -157,9 +162,14 @@ class Changes:
         part, begun = self.parts[self.at], self.ends[self.at - 1] if self.at else 0
         if isinstance(part, bytes):
             return part[place - begun :]
-        with open(part.path, "rb") as file:
-            file.seek(part.begin + place - begun)
-            return file.read(min(size, self.ends[self.at] - place))
+        try:
+            with open(part.path, "rb") as file:
+                file.seek(part.begin + place - begun)
+                return file.read(min(size, self.ends[self.at] - place))
+        except FileNotFoundError:
+            # It is kept no longer: the answer ends without its last line, so the mirror asks again.
+            self.ends = [place]
+            return b""
 
     def size(self) -> int:
         return self.ends[-1]

@@ -259,6 +259,9 @@ class Pool:
             request.running -= 1
             one.seconds += now - exchange.begun
             seconds = max(0.0, now - exchange.begun - one.idle)
+            if fault not in (None, "long", "full"):
+                # That an upstream fails is nobody's fault, but for who asks what it fails at.
+                seconds = min(seconds, self.settings.burst)
             if not request.is_over:
                 self.learn(request, seconds, now)
             if fault is None and exchange.size >= WRITTEN and not listens(one.place):

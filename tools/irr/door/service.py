@@ -25,6 +25,8 @@ from irr.terminal import texts
 # The first descriptor that systemd hands on.
 FIRST = 3
 BACKLOG = 1_024
+# Bytes that the kernel holds of an answer; it takes twice as many for them.
+SENDING = 1 << 17
 # Seconds for what is on its way when the door ends.
 ENDING = 10.0
 
@@ -123,6 +125,7 @@ class Service:
         self.door.is_closing = True
         await self.drain()
         sweep.cancel()
+        await asyncio.wait([sweep])
         await self.pool.close()
 
     async def sweep(self) -> None:
@@ -134,6 +137,7 @@ class Service:
                 self.submissions.turn()
         finally:
             work.cancel()
+            await asyncio.wait([work])
 
     async def drain(self) -> None:
         """Waits until those have their answers who have asked."""
@@ -161,6 +165,8 @@ class Service:
     ) -> None:
         for opened in given.get(name) or [bound(place(text)) for text in wanted]:
             opened.setblocking(False)
+            # Those that it accepts have the same.
+            opened.setsockopt(socket.SOL_SOCKET, socket.SO_SNDBUF, SENDING)
             self.servers.append(await self.loop.create_server(make, sock=opened, backlog=BACKLOG))
             self.listening.append(Place(*opened.getsockname()[:2]).text())
 

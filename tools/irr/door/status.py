@@ -168,6 +168,7 @@ class Status:
             ("cache_hits_total", "Queries answered by a kept answer.", pool.cache.hits),
             ("answers_bytes", "Bytes of all answers in memory.", pool.ledger.used),
             ("faults_total", "Faults of the door itself.", counters.faults),
+            ("serial", "The last serial that mirrors can follow; 0 for none.", pool.mirrors.last()),
             (
                 "renewal_failed",
                 "Whether replicas can't be renewed.",

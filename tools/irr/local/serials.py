@@ -98,7 +98,11 @@ class Serials:
         if not kept:
             return None
         last = self.told(kept[-1])
-        oldest = self.told(next(one for one in kept if one >= last.since))
+        try:
+            oldest = self.told(next(one for one in kept if one >= last.since))
+        except FileNotFoundError:
+            # It was removed since its name was read.
+            return self.range()
         return last._replace(first=oldest.first)
 
     def parts(self, first: int, last: int) -> list[Part]:
@@ -140,7 +144,7 @@ class Serials:
     def begin(self, repository: Repository, state: State, serial: int) -> Told:
         """Lets mirrors begin from a state, and from none before it."""
         first = next(repository.objects(state))
-        source = answers.source_of(first[:-1], str(repository.folder))
+        source = source_of(first[:-1], repository)
         told = Told(source, serial + 1, serial, serial, state.commit, state.dump)
         files.put(self.path(serial), told.head())
         return told
@@ -152,7 +156,7 @@ class Serials:
         added, changed, deleted = repository.between(before, state)
         name = str(repository.folder)
         for text in [*added, *changed][:1]:
-            if answers.source_of(text, name) != last.source:
+            if source_of(text, repository) != last.source:
                 # Another registry is in the place of the one that mirrors have.
                 return self.begin(repository, state, max(now // STEP, last.last + 1))
         found = list(changes.in_order(added, changed, deleted, name))
@@ -173,6 +177,11 @@ class Serials:
             room -= self.path(last).stat().st_size
             if last < since or count and (count >= MOST_STATES or room < 0):
                 self.path(last).unlink()
+
+
+def source_of(text: bytes, repository: Repository) -> str:
+    """The name of an object's registry, which objects spell in any letter case."""
+    return answers.source_of(text, str(repository.folder)).upper()
 
 
 def pieces(told: Told, found: list[Change]) -> Iterator[bytes]:

@@ -133,9 +133,11 @@ class Import:
     def is_cut(self, last: parting.Part, is_usual: bool) -> bool:
         """Whether the last object of a file that has no `source` may have lost its end: the file
         ends within a line, or where the next one would begin, and a `source` is usual in it."""
-        text = last.block.text
-        end = self.tail.rstrip(syntax.BLANKS + b"\n").rpartition(b"\n")[2]
-        if len(text) < last.block.size or end[:1] in (b"#", b"%"):
+        text, blanks = last.block.text, syntax.BLANKS + b"\n"
+        ends = [one.rstrip(blanks).rpartition(b"\n")[2] for one in (self.tail, text)]
+        # A comment after a blank line is an end of the file.
+        is_ended = ends[0][:1] in (b"#", b"%") and ends[0] != ends[1]
+        if len(text) < last.block.size or is_ended:
             return False
         return is_usual or not text.endswith(b"\n")
 

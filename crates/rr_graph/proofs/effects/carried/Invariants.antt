@@ -2,7 +2,7 @@ use Rattle.std.proofs.Common.{◌≡◌, take}
 use Rattle.std.specs.List.{filter_map}
 use Rattle.std.specs.Option.{option_map}
 use Rattle.rr_graph.specs.declared.labels.Edge.{Edge}
-use Rattle.rr_graph.proofs.pairs.carried.Given as goal
+use Rattle.rr_graph.proofs.effects.carried.Given as goal
 
 abbrev pub invariant-loop-edge : goal.invariant-loop-edge
 invariant-loop-edge g l =

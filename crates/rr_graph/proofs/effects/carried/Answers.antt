@@ -2,8 +2,8 @@ use Rattle.std.proofs.Common.{◌∙◌, ◌++◌, [], ◌∷◌, List, Option, 
 use Rattle.std.specs.Option.{option_map}
 use Rattle.rr_graph.specs.declared.labels.Edge.{Edge}
 use Rattle.rr_graph.proofs.Lists.{filter_map_more-None, filter_map_more-Some}
-use Rattle.rr_graph.proofs.pairs.carried.Goals as goal
-use Rattle.rr_graph.proofs.pairs.carried.Goals.{in-Some+in_ok-copy+in_ok-push, in_default}
+use Rattle.rr_graph.proofs.effects.carried.Goals as goal
+use Rattle.rr_graph.proofs.effects.carried.Goals.{in-Some+in_ok-copy+in_ok-push, in_default}
 
 pub loop-edge-preserved : goal.loop-edge-preserved
 loop-edge-preserved g c =

@@ -1,6 +1,8 @@
 """Texts of chance: submissions, queries, requests, settings, dumps and words, good ones and ones
 with mistakes."""
+
 import hashlib
+import random
 import re
 
 SECRETS = {b"ROOT-MNT": b"bc", b"A-MNT": b"a secret", b"B-MNT": b"another one", b"C-MNT": b""}
@@ -57,7 +59,7 @@ NOISE = [
 ]
 
 
-def auth_of(name):
+def auth_of(name: bytes) -> bytes:
     return b"SHA256-PW %s:%s" % (
         SALTS[name],
         hashlib.sha256(SALTS[name] + SECRETS[name]).hexdigest().encode(),
@@ -67,7 +69,7 @@ def auth_of(name):
 # Numbers and lists.
 
 
-def any_prefix(chance):
+def any_prefix(chance: random.Random) -> bytes:
     length = chance.choice([8, 9, 12, 16, 16, 20, 22, 24, 24, 24, 25, 30, 31, 32])
     parts = [
         10,
@@ -80,11 +82,11 @@ def any_prefix(chance):
     return b"%s/%d" % (address_text(kept), length)
 
 
-def address_text(number):
+def address_text(number: int) -> bytes:
     return b".".join(b"%d" % byte for byte in number.to_bytes(4, "big"))
 
 
-def any_span(chance):
+def any_span(chance: random.Random) -> bytes:
     if chance.random() < 0.6:
         return any_prefix(chance)
     first = (10 << 24) + chance.choice([0, 1, 128, 256, 65_536])
@@ -96,18 +98,18 @@ def any_span(chance):
     )
 
 
-def any_block(chance):
+def any_block(chance: random.Random) -> bytes:
     first = chance.choice([0, 1, 5, 100, 65_530, 65_536, 70_000])
     last = first + chance.choice([0, 5, 9, 100, 70_000])
     return b"AS%d%s-%sAS%d" % (first, chance.choice([b" ", b""]), chance.choice([b" ", b""]), last)
 
 
-def any_list(chance, choices, most=3):
+def any_list(chance: random.Random, choices: list[bytes], most: int = 3) -> bytes:
     parts = [chance.choice(choices) for _ in range(chance.choice([1, 1, 1, 2, most]))]
     return chance.choice([b", ", b" ", b",", b",,\t"]).join(parts)
 
 
-def any_grants(chance):
+def any_grants(chance: random.Random) -> bytes:
     parts = []
     for _ in range(chance.choice([1, 1, 2])):
         ranges = b"{%s}" % any_list(
@@ -119,7 +121,7 @@ def any_grants(chance):
     return b", ".join(parts)
 
 
-def any_members(chance, name):
+def any_members(chance: random.Random, name: bytes) -> bytes:
     if name == b"as-set":
         return any_list(chance, NUMBERS + AS_SETS + [b"AS-ANY"], 6)
     choices = [any_prefix(chance) + chance.choice(OPERATORS) for _ in range(4)] + [
@@ -133,7 +135,7 @@ def any_members(chance, name):
 # Paragraphs.
 
 
-def any_key(chance, name):
+def any_key(chance: random.Random, name: bytes) -> bytes:
     return {
         b"mntner": lambda: chance.choice(NAMES),
         b"as-block": lambda: any_block(chance),
@@ -145,7 +147,7 @@ def any_key(chance, name):
     }[name]()
 
 
-def any_attributes(chance, name):
+def any_attributes(chance: random.Random, name: bytes) -> list[tuple[bytes, bytes]]:
     """The attributes of an object, good ones."""
     owner = chance.choice([b"ROOT-MNT", b"ROOT-MNT", b"A-MNT", b"A-MNT", b"B-MNT", b"C-MNT"])
     lines = [(name, any_key(chance, name))]
@@ -182,7 +184,7 @@ EXTRAS = [
 ]
 
 
-def spoilt(chance, lines):
+def spoilt(chance: random.Random, lines: list[tuple[bytes, bytes]]) -> list[tuple[bytes, bytes]]:
     """The attributes with a mistake, or what looks like one."""
     place = chance.randrange(len(lines))
     kind = chance.randrange(6)
@@ -200,7 +202,7 @@ def spoilt(chance, lines):
     return [(lines[0][0], chance.choice(BAD_WORDS))] + lines[1:]
 
 
-def written(chance, lines):
+def written(chance: random.Random, lines: list[tuple[bytes, bytes]]) -> bytes:
     """Attributes as text, in one of the ways in which the same can be written."""
     out, end = [], chance.choice([b"\n"] * 6 + [b"\r\n"])
     for name, value in lines:
@@ -225,7 +227,7 @@ def written(chance, lines):
     return b"".join(out)
 
 
-def any_paragraph(chance):
+def any_paragraph(chance: random.Random) -> bytes:
     """A text of one item, more or less."""
     roll = chance.random()
     if roll < 0.06:
@@ -251,7 +253,7 @@ def any_paragraph(chance):
     return text
 
 
-def mutated(chance, text):
+def mutated(chance: random.Random, text: bytes) -> bytes:
     """The text with some of its bytes changed, doubled, or taken out."""
     for _ in range(chance.choice([1, 1, 2, 5])):
         place = chance.randrange(len(text) + 1)
@@ -262,7 +264,7 @@ def mutated(chance, text):
     return text
 
 
-def foundation(chance):
+def foundation(chance: random.Random) -> list[bytes]:
     """Items with many of the secrets, after which some of the others are accepted."""
     share = chance.choice([0.9, 0.6])
     texts = [
@@ -292,7 +294,7 @@ def foundation(chance):
     return texts
 
 
-def any_submission(chance, count):
+def any_submission(chance: random.Random, count: int) -> bytes:
     """A submission of so many texts."""
     texts = foundation(chance) if chance.random() < 0.85 else []
     if chance.random() < 0.5:
@@ -304,7 +306,7 @@ def any_submission(chance, count):
     return b"\n".join(texts) + chance.choice([b"", b"\n", b"x: y"])
 
 
-def any_spanned(chance):
+def any_spanned(chance: random.Random) -> bytes:
     """An inetnum or a block, which may cross others."""
     name, key = chance.choice([(b"inetnum", any_span(chance)), (b"as-block", any_block(chance))])
     return b"%s: %s\nmnt-by: ROOT-MNT\nsource: TEST" % (name, key)
@@ -313,7 +315,7 @@ def any_spanned(chance):
 # Queries.
 
 
-def any_query(chance):
+def any_query(chance: random.Random) -> bytes:
     words = [
         chance.choice(NUMBERS + AS_SETS + ROUTE_SETS + NAMES),
         any_prefix(chance),
@@ -373,7 +375,7 @@ def any_query(chance):
     return query
 
 
-def escaped(chance, query):
+def escaped(chance: random.Random, query: bytes) -> bytes:
     """A query as a part of a path: what is no letter or digit is escaped, and now and then what is
     one."""
     return b"".join(
@@ -388,7 +390,7 @@ PLAIN = re.sub(rb"[%/?#\x7f]", b"", bytes(range(33, 127)))
 # Words.
 
 
-def any_words(chance, files, port):
+def any_words(chance: random.Random, files: list[bytes], port: int) -> list[bytes]:
     """Words for the program: a command and what may follow it, or anything."""
     vocabulary = b"""init submit query dump load serve probe migrate --full --port --count --help
 --version help -h -- - 0 1

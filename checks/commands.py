@@ -6,9 +6,11 @@ import os
 import resource
 import signal
 import subprocess
+from collections.abc import Callable, Sequence
 from pathlib import Path
+from typing import Any, Self
 
-from checks.running import DIGEST, Failure, expect, limited
+from checks.running import DIGEST, Each, Failure, expect, limited
 
 OWNED = "mnt-by:         ROOT-MNT\nsource:         TEST"
 AUTH_LINE = f"auth:           SHA256-PW a:{DIGEST}"
@@ -38,7 +40,7 @@ class Commands:
     """Runs of the program in a folder. `each` makes a case of a comparison; what is said goes to
     `said`, a list."""
 
-    def __init__(self, program, folder, each, said):
+    def __init__(self, program: str, folder: str, each: Each, said: list[str]) -> None:
         self.program, self.folder, self.each, self.all_said = program, Path(folder), each, said
         self.status, self.printed, self.said = 0, "", ""
         for name, text in [("added.rpsl", ADDED), ("refused.rpsl", REFUSED), ("sets.rpsl", SETS)]:
@@ -46,16 +48,16 @@ class Commands:
 
     # Files.
 
-    def write(self, name, text):
+    def write(self, name: str, text: str | bytes) -> Path:
         """A file of the folder."""
         path = self.folder / name
         path.write_bytes(text if isinstance(text, bytes) else text.encode())
         return path
 
-    def read(self, name):
+    def read(self, name: str) -> str:
         return (self.folder / name).read_bytes().decode("utf-8", "replace")
 
-    def settings(self, store, line=None):
+    def settings(self, store: str, line: str | None = None) -> None:
         """The settings in s.toml, with a line in place of that of its key."""
         lines = SETTINGS | {"store": f'store = "{store}"'}
         if line is not None:
@@ -63,13 +65,13 @@ class Commands:
             lines = {"": line} | lines
         self.write("s.toml", "".join(f"{text}\n" for text in lines.values()))
 
-    def fresh(self, store, line=None):
+    def fresh(self, store: str, line: str | None = None) -> None:
         """The settings of a database that is not there."""
         self.settings(store, line)
         for path in [self.folder / store, *self.folder.glob(f"{store}-*")]:
             path.unlink(missing_ok=True)
 
-    def sh(self, text, **variables):
+    def sh(self, text: str, **variables: Any) -> str:
         """What a text of sh prints, run in the folder; `$program` is the program."""
         made = subprocess.run(
             ["sh", "-ec", text],
@@ -84,7 +86,7 @@ class Commands:
             raise Failure(f"{text}: status {made.returncode}, {made.stderr.decode()}")
         return made.stdout.decode("utf-8", "surrogateescape").rstrip("\n")
 
-    def holds(self, text, **variables):
+    def holds(self, text: str, **variables: Any) -> bool:
         """Whether a condition of sh holds in the folder."""
         made = subprocess.run(
             ["sh", "-c", text],
@@ -100,13 +102,24 @@ class Commands:
 
     # Runs.
 
-    def run(self, *words, given=None, to=None, before=(), preexec=None, program=None, **limits):
+    def run(
+        self,
+        *words: str,
+        given: str | None = None,
+        to: str | None = None,
+        before: Sequence[str] = (),
+        preexec: Callable[[], None] | None = None,
+        program: str | None = None,
+        **limits: Any,
+    ) -> Self:
         """Runs the program with these words. Its input is from the file `given`, its output to the
         file `to`; `before` are words that start it, and the rest are limits."""
-        source = open(self.folder / given, "rb") if given and given != "." else subprocess.DEVNULL
+        source: Any = (
+            open(self.folder / given, "rb") if given and given != "." else subprocess.DEVNULL
+        )
         if given == ".":
             source = os.open(self.folder, os.O_RDONLY)
-        sink = open(self.folder / to, "wb") if to else subprocess.PIPE
+        sink: Any = open(self.folder / to, "wb") if to else subprocess.PIPE
         try:
             made = subprocess.run(
                 [*before, program or self.program, *words],
@@ -127,7 +140,7 @@ class Commands:
         printed = (made.stdout or b"").decode("utf-8", "replace")
         return self.ended(made.returncode, printed, made.stderr.decode("utf-8", "replace"))
 
-    def ended(self, status, printed, said):
+    def ended(self, status: int, printed: str, said: str) -> Self:
         """Takes how a run ended that another way began."""
         self.status, self.printed, self.said = status, printed, said
         self.all_said.extend(said.splitlines())
@@ -135,7 +148,7 @@ class Commands:
 
     # Cases, of what ran just before.
 
-    def gives(self, name, status, said, printed=None):
+    def gives(self, name: str, status: int, said: list[str], printed: str = None) -> Self:
         """That it ended so; what it printed is compared if it is given, without line ends at the
         end."""
         with self.each(name):
@@ -146,7 +159,7 @@ class Commands:
                 expect(self.printed.rstrip("\n"), printed, "what is printed")
         return self
 
-    def begins(self, name, status, said):
+    def begins(self, name: str, status: int, said: list[str]) -> Self:
         """That it ended with a status, and one line that begins so."""
         with self.each(name):
             expect(
@@ -155,14 +168,14 @@ class Commands:
             expect(self.said[: len(said)], said, "how the line begins")
         return self
 
-    def check(self, name, holds, **variables):
+    def check(self, name: str, holds: str | bool, **variables: Any) -> None:
         """That something holds: a truth, or a condition of sh."""
         with self.each(name):
             is_so = self.holds(holds, **variables) if isinstance(holds, str) else holds
             expect(is_so, True, holds if isinstance(holds, str) else "whether it is so")
 
 
-def within(option, number):
+def within(option: str, number: int) -> Callable[[], None]:
     """Sets a limit as `ulimit` does in a process that is about to become the program; a file over
     its limit is refused, without a signal."""
     kinds = {
@@ -172,7 +185,7 @@ def within(option, number):
         "-s": (resource.RLIMIT_STACK, 1_024),
     }
 
-    def limit():
+    def limit() -> None:
         kind, unit = kinds[option]
         signal.signal(signal.SIGXFSZ, signal.SIG_IGN)
         resource.setrlimit(kind, (number * unit, number * unit))
@@ -180,7 +193,7 @@ def within(option, number):
     return limit
 
 
-def keep_said(program, lines, path):
+def keep_said(program: str, lines: list[str], path: Path) -> None:
     """Keeps what was said, below the digest of the program that said it."""
     digest = hashlib.sha256(Path(program).read_bytes()).hexdigest()
     path.parent.mkdir(parents=True, exist_ok=True)

@@ -4,7 +4,9 @@ import os
 import subprocess
 import sys
 import tempfile
+from collections.abc import Callable, Iterator
 from pathlib import Path
+from typing import Any
 
 import hypothesis
 import pytest
@@ -21,7 +23,7 @@ BUILT = Path(TOP, "crates/rr_cli/out/rr_cli")
 EXAMPLES, LONG_EXAMPLES = 60, 3_000
 
 
-def pytest_addoption(parser):
+def pytest_addoption(parser: pytest.Parser) -> None:
     group = parser.getgroup("irrdesk", "what is checked, and how long")
     group.addoption(
         "--program",
@@ -51,7 +53,7 @@ def pytest_addoption(parser):
 
 
 @pytest.hookimpl(tryfirst=True)
-def pytest_configure(config):
+def pytest_configure(config: pytest.Config) -> None:
     options = config.option
     options.long = options.long or bool(os.environ.get("CHECKS_LONG"))
     if options.long:
@@ -73,7 +75,7 @@ def pytest_configure(config):
         config.pluginmanager.register(record.Record(Path(options.record)), "record")
 
 
-def pytest_sessionstart(session):
+def pytest_sessionstart(session: pytest.Session) -> None:
     reporter = session.config.pluginmanager.get_plugin("terminalreporter")
     if reporter and not hasattr(session.config, "workerinput"):
         options = session.config.option
@@ -82,7 +84,7 @@ def pytest_sessionstart(session):
         reporter.write_line(f"seed {options.seed}, {form} form, program {program}")
 
 
-def pytest_collection_modifyitems(config, items):
+def pytest_collection_modifyitems(config: pytest.Config, items: list[Any]) -> None:
     """Leaves out what is of the long form alone. The modules that take longest come first, so that
     other processes do the rest meanwhile."""
     if not config.option.long:
@@ -93,7 +95,7 @@ def pytest_collection_modifyitems(config, items):
 
 
 @pytest.fixture(scope="session")
-def program(pytestconfig):
+def program(pytestconfig: pytest.Config) -> str:
     """The path of the program that is checked."""
     given = pytestconfig.option.program
     if given is None and BUILT.exists():
@@ -115,7 +117,7 @@ def program(pytestconfig):
 
 
 @pytest.fixture(scope="module")
-def trial(request, program):
+def trial(request: pytest.FixtureRequest, program: str) -> Iterator[Trial]:
     """The program, a folder that the checks of a module share, and chance. Where the module has a
     line `IN_MEMORY = True`, the folder is in memory, if there is room."""
     room = getattr(request.module, "IN_MEMORY", 0)
@@ -128,40 +130,40 @@ def trial(request, program):
 
 
 @pytest.fixture(scope="module")
-def tool(trial):
+def tool(trial: Trial) -> Tool:
     """The tool `irr`, packed as it is installed."""
     return Tool(trial.place("tool"), trial.program, TMPDIR=trial.place("temporary"))
 
 
 @pytest.fixture
-def tell(request):
+def tell(request: pytest.FixtureRequest) -> Callable[..., Any]:
     """Puts figures into the line of a case: how many inputs there were, what they took."""
 
-    def told(words):
+    def told(words: str) -> None:
         request.node.user_properties.append(("told", str(words)))
 
     return told
 
 
 @pytest.fixture
-def each(subtests):
+def each(subtests: Any) -> Callable[..., Any]:
     """A part of a check that is a case of its own: `with each("its name"): ..`. One that fails does
     not stop those after it."""
     return subtests.test
 
 
 @pytest.fixture(scope="module")
-def said(request, program):
+def said(request: pytest.FixtureRequest, program: str) -> Iterator[Any]:
     """What the program says in the commands of a module, which is kept for the check of all
     messages."""
-    lines = []
+    lines: list[str] = []
     yield lines
     name = request.module.__name__.removeprefix("checks.")
     keep_said(program, lines, Path(TOP, "out/said", name))
 
 
 @pytest.fixture
-def case(request, trial, subtests, said):
+def case(request: pytest.FixtureRequest, trial: Trial, subtests: Any, said):
     """Commands of the program in a folder of the check."""
     folder = trial.place(request.node.name[:60].replace("/", "-"))
     return Commands(trial.program, folder, subtests.test, said)

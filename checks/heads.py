@@ -1,9 +1,12 @@
 """Requests of chance, and the reply to each by the rules of docs/DEFINITIONS.md (RFC 9112 for their
 form)."""
+
+import random
 import re
 
 from checks.chances import any_paragraph, any_query, escaped, mutated
 from checks.model.queries import answer
+from checks.model.registry import Registry
 from checks.model.text import BLANKS, lines_of
 from checks.serving import GIVEN
 
@@ -23,7 +26,7 @@ REASONS = {
 TOKEN = b"abcXYZ019!#$%&'*+-.^_`|~"
 
 
-def refusal(status, allow=None):
+def refusal(status: int, allow: str | None = None) -> bytes:
     words = f"{status} {REASONS[status]}"
     allowed = f"Allow: {allow}\r\n" if allow else ""
     return (
@@ -35,7 +38,7 @@ def refusal(status, allow=None):
 class Request:
     """A well formed request: what is sent, and what is to be answered."""
 
-    def __init__(self, chance):
+    def __init__(self, chance: random.Random) -> None:
         self.chance = chance
         self.method = chance.choice(
             [b"GET"] * 5 + [b"POST"] * 3 + [b"PUT", b"HEAD", b"get", b"X!~"]
@@ -49,7 +52,7 @@ class Request:
             self.fields.append((name, chance.choice([b"chunked", b"identity"])))
         chance.shuffle(self.fields)
 
-    def add_length(self):
+    def add_length(self) -> None:
         if self.method != b"POST" and self.chance.random() < 0.8:
             return
         size = len(self.body)
@@ -76,7 +79,7 @@ class Request:
                 )
             )
 
-    def head(self):
+    def head(self) -> bytes:
         end = self.chance.choice([b"\r\n", b"\r\n", b"\n"])
         first = b"%s %s HTTP/1.%d" % (self.method, self.target, self.chance.randrange(2))
         lines = [first] + [
@@ -85,10 +88,10 @@ class Request:
         ]
         return b"".join(line + end for line in lines) + end
 
-    def values(self, name):
+    def values(self, name: bytes) -> list[bytes]:
         return [value.strip(b" \t") for found, value in self.fields if found.lower() == name]
 
-    def reply(self, head, registry, limit):
+    def reply(self, head: bytes, registry: Registry, limit: int) -> bytes:
         """What is to be answered; a submission is carried out in the registry."""
         if len(head) > MOST_HEAD:
             return refusal(431)
@@ -109,7 +112,7 @@ class Request:
             answer(registry, unescaped(query[1]), limit) if query else registry.dump(full=False)
         )
 
-    def submitted(self, registry):
+    def submitted(self, registry: Registry) -> bytes:
         lengths = self.values(b"content-length")
         if not lengths:
             return refusal(411)
@@ -125,11 +128,11 @@ class Request:
         return GIVEN + "".join(line + "\n" for line in lines).encode()
 
 
-def unescaped(text):
+def unescaped(text: bytes) -> bytes:
     return re.sub(rb"%([0-9A-Fa-f]{2})", lambda found: bytes([int(found[1], 16)]), text)
 
 
-def whole_part(text):
+def whole_part(text: bytes) -> bytes:
     """The front of a text up to its last blank line whose end came."""
     lines = lines_of(text)
     ends = [
@@ -140,7 +143,7 @@ def whole_part(text):
     return b"".join(lines[: ends[-1]]) if ends else b""
 
 
-def any_target(chance):
+def any_target(chance: random.Random) -> bytes:
     query = escaped(chance, any_query(chance)[:600])
     odd = b"/query/ /query/a/b /nothing /Dump / * http://localhost/dump /%64ump /dump/".split()
     odd.append(b"/dump?x=y")
@@ -153,7 +156,7 @@ def any_target(chance):
     )
 
 
-def any_field(chance):
+def any_field(chance: random.Random) -> tuple[bytes, bytes]:
     name = bytes(chance.choice(TOKEN) for _ in range(chance.randrange(1, 12)))
     value = bytes(
         chance.choice(b"ab 09\t:;,\x80\xff") for _ in range(chance.choice([0, 3, 20, 90]))
@@ -161,12 +164,12 @@ def any_field(chance):
     return b"X" + name, value
 
 
-def any_body(chance):
+def any_body(chance: random.Random) -> bytes:
     front = chance.choice([b"", b"password: bc\n\n", b"password: bc\npassword: a secret\n\n"])
     return front + b"\n".join(any_paragraph(chance) for _ in range(chance.choice([0, 1, 1, 2, 4])))
 
 
-def any_bytes(chance):
+def any_bytes(chance: random.Random) -> bytes:
     """Bytes for a connection that submit nothing: a request or a query whose bytes were changed."""
     request = Request(chance)
     if request.method == b"POST":
@@ -182,13 +185,13 @@ def any_bytes(chance):
     return mutated(chance, text) if chance.random() < 0.8 else text
 
 
-def is_http(text):
+def is_http(text: bytes) -> bool:
     """Whether the first line of what is sent is one of HTTP."""
     line = text[:MOST_HEAD].partition(b"\n")[0].rstrip(BLANKS)
     return line.endswith((b" HTTP/1.0", b" HTTP/1.1"))
 
 
-def whois_answer(text, registry, limit):
+def whois_answer(text: bytes, registry: Registry, limit: int) -> bytes:
     """The answer to the first line of what is sent, as a query."""
     line, end, _ = text[:MOST_HEAD].partition(b"\n")
     if not end and len(text) >= MOST_HEAD:
@@ -196,7 +199,7 @@ def whois_answer(text, registry, limit):
     return answer(registry, line[:-1] if end and line[-1:] == b"\r" else line, limit)
 
 
-def is_reply(reply):
+def is_reply(reply: bytes) -> bool:
     """Whether these bytes are one of the replies that there are."""
     refusals = [refusal(status) for status in REASONS if status != 405] + [
         refusal(405, "GET"),

@@ -8,8 +8,10 @@ import shutil
 import socket
 import subprocess
 import time
+from collections.abc import Callable, Iterator
+from typing import Any
 
-from checks.running import Failure, expect
+from checks.running import Failure, Ran, Trial, expect
 
 
 QUERIES = [
@@ -35,7 +37,7 @@ VERSIONED = (
 )
 
 
-def wait_until(what, seconds, is_so):
+def wait_until(what: str, seconds: int, is_so: Callable[..., Any]) -> None:
     end = time.monotonic() + seconds
     while not is_so():
         if time.monotonic() > end:
@@ -44,7 +46,7 @@ def wait_until(what, seconds, is_so):
 
 
 @contextlib.contextmanager
-def running(words, said, **options):
+def running(words: list[str], said: str, **options: Any) -> Iterator[subprocess.Popen[bytes]]:
     """A process while the block runs; what it prints and says goes into a file."""
     with open(said, "ab") as out:
         process = subprocess.Popen(
@@ -62,12 +64,12 @@ def running(words, said, **options):
                 process.wait()
 
 
-def said_by(path):
+def said_by(path: str) -> str:
     with open(path, encoding="utf-8", errors="replace") as file:
         return file.read()
 
 
-def whois_answer(port, query):
+def whois_answer(port: int, query: bytes) -> bytes:
     """What is answered, nothing where nobody listens. A peer that comes at the moment of the end is
     reset before any answer."""
     came = b""
@@ -82,7 +84,7 @@ def whois_answer(port, query):
     return came
 
 
-def is_served(port):
+def is_served(port: int) -> bool:
     with contextlib.suppress(OSError):
         with socket.create_connection(("127.0.0.1", port), 5) as peer:
             peer.settimeout(5)
@@ -91,7 +93,7 @@ def is_served(port):
     return False
 
 
-def restored(trial, ran, number):
+def restored(trial: Trial, ran: Ran, number: int) -> int:
     """The version that a backup has, both of whose files are restored as they stand."""
     found = re.fullmatch(
         rb"(\S+): [0-9,]+ objects, the database was held for [0-9.]+ s\n", ran.printed
@@ -121,6 +123,6 @@ def restored(trial, ran, number):
     return int(found[1]) if found else number
 
 
-def state(number):
+def state(number: int) -> str:
     with open(f"/proc/{number}/stat", encoding="ascii") as file:
         return file.read().rpartition(")")[2].split()[0]

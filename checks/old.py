@@ -1,8 +1,10 @@
 """Tables of version 1, made by sqlite3: what a migration is given."""
+
 import os
+import random
 import subprocess
 
-from checks.model.objects import AS_BLOCK, AUT_NUM, ROUTE
+from checks.model.objects import AS_BLOCK, AUT_NUM, ROUTE, Key
 from checks.model.registry import Registry, Secrets
 from checks.model.text import blocks, read
 from checks.running import AUTH
@@ -17,7 +19,7 @@ INSERT INTO meta VALUES ('version', '1');
 """
 
 
-def old_key(key):
+def old_key(key: Key) -> str:
     """The bytes of a key in version 1, where an AS number has four digits."""
     if key.number == AS_BLOCK:
         return "%04x-%04x" % key.value
@@ -28,7 +30,7 @@ def old_key(key):
     return key.bytes
 
 
-def version1(registry):
+def version1(registry: Registry) -> str:
     """The SQL that makes tables of version 1 of a registry, less the block that only version 2
     has."""
     rows = []
@@ -44,7 +46,7 @@ def version1(registry):
     return TABLES + "BEGIN;\n" + "\n".join(rows) + "\nCOMMIT;\n"
 
 
-def old_items(chance, count):
+def old_items(chance: random.Random, count: int) -> Registry:
     """A registry that version 1 could have held."""
     registry, secrets = Registry(auth=AUTH.encode()), Secrets()
     secrets.add([b"bc"])
@@ -59,7 +61,7 @@ def old_items(chance, count):
     return registry
 
 
-def write_old(folder, registry):
+def write_old(folder: str, registry: Registry) -> bytes:
     """Writes a database of version 1, and gives what is in it."""
     subprocess.run(
         ["sqlite3", "-batch", "-bail", os.path.join(folder, "irr.db")],
@@ -70,7 +72,7 @@ def write_old(folder, registry):
     return read_rows(folder)
 
 
-def read_rows(folder):
+def read_rows(folder: str) -> bytes:
     """All rows of a database, whatever its version, as sqlite3 writes them."""
     ask = (
         "SELECT * FROM meta; SELECT * FROM object ORDER BY 1, 2; SELECT * FROM named ORDER BY 1,"

@@ -11,8 +11,9 @@ import subprocess
 import sys
 import time
 from pathlib import Path
+from typing import Self
 
-from checks.running import PATIENCE, TOP, Failure, write
+from checks.running import PATIENCE, TOP, Failure, Trial, write
 from checks.serving import free_port, read_all
 
 HOST = "irr.example.net"
@@ -26,7 +27,7 @@ PAGE = {
 USER, PASSWORD = "holder", "a word of the door"
 
 
-def replaced(text, changes):
+def replaced(text: str, changes: list[tuple[str, str]]) -> str:
     """A text in which each of these was found and replaced, all at once, so that nothing is found
     in what was put in."""
     wanted = dict(changes)
@@ -40,12 +41,12 @@ def replaced(text, changes):
     )
 
 
-def example(name):
+def example(name: str) -> str:
     with open(os.path.join(TOP, "examples", name), encoding="utf-8") as opened:
         return opened.read()
 
 
-def certificate(folder):
+def certificate(folder: str) -> tuple[str, str]:
     """A certificate of the host, which names itself as its authority, and its key."""
     if not os.path.exists(os.path.join(folder, "host.pem")):
         subprocess.run(
@@ -79,7 +80,7 @@ def certificate(folder):
 class Door:
     """A proxy that is running before a door, and what both are reached by."""
 
-    def __init__(self, trial, name, primary, readers):
+    def __init__(self, trial: Trial, name: str, primary: int, readers: list[int] | None) -> None:
         self.name, self.folder = name, trial.place(f"door-{name}-{time.monotonic_ns()}")
         self.https, self.http, self.whois_port, self.agent_port = (
             free_port(),
@@ -116,19 +117,19 @@ class Door:
                 raise Failure(f"{name} does not start: {self.log()[-600:]}")
             time.sleep(0.05)
 
-    def log(self):
+    def log(self) -> str:
         with open(os.path.join(self.folder, "log"), encoding="utf-8", errors="replace") as opened:
             return opened.read()
 
-    def listens(self):
+    def listens(self) -> bool:
         with contextlib.suppress(OSError), socket.create_connection(("127.0.0.1", self.https), 1):
             return True
         return False
 
-    def __enter__(self):
+    def __enter__(self) -> Self:
         return self
 
-    def __exit__(self, *_):
+    def __exit__(self, *_: object) -> None:
         self.process.terminate()
         try:
             self.process.wait(10)
@@ -139,7 +140,11 @@ class Door:
         self.door.wait()
         self.door.stdout.close()
 
-    def door_command(self, primary, readers):
+    def command(self, web: str) -> list[str]:
+        """The words that start the proxy."""
+        raise NotImplementedError
+
+    def door_command(self, primary: int, readers: list[int] | None) -> list[str]:
         """The door behind the proxy, over a registry and its replicas."""
         python = shutil.which("python3", path="/usr/bin") or sys.executable
         words = [python, "-m", "irr", "door", f"--registry=http://127.0.0.1:{primary}"]
@@ -155,14 +160,16 @@ class Door:
 
     # Clients, each from an address of its own: 127.0.0.LAST.
 
-    def raw(self, port, last, patience=60):
+    def raw(self, port: int, last: int, patience: int = 60) -> socket.socket:
         peer = socket.socket()
         peer.settimeout(patience)
         peer.bind((f"127.0.0.{last}", 0))
         peer.connect(("127.0.0.1", port))
         return peer
 
-    def connect(self, last, host=HOST, window=None, patience=60):
+    def connect(
+        self, last: int, host: str = HOST, window: None = None, patience: int = 60
+    ) -> ssl.SSLSocket:
         """A connection with TLS to this host."""
         peer = socket.socket()
         peer.settimeout(patience)
@@ -172,7 +179,7 @@ class Door:
         peer.connect(("127.0.0.1", self.https))
         return self.context.wrap_socket(peer, server_hostname=host)
 
-    def ask(self, request, last=1, host=HOST, patience=60):
+    def ask(self, request: bytes, last: int = 1, host: str = HOST, patience: int = 60) -> bytes:
         """All that comes after a request, until its connection ends or nothing comes for so many
         seconds."""
         with contextlib.closing(self.connect(last, host, patience=patience)) as peer:
@@ -184,7 +191,9 @@ class Door:
                     parts.append(part)
             return b"".join(parts)
 
-    def get(self, path, last=1, host=HOST, fields="", method="GET"):
+    def get(
+        self, path: str, last: int = 1, host: str = HOST, fields: str = "", method: str = "GET"
+    ) -> tuple[int, str, bytes]:
         """The status, the head and the body."""
         reply = self.ask(
             f"{method} {path} HTTP/1.1\r\nHost: {host}\r\n"
@@ -193,20 +202,20 @@ class Door:
         )
         return parsed(reply)
 
-    def post(self, body, last=1, fields=""):
+    def post(self, body: bytes, last: int = 1, fields: str = "") -> tuple[int, str, bytes]:
         head = (
             f"POST /submissions HTTP/1.1\r\nHost: {HOST}\r\nConnection: close\r\nContent-Length:"
             f" {len(body)}\r\n{fields}\r\n"
         )
         return parsed(self.ask(head.encode() + body, last))
 
-    def whois(self, query, last=1):
+    def whois(self, query: str, last: int = 1) -> bytes:
         with contextlib.closing(self.raw(self.whois_port, last)) as peer:
             peer.sendall(query.encode() + b"\r\n")
             return read_all(peer)
 
 
-def parsed(reply):
+def parsed(reply: bytes) -> tuple[int, str, bytes]:
     head, _, body = reply.partition(b"\r\n\r\n")
     status = re.match(rb"HTTP/1\.1 (\d{3})", head)
     if re.search(rb"(?i)\r\ntransfer-encoding: chunked", head):
@@ -214,8 +223,9 @@ def parsed(reply):
     return int(status[1]) if status else 0, head.decode("latin-1"), body
 
 
-def unchunked(text):
-    parts, place = [], 0
+def unchunked(text: bytes) -> bytes:
+    parts: list[bytes] = []
+    place = 0
     while True:
         end = text.find(b"\r\n", place)
         length = int(text[place:end] or b"0", 16)
@@ -225,7 +235,7 @@ def unchunked(text):
         place = end + 4 + length
 
 
-def units(name):
+def units(name: str) -> list[str]:
     with open(os.path.join(TOP, "units", name), encoding="ascii") as opened:
         return opened.read().splitlines()
 
@@ -233,7 +243,7 @@ def units(name):
 class Nginx(Door):
     """nginx with the file of the examples."""
 
-    def command(self, web):
+    def command(self, web: str) -> list[str]:
         write(self.folder, "users", f"{USER}:{crypted()}\n".encode())
         text = replaced(
             example("nginx.conf"),
@@ -263,7 +273,7 @@ class Nginx(Door):
 class Haproxy(Door):
     """HAProxy with the file of the examples."""
 
-    def command(self, web):
+    def command(self, web: str) -> list[str]:
         with open(os.path.join(self.folder, "both.pem"), "wb") as both:
             for name in (self.cert, self.key):
                 with open(name, "rb") as part:
@@ -287,7 +297,7 @@ class Haproxy(Door):
         return ["haproxy", "-db", "-f", f"{self.folder}/haproxy.cfg"]
 
 
-def crypted():
+def crypted() -> str:
     made = subprocess.run(
         ["openssl", "passwd", "-6", "-salt", "doorsalt", PASSWORD],
         capture_output=True,

@@ -3,6 +3,9 @@
 
 import re
 from pathlib import Path
+from typing import Any
+
+import pytest
 
 # The most letters of what a case found that its line has.
 MOST = 900
@@ -17,7 +20,7 @@ class Record:
         self.out = open(path, "w", encoding="utf-8", buffering=1)
         self.parted: set[str] = set()
 
-    def pytest_runtest_logreport(self, report):
+    def pytest_runtest_logreport(self, report: Any) -> None:
         name = report.nodeid.removeprefix("checks/")
         context = getattr(report, "context", None)
         if context is not None:
@@ -43,21 +46,21 @@ class Record:
         else:
             print(f"not ok: {name}: {found(report)}{time}", file=self.out)
 
-    def pytest_collectreport(self, report):
+    def pytest_collectreport(self, report: pytest.CollectReport) -> None:
         if report.failed:
             print(f"not ok: {report.nodeid}: {found(report)}", file=self.out)
 
-    def pytest_unconfigure(self):
+    def pytest_unconfigure(self) -> None:
         self.out.close()
 
 
-def reason(report) -> str:
+def reason(report: Any) -> str:
     """Why a check was skipped."""
     text = report.longrepr[2] if isinstance(report.longrepr, tuple) else str(report.longrepr)
     return " ".join(text.removeprefix("Skipped: ").split())
 
 
-def found(report) -> str:
+def found(report: Any) -> str:
     """What a check found, in one line."""
     crash = getattr(report.longrepr, "reprcrash", None)
     text = re.sub(r"^checks\.running\.", "", crash.message if crash else report.longreprtext)

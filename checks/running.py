@@ -1,5 +1,6 @@
 """Runs of the program, and the words and cases of a script."""
 
+import argparse
 import contextlib
 import os
 import random
@@ -8,9 +9,15 @@ import signal
 import subprocess
 import tempfile
 import time
+from collections.abc import Callable, Sequence
+from typing import IO, Any, TypeVar
 
 import pytest
 
+# What puts figures into the line of a case, and what makes a part of a check a case of its own.
+Tell = Callable[[object], None]
+Each = Callable[[str], contextlib.AbstractContextManager[None]]
+Size = TypeVar("Size")
 TOP = os.path.dirname(os.path.dirname(os.path.abspath(__file__)))
 Skipped = pytest.skip.Exception
 DIGEST = "ba7816bf8f01cfea414140de5dae2223b00361a396177a9cb410ff61f20015ad"
@@ -36,7 +43,9 @@ class Ran:
     the seconds of the processor that it took, and the most memory in KiB that it was seen to
     hold."""
 
-    def __init__(self, status, printed, said, seconds, memory):
+    def __init__(
+        self, status: int, printed: bytes, said: bytes, seconds: float, memory: int
+    ) -> None:
         self.status, self.printed, self.said, self.seconds, self.memory = (
             status,
             printed,
@@ -50,29 +59,31 @@ class Trial:
     """What a module of checks has in common: the program, a folder of its own, and chance that
     comes from the run's seed."""
 
-    def __init__(self, options, program, folder):
+    def __init__(self, options: argparse.Namespace, program: str, folder: str) -> None:
         self.program, self.work = program, folder
         self.long, self.seed, self.count = options.long, options.seed, options.count
 
-    def pick(self, short, long):
+    def pick(self, short: Size, long: Size) -> Size:
         """What the short form takes, or the long one."""
         return long if self.long else short
 
-    def chance(self, name):
+    def chance(self, name: str) -> random.Random:
         """A source of chance for one case, the same in each run of a seed."""
         return random.Random(f"{self.seed} {name}")
 
-    def place(self, name):
+    def place(self, name: str) -> str:
         """A new folder for a case."""
         path = os.path.join(self.work, name)
         os.makedirs(path)
         return path
 
-    def run(self, folder, *words, **options):
+    def run(self, folder: str, *words: str | bytes, **options: Any) -> Ran:
         return run([self.program, *words], folder, **options)
 
 
-def cases_of(table):
+def cases_of(
+    table: list[tuple[str, Callable[..., Any] | tuple[str, Callable[..., Any]], bool]]
+) -> list[Any]:
     """The rows of a table of cases, `(name, function, is_long)`, as parameters of a check."""
     return [
         pytest.param(function, id=name, marks=[pytest.mark.long] if is_long else [])
@@ -80,7 +91,7 @@ def cases_of(table):
     ]
 
 
-def memory_folder(room=MEMORY_ROOM):
+def memory_folder(room: int = MEMORY_ROOM) -> str | None:
     """A folder in memory, where no write waits for a disk; nothing where there is none with room,
     or TMPDIR names another one."""
     folder = "/dev/shm"
@@ -90,10 +101,16 @@ def memory_folder(room=MEMORY_ROOM):
     return folder if found.f_bavail * found.f_frsize >= room else None
 
 
-def limited(most_bytes=None, most_files=None, stack=None, user=None, closed=()):
+def limited(
+    most_bytes: int | None = None,
+    most_files: int | None = None,
+    stack: int | None = None,
+    user: int | None = None,
+    closed: Sequence[int] = (),
+) -> Callable[[], None]:
     """Sets limits in a process that is about to become the program."""
 
-    def set_limits():
+    def set_limits() -> None:
         if most_bytes is not None:
             signal.signal(signal.SIGXFSZ, signal.SIG_IGN)
             resource.setrlimit(resource.RLIMIT_FSIZE, (most_bytes, most_bytes))
@@ -111,7 +128,15 @@ def limited(most_bytes=None, most_files=None, stack=None, user=None, closed=()):
     return set_limits
 
 
-def run(command, folder, stdin=None, timeout=PATIENCE, limits=None, output=None, environment=None):
+def run(
+    command: list[str | bytes],
+    folder: str,
+    stdin: bytes | None = None,
+    timeout: int = PATIENCE,
+    limits: dict[str, Any] | None = None,
+    output: int | IO[bytes] | None = None,
+    environment: dict[str, str] | None = None,
+) -> Ran:
     """Runs the program to its end. The input is bytes, or a file."""
     with (
         tempfile.TemporaryFile() as printed,
@@ -137,7 +162,9 @@ def run(command, folder, stdin=None, timeout=PATIENCE, limits=None, output=None,
         return Ran(status, printed.read(), said.read(), seconds, memory)
 
 
-def run_in_pieces(command, folder, text, sizes, timeout=PATIENCE):
+def run_in_pieces(
+    command: list[str], folder: str, text: bytes, sizes: list[int], timeout: int = PATIENCE
+) -> Ran:
     """Runs the program with an input that it reads in pieces of just these sizes, over and over."""
     reader, writer = os.pipe2(os.O_DIRECT | os.O_CLOEXEC)
     with tempfile.TemporaryFile() as printed, tempfile.TemporaryFile() as said:
@@ -152,7 +179,7 @@ def run_in_pieces(command, folder, text, sizes, timeout=PATIENCE):
         return Ran(status, printed.read(), said.read(), seconds, memory)
 
 
-def send_pieces(writer, text, sizes):
+def send_pieces(writer: int, text: bytes, sizes: list[int]) -> None:
     place, turn = 0, 0
     while place < len(text):
         size = sizes[turn % len(sizes)]
@@ -160,7 +187,7 @@ def send_pieces(writer, text, sizes):
         place, turn = place + size, turn + 1
 
 
-def watched(process, timeout):
+def watched(process: subprocess.Popen[bytes], timeout: int) -> tuple[int, int, float]:
     """Waits for a process, and looks at its memory now and then. One that outlasts its time is
     ended, and that is a failure."""
     end, memory, pause = time.monotonic() + timeout, 0, 0.0005
@@ -173,14 +200,15 @@ def watched(process, timeout):
         if time.monotonic() > end:
             process.kill()
             process.wait()
-            raise Failure(
-                f"it was not done within {timeout} s: {' '.join(map(str, process.args[1:]))}"
+            words = (
+                [str(word) for word in process.args][1:] if isinstance(process.args, list) else []
             )
+            raise Failure(f"it was not done within {timeout} s: {' '.join(words)}")
         time.sleep(pause)
         pause = min(pause * 1.3, 0.01)
 
 
-def peak_memory(number):
+def peak_memory(number: int) -> int | None:
     """The most memory that a process held so far, in KiB; nothing where it has ended."""
     try:
         with open(f"/proc/{number}/status", encoding="ascii") as lines:
@@ -189,46 +217,48 @@ def peak_memory(number):
         return None
 
 
-def write_settings(folder, store="irr.db", limit=10_000, name="s.toml"):
+def write_settings(
+    folder: str, store: str = "irr.db", limit: int = 10_000, name: str = "s.toml"
+) -> None:
     with open(os.path.join(folder, name), "w", encoding="ascii") as out:
         out.write(SETTINGS.format(store=store, limit=limit))
 
 
-def write(folder, name, text):
+def write(folder: str, name: str, text: bytes) -> str:
     path = os.path.join(folder, name)
     with open(path, "wb") as out:
         out.write(text)
     return path
 
 
-def expect(found, wanted, what):
+def expect(found: Any, wanted: Any, what: str) -> None:
     if found != wanted:
         raise Failure(f"{what}: {short(found)} and not {short(wanted)}")
 
 
-def short(value):
+def short(value: bytes | str | bool) -> str:
     text = repr(value)
     return text if len(text) <= 600 else f"{text[:300]} .. {text[-300:]}"
 
 
-def is_fault(ran):
+def is_fault(ran: Ran) -> bool:
     """Whether it ended as at a fault: with a status of one, and one line on standard error that
     says so."""
     is_line = ran.said.startswith(b"irrdesk: ") and ran.said.find(b"\n") == len(ran.said) - 1
     return ran.status in (2, 3, 4, 5) and is_line
 
 
-def is_answer(ran):
+def is_answer(ran: Ran) -> bool:
     return ran.status in (0, 1) and ran.said == b""
 
 
-def expect_ended(ran, what):
+def expect_ended(ran: Ran, what: str) -> None:
     """That it ended by itself, with an answer or with one line that tells a fault."""
     if not is_fault(ran) and not is_answer(ran):
         raise Failure(f"{what}: status {ran.status}, saying {short(ran.said)}")
 
 
-def difference(found, wanted):
+def difference(found: bytes, wanted: bytes) -> str:
     """The first line in which two texts differ."""
     ours, theirs = found.split(b"\n"), wanted.split(b"\n")
     for number, (one, other) in enumerate(zip(ours, theirs), 1):

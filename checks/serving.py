@@ -1,4 +1,5 @@
 """The program while it serves, and what peers send to it and get from it."""
+
 import contextlib
 import fcntl
 import functools
@@ -9,6 +10,7 @@ import subprocess
 import tempfile
 import time
 from collections.abc import Iterator
+from typing import Any, Self
 
 from checks.running import Failure, expect, limited, peak_memory
 
@@ -16,7 +18,7 @@ GIVEN = b"HTTP/1.1 200 OK\r\nContent-Type: text/plain\r\nConnection: close\r\n\r
 LONGEST = 700
 
 
-# Below the ports that Linux gives to whoever asks for none, each process has a range of its own, also
+# Below the ports that Linux gives to whoever asks for none, each process has its own range, also
 # beside another run: what a case was given stays its own until it listens there.
 FIRST, EACH, RANGES = 10_000, 1_000, 21
 
@@ -51,16 +53,20 @@ def free_port() -> int:
 class Listening:
     """A port that nobody else can listen on: this one, or any."""
 
-    def __init__(self, port=0):
-        self.port, self.taken = port, None
+    def __init__(self, port: int = 0) -> None:
+        self.port = port
+        self.taken: socket.socket | None = None
 
-    def __enter__(self):
+    def __enter__(self) -> int:
         # A port that another process has, or that may not be had, is as good.
         with contextlib.suppress(OSError):
             self.taken = socket.create_server(("127.0.0.1", self.port))
-        return self.port or self.taken.getsockname()[1]
+        if self.taken is None:
+            return self.port
+        found: int = self.taken.getsockname()[1]
+        return found
 
-    def __exit__(self, *_):
+    def __exit__(self, *_: object) -> None:
         if self.taken:
             self.taken.close()
 
@@ -69,7 +75,9 @@ class Serving:
     """The program, started by these words, while it serves so many connections; ended by force
     where a case ends before it."""
 
-    def __init__(self, words, folder, count, port=None, **limits):
+    def __init__(
+        self, words: list[str], folder: str, count: int, port: int | None = None, **limits: Any
+    ) -> None:
         self.port, self.count = port or free_port(), count
         self.process = subprocess.Popen(
             [*words, "serve", "s.toml", "--port", str(self.port), "--count", str(count)],
@@ -85,10 +93,10 @@ class Serving:
             self.__exit__()
             raise Failure(f"the first line of serve: {first!r}, saying {said!r}")
 
-    def __enter__(self):
+    def __enter__(self) -> Self:
         return self
 
-    def __exit__(self, *_):
+    def __exit__(self, *_: object) -> None:
         if self.process.poll() is None:
             self.process.kill()
         self.process.communicate()
@@ -97,11 +105,18 @@ class Serving:
 class Server(Serving):
     """The same, and what it is asked by peers that send no more then."""
 
-    def __init__(self, program, folder, count, stack=None, patience=LONGEST):
+    def __init__(
+        self,
+        program: str,
+        folder: str,
+        count: int,
+        stack: int | None = None,
+        patience: int = LONGEST,
+    ) -> None:
         super().__init__([program], folder, count, stack=stack)
         self.patience, self.memory, self.slowest = patience, 0, 0.0
 
-    def ask(self, text, cuts=()):
+    def ask(self, text: bytes, cuts: tuple[()] | list[int] = ()) -> bytes:
         """What a peer is answered that sends this, cut at these places, and then no more."""
         start = time.monotonic()
         with contextlib.closing(
@@ -118,31 +133,31 @@ class Server(Serving):
         self.slowest = max(self.slowest, time.monotonic() - start)
         return reply
 
-    def page(self, path, cuts=()):
+    def page(self, path: bytes, cuts: tuple[()] = ()) -> bytes:
         """The body of a page, whose status has to be 200."""
         reply = self.ask(b"GET %s HTTP/1.1\r\nHost: localhost\r\n\r\n" % path, cuts)
         expect(reply[: len(GIVEN)], GIVEN, f"the head of {path!r}")
         return reply[len(GIVEN) :]
 
-    def expect_end(self, failed=0):
+    def expect_end(self, failed: int = 0) -> None:
         """That it ends by itself, once it has served all."""
         printed, said = self.process.communicate(timeout=LONGEST)
         wanted = b"served %d, failed %d\n" % (self.count - failed, failed)
         expect((self.process.returncode, printed, said), (0, wanted, b""), "how serve ended")
 
-    def ended(self):
+    def ended(self) -> float:
         """The seconds of the processor that it took, once it has ended by itself with status 0."""
         _, status, usage = os.wait4(self.process.pid, 0)
         self.process.returncode = os.waitstatus_to_exitcode(status)
         expect(self.process.returncode, 0, "the status of serve")
         return usage.ru_utime + usage.ru_stime
 
-    def look(self):
+    def look(self) -> None:
         """Notes the most memory that it held so far."""
         self.memory = max(self.memory, peak_memory(self.process.pid) or 0)
 
 
-def read_all(peer, step=65_536, pause=0.0):
+def read_all(peer: socket.socket, step: int = 65_536, pause: float = 0.0) -> bytes:
     parts = []
     while part := peer.recv(step):
         parts.append(part)

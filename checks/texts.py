@@ -1,7 +1,10 @@
 """Submissions of chance whose every item changes the rows, and the rows that each front of them
 gives."""
+
 import collections
 import hashlib
+import random
+from collections.abc import Iterator
 
 from checks.model.objects import Object, key_of
 from checks.model.registry import Registry, Secrets
@@ -10,14 +13,15 @@ from checks.running import AUTH
 from checks.sums import value
 
 
-def item(name, key, extra=b"", by=b"ROOT-MNT"):
+def item(name: bytes, key: bytes, extra: bytes = b"", by: bytes = b"ROOT-MNT") -> bytes:
     return b"%s: %s\n%smnt-by: %s\nsource: TEST\n" % (name, key, extra, by)
 
 
-def changing_items(chance, count, sizes):
+def changing_items(chance: random.Random, count: int, sizes: list[int]) -> list[bytes]:
     """The paragraphs of a submission in which each item changes the rows, the first of which has
     the root's password. A `descr` of one of the sizes makes objects large and small."""
-    texts, held = [], []
+    texts: list[bytes] = []
+    held: list[tuple[bytes, bytes]] = []
     for number in range(4):
         texts.append(item(b"mntner", b"M%d-MNT" % number, b"auth: %s\n" % AUTH.encode()))
     while len(texts) < count:
@@ -28,14 +32,15 @@ def changing_items(chance, count, sizes):
             name, key = held.pop(chance.randrange(len(held)))
             texts.append(b"%s: %s\ndelete: x\n" % (name, key))
         elif held and roll < 0.4:
-            texts.append(item(*chance.choice(held), extra, by))
+            name, key = chance.choice(held)
+            texts.append(item(name, key, extra, by))
         else:
             held.append(chance.choice(new_keys(number)))
             texts.append(item(*held[-1], extra, by))
     return [b"password: bc\n" + texts[0]] + texts[1:]
 
 
-def new_keys(number):
+def new_keys(number: int) -> list[tuple[bytes, bytes]]:
     return [
         (b"inetnum", b"10.%d.%d.0/24" % divmod(number, 256)),
         (b"aut-num", b"AS%d" % number),
@@ -44,24 +49,24 @@ def new_keys(number):
     ]
 
 
-def carried_out(texts):
+def carried_out(texts: list[bytes]) -> Iterator[Registry]:
     """The registry after each item in turn, from the one that a registry opens with."""
     registry, secrets = Registry(auth=AUTH.encode()), Secrets()
     yield registry
     for text in texts:
         words = registry.item(read(next(blocks(text))), secrets)
-        assert words.endswith((": added", ": changed", ": deleted")), words
+        assert words is not None and words.endswith((": added", ": changed", ": deleted")), words
         yield registry
 
 
-def last_of(texts):
+def last_of(texts: list[bytes]) -> Registry:
     """The registry after all items."""
     for registry in carried_out(texts):
         pass
     return registry
 
 
-def fronts(texts):
+def fronts(texts: list[bytes]) -> dict[bytes, list[int]]:
     """The dumps after each front of the items, by their digests: how many items give them, of which
     there may be several."""
     found = collections.defaultdict(list)
@@ -70,7 +75,7 @@ def fronts(texts):
     return dict(found)
 
 
-def summed_fronts(texts):
+def summed_fronts(texts: list[bytes]) -> dict[int, list[int]]:
     """The sums of the registry after each front of the items: how many items give them. Each item
     is taken as carried out, which is quick; that it is, `fronts` shows of fewer."""
     registry = Registry(auth=AUTH.encode())
@@ -80,6 +85,7 @@ def summed_fronts(texts):
     found[total].append(0)
     for number, text in enumerate(texts, 1):
         attributes = read(next(blocks(text)))
+        assert not isinstance(attributes, str), attributes
         own = [(name, lines) for name, lines in attributes if name not in (b"password", b"delete")]
         old = registry.objects.pop(key_of(own).order, None)
         total -= value(old.text) if old else 0
@@ -91,5 +97,5 @@ def summed_fronts(texts):
     return dict(found)
 
 
-def digest(text):
+def digest(text: bytes) -> bytes:
     return hashlib.sha256(text).digest()

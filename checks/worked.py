@@ -1,9 +1,13 @@
 """Worked submissions, questions and dumps, and what is right to tell and to keep of a submission in
 which a call failed."""
+
+from collections.abc import Callable
+from typing import Any
+
+from checks.heads import whole_part
 from checks.model.registry import Registry, Secrets
 from checks.model.text import blocks, read
-from checks.heads import whole_part
-from checks.running import AUTH, DIGEST, Failure, expect, is_fault, short
+from checks.running import AUTH, DIGEST, Failure, Ran, expect, is_fault, short
 from checks.texts import item
 
 PASSWORD = b"password: bc\n"
@@ -33,11 +37,11 @@ READING_CUT = (
 )
 
 
-def opened():
+def opened() -> Registry:
     return Registry(auth=AUTH.encode())
 
 
-def maintainer(name):
+def maintainer(name: bytes) -> bytes:
     return item(b"mntner", name, b"auth: %s\n" % AUTH_OF[name], name)
 
 
@@ -45,7 +49,7 @@ class Submission:
     """Texts of one paragraph each, submitted to a new registry: what is said of each item, and the
     rows before the first and after each."""
 
-    def __init__(self, texts):
+    def __init__(self, texts: list[bytes]) -> None:
         self.texts, self.text = texts, b"\n".join(texts)
         self.registry, secrets = opened(), Secrets()
         self.words, self.dumps = [], [self.registry.dump()]
@@ -54,15 +58,15 @@ class Submission:
             if words:
                 self.words.append(words)
                 self.dumps.append(self.registry.dump())
-        self.reports = None
+        self.reports: dict[tuple[str, ...], bytes] | None = None
 
-    def lines(self):
+    def lines(self) -> list[str]:
         return numbered(self.words) + [f"% items {len(self.words)}"]
 
-    def report(self):
+    def report(self) -> bytes:
         return "".join(line + "\n" for line in self.lines()).encode()
 
-    def short_of_memory(self):
+    def short_of_memory(self) -> dict[tuple[str, ...], bytes]:
         """Each report, with the rows that belong to it, on the submission with at most one
         paragraph refused because memory ran out."""
         if self.reports is None:
@@ -80,7 +84,7 @@ class Submission:
                     ]
         return self.reports
 
-    def expect_status(self, ran, lines):
+    def expect_status(self, ran: Ran, lines: list[str]) -> None:
         expect(
             (ran.status, ran.said),
             (1 if any(": refused" in line for line in lines) else 0, b""),
@@ -89,7 +93,7 @@ class Submission:
 
     # What is right where calls of a kind fail.
 
-    def check_report(self, ran, rows, _):
+    def check_report(self, ran: Ran, rows: bytes, _: int) -> None:
         """That the report and the rows are the worked ones, less what memory or the database
         refused."""
         lines = lines_of(ran)
@@ -109,7 +113,7 @@ class Submission:
             raise Failure(f"the report: {lines}")
         return check_rows(rows, self.dumps[0])
 
-    def stopped_after(self, lines):
+    def stopped_after(self, lines: list[str]) -> int | None:
         """After how many items a report says that the database failed, or nothing."""
         items = len(lines) - 2
         if (
@@ -121,7 +125,7 @@ class Submission:
         expect(lines[:items], numbered(self.words)[:items], "the items before the stop")
         return items
 
-    def check_refused(self, ran, rows, _):
+    def check_refused(self, ran: Ran, rows: bytes, _: int) -> None:
         """With no memory from one call on: the items before, and then refusals for want of it; or a
         fault."""
         lines = lines_of(ran)
@@ -138,7 +142,7 @@ class Submission:
         stopped = any(line.endswith(": refused E91") for line in lines)
         check_rows(rows, *self.dumps[len(told) : len(told) + (2 if stopped else 1)])
 
-    def check_front(self, ran, rows, _):
+    def check_front(self, ran: Ran, rows: bytes, _: int) -> None:
         """That the report is a front of the worked one, and the rows those of its items, or with
         the next one whole."""
         lines = ran.printed.decode().split("\n")[:-1]
@@ -151,7 +155,7 @@ class Submission:
         expect(ran.status in (0, 1, 5, 137), True, f"the status {ran.status}, {short(ran.said)}")
         check_rows(rows, *self.dumps[items : items + 2])
 
-    def check_read(self, ran, rows, _):
+    def check_read(self, ran: Ran, rows: bytes, _: int) -> None:
         """That a submission that could not be read whole is told as the items that came."""
         lines = lines_of(ran)
         if lines == self.lines():
@@ -162,7 +166,7 @@ class Submission:
         expect(lines in ([], wanted), True, f"the report {lines}")
         return check_rows(rows, self.dumps[items])
 
-    def check_written(self, ran, rows, taken):
+    def check_written(self, ran: Ran, rows: bytes, taken: int) -> None:
         """That a writer took just so many bytes of the report, and that the item whose line it was
         given last stands."""
         expect(ran.printed, self.report()[:taken], "what the writer took")
@@ -177,11 +181,11 @@ class Submission:
         )
         return check_rows(rows, self.dumps[items])
 
-    def check_cut(self, before, name):
+    def check_cut(self, before: int, name: str) -> Callable[..., Any]:
         """That of a text of which just so many bytes came, behind the settings, the items count
         whose blank line came."""
 
-        def check(ran, rows, taken):
+        def check(ran: Ran, rows: bytes, taken: int) -> None:
             if taken <= before:
                 expect(
                     (ran.status, ran.printed, is_fault(ran)),
@@ -208,20 +212,20 @@ class Submission:
         return check
 
 
-def lines_of(ran):
+def lines_of(ran: Ran) -> list[str]:
     return ran.printed.decode().splitlines()
 
 
-def numbered(words):
+def numbered(words: list[str]) -> list[str]:
     return [f"{number} {word}" for number, word in enumerate(words, 1)]
 
 
-def check_rows(rows, *wanted):
+def check_rows(rows: bytes, *wanted: bytes) -> None:
     if rows not in wanted:
         raise Failure(f"the rows: {short(rows)}")
 
 
-def inetnums(*first):
+def inetnums(*first: int) -> list[bytes]:
     return [item(b"inetnum", b"%d.0.0.0/8" % number) for number in first]
 
 

@@ -1,5 +1,8 @@
 """The tool `irr` as it is installed, proxies in front of a registry, and servers that answer
 wrongly."""
+
+from __future__ import annotations
+
 import contextlib
 import itertools
 import os
@@ -13,8 +16,10 @@ import subprocess
 import sys
 import threading
 import time
+from collections.abc import Iterator
+from typing import Self
 
-from checks.running import PATIENCE, TOP, Failure, Ran, expect, write, write_settings
+from checks.running import PATIENCE, TOP, Failure, Ran, Trial, expect, write, write_settings
 from checks.serving import Server, free_port
 
 NGINX = shutil.which("nginx", path=os.environ["PATH"] + ":/usr/sbin")
@@ -79,7 +84,7 @@ source: TEST
 class Tool:
     """The tool, packed into one file as it is installed, and the environment that it runs in."""
 
-    def __init__(self, folder, program, **environment):
+    def __init__(self, folder: str, program: str, **environment: str) -> None:
         self.path = os.path.join(folder, "irr")
         subprocess.run([os.path.join(TOP, "tools", "build"), self.path], check=True)
         home = os.path.join(folder, "home")
@@ -101,13 +106,19 @@ class Tool:
             | environment
         )
 
-    def at(self, **environment):
+    def at(self, **environment: str) -> Tool:
         """The same tool in another environment."""
         other = object.__new__(Tool)
         other.path, other.environment = self.path, self.environment | environment
         return other
 
-    def __call__(self, *words, stdin=b"", timeout=PATIENCE, folder=None):
+    def __call__(
+        self,
+        *words: str | bytes,
+        stdin: bytes = b"",
+        timeout: int = PATIENCE,
+        folder: str | None = None,
+    ) -> Ran:
         done = subprocess.run(
             [sys.executable, self.path, *words],
             input=stdin,
@@ -119,7 +130,7 @@ class Tool:
         )
         return Ran(done.returncode, done.stdout, done.stderr, 0, 0)
 
-    def on_terminal(self, *words, typed=b"", folder=None):
+    def on_terminal(self, *words: str, typed: bytes = b"", folder: str | None = None) -> Ran:
         """What a terminal gets of the tool, and its status. What is typed goes in line by line,
         each once a prompt has come."""
         number, terminal = pty.openpty()
@@ -162,7 +173,7 @@ class World:
     """A registry of the world above, which is served while a `with` block runs, and the tool that
     asks it."""
 
-    def __init__(self, trial, tool, name, more=b""):
+    def __init__(self, trial: Trial, tool: Tool, name: str, more: bytes = b"") -> None:
         self.trial, self.folder, self.more = trial, os.path.join(trial.work, name), more
         template = os.path.join(trial.work, "template")
         if not os.path.isdir(template):
@@ -176,13 +187,14 @@ class World:
                 ran = trial.run(template, *words)
                 expect((ran.status, ran.said), (0, b""), " ".join(words))
         shutil.copytree(template, self.folder)
-        self.at_all, self.tool, self.url, self.server = tool, tool, "", None
+        self.at_all, self.tool, self.url = tool, tool, ""
+        self.server: Server
 
-    def copy(self, name):
+    def copy(self, name: str) -> str:
         """A registry of the same objects that is not served: the folder of one."""
         return shutil.copytree(self.folder, os.path.join(self.trial.work, name))
 
-    def __enter__(self):
+    def __enter__(self) -> Self:
         self.server = Server(self.trial.program, self.folder, COUNT)
         self.url = f"http://127.0.0.1:{self.server.port}"
         self.tool = self.at_all.at(IRR_SERVER=self.url)
@@ -191,11 +203,11 @@ class World:
             expect(ran.status, 0, f"what was submitted first: {ran.printed!r} {ran.said!r}")
         return self
 
-    def __exit__(self, *_):
+    def __exit__(self, *_: object) -> None:
         self.server.__exit__()
 
 
-def expect_line(ran, status, pattern, what):
+def expect_line(ran: Ran, status: int, pattern: str, what: str) -> None:
     """That it ended with a status and one line on standard error, and with nothing printed."""
     text = ran.said.decode()
     if (ran.status, ran.printed) != (status, b"") or not re.fullmatch(
@@ -204,7 +216,7 @@ def expect_line(ran, status, pattern, what):
         raise Failure(f"{what}: status {ran.status}, printed {ran.printed[:200]!r}, said {text!r}")
 
 
-def items(count, tail=b""):
+def items(count: int, tail: bytes = b"") -> list[bytes]:
     """Paragraphs that add inetnums."""
     return [
         b"inetnum: 10.%d.%d.%d/27\nmnt-by: ROOT-MNT\nsource: TEST\n%s"
@@ -214,7 +226,9 @@ def items(count, tail=b""):
 
 
 @contextlib.contextmanager
-def nginx(folder, upstream, lines="", tls=None):
+def nginx(
+    folder: str, upstream: str, lines: str = "", tls: tuple[str, str] | None = None
+) -> Iterator[str]:
     """The address of nginx in front of a registry, with these lines in its server."""
     port = free_port()
     with open(os.path.join(folder, "nginx.conf"), "w", encoding="ascii") as out:
@@ -248,7 +262,7 @@ http {{
         process.wait()
 
 
-def wait_for(port, process):
+def wait_for(port: int, process: subprocess.Popen[bytes]) -> None:
     """Waits until a port is listened on."""
     end = time.monotonic() + PATIENCE
     while time.monotonic() < end:
@@ -261,7 +275,7 @@ def wait_for(port, process):
     raise Failure("a server did not listen in time")
 
 
-def certificate(folder):
+def certificate(folder: str) -> tuple[str, str]:
     """A certificate of 127.0.0.1, signed by itself, and its key."""
     paths = os.path.join(folder, "own.crt"), os.path.join(folder, "own.key")
     subprocess.run(
@@ -291,16 +305,18 @@ def certificate(folder):
 
 
 @contextlib.contextmanager
-def answering(*replies, is_reset=False, tls=None):
+def answering(
+    *replies: bytes, is_reset: bool = False, tls: tuple[str, str] | None = None
+) -> Iterator[str]:
     """The address of a server that gives these replies one after the other, and then the last one
     to everybody, whatever is asked, and closes or resets the connection."""
     listener = socket.create_server(("127.0.0.1", 0))
-    context = None
+    context: ssl.SSLContext | None = None
     if tls:
         context = ssl.SSLContext(ssl.PROTOCOL_TLS_SERVER)
         context.load_cert_chain(*tls)
 
-    def serve():
+    def serve() -> None:
         for reply in itertools.chain(replies, itertools.repeat(replies[-1])):
             try:
                 peer, _ = listener.accept()

@@ -1,24 +1,24 @@
 """Loads of dumps: how each ends, and what it leaves."""
 
 from checks.command_line.given import FULL, sets
-from checks.commands import ADDRESSES, BLOCK, OWNED, ROOT, TEN
+from checks.commands import ADDRESSES, BLOCK, OWNED, ROOT, TEN, Commands
 
 
-def refuses(case, name, place, fault):
+def refuses(case: Commands, name: str, place: str, fault: str) -> None:
     """Loads bad.rpsl, in which the paragraph at the place has the fault."""
     case.run("load", "s.toml", "bad.rpsl").gives(
         name, 5, f"irrdesk: bad.rpsl{place}: nothing is loaded, because paragraph {fault}", ""
     )
 
 
-def dumped(case):
+def dumped(case: Commands) -> None:
     """None, beside a public dump of that and a full one."""
     sets(case)
     case.run("dump", "s.toml", to="public.rpsl")
     case.run("dump", "s.toml", "--full", to="full.rpsl")
 
 
-def test_loads_are_whole_or_told(case):
+def test_loads_are_whole_or_told(case: Commands) -> None:
     dumped(case)
     case.fresh("new.db")
     case.run("load", "none.toml", "full.rpsl").gives(

@@ -7,7 +7,7 @@ from pathlib import Path
 import pytest
 
 from checks import messages
-from checks.running import TOP
+from checks.running import TOP, Tell
 
 # It looks at what other modules kept, so it comes after them.
 pytestmark = pytest.mark.alone
@@ -22,7 +22,7 @@ KEPT = [
 
 
 @pytest.fixture(scope="module")
-def said(program):
+def said(program: str) -> list[str]:
     """All lines that those modules heard of this program."""
     digest = hashlib.sha256(Path(program).read_bytes()).hexdigest()
     lines = []
@@ -36,10 +36,10 @@ def said(program):
     return lines
 
 
-def test_each_line_that_was_said_is_of_the_page(said):
+def test_each_line_that_was_said_is_of_the_page(said: list[str]) -> None:
     assert not messages.unknown(said)
 
 
-def test_each_message_of_the_page_was_said(said, tell):
+def test_each_message_of_the_page_was_said(said: list[str], tell: Tell) -> None:
     tell(f"{len(set(said))} lines")
     assert not messages.unsaid(said)

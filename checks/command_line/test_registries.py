@@ -1,10 +1,10 @@
 """Submissions, queries and dumps: how each command ends, and what it prints."""
 
 from checks.command_line.given import FULL, added, fresh, sets
-from checks.commands import ADDRESSES, AUTH_LINE, BLOCK, OTHERS, OWNED, TEN
+from checks.commands import ADDRESSES, AUTH_LINE, BLOCK, OTHERS, OWNED, TEN, Commands
 
 
-def test_submissions_are_reported_and_faults_told(case):
+def test_submissions_are_reported_and_faults_told(case: Commands) -> None:
     fresh(case)
     case.run("submit", "s.toml", "none.rpsl").gives(
         "a file that is missing",
@@ -91,7 +91,7 @@ def test_submissions_are_reported_and_faults_told(case):
     )
 
 
-def test_queries_are_answered_and_faults_told(case):
+def test_queries_are_answered_and_faults_told(case: Commands) -> None:
     added(case)
     case.run("query", "none.toml", "AS1").gives(
         "a query with settings that are missing",
@@ -174,7 +174,7 @@ def test_queries_are_answered_and_faults_told(case):
     case.settings("irr.db")
 
 
-def test_dumps_are_whole_or_told(case):
+def test_dumps_are_whole_or_told(case: Commands) -> None:
     sets(case)
     case.run("dump", "s.toml", to="public.rpsl").gives("a dump", 0, "")
     case.check(

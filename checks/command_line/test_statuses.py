@@ -6,6 +6,7 @@ import socket
 from pathlib import Path
 
 from checks.command_line.given import added, fresh
+from checks.commands import Commands
 from checks.running import TOP
 
 # Keys of settings, and lines of theirs that are bad.
@@ -23,19 +24,19 @@ SPOILT = [
 ]
 
 
-def version():
+def version() -> str:
     text = Path(TOP, "crates/rr_arguments/src/grammar.rt").read_text(encoding="utf-8")
     return re.search(r'^const VERSION: &str = "(.*)";', text, re.M)[1]
 
 
-def without(case, key):
+def without(case: Commands, key: str) -> None:
     """The settings in s.toml lose the line of this key."""
     case.settings("irr.db")
     lines = case.read("s.toml").splitlines(keepends=True)
     case.write("s.toml", "".join(line for line in lines if not line.startswith(f"{key} ")))
 
 
-def test_objects_are_read_from_standard_input_without_arguments(case):
+def test_objects_are_read_from_standard_input_without_arguments(case: Commands) -> None:
     case.run(given="added.rpsl").gives(
         "an item that is added", 0, "", "1 inetnum 10.0.0.0 - 10.255.255.255: added\n% items 1"
     )
@@ -84,7 +85,7 @@ def test_objects_are_read_from_standard_input_without_arguments(case):
     )
 
 
-def test_wrong_arguments_are_told_with_their_usage(case):
+def test_wrong_arguments_are_told_with_their_usage(case: Commands) -> None:
     case.run("start").gives(
         "an unknown command",
         2,
@@ -209,7 +210,7 @@ def test_wrong_arguments_are_told_with_their_usage(case):
         case.run(*line.split()).begins(f"the arguments {line}", 2, "irrdesk: ")
 
 
-def test_settings_are_read_or_their_fault_is_told(case):
+def test_settings_are_read_or_their_fault_is_told(case: Commands) -> None:
     case.run("init", "none.toml").gives(
         "settings that are missing",
         3,
@@ -289,7 +290,7 @@ def test_settings_are_read_or_their_fault_is_told(case):
         )
 
 
-def test_a_closed_stream_is_no_empty_text(case):
+def test_a_closed_stream_is_no_empty_text(case: Commands) -> None:
     """What is named and stands for a standard stream that is closed is no empty text."""
     fresh(case)
     case.fresh("closed.db")
@@ -323,7 +324,7 @@ def test_a_closed_stream_is_no_empty_text(case):
     )
 
 
-def test_a_terminal_shows_how_far_a_command_is(case):
+def test_a_terminal_shows_how_far_a_command_is(case: Commands) -> None:
     """How far a command is, which a terminal shows after a second, and nothing else. The terminal
     is one of script(1)."""
     added(case)
@@ -357,7 +358,7 @@ def test_a_terminal_shows_how_far_a_command_is(case):
     )
 
 
-def test_help_is_the_same_both_ways_and_has_examples(case):
+def test_help_is_the_same_both_ways_and_has_examples(case: Commands) -> None:
     case.run("help").gives("help as a command", 0, "")
     helped = case.printed
     for words in ["--help", "help --help", "help -h"]:

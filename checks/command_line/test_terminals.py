@@ -13,7 +13,18 @@ import time
 import pytest
 
 from checks.model.registry import Registry
-from checks.running import AUTH, PATIENCE, Failure, Skipped, expect, short, write, write_settings
+from checks.running import (
+    AUTH,
+    PATIENCE,
+    Failure,
+    Skipped,
+    Tell,
+    Trial,
+    expect,
+    short,
+    write,
+    write_settings,
+)
 from checks.texts import item
 from checks.worked import READER_ENDED, REPORT_CUT
 
@@ -31,10 +42,10 @@ class Screen:
     """What a terminal shows of the bytes that are written to it, as far as the program uses one:
     lines, a carriage return, and the sequence that clears a line from the cursor on."""
 
-    def __init__(self):
+    def __init__(self) -> None:
         self.lines, self.column, self.rest, self.counts, self.written = [b""], 0, b"", [], b""
 
-    def take(self, written):
+    def take(self, written) -> None:
         """Shows what is written next, and notes each count that comes to stand on the last line."""
         self.written += written
         text = self.rest + written
@@ -45,14 +56,14 @@ class Screen:
             self.show(part)
             self.look()
 
-    def look(self):
+    def look(self) -> None:
         found = COUNT.fullmatch(self.lines[-1])
         if found:
             self.counts.append((int(found[1]), found[2].decode()))
         elif b" so far" in self.lines[-1]:
             raise Failure(f"a count beside something else: {short(self.lines[-1])}")
 
-    def show(self, part):
+    def show(self, part) -> None:
         last = self.lines[-1]
         if part == b"\r":
             self.column = 0
@@ -64,22 +75,22 @@ class Screen:
             self.lines[-1] = last[: self.column] + part + last[self.column + len(part) :]
             self.column += len(part)
 
-    def text(self):
+    def text(self) -> str:
         return b"\n".join(self.lines)
 
 
 class Seen:
     """How a command ended: its status, the screen, and what it printed elsewhere."""
 
-    def __init__(self, status, screen, printed):
+    def __init__(self, status, screen, printed) -> None:
         self.status, self.screen, self.printed = status, screen, printed
 
-    def expect_end(self, status, shown, printed=b""):
+    def expect_end(self, status, shown, printed: bytes = b"") -> None:
         expect(self.status, status, "the status")
         expect(self.screen.text(), shown, "what the terminal shows at the end")
         expect(self.printed, printed, "what is printed elsewhere")
 
-    def expect_counts(self, things, most):
+    def expect_counts(self, things, most) -> None:
         """That counts of these were seen, each at least the one before."""
         numbers = [number for number, _ in self.screen.counts]
         expect({name for _, name in self.screen.counts}, {things}, "what is counted")
@@ -90,11 +101,11 @@ class Seen:
             f"whether the last count, {numbers[-1]}, is at most {most}",
         )
 
-    def told(self):
+    def told(self) -> str:
         return f"{len(set(self.screen.counts))} counts"
 
 
-def feed(path, texts, pause):
+def feed(path, texts, pause) -> None:
     """Writes texts to a pipe of that name, with a pause after each."""
     with contextlib.suppress(BrokenPipeError), open(path, "wb", buffering=0) as out:
         for text in texts:
@@ -102,7 +113,17 @@ def feed(path, texts, pause):
             time.sleep(pause)
 
 
-def run(trial, folder, words, shared=True, said=None, fed=(), step=65_536, pause=0.0, leaves=False):
+def run(
+    trial: Trial,
+    folder,
+    words,
+    shared: bool = True,
+    said=None,
+    fed=(),
+    step: int = 65_536,
+    pause: float = 0.0,
+    leaves: bool = False,
+):
     """Runs the program with a terminal as its standard error, or with a file, and with the same
     terminal as its standard output, or with a pipe, which its reader may leave once a count was
     shown. Some texts go to the pipe `slow`, 0.4 seconds between them. The terminal and the pipe are
@@ -175,7 +196,7 @@ def registry_of(count, size):
     return registry
 
 
-def made(trial, name, registry):
+def made(trial: Trial, name, registry):
     """A folder with a database of the registry, and a pipe named `slow`."""
     folder = emptied(trial, name)
     write(folder, "dump.rpsl", registry.dump())
@@ -183,7 +204,7 @@ def made(trial, name, registry):
     return folder
 
 
-def emptied(trial, name):
+def emptied(trial: Trial, name):
     folder = trial.place(name)
     write_settings(folder, limit=LIMIT)
     os.mkfifo(os.path.join(folder, "slow"))
@@ -201,7 +222,7 @@ def reported(count):
 # Cases.
 
 
-def test_a_count_is_shown_beside_a_report_in_a_pipe(trial, tell):
+def test_a_count_is_shown_beside_a_report_in_a_pipe(trial: Trial, tell: Tell) -> None:
     folder = made(trial, "submit beside", Registry(auth=AUTH.encode()))
     texts, report = reported(8)
     seen = run(trial, folder, ["submit", "s.toml", "slow"], shared=False, fed=texts)
@@ -210,7 +231,7 @@ def test_a_count_is_shown_beside_a_report_in_a_pipe(trial, tell):
     tell(seen.told())
 
 
-def test_a_count_stands_below_the_report_on_one_terminal(trial, tell):
+def test_a_count_stands_below_the_report_on_one_terminal(trial: Trial, tell: Tell) -> None:
     folder = made(trial, "submit above", Registry(auth=AUTH.encode()))
     texts, report = reported(8)
     seen = run(trial, folder, ["submit", "s.toml", "slow"], fed=texts)
@@ -219,7 +240,7 @@ def test_a_count_stands_below_the_report_on_one_terminal(trial, tell):
     tell(seen.told())
 
 
-def test_a_count_is_removed_before_a_report_cannot_be_written(trial, tell):
+def test_a_count_is_removed_before_a_report_cannot_be_written(trial: Trial, tell: Tell) -> None:
     """A report that nobody reads any more: the message stands where the count did."""
     folder = made(trial, "submit unread", Registry(auth=AUTH.encode()))
     texts, report = reported(10)
@@ -231,7 +252,7 @@ def test_a_count_is_removed_before_a_report_cannot_be_written(trial, tell):
     tell(seen.told())
 
 
-def test_a_count_is_shown_while_a_dump_goes_to_a_slow_pipe(trial, tell):
+def test_a_count_is_shown_while_a_dump_goes_to_a_slow_pipe(trial: Trial, tell: Tell) -> None:
     registry = registry_of(30, 60_000)
     folder = made(trial, "dump beside", registry)
     seen = run(trial, folder, ["dump", "s.toml", "--full"], shared=False, step=8_192, pause=0.01)
@@ -240,7 +261,7 @@ def test_a_count_is_shown_while_a_dump_goes_to_a_slow_pipe(trial, tell):
     tell(seen.told())
 
 
-def test_a_count_stands_below_a_dump_on_one_terminal(trial, tell):
+def test_a_count_stands_below_a_dump_on_one_terminal(trial: Trial, tell: Tell) -> None:
     registry = registry_of(300, 500)
     folder = made(trial, "dump above", registry)
     seen = run(trial, folder, ["dump", "s.toml"], step=1_024, pause=0.01)
@@ -255,7 +276,7 @@ def parts_of(text, count):
 
 
 @pytest.mark.parametrize("shared", [False, True], ids=["its line in a pipe", "on one terminal"])
-def test_a_count_of_a_load_is_removed(trial, shared, tell):
+def test_a_count_of_a_load_is_removed(trial: Trial, shared, tell: Tell) -> None:
     registry = registry_of(50, 2_000)
     folder = emptied(trial, f"load {shared}")
     text, line = registry.dump(), b"loaded %d objects\n" % len(registry.objects)
@@ -265,7 +286,7 @@ def test_a_count_of_a_load_is_removed(trial, shared, tell):
     tell(seen.told())
 
 
-def test_a_count_is_removed_before_the_fault_of_a_dump(trial, tell):
+def test_a_count_is_removed_before_the_fault_of_a_dump(trial: Trial, tell: Tell) -> None:
     """A dump with a fault at its end: the message stands where the count did."""
     folder = emptied(trial, "refused")
     text = registry_of(50, 2_000).dump() + b"\nperson: X\n"
@@ -279,7 +300,7 @@ def test_a_count_is_removed_before_the_fault_of_a_dump(trial, tell):
     tell(seen.told())
 
 
-def test_a_large_database_is_shown_as_it_is_opened(trial, tell):
+def test_a_large_database_is_shown_as_it_is_opened(trial: Trial, tell: Tell) -> None:
     """A database of 8 MiB and more: that it is being opened is shown, and taken away before the
     answer."""
     registry = registry_of(150, 60_000)
@@ -298,7 +319,7 @@ def test_a_large_database_is_shown_as_it_is_opened(trial, tell):
     tell(f"a database of {os.path.getsize(os.path.join(folder, 'irr.db')):,} bytes")
 
 
-def test_a_quick_command_shows_nothing(trial, tell):
+def test_a_quick_command_shows_nothing(trial: Trial, tell: Tell) -> None:
     """A command that is done within a second writes nothing but what it prints."""
     registry = Registry(auth=AUTH.encode())
     folder = made(trial, "quick", registry)
@@ -312,7 +333,7 @@ def test_a_quick_command_shows_nothing(trial, tell):
     tell("a dump")
 
 
-def test_nothing_is_shown_where_standard_error_is_a_file(trial, tell):
+def test_nothing_is_shown_where_standard_error_is_a_file(trial: Trial, tell: Tell) -> None:
     """Without a terminal as standard error there is no count, on the terminal or in the file."""
     folder = made(trial, "unshown", Registry(auth=AUTH.encode()))
     texts, report = reported(8)
@@ -332,7 +353,7 @@ def shown_by(tmux):
     ).stdout.rstrip()
 
 
-def test_a_pane_of_tmux_shows_one_count_at_a_time(trial, tell):
+def test_a_pane_of_tmux_shows_one_count_at_a_time(trial: Trial, tell: Tell) -> None:
     """A submission in a pane, its report in a file: counts are seen, each alone, and once it is
     done nothing is left of them."""
     if shutil.which("tmux") is None:

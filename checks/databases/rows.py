@@ -2,6 +2,7 @@
 
 import os
 
+from checks.commands import Commands
 from checks.running import TOP
 
 INETNUM = os.path.join(TOP, "examples", "inetnum.rpsl")
@@ -37,7 +38,7 @@ ORDERS = [
 ]
 
 
-def other_rows(table):
+def other_rows(table: str) -> str:
     """What is said if this table has other rows than the objects need."""
     return (
         f"irrdesk: DATABASE, table {table}: its rows are not those of a registry: restore a backup,"
@@ -45,7 +46,7 @@ def other_rows(table):
     )
 
 
-def bad_row(kind, key):
+def bad_row(kind: int, key: str) -> str:
     """What is said of the row of an object that is none."""
     return (
         f"irrdesk: DATABASE, class {kind}, okey {key}: the row is not as irrdesk writes one:"
@@ -53,7 +54,7 @@ def bad_row(kind, key):
     )
 
 
-def unnamed(kind, key):
+def unnamed(kind: int, key: str) -> str:
     """What is said of a row whose object names a maintainer who is not there."""
     return (
         f"irrdesk: DATABASE, class {kind}, okey {key}: the object of the row names a maintainer who"
@@ -61,7 +62,7 @@ def unnamed(kind, key):
     )
 
 
-def of_another(kind, key):
+def of_another(kind: int, key: str) -> str:
     """What is said of a row whose object is of another source."""
     return (
         f"irrdesk: DATABASE, class {kind}, okey {key}: the object of the row is of another source:"
@@ -69,7 +70,7 @@ def of_another(kind, key):
     )
 
 
-def obstacle(part):
+def obstacle(part: str) -> str:
     """What is said if this was added to a table."""
     return (
         f"irrdesk: DATABASE, {part}: it keeps the tables of the registry from being read: take"
@@ -77,7 +78,7 @@ def obstacle(part):
     )
 
 
-def added(kind, key, maintainer, text):
+def added(kind: int, key: str, maintainer: str, text: str) -> str:
     """SQL that adds an object, whose canonical text begins so, and that it names its maintainer."""
     return (
         f"INSERT INTO object VALUES ({kind}, '{key}', CAST('{text}\nmnt-by:        "
@@ -86,7 +87,7 @@ def added(kind, key, maintainer, text):
     )
 
 
-def ask(case, database, text):
+def ask(case: Commands, database: str, text: str) -> str:
     """What sqlite3 answers, a line for each row."""
     return case.sh(
         'sqlite3 -batch -bail "$database" "$statements" 2>&1 || true',
@@ -95,18 +96,18 @@ def ask(case, database, text):
     )
 
 
-def begun(case):
+def begun(case: Commands) -> None:
     """A registry with the inetnum of the examples."""
     case.settings("irr.db")
     case.run("init", "s.toml")
     case.run("submit", "s.toml", INETNUM)
 
 
-def of(database, text):
+def of(database: str, text: str) -> str:
     return text.replace("DATABASE", database)
 
 
-def mended(case, database):
+def mended(case: Commands, database: str) -> None:
     """Lays the tables of a database anew, as the message of unordered tables says."""
     case.sh(
         """sqlite3 "$database" '.dump meta' '.dump object' '.dump named' | sqlite3 mended.db

@@ -1,5 +1,7 @@
 """Databases that cannot be used, and what is said of them."""
 
+from checks.commands import Commands
+
 # Ten items of 60,000 bytes.
 LARGE = "password: bc\n" + "".join(
     f"\ninetnum: 10.{number}.0.0/16\nmnt-by: ROOT-MNT\nsource: TEST\ndescr: {'0' * 60_000}\n"
@@ -7,7 +9,7 @@ LARGE = "password: bc\n" + "".join(
 )
 
 
-def dumped(case):
+def dumped(case: Commands) -> None:
     """A registry with an inetnum and two sets, and its full dump."""
     case.settings("irr.db")
     case.run("init", "s.toml")

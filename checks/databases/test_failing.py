@@ -3,8 +3,9 @@
 import subprocess
 import urllib.error
 import urllib.request
+from collections.abc import Sequence
 
-from checks.commands import within
+from checks.commands import Commands, within
 from checks.databases.spoilt import LARGE
 from checks.running import PATIENCE, limited
 from checks.serving import free_port
@@ -12,12 +13,12 @@ from checks.serving import free_port
 SECONDS = 20
 
 
-def serve_three(case, port, closed=()):
+def serve_three(case: Commands, port: int, closed: Sequence[int] = ()) -> str:
     """What a server of three connections replies whose files may not grow, to each of which the
     large submission is posted."""
     limit, close = within("-f", 500), limited(closed=closed)
 
-    def prepare():
+    def prepare() -> None:
         limit()
         close()
 
@@ -42,7 +43,7 @@ def serve_three(case, port, closed=()):
     return "".join(replies)
 
 
-def test_a_server_whose_database_fails_says_so_to_people_alone(case):
+def test_a_server_whose_database_fails_says_so_to_people_alone(case: Commands) -> None:
     """A registry that is served, and whose database may not grow at some time: also by a server
     that was started without standard input and standard error, whose numbers no file and no
     connection takes, so that what is for people goes to no client."""

@@ -3,7 +3,7 @@
 import contextlib
 import sqlite3
 
-from checks.commands import ADDRESSES, BLOCK, OTHERS, OWNED, ROOT, TEN
+from checks.commands import ADDRESSES, BLOCK, OTHERS, OWNED, ROOT, TEN, Commands
 from checks.databases.spoilt import dumped
 
 SECONDS = 20
@@ -31,7 +31,7 @@ INSERT INTO named VALUES ('ROOT-MNT', 1, 'ROOT-MNT'), ('ROOT-MNT', 2, '0000-ffff
 """
 
 
-def version(case, store, number):
+def version(case: Commands, store: str, number: int) -> None:
     """A database with the tables and rows of version 1, made by SQLite's own program, that says it
     is of this version."""
     case.sh('rm -f "$store" "$store"-*', store=store)
@@ -42,14 +42,14 @@ def version(case, store, number):
     )
 
 
-def changed(case, text):
+def changed(case: Commands, text: str) -> None:
     """A copy of the registry that sqlite3 changed so."""
     case.sh(
         'rm -f changed.db*; cp irr.db changed.db; sqlite3 changed.db "$statements"', statements=text
     )
 
 
-def test_old_and_changed_databases_are_migrated_or_told(case):
+def test_old_and_changed_databases_are_migrated_or_told(case: Commands) -> None:
     dumped(case)
     case.run("migrate", "none.toml").gives(
         "a migration with settings that are missing",

@@ -1,10 +1,12 @@
 """Tables of version 1, laid by sqlite3 with the texts of the program's own, and their migration."""
 
 import shutil
+from collections.abc import Sequence
+from typing import Any
 
 import pytest
 
-from checks.commands import AUTH_LINE
+from checks.commands import AUTH_LINE, Commands
 from checks.databases.rows import (
     NEW_KEYS,
     ORDERS,
@@ -268,7 +270,7 @@ OLD_CHANGES = [
 # Tables of version 1, laid by sqlite3 with the texts of the program's own.
 
 
-def old(case, rows, tables=TABLES):
+def old(case: Commands, rows: Sequence[tuple[Any, ...]], tables: str = TABLES) -> None:
     """old.db, with the rows that SQL adds to tables of version 1, which are made in this order."""
     case.sh("rm -f old.db old.db-wal old.db-shm")
     texts = [
@@ -278,7 +280,7 @@ def old(case, rows, tables=TABLES):
     ask(case, "old.db", "\n".join([*texts, "INSERT INTO meta VALUES ('version', '1');", rows]))
 
 
-def migrated(case, name, wanted, status=0, version="2"):
+def migrated(case: Commands, name: str, wanted: str, status: int = 0, version: str = "2") -> None:
     """That the migration of old.db ends so, and the version of its tables then."""
     case.run("migrate", "s.toml")
     found = ask(case, "old.db", "SELECT value FROM meta WHERE name = 'version'")
@@ -343,7 +345,7 @@ NEW_NAMES_FOUND = [
 ]
 
 
-def test_tables_of_version_1_are_migrated(case):
+def test_tables_of_version_1_are_migrated(case: Commands) -> None:
     begun(case)
     case.settings("old.db")
     old(case, "".join(added(*row) for row in OLD_ROWS))
@@ -409,7 +411,7 @@ def test_tables_of_version_1_are_migrated(case):
 FEW_ROWS = added(*OLD_ROWS[0]) + added(3, "0001", "ROOT-MNT", "aut-num:        AS1")
 
 
-def test_rows_of_version_1_that_were_changed_are_told_and_stay(case):
+def test_rows_of_version_1_that_were_changed_are_told_and_stay(case: Commands) -> None:
     begun(case)
     case.settings("old.db")
     for name, wanted, status, version, text in OLD_CHANGES:

@@ -5,7 +5,7 @@ import shutil
 
 import pytest
 
-from checks.commands import ADDRESSES, BLOCK, OTHERS, OWNED, ROOT
+from checks.commands import ADDRESSES, BLOCK, OTHERS, OWNED, ROOT, Commands
 from checks.databases.rows import (
     INETNUM,
     NEW_KEYS,
@@ -44,7 +44,7 @@ OLD_KEYS = (
 )
 
 
-def no_object(kind, key):
+def no_object(kind: int, key: str) -> str:
     """What is said of a row of names without an object."""
     return (
         f"irrdesk: DATABASE, class {kind}, okey {key}: `named` has a row of this class and okey,"
@@ -52,7 +52,7 @@ def no_object(kind, key):
     )
 
 
-def rekeyed(key):
+def rekeyed(key: str) -> str:
     """SQL that gives the inetnum this key."""
     return f"UPDATE object SET okey = {key} WHERE TEN; UPDATE named SET okey = {key} WHERE TEN"
 
@@ -271,7 +271,7 @@ CHANGES = [
 ]
 
 
-def test_the_rows_are_what_the_pages_say_of_them(case):
+def test_the_rows_are_what_the_pages_say_of_them(case: Commands) -> None:
     case.settings("irr.db")
     case.run("init", "s.toml").gives("a new registry", 0, "", "created 4 objects")
     case.run("submit", "s.toml", INETNUM).gives(
@@ -283,7 +283,7 @@ def test_the_rows_are_what_the_pages_say_of_them(case):
     case.check("no class but the seven", "CHECK constraint failed" in refused)
 
 
-def test_the_rows_follow_changes_and_deletions(case):
+def test_the_rows_follow_changes_and_deletions(case: Commands) -> None:
     begun(case)
     submission = "password: bc\n\ninetnum: 10.0.0.0 - 10.255.255.255\n"
     case.write("changed.rpsl", f"{submission}descr: again\nmnt-by: ROOT-MNT\nsource: TEST\n")
@@ -309,7 +309,7 @@ def test_the_rows_follow_changes_and_deletions(case):
     case.check("the row of the other table", ask(case, "irr.db", "SELECT text FROM note") == "kept")
 
 
-def test_rows_that_were_changed_are_told(case):
+def test_rows_that_were_changed_are_told(case: Commands) -> None:
     begun(case)
     case.settings("changed.db")
     for name, wanted, text in CHANGES:

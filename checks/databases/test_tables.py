@@ -5,6 +5,7 @@ import shutil
 
 import pytest
 
+from checks.commands import Commands
 from checks.databases.rows import (
     INETNUM,
     ORDERS,
@@ -108,7 +109,7 @@ LAID = [
 # Tables).
 
 
-def lay(case, before, tables, behind):
+def lay(case: Commands, before: str, tables: str, behind: str) -> None:
     """laid.db, made by sqlite3 with the rows of a new registry, in the order in which they are
     given."""
     case.sh("rm -f laid.db laid.db-wal laid.db-shm")
@@ -122,7 +123,7 @@ def lay(case, before, tables, behind):
     case.sh("sqlite3 -batch -bail laid.db <laid.sql")
 
 
-def laid(case, name, wanted):
+def laid(case: Commands, name: str, wanted: str) -> None:
     """What the program says of laid.db, and that the rows of its three tables are those of a new
     registry afterwards, but where the inetnum was added."""
     case.run("submit", "s.toml", INETNUM)
@@ -144,14 +145,14 @@ def laid(case, name, wanted):
     )
 
 
-def new(case):
+def new(case: Commands) -> None:
     """A new registry, and the settings of what is laid."""
     case.settings("irr.db")
     case.run("init", "s.toml")
     case.settings("laid.db")
 
 
-def test_tables_that_sqlite3_laid_are_taken_or_refused(case):
+def test_tables_that_sqlite3_laid_are_taken_or_refused(case: Commands) -> None:
     new(case)
     for name, wanted, before, behind in LAID:
         lay(case, before, TABLES, behind)
@@ -166,7 +167,7 @@ def test_tables_that_sqlite3_laid_are_taken_or_refused(case):
     laid(case, "mended as the message says: a table before them that was dropped", TAKEN)
 
 
-def test_what_refers_to_the_tables_is_refused(case):
+def test_what_refers_to_the_tables_is_refused(case: Commands) -> None:
     new(case)
     for table, columns in [
         ("meta", "name"),
@@ -228,7 +229,7 @@ def test_what_refers_to_the_tables_is_refused(case):
     laid(case, "what stands then", TAKEN)
 
 
-def test_a_registry_is_made_in_empty_tables_alone(case):
+def test_a_registry_is_made_in_empty_tables_alone(case: Commands) -> None:
     new(case)
     lay(
         case,

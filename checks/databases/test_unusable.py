@@ -4,12 +4,13 @@ import os
 import re
 import subprocess
 import time
+from collections.abc import Sequence
 
 import pytest
 
-from checks.running import PATIENCE
-from checks.commands import within
+from checks.commands import Commands, within
 from checks.databases.spoilt import LARGE, dumped
+from checks.running import PATIENCE
 from checks.serving import Listening, free_port
 
 SECONDS = 20
@@ -28,7 +29,7 @@ DENIED = (
 AS_NOBODY = ["setpriv", "--reuid=65534", "--regid=65534", "--clear-groups"]
 
 
-def modes(case, name, wanted, store):
+def modes(case: Commands, name: str, wanted: str, store: str) -> None:
     """The permissions of a database, and of its log while a submission has it open."""
     waiting, log = case.folder / "waiting", case.folder / f"{store}-wal"
     waiting.unlink(missing_ok=True)
@@ -45,7 +46,7 @@ def modes(case, name, wanted, store):
     case.check(f"{name}: permissions {wanted}", " ".join(found) == wanted)
 
 
-def as_other_files(case):
+def as_other_files(case: Commands) -> None:
     """Files that the user of this run may not read."""
     case.sh("cp s.toml hidden.toml; chmod 000 hidden.toml")
     case.run("init", "hidden.toml").gives("settings that may not be read", 3, UNREAD, "")
@@ -61,7 +62,7 @@ UNREAD = (
 )
 
 
-def as_nobody(case):
+def as_nobody(case: Commands) -> None:
     """Files of root's that another user may not read."""
     case.sh('chmod 755 .; cp "$program" copied; install -m 600 s.toml hidden.toml')
     other = {"before": AS_NOBODY, "program": "./copied"}
@@ -89,7 +90,7 @@ def as_nobody(case):
     case.sh("rm -f hidden.db*")
 
 
-def lines(first, end, word):
+def lines(first: int, end: int, word: str) -> str:
     """Those of the report on LARGE."""
     return "".join(
         f"{number + 1} inetnum 10.{number}.0.0 - 10.{number}.255.255: {word}\n"
@@ -97,7 +98,7 @@ def lines(first, end, word):
     )
 
 
-def within_each(case, option, limits, *words):
+def within_each(case: Commands, option: str, limits: Sequence[int], *words: str) -> None:
     """The program within each of these limits of `ulimit`: it ends by itself, with a line at a
     status above 1, and at the last limit it is done."""
     wrong = []
@@ -113,7 +114,7 @@ def within_each(case, option, limits, *words):
     )
 
 
-def test_a_database_that_cannot_be_used_is_told(case):
+def test_a_database_that_cannot_be_used_is_told(case: Commands) -> None:
     case.settings("none/irr.db")
     case.run("init", "s.toml").gives(
         "a database in no folder",
@@ -263,7 +264,7 @@ ln -s near/on irr.db""",
     )
 
 
-def test_what_is_made_is_its_owners_alone(case):
+def test_what_is_made_is_its_owners_alone(case: Commands) -> None:
     """What is made is readable by its owner alone, whatever the umask; an older database keeps its
     permissions."""
     dumped(case)
@@ -288,7 +289,7 @@ def test_what_is_made_is_its_owners_alone(case):
     os.umask(old)
 
 
-def test_files_limits_and_other_processes_are_told(case):
+def test_files_limits_and_other_processes_are_told(case: Commands) -> None:
     dumped(case)
     case.fresh("limits.db")
     case.run("init", "s.toml/none").gives(

@@ -136,7 +136,8 @@ class Chance:
         name = f"AS-P{chance.randrange(40)}"
         return chance.choice(
             [
-                f"as-set: {name}\nmembers: AS{chance.randrange(5)}\nmnt-by: ROOT-MNT\nsource: TEST\n",
+                f"as-set: {name}\nmembers: AS{chance.randrange(5)}\nmnt-by: ROOT-MNT\n"
+                "source: TEST\n",
                 f"as-set: {name}\nmnt-by: ROOT-MNT\nsource: TEST\npassword: bc\n",
                 f"as-set: {name}\nmnt-by: ROOT-MNT\nsource: TEST\nDelete: x\n",
                 "password: wrong\n",

@@ -6,8 +6,10 @@ import hashlib
 import itertools
 import socket
 import string
+from collections.abc import Callable, Iterator
+from typing import Any
 
-from checks.running import Failure, expect, write, write_settings
+from checks.running import Failure, Trial, expect, write, write_settings
 from checks.serving import GIVEN, Serving, read_all
 
 MOST_BODY = 1_048_576
@@ -22,21 +24,21 @@ PASSWORD = f"password: {SECRET}\n\n"
 LONGEST = 600
 
 
-def auth(secret, salt="s"):
+def auth(secret: str, salt: str = "s") -> str:
     return f"SHA256-PW {salt}:{hashlib.sha256((salt + secret).encode()).hexdigest()}"
 
 
-def owned(first, *lines, maintainer="E-MNT"):
+def owned(first: str, *lines: str, maintainer: str = "E-MNT") -> str:
     """An object, in as few bytes as it can be written."""
     return "\n".join([first, *lines, f"mnt-by:{maintainer}", "source:TEST", "", ""])
 
 
-def stranger():
+def stranger() -> str:
     """A submission of the maintainer that everybody may register."""
     return PASSWORD + owned("mntner:E-MNT", f"auth:{auth(SECRET)}")
 
 
-def paragraphs_of(lines, size):
+def paragraphs_of(lines: Iterator[Any], size: int) -> tuple[str, int]:
     """Paragraphs of these lines, each within its limit, in so many bytes at most; and how many
     lines there are."""
     parts, length, room, count = [], 0, 0, 0
@@ -51,13 +53,13 @@ def paragraphs_of(lines, size):
     return "".join(parts) + "\n\n", count
 
 
-def secrets(size, length=3):
+def secrets(size: int, length: int = 3) -> tuple[str, int]:
     """Passwords that nobody has, in so many bytes."""
     words = map("".join, itertools.product(LETTERS, repeat=length))
     return paragraphs_of((f"password:{word}\n" for word in words), size)
 
 
-def lined(name, lines, first=0, more=""):
+def lined(name: str, lines: int, first: int = 0, more: str = "") -> str:
     """A mntner with so many lines of `auth`, each with a salt of its own."""
     text = "".join(
         f"auth:SHA256-PW {salt}:{number:064x}\n" for number, salt in enumerate(SALTS[:lines], first)
@@ -65,7 +67,7 @@ def lined(name, lines, first=0, more=""):
     return f"mntner:{name}\nmnt-by:{name}\nsource:TEST\n{more}{text}\n"
 
 
-def secrets_times_salts(size):
+def secrets_times_salts(size: int) -> tuple[str, int]:
     """A submission of so many bytes, whose secrets are tried with each salt; and how many digests
     that takes."""
     text, count = secrets(size // 2)
@@ -79,7 +81,7 @@ def secrets_times_salts(size):
     return "".join(parts), count * salts
 
 
-def many_lined(count, lines):
+def many_lined(count: int, lines: int) -> tuple[str, str]:
     """A submission of so many mntners with so many lines, and one of a set that names all."""
     mine = f"auth:{auth(SECRET)}\n"
     mntners = "".join(lined(f"M{number}", lines, number * lines, mine) for number in range(count))
@@ -87,13 +89,13 @@ def many_lined(count, lines):
     return PASSWORD + mntners, PASSWORD + owned("as-set:AS-T", maintainer=named)
 
 
-def refused_items(count):
+def refused_items(count: int) -> str:
     """A submission of so many items, each of which asks for all maintainers of that set, and is
     refused."""
     return "password:x\n\n" + "as-set:AS-T\ndelete:\n\n" * count
 
 
-def ring(count, limit, operators):
+def ring(count: int, limit: int, operators: list[str]) -> list[str]:
     """Submissions of so many sets, each of which names all of them under each operator, and has
     values: as many pairs as `limit` allows."""
     names = [f"RS-{number:x}" for number in range(count)]
@@ -113,20 +115,20 @@ def ring(count, limit, operators):
     return [*bodies, body]
 
 
-def crumbs(name, size=MOST_PARAGRAPH, line="a:b\n"):
+def crumbs(name: str, size: int = MOST_PARAGRAPH, line: str = "a:b\n") -> str:
     """A set of so many bytes that has as many lines as it can have."""
     start = owned(f"as-set:{name}")[:-1]
     return start + line * ((size - len(start)) // len(line)) + "\n"
 
 
-def crumbs_in(mark, size=MOST_BODY - 1_000):
+def crumbs_in(mark: str, size: int = MOST_BODY - 1_000) -> str:
     """A submission of such sets."""
     return PASSWORD + "".join(
         crumbs(f"AS-T{mark}X{number}") for number in range(size // (MOST_PARAGRAPH + 1))
     )
 
 
-def guesses(count, planted=None):
+def guesses(count: int, planted: int | None = None) -> str:
     """A submission of so many passwords that asks whether one of them is the root's: of which one
     is, where it is planted."""
     words = [
@@ -140,7 +142,7 @@ def guesses(count, planted=None):
     return text + "mntner:ROOT-MNT\ndelete:x\n"
 
 
-def posted(body):
+def posted(body: str) -> bytes:
     """A submission as a request."""
     body = body.encode() if isinstance(body, str) else body
     head = (
@@ -154,40 +156,40 @@ class Registry(Serving):
     """A registry in a folder of its own, served by a command that begins with these words: none, or
     what sets a limit."""
 
-    def __init__(self, trial, folder, *within):
+    def __init__(self, trial: Trial, folder: str, *within: str) -> None:
         super().__init__([*within, trial.program], folder, 1_000_000)
         self.folder = folder
 
-    def connect(self):
+    def connect(self) -> socket.socket:
         return socket.create_connection(("127.0.0.1", self.port), LONGEST)
 
-    def ask(self, text):
+    def ask(self, text: bytes) -> bytes:
         with contextlib.closing(self.connect()) as peer:
             peer.sendall(text)
             return read_all(peer)
 
-    def whois(self, query):
+    def whois(self, query: str) -> bytes:
         return self.ask(query.encode() + b"\r\n")
 
-    def post(self, body):
+    def post(self, body: str) -> bytes:
         """The report."""
         reply = self.ask(posted(body))
         expect(reply[: len(GIVEN)], GIVEN, "the head of a report")
         return reply[len(GIVEN) :]
 
-    def register(self, *bodies):
+    def register(self, *bodies: str) -> None:
         """Submits what has to be accepted."""
         for body in bodies:
             report = self.post(body)
             if b"refused" in report or b"% items " not in report:
                 raise Failure(f"a submission that was to be accepted: {report[-300:]!r}")
 
-    def seconds(self):
+    def seconds(self) -> float:
         """The processor's time so far."""
         with open(f"/proc/{self.process.pid}/schedstat", encoding="ascii") as opened:
             return int(opened.read().split()[0]) / 1e9
 
-    def resident(self):
+    def resident(self) -> int:
         """The bytes that it holds in memory."""
         return self.memory("VmRSS")
 
@@ -199,14 +201,14 @@ class Registry(Serving):
         with open(f"/proc/{self.process.pid}/status", encoding="ascii") as lines:
             return next(int(line.split()[1]) << 10 for line in lines if line.startswith(name))
 
-    def cost(self, function, *given):
+    def cost(self, function: Callable[..., Any], *given: str) -> tuple[bytes | None, float]:
         """What a call gives, and the processor's seconds that the registry took for it."""
         before = self.seconds()
         given_back = function(*given)
         return given_back, self.seconds() - before
 
 
-def made(trial, name, limit=10_000, dump=None):
+def made(trial: Trial, name: str, limit: int = 10_000, dump: str | None = None) -> str:
     """The folder of a registry: a new one, or one that is loaded from a dump."""
     folder = trial.place(name)
     write_settings(folder, limit=limit)

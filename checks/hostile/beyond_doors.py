@@ -13,13 +13,15 @@ import socket
 import ssl
 import threading
 import time
+from collections.abc import Callable, Iterator
+from typing import Any, Self
 
 from checks.hostile import attacks
 from checks.hostile.attacks import PASSWORD, Registry, made, owned
 from checks.hostile.costs import ROOT, at_most
 from checks.pace import pace
 from checks.proxied import HOST, PAGE, PASSWORD as DOOR_PASSWORD, USER, Haproxy, Nginx, parsed
-from checks.running import PATIENCE, Failure, Skipped, expect, write
+from checks.running import PATIENCE, Failure, Skipped, Trial, expect, write
 from checks.serving import read_all
 
 # The most seconds that a client's request may keep another's waiting, beside what that waits where
@@ -30,19 +32,21 @@ LET_IN, STRANGER, VICTIM = 1, 50, 200
 CASES = []
 
 
-def needs(command):
+def needs(command: str) -> None:
     if shutil.which(command) is None:
         raise Skipped(f"{command} is not there")
 
 
-def case(name, is_long=False):
+def case(name: str, is_long: bool = False) -> Callable[..., Any]:
     """Registers a case for each of the two, which gets the kind of proxy."""
 
-    def register(function):
+    def register(function: Callable[..., Any]) -> Callable[..., Any]:
         for kind in (Nginx, Haproxy):
             command = kind.__name__.lower()
 
-            def tried(trial, kind=kind, command=command):
+            def tried(
+                trial: Trial, kind: type[Nginx] | type[Haproxy] = kind, command: str = command
+            ) -> str:
                 needs(command)
                 return function(trial, kind)
 
@@ -52,15 +56,15 @@ def case(name, is_long=False):
     return register
 
 
-def basic(user=USER, password=DOOR_PASSWORD):
+def basic(user: str = USER, password: str = DOOR_PASSWORD) -> str:
     return f"Authorization: Basic {base64.b64encode(f'{user}:{password}'.encode()).decode()}\r\n"
 
 
-def large():
+def large() -> str:
     """A registry with the dearest expansion that its limit allows, an answer of 3 MB, and one of 12
     MB."""
 
-    def described(count, maintainer, first):
+    def described(count: int, maintainer: str, first: int) -> str:
         return "".join(
             owned(f"aut-num:AS{first + n}", "descr:" + "x" * 60_000, maintainer=maintainer)
             for n in range(count)
@@ -77,7 +81,9 @@ def large():
 
 
 @contextlib.contextmanager
-def guarded(trial, kind, name, folder=None):
+def guarded(
+    trial: Trial, kind: type[Nginx] | type[Haproxy], name: str, folder: str | None = None
+) -> Iterator[tuple[Registry, Nginx | Haproxy]]:
     """A registry, new or in this folder, alone after a proxy."""
     folder = folder or made(trial, f"{name}-{kind.__name__}")
     with Registry(trial, folder) as registry, kind(trial, name, registry.port, None) as door:
@@ -88,11 +94,11 @@ def guarded(trial, kind, name, folder=None):
 class Victim:
     """Another client, which asks for a name over and over, and notes how long it waits at most."""
 
-    def __init__(self, ask):
+    def __init__(self, ask: Callable[..., Any]) -> None:
         self.ask, self.waits, self.bad, self.stop = ask, [], [], threading.Event()
         self.thread = threading.Thread(target=self.run, daemon=True)
 
-    def run(self):
+    def run(self) -> None:
         while not self.stop.is_set():
             start = time.monotonic()
             try:
@@ -104,16 +110,18 @@ class Victim:
                 self.bad.append(answered[:80])
             self.stop.wait(0.2)
 
-    def __enter__(self):
+    def __enter__(self) -> Self:
         self.thread.start()
         return self
 
-    def __exit__(self, *_):
+    def __exit__(self, *_: object) -> None:
         self.stop.set()
         self.thread.join(60)
 
 
-def waiting(door, ask, attack):
+def waiting(
+    door: Nginx | Haproxy, ask: Callable[..., Any], attack: Callable[..., Any]
+) -> tuple[float, float]:
     """How much longer than before it another client waits during the attack, at most, and the bound
     of that; of some tries one that keeps to it, or the last one."""
     most = MOST_WAIT * pace(time.monotonic)
@@ -132,15 +140,15 @@ def waiting(door, ask, attack):
     return max(waited, 0.0), most
 
 
-def over_https(door):
+def over_https(door: Nginx | Haproxy) -> Callable[..., Any]:
     return lambda: door.get("/query/ROOT-MNT", VICTIM)[2]
 
 
-def over_whois(door):
+def over_whois(door: Nginx | Haproxy) -> Callable[..., Any]:
     return lambda: door.whois("ROOT-MNT", VICTIM)
 
 
-def request(path, fields=""):
+def request(path: str, fields: str = "") -> bytes:
     return f"GET {path} HTTP/1.1\r\nHost: {HOST}\r\n{fields}\r\n".encode()
 
 
@@ -148,7 +156,9 @@ def request(path, fields=""):
 # its first address.
 
 
-def opened(door, held, last, text=b"", window=None):
+def opened(
+    door: Nginx, held: contextlib.ExitStack, last: int, text: bytes = b"", window: None = None
+) -> ssl.SSLSocket:
     peer = held.enter_context(contextlib.closing(door.connect(last, window=window)))
     # The proxy may answer and close before it has read all.
     with contextlib.suppress(OSError):
@@ -157,12 +167,12 @@ def opened(door, held, last, text=b"", window=None):
 
 
 @functools.cache
-def secrets_body(size):
+def secrets_body(size: int) -> bytes:
     """Made once, and not while another client's wait is measured."""
     return attacks.secrets_times_salts(size)[0].encode()
 
 
-def posts_secrets(door, held, last):
+def posts_secrets(door: Nginx | Haproxy, held: contextlib.ExitStack, last: int) -> None:
     """64 KB of passwords and salts from one who is let in and leaves, and from strangers."""
     body = secrets_body(65_000)
     for _ in range(3):
@@ -171,13 +181,13 @@ def posts_secrets(door, held, last):
         opened(door, held, last + number, attacks.posted(body))
 
 
-def posts_much(door, held, last):
+def posts_much(door: Nginx | Haproxy, held: contextlib.ExitStack, last: int) -> None:
     """1 MiB of them."""
     status, _, _ = door.post(secrets_body(attacks.MOST_BODY), LET_IN)
     expect(status, 413, "the status of 1 MiB from one who is let in")
 
 
-def asks_dearly(door, held, last):
+def asks_dearly(door: Nginx | Haproxy, held: contextlib.ExitStack, last: int) -> None:
     """The dearest expansion from eight addresses, each several times, of which some leave at
     once."""
     for number in range(8):
@@ -187,7 +197,7 @@ def asks_dearly(door, held, last):
                 peer.close()
 
 
-def says_nothing(door, held, last):
+def says_nothing(door: Nginx | Haproxy, held: contextlib.ExitStack, last: int) -> None:
     """Silence before TLS, after it, and in the midst of a head and of a submission."""
     for number in range(4):
         held.enter_context(contextlib.closing(door.raw(door.https, last + number)))
@@ -196,7 +206,7 @@ def says_nothing(door, held, last):
         opened(door, held, LET_IN, attacks.posted(b"x" * 1_000)[:-900])
 
 
-def takes_slowly(door, held, last):
+def takes_slowly(door: Nginx | Haproxy, held: contextlib.ExitStack, last: int) -> None:
     """Answers of 3 MB and 12 MB, of which nothing is taken."""
     for number in range(4):
         name = "EF"[number % 2]
@@ -205,7 +215,7 @@ def takes_slowly(door, held, last):
         )
 
 
-def whois_asks_dearly(door, held, last):
+def whois_asks_dearly(door: Nginx | Haproxy, held: contextlib.ExitStack, last: int) -> None:
     for number in range(4):
         for turn in range(3):
             peer = held.enter_context(contextlib.closing(door.raw(door.whois_port, last + number)))
@@ -215,13 +225,13 @@ def whois_asks_dearly(door, held, last):
                 peer.close()
 
 
-def whois_says_nothing(door, held, last):
+def whois_says_nothing(door: Nginx | Haproxy, held: contextlib.ExitStack, last: int) -> None:
     for number in range(4):
         for _ in range(4):
             held.enter_context(contextlib.closing(door.raw(door.whois_port, last + number)))
 
 
-def whois_takes_slowly(door, held, last):
+def whois_takes_slowly(door: Nginx | Haproxy, held: contextlib.ExitStack, last: int) -> None:
     """Answers of which nothing is taken, and peers that were answered and do not close."""
     for number in range(6):
         peer = held.enter_context(contextlib.closing(socket.socket()))
@@ -233,7 +243,12 @@ def whois_takes_slowly(door, held, last):
         )
 
 
-def tried_all(trial, kind, ask, tries):
+def tried_all(
+    trial: Trial,
+    kind: type[Nginx] | type[Haproxy],
+    ask: Callable[..., Any],
+    tries: list[Callable[..., Any]],
+) -> str:
     """How much longer another waits during each attack."""
     told = []
     for size in (65_000, attacks.MOST_BODY):
@@ -248,7 +263,7 @@ def tried_all(trial, kind, ask, tries):
 
 
 @case("no client keeps another waiting, over HTTPS")
-def https_attacked(trial, kind):
+def https_attacked(trial: Trial, kind: type[Nginx] | type[Haproxy]) -> str:
     return tried_all(
         trial,
         kind,
@@ -258,14 +273,14 @@ def https_attacked(trial, kind):
 
 
 @case("no client keeps another waiting, by whois")
-def whois_attacked(trial, kind):
+def whois_attacked(trial: Trial, kind: type[Nginx] | type[Haproxy]) -> str:
     return tried_all(
         trial, kind, over_whois, [whois_asks_dearly, whois_says_nothing, whois_takes_slowly]
     )
 
 
 @case("300 connections to the whois port at once")
-def whois_flooded(trial, kind):
+def whois_flooded(trial: Trial, kind: type[Nginx] | type[Haproxy]) -> str:
     with guarded(trial, kind, "flood") as (registry, door):
         with contextlib.ExitStack() as held:
             for _ in range(300):
@@ -281,7 +296,7 @@ def whois_flooded(trial, kind):
 
 
 @case("many requests over one connection")
-def many_requests(trial, kind):
+def many_requests(trial: Trial, kind: type[Nginx] | type[Haproxy]) -> str:
     with guarded(trial, kind, "many") as (_, door):
         start = time.monotonic()
         requests = request("/query/ROOT-MNT") * 599 + request(
@@ -294,7 +309,7 @@ def many_requests(trial, kind):
 
 
 @case("who may submit, and how much")
-def submitted(trial, kind):
+def submitted(trial: Trial, kind: type[Nginx] | type[Haproxy]) -> str:
     with guarded(trial, kind, "submitted") as (registry, door):
         body = (PASSWORD + owned("mntner:E-MNT", f"auth:{attacks.auth(attacks.SECRET)}")).encode()
         expect(door.post(body, STRANGER)[0], 401, "a stranger")
@@ -344,7 +359,7 @@ def submitted(trial, kind):
 
 
 @case("what is guessed in ten seconds")
-def guessing(trial, kind):
+def guessing(trial: Trial, kind: type[Nginx] | type[Haproxy]) -> str:
     """How many passwords of a root one client, who is let in, can try in ten seconds: 32 with each
     submission, and a quarter of a second of the sender's budget for each."""
     with guarded(trial, kind, "guessing") as (registry, door):
@@ -358,7 +373,7 @@ def guessing(trial, kind):
 
 
 @case("requests that could be two, other hosts, and what each path answers")
-def answered(trial, kind):
+def answered(trial: Trial, kind: type[Nginx] | type[Haproxy]) -> str:
     with guarded(trial, kind, "answered") as (registry, door):
         hidden = attacks.posted(
             "password: bc\n\n" + owned("as-set:AS-HIDDEN", maintainer="ROOT-MNT")
@@ -426,7 +441,7 @@ def answered(trial, kind):
 
 
 @case("readers, the primary where none is left, and what is answered then")
-def replaced_readers(trial, kind):
+def replaced_readers(trial: Trial, kind: type[Nginx] | type[Haproxy]) -> str:
     names = ["primary", "one", "two"]
     dumps = [ROOT + owned(f"as-set:AS-{name.upper()}", maintainer="ROOT-MNT") for name in names]
     folders = [
@@ -438,7 +453,7 @@ def replaced_readers(trial, kind):
         door = stack.enter_context(kind(trial, "readers", ports[0], ports[1:]))
         time.sleep(0.5)
 
-        def seen(ask=None):
+        def seen(ask: bool | None = None) -> set[str]:
             """Which of the three answer: the set that only one of them has is asked for."""
             found = set()
             for turn in range(4):
@@ -455,7 +470,7 @@ def replaced_readers(trial, kind):
                             found.add(name)
             return found
 
-        def comes_to(wanted, what):
+        def comes_to(wanted: set[str], what: str) -> None:
             end = time.monotonic() + 90
             while (found := (seen(), seen(True))) != (wanted, wanted):
                 if time.monotonic() > end:
@@ -484,13 +499,15 @@ def replaced_readers(trial, kind):
 
 
 @case("certificates by ACME, IPv6, and who is told apart")
-def reached(trial, kind):
+def reached(trial: Trial, kind: type[Nginx] | type[Haproxy]) -> str:
     with guarded(trial, kind, "reached") as (registry, door):
         os.makedirs(os.path.join(door.folder, "acme/.well-known/acme-challenge"))
         write(os.path.join(door.folder, "acme/.well-known/acme-challenge"), "word", b"the word")
         path = "/.well-known/acme-challenge/word"
 
-        def plainly(path, host=HOST, address="127.0.0.1"):
+        def plainly(
+            path: str, host: str = HOST, address: str = "127.0.0.1"
+        ) -> tuple[int, str, bytes]:
             with contextlib.closing(socket.create_connection((address, door.http), 10)) as peer:
                 peer.sendall(
                     f"GET {path} HTTP/1.1\r\nHost: {host}\r\nConnection: close\r\n\r\n".encode()
@@ -526,5 +543,5 @@ def reached(trial, kind):
 class Quiet(http.server.SimpleHTTPRequestHandler):
     protocol_version = "HTTP/1.1"
 
-    def log_message(self, *_):
+    def log_message(self, *_: str) -> None:
         pass

@@ -5,10 +5,11 @@ import shutil
 import pytest
 
 from checks.failing import Failing
+from checks.running import Trial
 
 
 @pytest.fixture(scope="module")
-def failing(trial):
+def failing(trial: Trial) -> Failing:
     """Runs of the program in which calls fail, and all that it said under them."""
     if shutil.which("gcc") is None or shutil.which("sqlite3") is None:
         pytest.skip("gcc or sqlite3 is not here")

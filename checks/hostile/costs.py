@@ -8,11 +8,13 @@ import stat
 import subprocess
 import threading
 import time
+from collections.abc import Callable, Iterator
+from typing import Any
 
 from checks.hostile import attacks
 from checks.hostile.attacks import PASSWORD, Registry, made, owned
 from checks.pace import pace
-from checks.running import PATIENCE, DIGEST, TOP, Failure, expect, write, write_settings
+from checks.running import DIGEST, PATIENCE, TOP, Failure, Trial, expect, write, write_settings
 from checks.serving import read_all
 
 ROOT = f"mntner:ROOT-MNT\nauth:SHA256-PW a:{DIGEST}\nmnt-by:ROOT-MNT\nsource:TEST\n\n"
@@ -20,22 +22,22 @@ TRIES = 5
 CASES = []
 
 
-def case(name, is_long=False):
+def case(name: str, is_long: bool = False) -> Callable[..., Any]:
     """Registers a case, which gives words for its line."""
 
-    def register(function):
+    def register(function: Callable[..., Any]) -> Callable[..., Any]:
         CASES.append((name, function, is_long))
         return function
 
     return register
 
 
-def at_most(found, most, what, unit="s"):
+def at_most(found: float, most: float, what: str, unit: str = "s") -> None:
     if found > most:
         raise Failure(f"{what}: {found:.2f} {unit} and not at most {most:.2f}")
 
 
-def least(most, function):
+def least(most: float, function: Callable[..., Any]) -> float:
     """The least that a function gives of the processor's seconds, as they would be on the machine
     of docs/OPEN.md: what else runs makes each try longer. It is called again only while that is
     above the bound."""
@@ -52,7 +54,7 @@ def least(most, function):
 
 
 @case("secrets times salts")
-def secrets_times_salts(trial):
+def secrets_times_salts(trial: Trial) -> str:
     """The first trial of P secrets with S salts, which can't be cut: so a digest is to be no dearer
     than it is."""
     table = []
@@ -60,7 +62,7 @@ def secrets_times_salts(trial):
         for size in trial.pick([64], [64, 128, 256, 1024]):
             body, digests = attacks.secrets_times_salts(size << 10)
 
-            def once(body=body):
+            def once(body: str = body) -> float:
                 report, seconds = registry.cost(registry.post, body)
                 expect(b"added" in report, False, "whether a stranger's mntner was added")
                 return seconds
@@ -73,17 +75,17 @@ def secrets_times_salts(trial):
 
 
 @case("items times lines of auth")
-def items_times_lines(trial):
+def items_times_lines(trial: Trial) -> str:
     """An item that names maintainers with many lines, once they were tried, takes a thirtieth of
     what it took in 1.0.0, as CHANGELOG.md says."""
     count, most = trial.pick(1_000, 4_000), 4.45 / 30
 
-    def cost(name, lines):
+    def cost(name: str, lines: int) -> float:
         with Registry(trial, made(trial, name)) as registry:
             registry.register(*attacks.many_lined(15, lines))
             body = attacks.refused_items(count)
 
-            def once():
+            def once() -> float:
                 report, seconds = registry.cost(registry.post, body)
                 expect(report.count(b"refused E11"), count, "how many items were refused")
                 return seconds / count * 1e3
@@ -100,12 +102,12 @@ def items_times_lines(trial):
     return f"{many:.3f} ms an item at 15 maintainers of 750 lines, {one:.3f} at such of one"
 
 
-def walk(trial, sets, limit, most):
+def walk(trial: Trial, sets: int, limit: int, most: float) -> str:
     bodies = attacks.ring(sets, limit, attacks.OPERATORS)
     with Registry(trial, made(trial, f"ring{sets}-{limit}", limit=limit)) as registry:
         registry.register(attacks.stranger(), *bodies)
 
-        def once():
+        def once() -> float:
             reply, seconds = registry.cost(registry.whois, "prefixes RS-0")
             expect(
                 reply[:1] not in (b"", b"%"),
@@ -127,22 +129,22 @@ def walk(trial, sets, limit, most):
 
 
 @case("references times pairs, limit 100,000")
-def ring_of_16(trial):
+def ring_of_16(trial: Trial) -> str:
     return walk(trial, 16, 100_000, 11.8 / 20)
 
 
 @case("references times pairs, limit 10,000")
-def ring_of_90(trial):
+def ring_of_90(trial: Trial) -> str:
     return walk(trial, 90, 10_000, 5.4 / 20)
 
 
 @case("peers that ask and go")
-def gone(trial):
+def gone(trial: Trial) -> str:
     """What was asked is computed all the same: the next peer waits for it."""
     with Registry(trial, made(trial, "gone")) as registry:
         registry.register(attacks.stranger(), *attacks.ring(16, 10_000, attacks.OPERATORS))
 
-        def asked():
+        def asked() -> None:
             for _ in range(5):
                 with contextlib.closing(registry.connect()) as peer:
                     peer.sendall(b"prefixes RS-0\r\n")
@@ -157,7 +159,7 @@ def gone(trial):
 
 
 @case("guesses at a password")
-def guessed(trial):
+def guessed(trial: Trial) -> str:
     """Without the door: nothing is changed, and what is answered tells whether one of the passwords
     is right."""
     count = 74_000
@@ -175,7 +177,7 @@ def guessed(trial):
 
 
 @case("memory of a paragraph of short lines")
-def crumbled(trial):
+def crumbled(trial: Trial) -> str:
     """A stored paragraph of lines like `a:b` takes at most 10 times its bytes."""
     with Registry(trial, made(trial, "crumbs")) as registry:
         registry.register(attacks.stranger(), attacks.crumbs_in("A"))
@@ -186,14 +188,14 @@ def crumbled(trial):
     return f"{times:.1f} times its bytes"
 
 
-def mixed(count):
+def mixed(count: int) -> str:
     """A dump of so many objects: of 100, 1 is a maintainer, 9 are aut-nums, 30 inetnums and 60
     routes."""
     parts = [ROOT]
     for hundred in range(count // 100):
         holder = f"H{hundred}-MNT"
 
-        def add(first, *lines, holder=holder):
+        def add(first: str, *lines: str, holder: str = holder) -> None:
             parts.append(owned(first, *lines, maintainer=holder))
 
         add(f"mntner: {holder}", f"auth: SHA256-PW a:{DIGEST}")
@@ -212,7 +214,7 @@ def mixed(count):
 
 
 @case("memory of an object")
-def weighed(trial):
+def weighed(trial: Trial) -> str:
     """An object takes at most 900 bytes beside its canonical text."""
     sizes, texts = [], []
     counts = trial.pick([10_000, 30_000], [20_000, 200_000])
@@ -228,7 +230,7 @@ def weighed(trial):
 
 
 @case("opened within the memory that served it")
-def reopened(trial):
+def reopened(trial: Trial) -> str:
     """Under each limit, a registry that took submissions until memory ran out is opened again
     within a tenth more."""
     told = []
@@ -258,11 +260,11 @@ def reopened(trial):
     return f"what opening takes of the limit under which it was filled: {', '.join(told)}"
 
 
-def within(memory):
+def within(memory: int) -> list[str]:
     return ["prlimit", f"--as={memory}"]
 
 
-def opens(trial, folder, hundredths, count):
+def opens(trial: Trial, folder: str, hundredths: int, count: int) -> bool:
     """Whether a registry is opened in this memory, with what the last submission that was taken put
     into it."""
     copy = os.path.join(trial.work, f"copy{time.monotonic_ns()}")
@@ -278,12 +280,12 @@ def opens(trial, folder, hundredths, count):
 
 
 @case("files are their owner's alone")
-def modes(trial):
+def modes(trial: Trial) -> str:
     """`init`, `load` and `migrate` make what nobody else can read, whatever the umask; the log of
     an older file is not widened."""
     folder = trial.place("modes")
 
-    def run(*words, umask=0):
+    def run(*words: str, umask: int = 0) -> None:
         made_by = subprocess.run(
             [trial.program, *words],
             cwd=folder,
@@ -294,7 +296,7 @@ def modes(trial):
         )
         expect((made_by.returncode, made_by.stderr), (0, b""), " ".join(words))
 
-    def others(name):
+    def others(name: str) -> list[Any]:
         paths = [os.path.join(folder, path) for path in os.listdir(folder) if path.startswith(name)]
         return [path for path in paths if stat.S_IMODE(os.stat(path).st_mode) & 0o77]
 
@@ -320,7 +322,7 @@ PRESSED = r"LC_ALL=C sed -E 's/^([a-z][a-z0-9_-]*:) +/\1/; s/^ {16}/ /' full.rps
 
 
 @case("a full dump that can't be loaded")
-def pressed(trial):
+def pressed(trial: Trial) -> str:
     """One object whose canonical text is too long for a paragraph: `sed` takes out blanks that say
     nothing, and the dump is loaded. An object of 65,536 bytes without its last line feed stays too
     long by one."""
@@ -342,7 +344,7 @@ def pressed(trial):
     return "loaded after sed; the object of just 65,536 bytes stays"
 
 
-def load_pressed(trial, folder):
+def load_pressed(trial: Trial, folder: str) -> tuple[int, int, bool]:
     """The statuses of `load` for a full dump, as it is and pressed, and whether what was loaded of
     the second is the registry."""
     full = trial.run(folder, "dump", "s.toml", "--full", timeout=PATIENCE).printed
@@ -364,7 +366,7 @@ def load_pressed(trial, folder):
 
 
 @case("members by reference, names of one component, and mnt-lower")
-def joined(trial):
+def joined(trial: Trial) -> str:
     """What anybody may do to a set of somebody else: the text of each set stays, what it expands to
     does not."""
     mine, holder = "password: mine\n\n", "A-MNT"
@@ -391,7 +393,7 @@ def joined(trial):
     ]
     with Registry(trial, made(trial, "joined")) as registry:
 
-        def texts():
+        def texts() -> list[bytes]:
             return [
                 registry.whois(name)
                 for name in ("AS64496:AS-REFERRED", "AS64496:AS-LISTED", "AS64496:RS-OUT")
@@ -430,7 +432,7 @@ def joined(trial):
 # Peers that wait, asked directly: what a proxy in front is for.
 
 
-def held(trial, text, most, closes=False, drips=False):
+def held(trial: Trial, text: bytes, most: int, closes: bool = False, drips: bool = False) -> str:
     """How long another peer waits after one that sent this, which has to be at most so long; a
     second of that is the machine's, and more where it is slower."""
     most += pace(time.monotonic) - 1
@@ -453,29 +455,29 @@ def held(trial, text, most, closes=False, drips=False):
     return f"the next peer waits {waited:.1f} s"
 
 
-def drip(peer, stop):
+def drip(peer: socket.socket, stop: threading.Event) -> None:
     with contextlib.suppress(OSError):
         while not stop.wait(5):
             peer.sendall(b"a")
 
 
 @case("a silent peer, directly")
-def silent(trial):
+def silent(trial: Trial) -> str:
     return held(trial, b"", 12)
 
 
 @case("a peer that was answered and does not close, directly")
-def lingering(trial):
+def lingering(trial: Trial) -> str:
     return held(trial, b"ROOT-MNT\r\n", 2, closes=True)
 
 
 @case("a peer that begins TLS, directly", is_long=True)
-def hello(trial):
+def hello(trial: Trial) -> str:
     return held(trial, bytes.fromhex("1603010040") + b"\x01" * 64, 12)
 
 
 @case("a dripping submission, directly", is_long=True)
-def dripping(trial):
+def dripping(trial: Trial) -> str:
     return held(trial, b"POST /submissions HTTP/1.1\r\nContent-Length: 100\r\n\r\n", 65, drips=True)
 
 
@@ -483,10 +485,10 @@ def dripping(trial):
 
 
 @case("the check restarts only what a restart mends")
-def checked(trial):
+def checked(trial: Trial) -> str:
     check = os.path.join(TOP, "units", "irrdesk-check")
 
-    def status(url, *more):
+    def status(url: str, *more: str) -> int:
         ran = subprocess.run(
             [check, url, *more], capture_output=True, text=True, timeout=PATIENCE, check=False
         )
@@ -528,11 +530,11 @@ def checked(trial):
 
 
 @contextlib.contextmanager
-def told(text):
+def told(text: bytes) -> Iterator[str]:
     """The place of a server that says this to whoever asks, while the block runs."""
     listener = socket.create_server(("127.0.0.1", 0))
 
-    def serve():
+    def serve() -> None:
         with contextlib.suppress(OSError):
             while True:
                 peer, _ = listener.accept()

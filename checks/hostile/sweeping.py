@@ -3,8 +3,9 @@
 import contextlib
 import socket
 
-from checks.running import expect, write, write_settings
+from checks.running import Trial, expect, write, write_settings
 from checks.serving import LONGEST
+from checks.worked import Submission
 
 LIMIT = 10_000
 
@@ -12,7 +13,7 @@ LIMIT = 10_000
 WRITTEN = "three inetnums"
 
 
-def made_registry(trial, name, submission=None):
+def made_registry(trial: Trial, name: str, submission: Submission | None = None) -> str:
     """A folder with a new registry, or with that of a submission."""
     folder = trial.place(name)
     write_settings(folder, limit=LIMIT)
@@ -27,7 +28,7 @@ def made_registry(trial, name, submission=None):
     return folder
 
 
-def ask(port, text):
+def ask(port: int, text: bytes) -> bytes:
     """What a peer is answered, as far as it comes where the connection is cut off."""
     parts = []
     with socket.create_connection(("127.0.0.1", port), LONGEST) as peer:
@@ -39,7 +40,7 @@ def ask(port, text):
     return b"".join(parts)
 
 
-def posted(text):
+def posted(text: bytes) -> bytes:
     return (
         b"POST /submissions HTTP/1.1\r\nHost: localhost\r\nContent-Length: %d\r\n\r\n" % len(text)
         + text

@@ -4,7 +4,9 @@ own, or some."""
 
 import itertools
 import os
+import random
 import re
+from collections.abc import Iterator
 
 from checks.chances import any_query, any_spanned, any_submission, any_words, escaped, mutated
 from checks.heads import Request, any_bytes, is_http, is_reply, refusal, whois_answer
@@ -17,6 +19,8 @@ from checks.running import (
     AUTH,
     TOP,
     Failure,
+    Tell,
+    Trial,
     difference,
     expect,
     expect_ended,
@@ -34,14 +38,14 @@ IN_MEMORY, SECONDS = True, 20
 LIMIT = 8
 
 
-def opened():
+def opened() -> Registry:
     return Registry(auth=AUTH.encode())
 
 
 # The model.
 
 
-def test_the_model_says_what_the_pages_say(trial, tell):
+def test_the_model_says_what_the_pages_say(trial: Trial, tell: Tell) -> None:
     """The model itself gives what docs/SUBMITTING.md prints below its commands."""
     with open(os.path.join(TOP, "docs", "SUBMITTING.md"), encoding="utf-8") as page:
         parts = re.findall(r"```(sh|text)\n(.*?)```", page.read(), re.DOTALL)
@@ -57,7 +61,7 @@ def test_the_model_says_what_the_pages_say(trial, tell):
     tell(f"{tried} blocks of docs/SUBMITTING.md")
 
 
-def modelled(trial, registry, files, line):
+def modelled(trial: Trial, registry: Registry, files: dict[str, str], line: str) -> str:
     """What the model prints for a line of commands, one of which may add to a file."""
     words = line.split()
     if words[:1] == ["printf"] and words[-2:-1] == [">>"]:
@@ -74,7 +78,7 @@ def modelled(trial, registry, files, line):
 # Submissions.
 
 
-def test_texts_of_chance_get_the_reports_of_the_model(trial, tell):
+def test_texts_of_chance_get_the_reports_of_the_model(trial: Trial, tell: Tell) -> None:
     """Texts in submissions of 20 to a registry in memory, each read whole and in pieces of chance:
     the model's report."""
     count = trial.count or trial.pick(400, 100_000)
@@ -102,7 +106,7 @@ def test_texts_of_chance_get_the_reports_of_the_model(trial, tell):
     tell(f"{turns * 20} texts in {turns} submissions, each whole and in pieces; {worst.told()}")
 
 
-def test_texts_of_chance_leave_what_the_model_has(trial, tell):
+def test_texts_of_chance_leave_what_the_model_has(trial: Trial, tell: Tell) -> None:
     """Submissions to a database: the model's rows behind the model's report, and a dump that loads
     as itself."""
     count = trial.count or trial.pick(200, 100_000)
@@ -138,13 +142,15 @@ def test_texts_of_chance_leave_what_the_model_has(trial, tell):
     tell(f"{turns * 20} texts in {turns} submissions, their rows, dumps and loads; {worst.told()}")
 
 
-def remove_databases(folder):
+def remove_databases(folder: str) -> None:
     for name in os.listdir(folder):
         if ".db" in name:
             os.remove(os.path.join(folder, name))
 
 
-def expect_dump(trial, folder, settings, wanted, what, worst=None):
+def expect_dump(
+    trial: Trial, folder: str, settings: str, wanted: bytes, what: str, worst: Worst | None = None
+) -> None:
     ran = trial.run(folder, "dump", settings, "--full")
     if worst:
         worst.note(ran)
@@ -155,7 +161,7 @@ def expect_dump(trial, folder, settings, wanted, what, worst=None):
 # Queries and requests.
 
 
-def served_registry(trial, chance, name):
+def served_registry(trial: Trial, chance: random.Random, name: str) -> tuple[str, Registry]:
     """A folder with a registry of chance, and the model's."""
     folder, registry = trial.place(name), opened()
     write_settings(folder, limit=LIMIT)
@@ -172,7 +178,7 @@ def served_registry(trial, chance, name):
 LONGEST_PATH = 8_000
 
 
-def test_queries_of_chance_are_answered_as_by_the_model(trial, tell):
+def test_queries_of_chance_are_answered_as_by_the_model(trial: Trial, tell: Tell) -> None:
     """Queries by whois and by HTTP, and now and then by `query`: the model's answer each time."""
     count = trial.count or trial.pick(400, 100_000)
     chance, each, asked, worst = trial.chance("queries"), min(count // 2, 5_000), 0, Worst()
@@ -193,7 +199,7 @@ def test_queries_of_chance_are_answered_as_by_the_model(trial, tell):
     tell(f"{asked} queries; {worst.told()}")
 
 
-def any_queries(chance):
+def any_queries(chance: random.Random) -> Iterator[bytes]:
     """Queries of chance, none of which a server takes for a request."""
     while True:
         query = any_query(chance)
@@ -201,7 +207,7 @@ def any_queries(chance):
             yield query
 
 
-def ask_both(chance, server, registry, query):
+def ask_both(chance: random.Random, server: Server, registry: Registry, query: bytes) -> None:
     line, end, _ = query.partition(b"\n")
     text = line + chance.choice([b"\n", b"\r\n"])
     found, wanted = server.ask(text, any_cuts(chance, text)), whois_answer(text, registry, LIMIT)
@@ -218,7 +224,7 @@ def ask_both(chance, server, registry, query):
         raise Failure(f"HTTP {query!r}: {difference(found, wanted)}")
 
 
-def ask_command(trial, folder, registry, query):
+def ask_command(trial: Trial, folder: str, registry: Registry, query: bytes) -> None:
     """The same by `query`, where the query can be a word that is not one of the program's own."""
     if b"\0" in query or not is_text(query) or query.strip() in (b"--help", b"-h", b"--version"):
         return
@@ -234,7 +240,7 @@ def ask_command(trial, folder, registry, query):
     )
 
 
-def any_cuts(chance, text):
+def any_cuts(chance: random.Random, text: bytes) -> list[int]:
     return (
         [chance.randrange(1, len(text)) for _ in range(chance.choice([0, 0, 0, 1, 3]))]
         if len(text) > 1
@@ -242,7 +248,7 @@ def any_cuts(chance, text):
     )
 
 
-def test_requests_of_chance_are_answered_by_the_rules(trial, tell):
+def test_requests_of_chance_are_answered_by_the_rules(trial: Trial, tell: Tell) -> None:
     """Requests and other bytes on connections: the reply that the rules say, or one of the
     replies."""
     count = trial.count or trial.pick(400, 100_000)
@@ -263,7 +269,7 @@ def test_requests_of_chance_are_answered_by_the_rules(trial, tell):
     tell(f"{count} connections; {worst.told()}")
 
 
-def send_one(chance, server, registry):
+def send_one(chance: random.Random, server: Server, registry: Registry) -> None:
     if chance.random() < 0.5:
         request = Request(chance)
         head = request.head()
@@ -284,7 +290,7 @@ def send_one(chance, server, registry):
 CHANGED = 8
 
 
-def any_dumps(chance, turns):
+def any_dumps(chance: random.Random, turns: int) -> Iterator[bytes]:
     """Full dumps of registries of chance, of each some, each with other changes."""
     for _ in range(turns):
         registry = opened()
@@ -294,7 +300,7 @@ def any_dumps(chance, turns):
             yield changed_dump(chance, whole)
 
 
-def changed_dump(chance, text):
+def changed_dump(chance: random.Random, text: bytes) -> bytes:
     parts = text.split(b"\n\n")
     for _ in range(chance.choice([0, 0, 1, 1, 2])):
         place = chance.randrange(len(parts))
@@ -324,7 +330,7 @@ DUMP_WORDS = {
 }
 
 
-def told_place(text, number):
+def told_place(text: bytes, number: int) -> tuple[int, str]:
     """The line on which a paragraph begins, and its class and key where they can be read."""
     place, at, found = 0, 0, 0
     for at, line in enumerate(lines_of(text), 1):
@@ -341,7 +347,7 @@ def told_place(text, number):
         return at, ""
 
 
-def test_dumps_of_chance_are_loaded_or_their_fault_is_told(trial, tell):
+def test_dumps_of_chance_are_loaded_or_their_fault_is_told(trial: Trial, tell: Tell) -> None:
     """Dumps that were changed: the registry that the model makes of one, or its first fault with
     the line and the key."""
     count = trial.count or trial.pick(200, 100_000)
@@ -388,7 +394,7 @@ def test_dumps_of_chance_are_loaded_or_their_fault_is_told(trial, tell):
 # Words.
 
 
-def test_words_of_chance_end_with_an_answer_or_a_fault(trial, tell):
+def test_words_of_chance_end_with_an_answer_or_a_fault(trial: Trial, tell: Tell) -> None:
     """Words for the program: it ends with an answer or a fault, and wrong words touch nothing."""
     count = trial.count or trial.pick(200, 100_000)
     chance, worst, wrong = trial.chance("words"), Worst(), 0

@@ -1,4 +1,4 @@
-"""A server to which memory is refused, or whose calls fail: what it replies then, and what stands."""
+"""A server to which memory is refused, or whose calls fail: what it replies, and what stands."""
 
 import os
 import re
@@ -7,12 +7,12 @@ import subprocess
 
 import pytest
 
-from checks.failing import NONE, number_in
+from checks.failing import NONE, Failing, number_in
 from checks.heads import is_reply
 from checks.hostile.sweeping import LIMIT, ask, made_registry, posted
 from checks.model.queries import answer
 from checks.model.registry import load
-from checks.running import Failure, Ran, expect, is_fault, short
+from checks.running import Each, Failure, Ran, Tell, Trial, expect, is_fault, short
 from checks.serving import GIVEN, LONGEST, free_port
 from checks.worked import SERVED_IN_VAIN, SUBMISSIONS, check_rows, numbered, opened
 
@@ -23,7 +23,7 @@ class Served:
     """A query by whois, one by HTTP, a submission and a dump, each answered, refused, or failed and
     counted so."""
 
-    def __init__(self, trial, failing, name):
+    def __init__(self, trial: Trial, failing: Failing, name: str) -> None:
         self.trial, self.failing = trial, failing
         self.name, self.submission = name, SUBMISSIONS[name]
         self.base = made_registry(trial, f"served {name}")
@@ -36,7 +36,7 @@ class Served:
         self.whois = answer(opened(), b"object mntner root-mnt", LIMIT)
         self.page = GIVEN + answer(opened(), b"exact 0.0.0.0/0", LIMIT)
 
-    def sweep(self, kind, how):
+    def sweep(self, kind: str, how: str) -> str:
         counted = os.path.join(self.trial.work, f"count {kind} {how}")
         self.serve(kind, how, NONE, counted)
         count = number_in(counted)
@@ -50,7 +50,7 @@ class Served:
                 raise Failure(f"{kind}:{how}:{number} of {count}: {failure!r}") from failure
         return f"{len(taken) - 1} of {count} {'bytes' if how == 'take' else 'calls'}"
 
-    def serve(self, kind, how, number, counted="/dev/null"):
+    def serve(self, kind: str, how: str, number: int, counted: str = "/dev/null") -> None:
         folder, port = self.failing.copied(self.base, f"served {number}"), free_port()
         process = subprocess.Popen(
             [
@@ -91,7 +91,7 @@ class Served:
             process.communicate()
             shutil.rmtree(folder)
 
-    def check(self, kind, how, ran, replies, rows):
+    def check(self, kind: str, how: str, ran: Ran, replies: list[bytes], rows: bytes) -> None:
         if not replies:
             expect(
                 (ran.status in (3, 4, 5), is_fault(ran)),
@@ -118,7 +118,7 @@ class Served:
         expect(found, failed, "the replies that were cut off, and the turns that failed")
         return self.check_posted(replies[2], rows)
 
-    def cut(self, kind, replies, dump):
+    def cut(self, kind: str, replies: list[bytes], dump: bytes) -> int:
         """How many replies were cut off. Each is the front of a right one: what was asked, or an
         error where memory or the database failed. A dump for which memory ran out ends early, and
         its turn did not fail."""
@@ -139,7 +139,7 @@ class Served:
             return found
         return found + (ENDED.search(replies[2]) is None)
 
-    def check_posted(self, reply, rows):
+    def check_posted(self, reply: bytes, rows: bytes) -> None:
         """That the rows are those of the report: whole, less what memory or the database refused,
         or cut off by a failed write, and then the item of the line that was not told stands too.
         Where the head is not whole, nothing was submitted."""
@@ -177,22 +177,22 @@ FAILED = re.compile(re.escape(SERVED_IN_VAIN).replace(r"\{\}", "[^\n]+").encode(
 ENDED = re.compile(rb"\n(?:% items|% stopped after|% memory after) [^\n]*\n\Z")
 
 
-def is_unavailable(reply):
+def is_unavailable(reply: bytes) -> bool:
     return is_reply(reply) and reply.startswith(b"HTTP/1.1 503 ")
 
 
-def is_front(reply, *whole):
+def is_front(reply: bytes, *whole: bytes) -> bool:
     """Whether a reply, which may have been cut off, is the front of one of these."""
     return any(text.startswith(reply) for text in whole)
 
 
 @pytest.mark.parametrize("name", ["a bad key between good ones", "items of each class"])
-def test_a_server_tells_what_stands(trial, failing, name, each):
+def test_a_server_tells_what_stands(trial: Trial, failing: Failing, name: str, each: Each) -> None:
     served = Served(trial, failing, name)
     for kind, how in [("memory", "once"), ("disk", "once"), ("peer", "once"), ("peer", "take")]:
         with each(f"serve, {name}, {kind} {how}"):
             served.sweep(kind, how)
 
 
-def test_each_line_that_was_said_is_of_the_page(failing, tell):
+def test_each_line_that_was_said_is_of_the_page(failing: Failing, tell: Tell) -> None:
     tell(failing.said_is_of_the_page())

@@ -3,8 +3,11 @@ program answers then."""
 
 import collections
 import os
+import random
 import shutil
 import subprocess
+from collections.abc import Callable
+from typing import Any
 
 import pytest
 
@@ -13,7 +16,10 @@ from checks.model.registry import Registry, load
 from checks.running import (
     AUTH,
     Failure,
+    Ran,
     Skipped,
+    Tell,
+    Trial,
     expect,
     expect_ended,
     is_answer,
@@ -42,15 +48,15 @@ QUERIES = [
 NEW = b"password: bc\n\n" + item(b"inetnum", b"10.255.1.0/24")
 
 
-def new_registry():
+def new_registry() -> Registry:
     return Registry(auth=AUTH.encode())
 
 
-def dump(trial, folder, **options):
+def dump(trial: Trial, folder: str, **options: dict[str, int]) -> Ran:
     return trial.run(folder, "dump", "s.toml", "--full", **options)
 
 
-def made(trial, name, texts):
+def made(trial: Trial, name: str, texts: list[bytes]) -> str:
     """A registry to which these items were submitted, in a folder of its own."""
     folder = trial.place(name)
     write_settings(folder, limit=LIMIT)
@@ -62,7 +68,7 @@ def made(trial, name, texts):
     return folder
 
 
-def copied(trial, base, name):
+def copied(trial: Trial, base: str, name: str) -> str:
     folder = os.path.join(trial.work, name)
     shutil.copytree(base, folder)
     return folder
@@ -71,7 +77,7 @@ def copied(trial, base, name):
 # A disk that is full.
 
 
-def over_pipe(trial, folder, most, *words):
+def over_pipe(trial: Trial, folder: str, most: int, *words: str) -> Ran:
     """A run whose files may have so many bytes, and whose report goes to a pipe; what it
     printed."""
     reader, writer = os.pipe()
@@ -82,7 +88,7 @@ def over_pipe(trial, folder, most, *words):
     return ran
 
 
-def test_what_was_told_of_a_submission_stands_on_a_full_disk(trial, tell):
+def test_what_was_told_of_a_submission_stands_on_a_full_disk(trial: Trial, tell: Tell) -> None:
     """A submission at file sizes of chance: what was told stands, and no more."""
     count, tries = trial.pick(80, 400), trial.pick(12, 200)
     chance = trial.chance("full")
@@ -109,7 +115,14 @@ def test_what_was_told_of_a_submission_stands_on_a_full_disk(trial, tell):
     tell(f"{tries} sizes of files, {stopped} of which stopped a submission of {count} items")
 
 
-def told_stands(trial, ran, folder, found, what, failed=STORE_FAILED):
+def told_stands(
+    trial: Trial,
+    ran: Ran,
+    folder: str,
+    found: dict[bytes, list[int]],
+    what: str,
+    failed: str = STORE_FAILED,
+) -> int:
     """Whether a submission was stopped; what was told before that stands, and no more."""
     expect_ended(ran, what)
     lines = ran.printed.decode().splitlines()
@@ -140,7 +153,9 @@ def told_stands(trial, ran, folder, found, what, failed=STORE_FAILED):
     return 1
 
 
-def test_loads_and_new_registries_are_whole_or_nothing_on_a_full_disk(trial, tell):
+def test_loads_and_new_registries_are_whole_or_nothing_on_a_full_disk(
+    trial: Trial, tell: Tell
+) -> None:
     """Loads and new registries at file sizes of chance: all of it stands or nothing, and then it
     can be made."""
     tries = trial.pick(12, 200)
@@ -176,7 +191,7 @@ def test_loads_and_new_registries_are_whole_or_nothing_on_a_full_disk(trial, tel
     tell(f"{tries} sizes of files; {whole} stood whole, the others not at all")
 
 
-def test_what_was_told_stands_on_a_full_file_system(trial, tell):
+def test_what_was_told_stands_on_a_full_file_system(trial: Trial, tell: Tell) -> None:
     """The same on a small file system of its own, where one can be mounted."""
     sizes = trial.pick([400, 800, 32_000], [*range(320, 1_200, 40), *range(1_500, 32_000, 3_000)])
     chance = trial.chance("tmpfs")
@@ -204,7 +219,7 @@ def test_what_was_told_stands_on_a_full_file_system(trial, tell):
 # A database that may not be written, and what is none.
 
 
-def test_a_database_that_may_not_be_written_is_read(trial, tell):
+def test_a_database_that_may_not_be_written_is_read(trial: Trial, tell: Tell) -> None:
     """A file, and a folder, that the user may only read: an answer or a fault, and nothing
     changes."""
     user = NOBODY if os.geteuid() == 0 else None
@@ -245,14 +260,16 @@ def test_a_database_that_may_not_be_written_is_read(trial, tell):
     tell(f"5 modes of file and folder, of which {sum(told)} can still be asked")
 
 
-def with_new(registry):
+def with_new(registry: Registry) -> Registry:
     """The registry after one more item."""
     grown = load(registry.dump(), b"TEST")
     expect(grown.submit(NEW)[0].endswith(": added"), True, "whether the model adds the item")
     return grown
 
 
-def tried_read_only(trial, settings, program, user, registry, what):
+def tried_read_only(
+    trial: Trial, settings: str, program: str, user: int, registry: Registry, what: str
+) -> tuple[bool, bool]:
     """Whether a database that may not be written can be asked, and whether an item was told as
     added; else its rows stay."""
     kept, trial.program = trial.program, program
@@ -273,7 +290,7 @@ def tried_read_only(trial, settings, program, user, registry, what):
     return is_answer(asked), is_added
 
 
-def test_what_is_no_database_is_told(trial, tell):
+def test_what_is_no_database_is_told(trial: Trial, tell: Tell) -> None:
     """Folders, devices, links and other files in the places of a database, of its log, and of each
     file that is named."""
     tried = 0
@@ -311,10 +328,10 @@ RIGHT = {
 STILL_READ = ["a folder for its log"]
 
 
-def instead(make):
+def instead(make: Callable[..., Any]) -> Callable[..., Any]:
     """Takes the database away, and makes something else in its place."""
 
-    def place(path):
+    def place(path: str) -> None:
         os.remove(path)
         make(path)
 
@@ -336,7 +353,7 @@ PLACES = {
 }
 
 
-def test_no_file_takes_the_place_of_a_closed_stream(trial, tell):
+def test_no_file_takes_the_place_of_a_closed_stream(trial: Trial, tell: Tell) -> None:
     """Standard streams that are closed: nothing of a report gets into the database that is opened
     then."""
     texts = changing_items(trial.chance("closed"), 20, [20])
@@ -378,7 +395,7 @@ def test_no_file_takes_the_place_of_a_closed_stream(trial, tell):
 class Damaged:
     """What became of changed files: how many of each kind."""
 
-    def __init__(self, trial, registry, earlier):
+    def __init__(self, trial: Trial, registry: Registry, earlier: dict[bytes, list[int]]) -> None:
         self.trial = trial
         self.registry, self.whole, self.earlier, self.kinds = (
             registry,
@@ -387,7 +404,7 @@ class Damaged:
             collections.Counter(),
         )
 
-    def judge(self, folder, what):
+    def judge(self, folder: str, what: str) -> None:
         """Judges all that is answered from a changed database."""
         ran = dump(self.trial, folder)
         expect_ended(ran, f"{what}: dump")
@@ -404,7 +421,7 @@ class Damaged:
                 )
         self.submit(folder, f"{what}: {kind}", stands)
 
-    def kind_of(self, ran, what):
+    def kind_of(self, ran: Ran, what: str) -> tuple[str, Registry]:
         """How a dump of a changed database is to be taken, and the registry that it shows."""
         if is_fault(ran):
             return "fault", self.registry
@@ -425,7 +442,7 @@ class Damaged:
             )
         return "another valid object", stands
 
-    def submit(self, folder, what, stands):
+    def submit(self, folder: str, what: str, stands: Registry) -> None:
         """One more item: what is told of it stands, as far as the database can be read again."""
         sent = self.trial.run(folder, "submit", "s.toml", "new.rpsl")
         expect_ended(sent, f"{what}: submit")
@@ -437,11 +454,11 @@ class Damaged:
             if after.printed != expected.dump():
                 raise Failure(f"{what}: the dump of what was submitted")
 
-    def told(self):
+    def told(self) -> str:
         return ", ".join(f"{kind} {count}" for kind, count in sorted(self.kinds.items()))
 
 
-def changed_copy(trial, base, name, file, place, byte):
+def changed_copy(trial: Trial, base: str, name: str, file: str, place: int, byte: bytes) -> str:
     folder = copied(trial, base, name)
     with open(os.path.join(folder, file), "r+b") as opened:
         opened.seek(place)
@@ -449,7 +466,7 @@ def changed_copy(trial, base, name, file, place, byte):
     return folder
 
 
-def test_of_a_changed_byte_nothing_wrong_is_answered(trial, tell):
+def test_of_a_changed_byte_nothing_wrong_is_answered(trial: Trial, tell: Tell) -> None:
     """Single bytes of the database: anywhere, in the heads of pages, and in the texts of
     objects."""
     count = trial.pick(60, 500)
@@ -479,7 +496,7 @@ def test_of_a_changed_byte_nothing_wrong_is_answered(trial, tell):
     tell(f"{count} bytes of {len(content)}: {damaged.told()}")
 
 
-def changed_byte(chance, old, turn):
+def changed_byte(chance: random.Random, old: int, turn: int) -> int:
     if turn % 4 == 2:
         return chance.choice([byte for byte in b"0123456789" if byte != old])
     return (
@@ -489,12 +506,12 @@ def changed_byte(chance, old, turn):
     )
 
 
-def read_file(folder, name):
+def read_file(folder: str, name: str) -> bytes:
     with open(os.path.join(folder, name), "rb") as opened:
         return opened.read()
 
 
-def test_of_a_changed_log_nothing_wrong_is_answered(trial, tell):
+def test_of_a_changed_log_nothing_wrong_is_answered(trial: Trial, tell: Tell) -> None:
     """Single bytes of the log of a submission that was killed, and logs cut short."""
     count = trial.pick(12, 200)
     chance = trial.chance("log")
@@ -519,7 +536,7 @@ def test_of_a_changed_log_nothing_wrong_is_answered(trial, tell):
     tell(f"{count} changes in {len(content)} bytes: {damaged.told()}")
 
 
-def killed_before_end(trial, folder, count):
+def killed_before_end(trial: Trial, folder: str, count: int) -> None:
     """Submits the items, and kills the program behind the last one, so that its log stays."""
     reader, writer = os.pipe()
     process = subprocess.Popen(
@@ -543,7 +560,7 @@ def killed_before_end(trial, folder, count):
     os.close(reader)
 
 
-def test_of_a_file_cut_short_nothing_wrong_is_answered(trial, tell):
+def test_of_a_file_cut_short_nothing_wrong_is_answered(trial: Trial, tell: Tell) -> None:
     """Files cut short, with bytes behind their end, and with a page of zeros."""
     count = trial.pick(9, 100)
     chance = trial.chance("cut")

@@ -2,11 +2,14 @@
 
 import shutil
 import subprocess
+from collections.abc import Callable
+from typing import Any
 
+from checks.failing import Failing
 from checks.hostile.sweeping import LIMIT, WRITTEN, ask, made_registry, posted
 from checks.model.queries import answer
 from checks.model.registry import load
-from checks.running import expect, write, write_settings
+from checks.running import Ran, Tell, Trial, expect, write, write_settings
 from checks.serving import LONGEST, free_port
 from checks.texts import item
 from checks.worked import (
@@ -22,7 +25,7 @@ from checks.worked import (
 IN_MEMORY, SECONDS = True, 90
 
 
-def first_call(failing, base, words, has_come):
+def first_call(failing: Failing, base: str, words: list[str], has_come: Callable[..., Any]) -> int:
     """The first call of the disk from which on it may fail, so that a command still comes so far:
     the later it fails, the further that comes."""
     lowest, highest = 1, failing.count(base, words, "disk", "on") + 1
@@ -34,14 +37,16 @@ def first_call(failing, base, words, has_come):
     return lowest
 
 
-def failed_from(failing, base, words, number):
+def failed_from(failing: Failing, base: str, words: list[str], number: int) -> tuple[str, Ran]:
     """A copy of a folder in which a command ran under a disk that fails from this call on, and how
     that ended."""
     folder = failing.copied(base, f"failed-from-{number}")
     return folder, failing.run(folder, words, failing.environment("disk", "on", number))
 
 
-def test_a_disk_that_fails_from_the_second_item_on(trial, failing, tell):
+def test_a_disk_that_fails_from_the_second_item_on(
+    trial: Trial, failing: Failing, tell: Tell
+) -> None:
     """The disk fails from the first call of the second of three items on: the first one stands and
     no other, and the same text can be submitted again."""
     submission, base = SUBMISSIONS[WRITTEN], made_registry(trial, "failed second")
@@ -74,7 +79,9 @@ def test_a_disk_that_fails_from_the_second_item_on(trial, failing, tell):
     tell(f"call {number}")
 
 
-def test_a_disk_that_fails_once_a_maintainer_is_looked_up(trial, failing, tell):
+def test_a_disk_that_fails_once_a_maintainer_is_looked_up(
+    trial: Trial, failing: Failing, tell: Tell
+) -> None:
     """The disk fails once a registry is open of which more stands in the database than is kept in
     memory: what names a maintainer, which is looked up there, is `% error 5`. That stops a server,
     which then answers nothing else."""
@@ -120,7 +127,9 @@ def test_a_disk_that_fails_once_a_maintainer_is_looked_up(trial, failing, tell):
     tell(f"call {number}")
 
 
-def served_from(trial, failing, base, number, asked):
+def served_from(
+    trial: Trial, failing: Failing, base: str, number: int, asked: list[bytes]
+) -> list[bytes]:
     """What peers are answered by a server whose disk fails from this call on."""
     port = free_port()
     with subprocess.Popen(
@@ -162,5 +171,5 @@ REFUSED = (
 )
 
 
-def test_each_line_that_was_said_is_of_the_page(failing, tell):
+def test_each_line_that_was_said_is_of_the_page(failing: Failing, tell: Tell) -> None:
     tell(failing.said_is_of_the_page())

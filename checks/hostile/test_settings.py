@@ -1,7 +1,9 @@
 """Settings of chance, beside Python's reader of TOML."""
 
+import random
 import re
 import tomllib
+from typing import Any
 
 from checks.chances import mutated
 from checks.hostile.runs import Worst, is_text, kept
@@ -11,6 +13,8 @@ from checks.running import (
     AUTH,
     SETTINGS,
     Failure,
+    Tell,
+    Trial,
     expect,
     expect_ended,
     write,
@@ -56,7 +60,7 @@ SETTING_LINES = [
 ]
 
 
-def any_settings(chance):
+def any_settings(chance: random.Random) -> bytes:
     lines = SETTINGS.format(store="irr.db", limit=10_000).encode().splitlines()
     for _ in range(chance.choice([0, 1, 1, 2])):
         place = chance.randrange(len(lines))
@@ -67,7 +71,7 @@ def any_settings(chance):
     return mutated(chance, text) if chance.random() < 0.4 else text
 
 
-def first_bad(table):
+def first_bad(table: dict[str, Any]) -> str | None:
     """The first key that is missing or bad, by the rules of the settings."""
     source, root, auth, limit, store = (
         table.get(key) for key in ["source", "root", "auth", "limit", "store"]
@@ -90,7 +94,7 @@ def first_bad(table):
     )
 
 
-def test_settings_of_chance_are_taken_or_named(trial, tell):
+def test_settings_of_chance_are_taken_or_named(trial: Trial, tell: Tell) -> None:
     """Settings files: the first bad key is named, or it is no TOML, or the registry that they name
     is asked."""
     count = trial.count or trial.pick(200, 100_000)
@@ -116,7 +120,7 @@ def test_settings_of_chance_are_taken_or_named(trial, tell):
     tell(f"{count} files, {other} of them TOML of 1.1 alone; {worst.told()}")
 
 
-def fits_outcome(wanted, status, told):
+def fits_outcome(wanted: str, status: int, told: str) -> bool:
     """Whether a status and words fit an outcome of the settings."""
     if wanted.startswith("`"):
         return status == 3 and told.startswith(f"irrdesk: f.toml: {wanted} is missing or bad: ")
@@ -131,7 +135,7 @@ def fits_outcome(wanted, status, told):
     return fits[wanted]
 
 
-def has_large_number(value):
+def has_large_number(value: dict[str, int | str] | str | int) -> bool:
     """Whether a whole number stands there that has over 64 bits, which TOML has as a fault and
     Python's reader takes."""
     if isinstance(value, (dict, list)):
@@ -147,7 +151,7 @@ def has_large_number(value):
 NEWER = re.compile(rb"\\[ex]|[0-9]:[0-9]|\{")
 
 
-def in_older_toml(text):
+def in_older_toml(text: bytes) -> bytes:
     """A text of TOML 1.1 as one of 1.0, as far as this is done by its marks alone."""
     text = re.sub(rb"\\x([0-9A-Fa-f]{2})", rb"\\u00\1", text.replace(rb"\e", rb"\u001b"))
     text = re.sub(rb"(?<![0-9:+-])([0-9]{2}:[0-9]{2})(?![0-9:])", rb"\1:00", text)
@@ -158,7 +162,7 @@ def in_older_toml(text):
     )
 
 
-def read_toml(text):
+def read_toml(text: bytes) -> dict[str, Any] | None:
     """The table of a text, by Python's reader, or nothing."""
     try:
         return tomllib.loads(text.decode().removeprefix("\ufeff"))
@@ -166,7 +170,7 @@ def read_toml(text):
         return None
 
 
-def settings_outcome(text):
+def settings_outcome(text: bytes) -> str:
     if not is_text(text):
         return "no text"
     table = read_toml(text)

@@ -3,10 +3,12 @@
 import hashlib
 import math
 import os
+from collections.abc import Callable
+from typing import Any
 
 import pytest
 
-from checks.running import AUTH, Failure, Ran, expect, short, write, write_settings
+from checks.running import AUTH, Failure, Ran, Tell, Trial, expect, short, write, write_settings
 from checks.serving import GIVEN, Server
 
 # It looks at times.
@@ -24,18 +26,18 @@ PASSWORD = "password: bc\n\n"
 SHAPES = []
 
 
-def shape(name, short_size, long_size):
+def shape(name: str, short_size: int, long_size: int) -> Callable[..., Any]:
     """Registers a shape: its sizes, and a function of a folder and a size that runs the program and
     gives the runs to be timed."""
 
-    def register(function):
+    def register(function: Callable[..., Any]) -> Callable[..., Any]:
         SHAPES.append((name, short_size, long_size, function))
         return function
 
     return register
 
 
-def run(trial, folder, *words, stdin=None, status=0):
+def run(trial: Trial, folder: str, *words: str, stdin: None = None, status: int = 0) -> Ran:
     ran = trial.run(folder, *words, stdin=stdin, timeout=300, limits={"stack": STACK})
     if ran.status != status or ran.said:
         raise Failure(
@@ -44,14 +46,14 @@ def run(trial, folder, *words, stdin=None, status=0):
     return ran
 
 
-def loaded(trial, folder, text):
+def loaded(trial: Trial, folder: str, text: str) -> Ran:
     """Loads a dump into a new database."""
     write_settings(folder, limit=1_000_000)
     write(folder, "dump.rpsl", (ROOT + text).encode())
     return run(trial, folder, "load", "s.toml", "dump.rpsl")
 
 
-def submitted(trial, folder, text, wanted, status=0):
+def submitted(trial: Trial, folder: str, text: str, wanted: bytes, status: int = 0) -> Ran:
     """Submits items, which all have this outcome."""
     write(folder, "items.rpsl", text.encode())
     ran = run(trial, folder, "submit", "s.toml", "items.rpsl", status=status)
@@ -63,7 +65,9 @@ def submitted(trial, folder, text, wanted, status=0):
     return ran
 
 
-def asked(trial, folder, query, lines=None, answer=None):
+def asked(
+    trial: Trial, folder: str, query: str, lines: int | None = None, answer: bytes | None = None
+) -> Ran:
     """Asks for something, whose answer has so many lines, or is this."""
     ran = run(trial, folder, "query", "s.toml", query)
     if lines is not None:
@@ -73,7 +77,7 @@ def asked(trial, folder, query, lines=None, answer=None):
     return ran
 
 
-def address(number):
+def address(number: int) -> str:
     return ".".join(str(byte) for byte in number.to_bytes(4, "big"))
 
 
@@ -81,7 +85,7 @@ def address(number):
 
 
 @shape("references among sets, each to all", 40_000, 1_000_000)
-def dense_sets(trial, folder, size):
+def dense_sets(trial: Trial, folder: str, size: int) -> list[Ran]:
     count = math.isqrt(size)
     members = ",".join(f"AS-S{n}" for n in range(count))
     sets = "".join(f"as-set: AS-S{n}\nmembers: {members},AS{n}\n{OWNED}" for n in range(count))
@@ -93,7 +97,7 @@ def dense_sets(trial, folder, size):
 
 
 @shape("a chain of as-sets", 10_000, 100_000)
-def chained_as_sets(trial, folder, size):
+def chained_as_sets(trial: Trial, folder: str, size: int) -> list[Ran]:
     sets = "".join(f"as-set: AS-S{n}\nmembers: AS-S{n + 1}\n{OWNED}" for n in range(size))
     sets += f"as-set: AS-S{size}\nmembers: AS7\n{OWNED}"
     return [
@@ -104,7 +108,7 @@ def chained_as_sets(trial, folder, size):
 
 
 @shape("a chain of route-sets, each of one range that all before it have too", 500_000, 900_000)
-def carried_ranges(trial, folder, size):
+def carried_ranges(trial: Trial, folder: str, size: int) -> list[Ran]:
     count = math.isqrt(2 * size)
     sets = "".join(
         f"route-set: RS-S{n}\nmembers: RS-S{n + 1} {address((10 << 24) + n)}/32\n{OWNED}"
@@ -114,7 +118,7 @@ def carried_ranges(trial, folder, size):
 
 
 @shape("a chain of route-sets under operators", 10_000, 100_000)
-def chained_operators(trial, folder, size):
+def chained_operators(trial: Trial, folder: str, size: int) -> list[Ran]:
     sets = "".join(
         f"route-set: RS-S{n}\nmembers: RS-S{n + 1}^{'+-'[n % 16 == 0]}\n{OWNED}"
         for n in range(size)
@@ -128,7 +132,7 @@ def chained_operators(trial, folder, size):
 ALIKE = ["", "^+", "^32"] + [f"^{length}-32" for length in range(32)]
 
 
-def ring(trial, folder, count, ranges, bound):
+def ring(trial: Trial, folder: str, count: int, ranges: int, bound: float) -> list[Ran]:
     """Route-sets that each list so many ranges and all sets under 35 operators. The expansion of
     one takes at most so many seconds of the processor more than a query for a set that there is
     not."""
@@ -158,17 +162,17 @@ def ring(trial, folder, count, ranges, bound):
     70_000,
     283_500,
 )
-def ring_of_references(trial, folder, size):
+def ring_of_references(trial: Trial, folder: str, size: int) -> list[Ran]:
     return ring(trial, folder, math.isqrt(size // len(ALIKE)), 1, 0.27)
 
 
 @shape("a ring of 16 route-sets, with so many pairs of a set and a range", 20_000, 100_000)
-def ring_of_pairs(trial, folder, size):
+def ring_of_pairs(trial: Trial, folder: str, size: int) -> list[Ran]:
     return ring(trial, folder, 16, size // 256, 0.59)
 
 
 @shape("members by reference, of one set", 5_000, 50_000)
-def referred(trial, folder, size):
+def referred(trial: Trial, folder: str, size: int) -> list[Ran]:
     numbers = "".join(f"aut-num: AS{n}\nmember-of: AS-R\n{OWNED}" for n in range(size))
     return [
         loaded(trial, folder, numbers + f"as-set: AS-R\nmbrs-by-ref: ANY\n{OWNED}"),
@@ -183,14 +187,14 @@ def referred(trial, folder, size):
 LAST = "ABCDEFGHIJKLMNOPQRSTUVWXYZ0123456789"
 
 
-def over_and_over(name, item, count):
+def over_and_over(name: str, item: str, count: int) -> str:
     """Lines of an attribute that list an item so often, a hundred times each."""
     return f"{name}: {','.join([item] * 100)}\n" * (count // 100)
 
 
 @shape("a chain of as-sets, each of which lists the next one over and over", 12_000, 12_000)
-def repeated_names(trial, folder, size):
-    def listing(name, member):
+def repeated_names(trial: Trial, folder: str, size: int) -> list[Ran]:
+    def listing(name: str, member: str) -> str:
         return f"as-set: AS-{name}\n{over_and_over('members', member, size)}{OWNED}"
 
     chain = "".join(listing(one, f"AS-{other}") for one, other in zip(LAST, LAST[1:])) + listing(
@@ -215,7 +219,7 @@ def repeated_names(trial, folder, size):
     10_000,
     10_000,
 )
-def repeated_operators(trial, folder, size):
+def repeated_operators(trial: Trial, folder: str, size: int) -> list[Ran]:
     chain = "".join(
         "route-set:"
         f" RS-{one}\n{over_and_over('members', f'RS-{other},RS-{other}^+', size // 2)}{OWNED}"
@@ -235,7 +239,7 @@ def repeated_operators(trial, folder, size):
     4_000,
     12_000,
 )
-def repeated_origins(trial, folder, size):
+def repeated_origins(trial: Trial, folder: str, size: int) -> list[Ran]:
     routes = "".join(
         f"route: {address((10 << 24) + n)}/32\norigin: AS7\n{OWNED}" for n in range(size)
     )
@@ -258,7 +262,7 @@ def repeated_origins(trial, folder, size):
     5_000,
     5_000,
 )
-def repeated_references(trial, folder, size):
+def repeated_references(trial: Trial, folder: str, size: int) -> list[Ran]:
     mntners = "".join(f"mntner: {name}\nauth: {AUTH}\n{OWNED}" for name in ("M-MNT", "R-MNT"))
     lists = over_and_over("member-of", "AS-R", size) + over_and_over("mnt-by", "M-MNT", size)
     numbers = "".join(f"aut-num: AS{n}\n{lists}mnt-by: R-MNT\nsource: TEST\n\n" for n in range(30))
@@ -277,7 +281,7 @@ def repeated_references(trial, folder, size):
 
 
 @shape("nested inetnums", 5_000, 100_000)
-def nested(trial, folder, size):
+def nested(trial: Trial, folder: str, size: int) -> list[Ran]:
     spans = "".join(
         f"inetnum: {address((10 << 24) + n)} - {address((12 << 24) - n)}\n{OWNED}"
         for n in range(size)
@@ -297,7 +301,7 @@ def nested(trial, folder, size):
 
 
 @shape("inetnums side by side", 5_000, 100_000)
-def siblings(trial, folder, size):
+def siblings(trial: Trial, folder: str, size: int) -> list[Ran]:
     spans = "".join(f"inetnum: {address((10 << 24) + 2 * n)}/31\n{OWNED}" for n in range(size))
     return [
         loaded(trial, folder, spans),
@@ -307,7 +311,7 @@ def siblings(trial, folder, size):
 
 
 @shape("origins of one prefix", 2_000, 30_000)
-def origins(trial, folder, size):
+def origins(trial: Trial, folder: str, size: int) -> list[Ran]:
     routes = "".join(
         f"aut-num: AS{n}\n{OWNED}route: 10.0.0.0/8\norigin: AS{n}\n{OWNED}" for n in range(size)
     )
@@ -322,14 +326,14 @@ def origins(trial, folder, size):
 # Names.
 
 
-def listed_maintainers(size):
+def listed_maintainers(size: int) -> tuple[str, str]:
     """So many maintainers, and a list of their names."""
     mntners = "".join(f"mntner: M{n}\nauth: {AUTH}\n{OWNED}" for n in range(size))
     return mntners, ",".join(f"M{n}" for n in range(size))
 
 
 @shape("maintainers in one list", 1_000, 10_000)
-def maintainers(trial, folder, size):
+def maintainers(trial: Trial, folder: str, size: int) -> list[Ran]:
     mntners, listed = listed_maintainers(size)
     held = [
         f"inetnum: 10.0.0.0/8\ndescr: {n}\nmnt-by: {listed}\nsource: TEST\n\n" for n in range(6)
@@ -342,7 +346,7 @@ def maintainers(trial, folder, size):
 
 
 @shape("deletions of a set that names many maintainers", 1_000, 10_000)
-def deletions(trial, folder, size):
+def deletions(trial: Trial, folder: str, size: int) -> list[Ran]:
     mntners, listed = listed_maintainers(size)
     loaded(trial, folder, f"{mntners}as-set: AS-T\nmnt-by: {listed}\nsource: TEST\n\n")
     items = "password: no\n\n" + "as-set: AS-T\ndelete: x\n\n" * (size // 4)
@@ -350,7 +354,7 @@ def deletions(trial, folder, size):
 
 
 @shape("names alike up to their last characters", 3_000, 30_000)
-def alike(trial, folder, size):
+def alike(trial: Trial, folder: str, size: int) -> list[Ran]:
     names = [f"M{'X' * 72}{n:07}" for n in range(size)]
     texts = f"inetnum: 10.0.0.0/8\n{OWNED}" + "".join(
         f"mntner: {name}\nauth: NONE\n{OWNED}" for name in names
@@ -367,7 +371,7 @@ def alike(trial, folder, size):
 
 
 @shape("spellings of one name", 3_000, 30_000)
-def spellings(trial, folder, size):
+def spellings(trial: Trial, folder: str, size: int) -> list[Ran]:
     letters = "abcdefghijklmnop"
     texts = []
     for number in range(size):
@@ -386,7 +390,7 @@ def spellings(trial, folder, size):
 # Secrets.
 
 
-def passwords(size):
+def passwords(size: int) -> bytes:
     """Passwords that don't fit, in paragraphs that are not too long, of at most so many bytes in
     all."""
     lines = [b"password: no %04x\n" % number for number in range((size - size // 60_000 - 2) // 18)]
@@ -396,7 +400,7 @@ def passwords(size):
     )
 
 
-def items_of(owner, size):
+def items_of(owner: bytes, size: int) -> tuple[bytes, int]:
     """Items that this one maintains, of at most so many bytes in all, and how many they are."""
     texts = [
         b"inetnum: 10.0.%d.0/24\nmnt-by: %s\nsource: TEST\n\n" % (number % 256, owner)
@@ -410,7 +414,7 @@ def items_of(owner, size):
     MOST_BODY >> 4,
     MOST_BODY,
 )
-def many_secrets(trial, folder, size):
+def many_secrets(trial: Trial, folder: str, size: int) -> list[Ran]:
     salts = [SALT[number % len(SALT)] if number < 640 else "" for number in range(800)]
     lines = "".join(
         f"auth:SHA256-PW {salt}:{hashlib.sha256(b'%d' % number).hexdigest()}\n"
@@ -440,7 +444,7 @@ SALT = "abcdefghijklmnopqrstuvwxyzABCDEFGHIJKLMNOPQRSTUVWXYZ0123456789"
 # Text.
 
 
-def plain(trial, text, last):
+def plain(trial: Trial, text: bytes, last: bytes) -> list[Ran]:
     """A submission to a registry in memory, and the last line of its report."""
     ran = run(trial, trial.work, stdin=text, status=1 if b"refused" in last else 0)
     expect(
@@ -451,7 +455,16 @@ def plain(trial, text, last):
     return [ran]
 
 
-def repeated(trial, folder, size, front, piece, end, count, outcome=b"added"):
+def repeated(
+    trial: Trial,
+    folder: str,
+    size: int,
+    front: bytes,
+    piece: bytes,
+    end: bytes,
+    count: int,
+    outcome: bytes = b"added",
+) -> list[Ran]:
     """A paragraph of so many bytes, submitted so often under other names."""
     paragraphs = []
     for n in range(count):
@@ -472,53 +485,53 @@ END = b"\nmnt-by: ROOT-MNT\nsource: TEST\n"
 
 
 @shape("a list of commas", 65_536, 65_536)
-def commas(trial, folder, size):
+def commas(trial: Trial, folder: str, size: int) -> list[Ran]:
     return repeated(trial, folder, size, b"mnt-by: ", b",", END, 60)
 
 
 @shape("items of one list", 65_536, 65_536)
-def many_items(trial, folder, size):
+def many_items(trial: Trial, folder: str, size: int) -> list[Ran]:
     return repeated(trial, folder, size, b"mnt-by: ", b"ROOT-MNT,", END, 20)
 
 
 @shape("attributes without a value", 65_536, 65_536)
-def empty_attributes(trial, folder, size):
+def empty_attributes(trial: Trial, folder: str, size: int) -> list[Ran]:
     return repeated(trial, folder, size, b"", b"a:\n", END[1:], 30)
 
 
 @shape("empty lines of one value", 65_536, 65_536)
-def empty_lines(trial, folder, size):
+def empty_lines(trial: Trial, folder: str, size: int) -> list[Ran]:
     return repeated(trial, folder, size, b"descr:\n", b"+\n", END[1:], 30)
 
 
 @shape("ranges of one grant", 65_536, 65_536)
-def many_ranges(trial, folder, size):
+def many_ranges(trial: Trial, folder: str, size: int) -> list[Ran]:
     return repeated(
         trial, folder, size, b"mnt-routes: ROOT-MNT {", b"10.0.0.0/8^+ ", b"}" + END, 20
     )
 
 
 @shape("blank lines", 1_000_000, 10_000_000)
-def blank_lines(trial, folder, size):
+def blank_lines(trial: Trial, folder: str, size: int) -> list[Ran]:
     return plain(trial, b"\n" * size, b"% items 0")
 
 
 @shape("lines that are skipped", 1_000_000, 10_000_000)
-def skipped_lines(trial, folder, size):
+def skipped_lines(trial: Trial, folder: str, size: int) -> list[Ran]:
     return plain(trial, b"#\n" * size, b"% items 0")
 
 
 @shape("a line without an end", 20_000_000, 200_000_000)
-def endless_line(trial, folder, size):
+def endless_line(trial: Trial, folder: str, size: int) -> list[Ran]:
     return plain(trial, b"x" * size, b"1 -: refused E07\n% items 1")
 
 
 @shape("paragraphs of one byte", 200_000, 2_000_000)
-def tiny_paragraphs(trial, folder, size):
+def tiny_paragraphs(trial: Trial, folder: str, size: int) -> list[Ran]:
     return plain(trial, b"x\n\n" * size, b"%d -: refused E01\n%% items %d" % (size, size))
 
 
-def taken(trial, size, function, turn):
+def taken(trial: Trial, size: int, function: Callable[..., Any], turn: int) -> tuple[float, int]:
     """The processor's time of the runs on a shape, and the most memory."""
     folder = trial.place(f"{function.__name__}-{size}-{turn}")
     runs = function(trial, folder, size)
@@ -527,7 +540,7 @@ def taken(trial, size, function, turn):
     return sum(ran.seconds for ran in runs), max(ran.memory for ran in runs)
 
 
-def measured(trial, size, function):
+def measured(trial: Trial, size: int, function: Callable[..., Any]) -> str:
     """The processor's time at a size and at half of it, and the memory at the larger one."""
     half = whole = math.inf
     most = trial.pick(MOST_TIMES, LONG_TIMES)
@@ -550,6 +563,6 @@ def measured(trial, size, function):
     [pytest.param(*sizes, id=name) for name, *sizes in SHAPES],
 )
 def test_twice_the_input_takes_no_more_than_twice_the_time(
-    trial, short_size, long_size, function, tell
-):
+    trial: Trial, short_size: int, long_size: int, function: Callable[..., Any], tell: Tell
+) -> None:
     tell(measured(trial, trial.pick(short_size, long_size), function))

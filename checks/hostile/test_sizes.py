@@ -1,13 +1,25 @@
 """Sizes at each limit of the program: one below, at it, and one above."""
 
 import os
+from collections.abc import Callable
+from typing import Any
 
 import pytest
 
 from checks.heads import refusal
 from checks.model.queries import answer
 from checks.model.registry import Registry
-from checks.running import cases_of, AUTH, DIGEST, expect, run_in_pieces, write, write_settings
+from checks.running import (
+    AUTH,
+    DIGEST,
+    Tell,
+    Trial,
+    cases_of,
+    expect,
+    run_in_pieces,
+    write,
+    write_settings,
+)
 from checks.serving import GIVEN, Listening, Server
 
 MOST_READS = 16_777_216
@@ -16,45 +28,45 @@ CASES = []
 IN_MEMORY = True
 
 
-def case(name, is_long=False):
+def case(name: str, is_long: bool = False) -> Callable[..., Any]:
     """Registers a case, which gives words for its line; one that takes minutes
     is of the long form alone."""
 
-    def register(function):
+    def register(function: Callable[..., Any]) -> Callable[..., Any]:
         CASES.append((name, function, is_long))
         return function
 
     return register
 
 
-def opened():
+def opened() -> Registry:
     return Registry(auth=AUTH.encode())
 
 
-def outcome(trial, paragraph):
+def outcome(trial: Trial, paragraph: bytes) -> str:
     """What is said of one item with the root's password."""
     ran = trial.run(trial.work, stdin=b"password: bc\n\n" + paragraph)
     return ran.printed.partition(b"\n")[0].rpartition(b": ")[2].decode()
 
 
-def expect_outcomes(trial, about, cases):
+def expect_outcomes(trial: Trial, about: str, cases: list[tuple[bytes, str]]) -> str:
     for text, wanted in cases:
         expect(outcome(trial, text), wanted, f"{about}, {text[:60]!r} of {len(text)} bytes")
     return f"{len(cases)} sizes"
 
 
-def inetnum(extra):
+def inetnum(extra: bytes) -> bytes:
     return b"inetnum: 10.0.0.0/8\n" + extra + OWNED
 
 
-def filled(size, byte=b"x"):
+def filled(size: int, byte: bytes = b"x") -> bytes:
     """An inetnum of so many bytes."""
     front, end = b"inetnum: 10.0.0.0/8\ndescr: ", b"\n" + OWNED
     return front + byte * (size - len(front) - len(end)) + end
 
 
 @case("paragraphs")
-def paragraphs(trial):
+def paragraphs(trial: Trial) -> str:
     sizes = [
         (size, byte)
         for size in (65_535, 65_536, 65_537)
@@ -75,7 +87,7 @@ def paragraphs(trial):
 
 
 @case("names")
-def names(trial):
+def names(trial: Trial) -> str:
     cases = [
         (inetnum(b"n" * size + b": x\n"), "added" if size <= 64 else "refused E01")
         for size in (1, 63, 64, 65)
@@ -102,7 +114,7 @@ def names(trial):
 
 
 @case("numbers")
-def numbers(trial):
+def numbers(trial: Trial) -> str:
     cases = [
         (b"aut-num: %s\n%s" % (number, OWNED), wanted)
         for number, wanted in [
@@ -149,8 +161,8 @@ def numbers(trial):
 
 
 @case("secrets")
-def secrets(trial):
-    def mntner(auth):
+def secrets(trial: Trial) -> str:
+    def mntner(auth: bytes) -> bytes:
         return b"mntner: A-MNT\nauth: %s\n%s" % (auth, OWNED)
 
     digest = DIGEST.encode()
@@ -173,7 +185,7 @@ def secrets(trial):
     return expect_outcomes(trial, "secrets", cases)
 
 
-def made(trial, name, text=b"", limit=10_000):
+def made(trial: Trial, name: str, text: bytes = b"", limit: int = 10_000) -> str:
     folder = trial.place(name)
     write_settings(folder, limit=limit)
     expect(trial.run(folder, "init", "s.toml").status, 0, "init")
@@ -184,7 +196,7 @@ def made(trial, name, text=b"", limit=10_000):
 
 
 @case("queries")
-def queries(trial):
+def queries(trial: Trial) -> str:
     folder, registry = made(trial, "size-queries"), opened()
     asked = [
         b"ROOT-MNT".ljust(size, byte)
@@ -212,7 +224,7 @@ def queries(trial):
 
 
 @case("heads and bodies")
-def heads(trial):
+def heads(trial: Trial) -> str:
     folder = made(trial, "size-heads")
     wanted = GIVEN + answer(opened(), b"ROOT-MNT", 10_000)
     cases = []
@@ -241,7 +253,7 @@ def heads(trial):
 
 
 @case("expansions")
-def expansions(trial):
+def expansions(trial: Trial) -> str:
     chain = b"".join(
         b"as-set: AS-%d\nmembers: AS-%d, AS%d\n%s\n" % (n, n + 1, n, OWNED) for n in range(9)
     )
@@ -267,7 +279,7 @@ def expansions(trial):
 
 
 @case("settings and words")
-def settings(trial):
+def settings(trial: Trial) -> str:
     folder = made(trial, "size-settings")
     with open(os.path.join(folder, "s.toml"), "rb") as opened_file:
         text = opened_file.read()
@@ -296,7 +308,7 @@ def settings(trial):
 
 
 @case("dumps")
-def dumps(trial):
+def dumps(trial: Trial) -> str:
     """A dump whose last paragraph is one below, at and above the most bytes."""
     folder, registry = trial.place("size-dumps"), opened()
     write_settings(folder)
@@ -314,7 +326,7 @@ def dumps(trial):
 
 
 @case("reads", is_long=True)
-def reads(trial):
+def reads(trial: Trial) -> str:
     """A submission and a dump in pieces of one byte each: they may be read so often, and no
     more."""
     for size, whole in [(MOST_READS - 1, True), (MOST_READS, False)]:
@@ -339,5 +351,7 @@ def reads(trial):
 
 
 @pytest.mark.parametrize("check", cases_of(CASES))
-def test_sizes_at_a_limit_are_taken_and_beyond_it_refused(trial, check, tell):
+def test_sizes_at_a_limit_are_taken_and_beyond_it_refused(
+    trial: Trial, check: Callable[..., Any], tell: Tell
+) -> None:
     tell(check(trial))

@@ -5,15 +5,17 @@ checks/worked.py."""
 import os
 import shutil
 import subprocess
+from collections.abc import Callable
+from typing import Any
 
 import pytest
 
-from checks.failing import NONE
+from checks.failing import NONE, Failing
 from checks.hostile.sweeping import LIMIT, WRITTEN, made_registry
 from checks.model.queries import answer
-from checks.model.registry import load
+from checks.model.registry import Registry, load
 from checks.old import old_items, read_rows, write_old
-from checks.running import expect, is_fault, short, write, write_settings
+from checks.running import Each, Ran, Tell, Trial, expect, is_fault, short, write, write_settings
 from checks.worked import ASKED, DUMPS, QUERIES, SUBMISSIONS, check_rows, opened
 
 IN_MEMORY, SECONDS = True, 90
@@ -29,7 +31,16 @@ WRITING = [
 ]
 
 
-def sweep(failing, each, name, base, words, kind, how, *rest):
+def sweep(
+    failing: Failing,
+    each: Callable[..., Any],
+    name: str,
+    base: str,
+    words: list[str],
+    kind: str,
+    how: str,
+    *rest: Callable[..., Any] | tuple[bytes, bytes] | int,
+) -> None:
     with each(f"{name}, {kind} {how}"):
         failing.sweep(base, words, kind, how, *rest)
 
@@ -38,7 +49,9 @@ def sweep(failing, each, name, base, words, kind, how, *rest):
 
 
 @pytest.mark.parametrize("name", SUBMISSIONS)
-def test_what_was_told_of_a_submission_stands(trial, failing, name, each):
+def test_what_was_told_of_a_submission_stands(
+    trial: Trial, failing: Failing, name: str, each: Each
+) -> None:
     submission = SUBMISSIONS[name]
     base = made_registry(trial, name)
     write(base, "row.rpsl", submission.text)
@@ -85,10 +98,10 @@ def test_what_was_told_of_a_submission_stands(trial, failing, name, each):
 # Commands that make a registry.
 
 
-def check_made(right):
+def check_made(right: bytes) -> Callable[..., Any]:
     """That a command that makes a registry made all of it or nothing."""
 
-    def check(ran, rows, _):
+    def check(ran: Ran, rows: bytes | None, _: int) -> None:
         if ran.status == 0:
             return check_rows(rows, right)
         expect(
@@ -101,10 +114,10 @@ def check_made(right):
     return check
 
 
-def check_not_made(stands):
+def check_not_made(stands: bytes | None) -> Callable[..., Any]:
     """That a command that can't make a registry said so and left what stood."""
 
-    def check(ran, rows, _):
+    def check(ran: Ran, rows: bytes, _: int) -> None:
         expect(
             is_fault(ran) or ran.status == 137,
             True,
@@ -115,7 +128,7 @@ def check_not_made(stands):
     return check
 
 
-def expect_refused(trial, failing, base, words, fault):
+def expect_refused(trial: Trial, failing: Failing, base: str, words: list[str], fault: str) -> None:
     """That a command is refused with this fault where no call fails."""
     folder = failing.copied(base, "refused")
     ran = trial.run(folder, *words)
@@ -127,7 +140,9 @@ def expect_refused(trial, failing, base, words, fault):
     )
 
 
-def test_a_command_that_makes_a_registry_makes_all_or_nothing(trial, failing, each):
+def test_a_command_that_makes_a_registry_makes_all_or_nothing(
+    trial: Trial, failing: Failing, each: Each
+) -> None:
     base = trial.place("new")
     write_settings(base, limit=LIMIT)
     rows = opened().dump()
@@ -187,7 +202,9 @@ def test_a_command_that_makes_a_registry_makes_all_or_nothing(trial, failing, ea
 # Migrations.
 
 
-def test_a_migration_leaves_the_old_rows_or_all_new_ones(trial, failing, each):
+def test_a_migration_leaves_the_old_rows_or_all_new_ones(
+    trial: Trial, failing: Failing, each: Each
+) -> None:
     """A migration that fails or is stopped leaves the rows of version 1, or those of version 2
     whole."""
     registry, base = old_items(trial.chance("old"), 12), trial.place("old")
@@ -198,7 +215,9 @@ def test_a_migration_leaves_the_old_rows_or_all_new_ones(trial, failing, each):
             migration(trial, failing, base, old, registry, kind, how)
 
 
-def migration(trial, failing, base, old, registry, kind, how):
+def migration(
+    trial: Trial, failing: Failing, base: str, old: bytes, registry: Registry, kind: str, how: str
+) -> str:
     count = failing.count(base, ["migrate", "s.toml"], kind, how)
     taken = failing.numbers(count, f"migrate, {kind} {how}", how, 12)
     whole = 0
@@ -232,7 +251,7 @@ def migration(trial, failing, base, old, registry, kind, how):
 # Answers and dumps.
 
 
-def check_answer(query, kind):
+def check_answer(query: bytes, kind: str) -> Callable[..., Any]:
     """That a query is answered; or refused because memory ran out, where it was refused, or by the
     database, where it is looked up there; or that a fault is told behind a front of the answer."""
     right, errors = answer(ASKED.registry, query, LIMIT), []
@@ -241,7 +260,7 @@ def check_answer(query, kind):
     if query.startswith(b"inverse mnt") and kind in ("memory", "disk"):
         errors.append(b"% error 5\n")
 
-    def check(ran, rows, _):
+    def check(ran: Ran, rows: bytes, _: int) -> None:
         check_rows(rows, ASKED.dumps[-1])
         if is_fault(ran):
             return expect(
@@ -257,8 +276,8 @@ def check_answer(query, kind):
     return check
 
 
-def check_dump(right):
-    def check(ran, rows, _):
+def check_dump(right: bytes) -> Callable[..., Any]:
+    def check(ran: Ran, rows: bytes, _: int) -> None:
         check_rows(rows, ASKED.dumps[-1])
         if ran.status == 0:
             return expect((ran.printed, ran.said), (right, b""), "the dump")
@@ -268,7 +287,9 @@ def check_dump(right):
     return check
 
 
-def test_an_answer_or_dump_is_whole_or_its_fault_is_told(trial, failing, each):
+def test_an_answer_or_dump_is_whole_or_its_fault_is_told(
+    trial: Trial, failing: Failing, each: Each
+) -> None:
     base, rows = made_registry(trial, "asked", ASKED), ASKED.dumps[-1]
     for query in QUERIES:
         words, right = ["query", "s.toml", *query.decode().split()], answer(
@@ -337,7 +358,7 @@ def test_an_answer_or_dump_is_whole_or_its_fault_is_told(trial, failing, each):
 # Messages.
 
 
-def expect_said(ran, status, said):
+def expect_said(ran: Ran, status: int, said: bytes) -> None:
     expect(
         (ran.status, ran.printed, ran.said),
         (status, b"", b"irrdesk: " + said + b"\n"),
@@ -345,7 +366,7 @@ def expect_said(ran, status, said):
     )
 
 
-def test_rare_messages(trial, failing, tell):
+def test_rare_messages(trial: Trial, failing: Failing, tell: Tell) -> None:
     """What is said where the disk is full from the first call on, where no socket is to be had, and
     of a dump without end."""
     folder = trial.place("rare")
@@ -384,5 +405,5 @@ def test_rare_messages(trial, failing, tell):
     tell("4 messages")
 
 
-def test_each_line_that_was_said_is_of_the_page(failing, tell):
+def test_each_line_that_was_said_is_of_the_page(failing: Failing, tell: Tell) -> None:
     tell(failing.said_is_of_the_page())

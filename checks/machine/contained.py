@@ -58,7 +58,7 @@ class Contained(Machine):
     """What a Guest is, without a kernel of its own: neither the power nor the disk of it can be
     cut."""
 
-    def __init__(self, image, folder, disk, given):
+    def __init__(self, image, folder, disk, given) -> None:
         self.stack, self.group, self.console, self.init = (
             contextlib.ExitStack(),
             cgroup(),
@@ -83,7 +83,7 @@ class Contained(Machine):
             raise
         self.seconds = time.monotonic() - start
 
-    def enter(self, disk):
+    def enter(self, disk) -> None:
         os.makedirs(self.group, exist_ok=True)
         apart = [
             "unshare",
@@ -114,7 +114,7 @@ class Contained(Machine):
                 command, stdin=subprocess.DEVNULL, stdout=log, stderr=log
             )
 
-    def meet(self, end):
+    def meet(self, end) -> None:
         """Waits until systemd is there, and has begun."""
         while True:
             if self.process.poll() is not None or time.monotonic() > end:
@@ -130,7 +130,7 @@ class Contained(Machine):
                         return
             time.sleep(0.1)
 
-    def ended(self, command, given=b"", seconds=300):
+    def ended(self, command, given: bytes = b"", seconds: int = 300):
         """Runs a command inside, as root, to its end."""
         env = {"PATH": "/usr/sbin:/usr/bin:/sbin:/bin", "HOME": "/root", "LC_ALL": "C.UTF-8"}
         inside = ["nsenter", "-t", self.init, "-m", "-p", "-n", "-i", "-u", "-C", "setpriv", RIGHTS]
@@ -150,7 +150,7 @@ class Contained(Machine):
             }
         )
 
-    def cut(self):
+    def cut(self) -> None:
         """All of it ends, by SIGKILL."""
         self.process.kill()
         self.process.wait()

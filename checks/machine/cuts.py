@@ -9,7 +9,7 @@ import tempfile
 from checks.failing import NEVER_MADE
 from checks.machine.drive import Drive, Log, done, mounted
 from checks.old import old_items, write_old
-from checks.running import TOP, Failure, expect, memory_folder, short, write, write_settings
+from checks.running import TOP, Failure, Trial, expect, memory_folder, short, write, write_settings
 from checks.sums import sum_of
 from checks.texts import changing_items, last_of, summed_fronts
 
@@ -27,7 +27,7 @@ class Work:
 
     `told` are pairs: how many lines were read, and where the log ended afterwards."""
 
-    def __init__(self, kind, folder, begin):
+    def __init__(self, kind, folder, begin) -> None:
         self.kind, self.folder, self.begin, self.end, self.told = (
             kind,
             folder,
@@ -44,7 +44,7 @@ class Work:
 class Cuts:
     """All commands that write, recorded on one drive, and the states that cuts leave of it."""
 
-    def __init__(self, trial):
+    def __init__(self, trial: Trial) -> None:
         self.trial, self.folder, self.works = trial, trial.place("drive"), []
         self.drive, self.log = None, None
         self.count = trial.pick(400, 20_000)
@@ -64,7 +64,7 @@ class Cuts:
 
     # What is recorded.
 
-    def record(self):
+    def record(self) -> str:
         """Carries out each command on the drive, some of them several times."""
         with Drive(self.folder) as self.drive:
             for kind, file in [("init", ""), ("load", "dump.rpsl"), ("migrate", "")]:
@@ -75,13 +75,13 @@ class Cuts:
         flushes = sum(bool(entry[2] & 1) for entry in self.log.entries)
         return f"{self.count} items, {len(self.log.entries) - flushes} writes, {flushes} flushes"
 
-    def place(self, name):
+    def place(self, name: str) -> str:
         folder = os.path.join(self.drive.place, name)
         os.makedirs(folder)
         write_settings(folder)
         return folder
 
-    def once(self, kind, turn, file):
+    def once(self, kind, turn, file) -> None:
         name = f"{kind}{turn}"
         folder = self.place(name)
         if kind == "migrate":
@@ -96,7 +96,7 @@ class Cuts:
         work.told.append((1, work.end))
         self.works.append(work)
 
-    def submit(self):
+    def submit(self) -> None:
         folder = self.place("submit")
         expect(self.trial.run(folder, "init", "s.toml").status, 0, "init")
         self.drive.settle()
@@ -136,7 +136,7 @@ class Cuts:
             raise Failure(f"no write was seen of the kind {kind}")
         return sorted((chance.choice(found) for _ in range(count)), key=lambda moment: moment[0])
 
-    def found_out(self):
+    def found_out(self) -> str:
         """That these trials find a drive out which loses what it said that it has."""
         try:
             self.cut("submit", 20, True, lies=6)
@@ -144,7 +144,7 @@ class Cuts:
             return f"found out: {failure}"
         raise Failure("a drive that lies about its last six flushes passes")
 
-    def cut(self, kind, count, is_losing, lies=0):
+    def cut(self, kind, count, is_losing, lies: int = 0) -> str:
         """Cuts at moments by chance: with all that was written by then, or less some of what was
         not flushed."""
         moments, seen = self.moments(kind, count), []
@@ -202,7 +202,7 @@ class Cuts:
         self.again(work, folder, what)
         return False
 
-    def again(self, work, folder, what):
+    def again(self, work, folder, what) -> None:
         """What does not stand is carried out again."""
         words = [os.path.join(self.folder, "dump.rpsl")] if work.kind == "load" else []
         ran = self.trial.run(folder, work.kind, "s.toml", *words)
@@ -215,7 +215,7 @@ class Cuts:
         )
 
     @staticmethod
-    def check_integrity(folder, what):
+    def check_integrity(folder, what) -> None:
         """What sqlite3 says of a database that the program has not opened since."""
         made = subprocess.run(
             ["sqlite3", "-batch", "irr.db", "PRAGMA integrity_check"],

@@ -7,10 +7,14 @@ dm-log-writes."""
 
 import contextlib
 import os
+import random
 import shutil
 import struct
 import subprocess
 import time
+from collections.abc import Iterator
+from pathlib import Path
+from typing import Any, Self
 
 from checks.running import PATIENCE, Failure, expect, short
 
@@ -50,7 +54,7 @@ def done(*command):
 
 
 @contextlib.contextmanager
-def mounted(image, place, mode="rw"):
+def mounted(image, place, mode: str = "rw") -> Iterator[None]:
     """An image as a file system, which the kernel mends as it mounts it."""
     os.makedirs(place, exist_ok=True)
     # Not `mount -o loop`, which takes a device of the same file again while that is being let go,
@@ -78,7 +82,7 @@ def mounted(image, place, mode="rw"):
 class Drive:
     """A new drive, with an empty file system at `place` while it is on."""
 
-    def __init__(self, folder):
+    def __init__(self, folder) -> None:
         self.base, self.image, self.log, self.served = (
             os.path.join(folder, name) for name in ["base", "image", "log", "served"]
         )
@@ -89,7 +93,7 @@ class Drive:
             with open(path, "wb"):
                 pass
 
-    def __enter__(self):
+    def __enter__(self) -> Self:
         command = [
             "qemu-storage-daemon",
             "--blockdev",
@@ -116,19 +120,19 @@ class Drive:
         self.stack.enter_context(mounted(self.served, self.place))
         return self
 
-    def stop(self):
+    def stop(self) -> None:
         self.daemon.terminate()
         self.daemon.wait()
         self.daemon.stdout.close()
 
-    def __exit__(self, *_):
+    def __exit__(self, *_: object) -> None:
         self.stack.close()
 
     def position(self):
         """How long the log is by now: what is told later stands on what is in it."""
         return os.path.getsize(self.log)
 
-    def settle(self):
+    def settle(self) -> None:
         """Has all that was written flushed."""
         done("sync", "-f", self.place)
 
@@ -137,7 +141,7 @@ class Log:
     """The writes and flushes of a drive, in their order: sector, count of sectors, flags, and where
     the data is and ends in the log."""
 
-    def __init__(self, path):
+    def __init__(self, path: Path) -> None:
         self.path, self.entries = path, []
         size = os.path.getsize(path)
         with open(path, "rb") as opened:
@@ -163,7 +167,7 @@ class Log:
             count for count in range(1, len(self.entries) + 1) if begin < self.end(count) <= end
         ]
 
-    def flushed(self, count, lies=0):
+    def flushed(self, count, lies: int = 0):
         """How many of the first entries stand whatever the drive loses: those before the last
         flush, and that. It may lie about some."""
         while count and (lies or not self.entries[count - 1][2] & FLUSH):
@@ -171,11 +175,11 @@ class Log:
             count -= 1
         return count
 
-    def written(self, count):
+    def written(self, count) -> int:
         """The bytes that were written since the last flush before the entries end there."""
         return sum(entry[1] * SECTOR for entry in self.entries[self.flushed(count) : count])
 
-    def states(self, base, folder, cuts, lies=0):
+    def states(self, base, folder, cuts, lies: int = 0) -> Iterator[Any]:
         """Makes the state of the drive at each cut, in ascending order, in a file of the folder,
         whose path it gives.
 
@@ -199,7 +203,7 @@ class Log:
                 os.remove(state)
 
 
-def apply(log, entry, out, chance):
+def apply(log, entry, out, chance: random.Random) -> None:
     """Writes an entry, whole or in those of its sectors that chance takes."""
     at, count, flags, place, _ = entry
     if flags & DISCARD:

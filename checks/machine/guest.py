@@ -11,6 +11,7 @@ import socket
 import subprocess
 import tarfile
 import time
+from typing import Any, Self
 
 from checks.running import Failure, Skipped, short
 
@@ -110,14 +111,14 @@ class Image:
     """The machine's disk as Debian makes it, with its kernel: made once in a folder, and again if
     what it is made of has changed."""
 
-    def __init__(self, folder):
+    def __init__(self, folder) -> None:
         self.folder = os.path.abspath(folder)
         self.disk, self.kernel, self.first = (
             os.path.join(self.folder, name) for name in ["disk", "kernel", "initrd"]
         )
         self.record = os.path.join(self.folder, "made")
 
-    def is_made(self):
+    def is_made(self) -> bool:
         """Whether the disk is there, of this recipe."""
         try:
             with open(self.record, encoding="utf-8") as opened:
@@ -125,7 +126,7 @@ class Image:
         except FileNotFoundError:
             return False
 
-    def make(self):
+    def make(self) -> str:
         if self.is_made():
             return "made before"
         root = os.path.join(self.folder, "root")
@@ -141,7 +142,7 @@ class Image:
             out.write(RECIPE)
         return f"Debian {version}, {os.stat(self.disk).st_blocks // 2048} MiB"
 
-    def lay_out(self, root):
+    def lay_out(self, root) -> None:
         self.do(
             "debootstrap", "--variant=minbase", f"--include={','.join(PACKAGES)}", "bookworm", root
         )
@@ -167,7 +168,7 @@ class Image:
             os.remove(self.disk)
         self.do("mke2fs", "-q", "-F", "-t", "ext4", "-d", root, self.disk, SIZE)
 
-    def do(self, *command):
+    def do(self, *command) -> None:
         env = {
             **os.environ,
             "PATH": os.environ["PATH"] + ":/usr/sbin:/sbin",
@@ -191,13 +192,13 @@ class Image:
 class Machine:
     """What is asked by commands."""
 
-    def __enter__(self):
+    def __enter__(self) -> Self:
         return self
 
-    def __exit__(self, *_):
+    def __exit__(self, *_: object) -> None:
         self.cut()
 
-    def done(self, command, **options):
+    def done(self, command, **options: Any):
         """What a command prints, which has to end with status 0."""
         ended = self.ended(command, **options)
         if ended.status:
@@ -206,7 +207,7 @@ class Machine:
             )
         return ended.printed
 
-    def until(self, command, what, seconds=240):
+    def until(self, command, what, seconds: int = 240):
         """Waits until a command ends with status 0, and gives what it prints."""
         end = time.monotonic() + seconds
         while (ended := self.ended(command)).status:
@@ -217,7 +218,7 @@ class Machine:
             time.sleep(0.3)
         return ended.printed
 
-    def power_off(self):
+    def power_off(self) -> None:
         """As an operator does it: everything is stopped, and unmounted."""
         self.ended("systemctl poweroff --no-block")
         try:
@@ -230,7 +231,7 @@ class Machine:
 class Ended:
     """How a command in a machine ended."""
 
-    def __init__(self, told):
+    def __init__(self, told) -> None:
         self.status, self.printed, self.said = told["status"], told["printed"], told["said"]
 
 
@@ -241,7 +242,7 @@ class Guest(Machine):
     A cut is SIGKILL for qemu: what it had handed to this system by then is on the disk, and nothing
     else, whatever was flushed."""
 
-    def __init__(self, image, folder, disk, given, ports=0):
+    def __init__(self, image, folder, disk, given, ports: int = 0) -> None:
         self.folder, self.told = folder, [
             os.path.join(folder, f"told{number}") for number in range(ports)
         ]
@@ -307,7 +308,7 @@ class Guest(Machine):
             raise
         self.seconds = time.monotonic() - start
 
-    def meet(self, place, end):
+    def meet(self, place, end) -> None:
         """Waits until the agent is there."""
         while self.peer is None:
             self.look(end)
@@ -320,7 +321,7 @@ class Guest(Machine):
         self.buffer = b""
         self.boot = self.read(end)["boot"]
 
-    def look(self, end):
+    def look(self, end) -> None:
         if self.process.poll() is not None or time.monotonic() > end:
             with (
                 open(self.console, "rb") as opened,
@@ -345,7 +346,7 @@ class Guest(Machine):
         line, _, self.buffer = self.buffer.partition(b"\n")
         return json.loads(line)
 
-    def ended(self, command, given=b"", seconds=300):
+    def ended(self, command, given: bytes = b"", seconds: int = 300):
         """Runs a command in the machine, as root, to its end."""
         asked = {"command": command, "given": given.decode("latin-1"), "seconds": seconds}
         # A socket with a time limit sends a long text in parts as well.
@@ -354,7 +355,7 @@ class Guest(Machine):
         self.peer.settimeout(1)
         return Ended(self.read(time.monotonic() + seconds + 60))
 
-    def cut(self):
+    def cut(self) -> None:
         """The power is gone."""
         self.process.kill()
         self.process.wait()
@@ -362,7 +363,7 @@ class Guest(Machine):
             self.peer.close()
 
 
-def bring(path, files):
+def bring(path, files) -> None:
     """Makes a tar file of texts and of files of this system, by their names in the machine."""
     with tarfile.open(path, "w") as out:
         for name, held in files.items():

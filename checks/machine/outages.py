@@ -6,8 +6,8 @@ import time
 from concurrent.futures import ThreadPoolExecutor
 
 from checks.machine.guest import Guest, lines_in
-from checks.machine.service import AS_OWNER, ASKED, EDITED, SETTINGS
-from checks.running import TOP, Failure, expect
+from checks.machine.service import ASKED, AS_OWNER, EDITED, SETTINGS
+from checks.running import TOP, Failure, Trial, expect
 from checks.texts import changing_items, summed_fronts
 
 SIZES = [0, 0, 20, 300, 6_000]
@@ -20,7 +20,7 @@ MENDED = (
 class Outages:
     """A machine, which is cut, booted, looked at, and cut again."""
 
-    def __init__(self, trial, image, package, number):
+    def __init__(self, trial: Trial, image, package, number) -> None:
         self.trial, self.image, self.folder = trial, image, trial.place(f"outages-{number}")
         self.machines, self.is_over = contextlib.ExitStack(), False
         self.disk, self.texts = os.path.join(self.folder, "disk"), changing_items(
@@ -37,7 +37,7 @@ class Outages:
             Guest(self.image, self.folder, self.disk, self.given, ports=1)
         )
 
-    def end(self):
+    def end(self) -> None:
         """Ends the machine, also if it is being asked."""
         self.is_over = True
         self.machines.close()
@@ -108,7 +108,7 @@ class Outages:
 class Fleet:
     """Machines beside one another, which share the cuts."""
 
-    def __init__(self, trial, image, package, size, count):
+    def __init__(self, trial: Trial, image, package, size, count) -> None:
         self.all = [Outages(trial, image, package, number) for number in range(size)]
         self.pool = ThreadPoolExecutor(size)
         self.cuts = [
@@ -116,7 +116,7 @@ class Fleet:
             for number, one in enumerate(self.all)
         ]
 
-    def seen(self):
+    def seen(self) -> str:
         """What all of them saw, as words."""
         seen = [cut for cuts in self.cuts for cut in cuts.result()]
         return (
@@ -125,7 +125,7 @@ class Fleet:
             f" {sum(mended for _, _, mended in seen)} file systems had to be mended"
         )
 
-    def end(self):
+    def end(self) -> None:
         for one in self.all:
             one.end()
         self.pool.shutdown()

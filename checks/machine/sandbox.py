@@ -138,11 +138,11 @@ def probe(printed):
 class Sandbox:
     """A shell in the unit, beside the same outside."""
 
-    def __init__(self, service):
+    def __init__(self, service) -> None:
         self.service = service
         service.given["probe"] = PROBE.encode()
 
-    def outside(self):
+    def outside(self) -> str:
         """What the service's user does without the unit, which shows that the trial could find
         something."""
         guest = self.service.guest
@@ -160,7 +160,7 @@ class Sandbox:
         guest.done("rm /tmp/from-the-unit")
         return f"{len(OPEN) + 1} ways are open to the user without the unit"
 
-    def inside(self):
+    def inside(self) -> str:
         """The same within the server's sandbox."""
         service, guest = self.service, self.service.guest
         service.changed(

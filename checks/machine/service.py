@@ -4,12 +4,14 @@ what goes wrong there."""
 import json
 import os
 import re
+from collections.abc import Iterator
+from typing import Any
 
 from checks.machine.guest import found
 from checks.model.queries import answer
 from checks.model.registry import Registry, load
 from checks.package.packages import older_package
-from checks.running import AUTH, DIGEST, TOP, Failure, expect, short
+from checks.running import AUTH, DIGEST, TOP, Failure, Trial, expect, short
 from checks.sums import sum_of
 from checks.texts import changing_items, summed_fronts
 
@@ -46,7 +48,7 @@ print(json.dumps([sorted(set(answers)), len(answers), refused]))
 SIZES = [0, 20, 300]
 
 
-def files_of_package():
+def files_of_package() -> Iterator[Any]:
     """The mode and path of each file that dist/files names by itself, without what it names by a
     pattern."""
     with open(os.path.join(TOP, "dist", "files"), encoding="ascii") as opened:
@@ -61,7 +63,7 @@ def files_of_package():
 class Service:
     """A machine with the package, and the registry that it serves."""
 
-    def __init__(self, trial, image, package, machine):
+    def __init__(self, trial: Trial, image, package, machine) -> None:
         self.trial, self.image, self.machine, self.guest = trial, image, machine, None
         self.folder = trial.place("service")
         self.disk = os.path.join(self.folder, "disk")
@@ -78,7 +80,7 @@ class Service:
             "items.rpsl": b"\n".join(self.texts),
         }
 
-    def boot(self):
+    def boot(self) -> str:
         """A new machine, as Debian left it."""
         self.guest = self.machine(self.image, self.folder, self.disk, self.given)
         state = self.guest.ended("systemctl is-system-running --wait", seconds=600).printed.strip()
@@ -92,7 +94,7 @@ class Service:
             f" {self.guest.seconds:.0f} s"
         )
 
-    def end(self):
+    def end(self) -> None:
         if self.guest:
             self.guest.cut()
 
@@ -104,7 +106,7 @@ class Service:
     def journal(self, unit):
         return self.guest.done(f"journalctl --quiet --no-pager --output=cat --unit={unit}")
 
-    def serves(self, what):
+    def serves(self, what) -> None:
         self.guest.until(ASKED, f"{what}: that the registry answers")
 
     def dump(self):
@@ -118,7 +120,7 @@ class Service:
         self.serves("after a dump")
         return dump
 
-    def changed(self, words):
+    def changed(self, words) -> None:
         """Gives the unit another line, until the next of these; without words its own."""
         place = "/run/systemd/system/irrdesk.service.d"
         made = f"mkdir -p {place}; cat > {place}/trial.conf" if words else f"rm -rf {place}"
@@ -126,7 +128,7 @@ class Service:
 
     # The package.
 
-    def installed(self):
+    def installed(self) -> str:
         """That apt installs the package on the plain system, with these files, and starts
         nothing."""
         guest = self.guest
@@ -177,7 +179,7 @@ class Service:
         )
         return f"{len(guest.done('dpkg --listfiles irrdesk').split())} files and folders"
 
-    def removed_empty(self):
+    def removed_empty(self) -> str:
         """That a purge without a registry leaves nothing, and no user."""
         guest = self.guest
         guest.done("apt-get purge --yes irrdesk")
@@ -191,7 +193,7 @@ class Service:
         )
         return "nothing is left"
 
-    def upgraded(self):
+    def upgraded(self) -> str:
         """That a registry of an older package, which is served, is served by the newer one: its
         settings and links stay."""
         guest = self.guest
@@ -235,7 +237,7 @@ class Service:
             f" {guest.done('irrdesk --version').split()[1]}"
         )
 
-    def taken_away(self):
+    def taken_away(self) -> str:
         """That a removal keeps settings and registry, a purge the registry, and that a new
         installation serves it again."""
         guest, dump = self.guest, self.dump()
@@ -264,7 +266,7 @@ class Service:
 
     # The registry.
 
-    def served(self):
+    def served(self) -> str:
         """Whois, HTTP, a submission and the dump, beside the model."""
         guest, lines = self.guest, self.registry.submit(self.first)
         told = guest.done(f"curl --silent --data-binary @/run/given/first.rpsl {URL}/submissions")
@@ -279,7 +281,7 @@ class Service:
         expect(self.dump(), self.registry.dump(full=False), "the dump")
         return f"{len(lines) - 1} items, 8 queries, a dump"
 
-    def stopped_midway(self):
+    def stopped_midway(self) -> str:
         """That a restart in the middle of a submission leaves each item whose line came, and at
         most one more."""
         guest, count = self.guest, len(self.texts)
@@ -313,7 +315,7 @@ class Service:
         self.serves("the first registry again")
         return f"{told} told, {stands[0]} stand"
 
-    def counted(self):
+    def counted(self) -> str:
         """That a server which comes to the end of its count is started again."""
         with open(os.path.join(TOP, "units", "irrdesk.service"), encoding="ascii") as opened:
             command = found(r"^ExecStart=(.*)$", opened.read(), "the unit's command")
@@ -358,7 +360,7 @@ class Service:
         self.serves("after the settings are right again")
         return said
 
-    def held(self):
+    def held(self) -> str:
         """That a server whose database another process has says so, and goes on trying until it is
         free."""
         guest = self.guest
@@ -386,7 +388,7 @@ class Service:
         self.serves("once the database is free")
         return "served once it is free"
 
-    def disk_full(self):
+    def disk_full(self) -> str:
         """A disk that fills up while a registry is served: the check starts it again, and says so,
         and nothing that was told is lost."""
         guest = self.guest
@@ -445,7 +447,7 @@ class Service:
         expect(self.show("irrdesk-check", "Result"), "success", "the check")
         return self.guest.done("systemctl list-timers --no-legend irrdesk-check.timer").strip()
 
-    def door(self):
+    def door(self) -> str:
         """64 clients at once on port 43; one more of an address beside fifty is told so. Clients
         that ask while the door is started again are answered too."""
         guest = self.guest
@@ -474,7 +476,7 @@ class Service:
         guest.done("systemctl start irrdesk-check", seconds=600)
         return "64 answers from 16 addresses, and 40 while the door was started again"
 
-    def analysed(self):
+    def analysed(self) -> str:
         """That systemd-analyze accepts all units, and rates the server as docs/OPERATING.md
         says."""
         guest = self.guest
@@ -498,7 +500,7 @@ class Service:
         )
         return f"{len(units)} units, {wanted}"
 
-    def rebooted(self):
+    def rebooted(self) -> str:
         """That the machine comes up again with the registry, its socket and its timer, after a
         shutdown by the system."""
         dump = self.dump()

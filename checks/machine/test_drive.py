@@ -4,6 +4,7 @@ import pytest
 
 from checks.machine import drive
 from checks.machine.cuts import Cuts
+from checks.running import Tell, Trial
 
 # It looks at times, and takes much of the machine.
 pytestmark = pytest.mark.alone
@@ -12,7 +13,7 @@ KINDS = {"init": 25, "load": 25, "migrate": 25, "checkpoint": 25, "submit": 100}
 
 
 @pytest.fixture(scope="module")
-def cuts(trial):
+def cuts(trial: Trial):
     """The commands that write, recorded on the drive."""
     if lacking := drive.lacking():
         pytest.skip(lacking)
@@ -21,15 +22,15 @@ def cuts(trial):
     return made
 
 
-def test_writes_are_logged(cuts, tell):
+def test_writes_are_logged(cuts, tell: Tell) -> None:
     tell(cuts.told)
 
 
 @pytest.mark.parametrize("is_losing", [False, True], ids=["", "less what was not flushed"])
 @pytest.mark.parametrize("kind", KINDS)
-def test_what_was_told_stands_after_a_cut(trial, cuts, kind, is_losing, tell):
+def test_what_was_told_stands_after_a_cut(trial: Trial, cuts, kind, is_losing, tell: Tell) -> None:
     tell(cuts.cut(kind, trial.pick(5, KINDS[kind]), is_losing))
 
 
-def test_a_drive_that_lies_is_found_out(cuts, tell):
+def test_a_drive_that_lies_is_found_out(cuts, tell: Tell) -> None:
     tell(cuts.found_out())

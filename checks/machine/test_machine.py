@@ -5,6 +5,8 @@ namespaces of this system's kernel: that is quick, and no power can be cut. The 
 after the other in one machine."""
 
 import os
+from collections.abc import Iterator
+from typing import Any
 
 import pytest
 
@@ -15,7 +17,7 @@ from checks.machine.sandbox import Sandbox
 from checks.machine.service import Service
 from checks.machine.timers import Timers
 from checks.package.packages import make_release, no_error
-from checks.running import TOP
+from checks.running import TOP, Tell, Trial
 
 # It takes all of the machine.
 pytestmark = pytest.mark.alone
@@ -51,7 +53,7 @@ STEPS = [
 
 
 @pytest.fixture(scope="module")
-def options(pytestconfig):
+def options(pytestconfig: pytest.Config):
     """The options of a run, if this system can run the machine in time."""
     given = pytestconfig.option
     if lacking := guest.lacking(given.container):
@@ -62,7 +64,7 @@ def options(pytestconfig):
 
 
 @pytest.fixture(scope="module")
-def package(trial, options):
+def package(trial: Trial, options):
     return make_release(trial.program, trial.place("package"))
 
 
@@ -75,7 +77,7 @@ def image(options):
 
 
 @pytest.fixture(scope="module")
-def fleet(trial, options, image, package):
+def fleet(trial: Trial, options, image, package) -> Iterator[Any]:
     """Machines whose power is cut meanwhile; none in a container."""
     if options.container:
         yield None
@@ -86,7 +88,7 @@ def fleet(trial, options, image, package):
 
 
 @pytest.fixture(scope="module")
-def parts(trial, options, image, package, fleet):
+def parts(trial: Trial, options, image, package, fleet) -> Iterator[Any]:
     """The machine, and what is looked at in it."""
     kind = Contained if options.container else guest.Guest
     service = Service(trial, image, package, kind)
@@ -94,22 +96,22 @@ def parts(trial, options, image, package, fleet):
     service.end()
 
 
-def test_lintian_finds_no_error_in_the_package(package, tell):
+def test_lintian_finds_no_error_in_the_package(package, tell: Tell) -> None:
     tell(no_error(package))
 
 
-def test_the_disk_of_the_machine_is_made(image, tell):
+def test_the_disk_of_the_machine_is_made(image, tell: Tell) -> None:
     tell(image.told)
 
 
 @pytest.mark.parametrize("part, step", STEPS)
-def test_the_machine_does_as_it_should(parts, part, step, tell):
+def test_the_machine_does_as_it_should(parts, part, step, tell: Tell) -> None:
     if step != "boot" and parts["service"].guest is None:
         pytest.fail("there is no machine, because it did not boot")
     tell(getattr(parts[part], step)())
 
 
-def test_what_was_told_stands_after_the_power_was_cut(fleet, tell):
+def test_what_was_told_stands_after_the_power_was_cut(fleet, tell: Tell) -> None:
     if fleet is None:
         pytest.skip("a container has no power")
     tell(fleet.seen())

@@ -16,10 +16,10 @@ SOON = "/run/systemd/system/irrdesk-backup.timer.d"
 class Timers:
     """The units of the package that are started by a timer, or beside the server."""
 
-    def __init__(self, service):
+    def __init__(self, service) -> None:
         self.service = service
 
-    def ran(self, unit):
+    def ran(self, unit) -> None:
         """That a timer had its unit run, and with success."""
         guest = self.service.guest
         guest.until(TRIGGERED.format(unit), f"that the timer runs {unit}", seconds=400)
@@ -33,7 +33,7 @@ class Timers:
             f"{unit}: {self.service.journal(unit)[-400:]}",
         )
 
-    def backup(self):
+    def backup(self) -> str:
         """A backup by its timer, at the next minute and not in the night, while the registry is
         served."""
         service, guest = self.service, self.service.guest
@@ -64,7 +64,7 @@ class Timers:
         service.serves("after the backup")
         return f"{len(wanted)} bytes of dump"
 
-    def dumped(self):
+    def dumped(self) -> str:
         service, guest = self.service, self.service.guest
         guest.done("systemctl enable --now irrdesk-dump.timer")
         self.ran("irrdesk-dump")
@@ -86,7 +86,7 @@ class Timers:
         expect((len(commits), "mntner:         ROOT-MNT" in shown), (1, True), "the history")
         return commits[0]
 
-    def mirror(self):
+    def mirror(self) -> str:
         """Replicas, which go on while the registry is stopped."""
         service, guest = self.service, self.service.guest
         wanted = service.dump()
@@ -111,7 +111,7 @@ class Timers:
         service.serves("after the replicas")
         return f"ports {' and '.join(ports)}"
 
-    def filters(self):
+    def filters(self) -> str:
         """Filters by bgpq4, through the door, while the replicas are there too."""
         service, guest = self.service, self.service.guest
         guest.done(
@@ -131,7 +131,7 @@ class Timers:
         )
         return f"{len(made.splitlines())} lines for BIRD"
 
-    def mirrors(self):
+    def mirrors(self) -> str:
         """What a mirror begins from, and the serials that the door tells of, as another user."""
         guest = self.service.guest
         guest.done("systemctl enable --now irrdesk-export.timer; systemctl start irrdesk-export")
@@ -143,7 +143,7 @@ class Timers:
         expect(f"-{serial}\n" in told, True, f"whether serial {serial} is told: {told}")
         return f"serial {serial}"
 
-    def untouched(self):
+    def untouched(self) -> str:
         """That nothing of all this changed the registry, or failed."""
         service, guest = self.service, self.service.guest
         expect(

@@ -1,5 +1,5 @@
-"""A registry that is changed by chance, with its history, its export and its door, each of which can
-be stopped and started again."""
+"""A registry that is changed by chance, with its history, its export and its door, each of which
+can be stopped and started again."""
 
 import contextlib
 import http.client

@@ -2,6 +2,8 @@
 
 import re
 
+import pytest
+
 from checks.mirrors.changing import Chance, Changing
 from checks.mirrors.client import Mirror
 from checks.running import Failure, expect
@@ -23,6 +25,8 @@ def unmet(mirror):
     return sorted(name for _, name in wanted if ("mntner", name) not in mirror.objects)
 
 
+# The long form, on a busy machine.
+@pytest.mark.timeout(10_800)
 def test_a_mirror_has_the_public_dump_at_every_serial(trial, tool, tell):
     chance = trial.chance("mirror")
     wanted, items = trial.count or trial.pick(300, 5_000), Chance(chance)

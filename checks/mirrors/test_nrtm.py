@@ -128,7 +128,7 @@ def test_it_answers_mirrors_and_nobody_else(world, each, trial):
 
 
 def test_a_mirror_begins_anew_where_serials_were_lost(world):
-    """A folder of serials that is not there is made anew, from which no mirror of before goes on."""
+    """A folder of serials that is not there is made anew, and no mirror of before goes on."""
     world.record()
     world.export()
     mirror = world.mirror()

@@ -1,7 +1,10 @@
 """Objects of the seven classes (RFC 2622, 3 to 6; RFC 2725, 10): their keys, their fields, and the
 first code that refuses them."""
+
 import functools
 import re
+from collections.abc import Callable
+from typing import Any
 
 from . import numbers
 from .text import canonical, lines_of, meaning, read
@@ -24,28 +27,28 @@ class Refused(Exception):
 class Key:
     """The class's number, what stands at it, its bytes in the database and its text in a report."""
 
-    def __init__(self, number, value):
+    def __init__(self, number: int, value: Any) -> None:
         self.number, self.value = number, value
         self.bytes, self.text = KEY_FORMS[number](value)
         self.order = (number, self.bytes)
 
-    def report(self):
+    def report(self) -> str:
         return f"{CLASSES[self.number - 1].decode()} {self.text}"
 
 
-def name_form(name):
+def name_form(name: bytes) -> tuple[str, str]:
     return name.decode(), name.decode()
 
 
-def block_form(block):
+def block_form(block: tuple[int, int]) -> tuple[str, str]:
     return "%08x-%08x" % block, "AS%d - AS%d" % block
 
 
-def span_form(span):
+def span_form(span: tuple[int, int]) -> tuple[str, str]:
     return "%08x-%08x" % span, f"{numbers.address_text(span[0])} - {numbers.address_text(span[1])}"
 
 
-def route_form(value):
+def route_form(value: tuple[tuple[int, int], int]) -> tuple[str, str]:
     (start, length), origin = value
     return (
         "%08x/%02d-%08x" % (start, length, origin),
@@ -53,7 +56,7 @@ def route_form(value):
     )
 
 
-KEY_FORMS = {
+KEY_FORMS: dict[int, Callable[[Any], tuple[str, str]]] = {
     MNTNER: name_form,
     AS_BLOCK: block_form,
     AUT_NUM: lambda number: ("%08x" % number, f"AS{number}"),
@@ -64,10 +67,10 @@ KEY_FORMS = {
 }
 
 
-def read_key(number, text, origin=None):
+def read_key(number: int, text: bytes, origin: bytes | None = None) -> Key | None:
     """The key that a text spells in a class, or None; that of a route is a prefix with an origin
     beside it."""
-    value = {
+    readers: dict[int, Callable[[bytes], Any]] = {
         MNTNER: numbers.maintainer,
         AS_BLOCK: lambda text: numbers.ends(text, numbers.as_number),
         AUT_NUM: numbers.as_number,
@@ -75,15 +78,16 @@ def read_key(number, text, origin=None):
         ROUTE: numbers.prefix,
         AS_SET: set_key(b"AS"),
         ROUTE_SET: set_key(b"RS"),
-    }[number](text)
+    }
+    value = readers[number](text)
     if number == ROUTE:
         asn = numbers.as_number(origin) if origin is not None else None
         value = None if value is None or asn is None else (value, asn)
     return None if value is None else Key(number, value)
 
 
-def set_key(kind):
-    def read(text):
+def set_key(kind: bytes) -> Callable[..., Any]:
+    def read(text: bytes) -> bytes | None:
         name = numbers.set_name(text)
         known = name and name not in (b"AS-ANY", b"RS-ANY") and numbers.set_kind(name) == kind
         return name if known else None
@@ -91,15 +95,15 @@ def set_key(kind):
     return read
 
 
-def values(attributes, name):
+def values(attributes: list[tuple[bytes, list[bytes]]], name: bytes) -> list[bytes]:
     return [meaning(lines) for found, lines in attributes if found == name]
 
 
-def items(attributes, name):
+def items(attributes: list[tuple[bytes, list[bytes]]], name: bytes) -> list[bytes]:
     return ITEM.findall(b" ".join(values(attributes, name)))
 
 
-def key_of(attributes):
+def key_of(attributes: list[tuple[bytes, list[bytes]]]) -> Key:
     """The key of a paragraph; refused E02 or E03."""
     if not attributes or attributes[0][0] not in CLASSES:
         raise Refused("E02")
@@ -111,7 +115,7 @@ def key_of(attributes):
     return key
 
 
-def good(read, listed):
+def good(read: Callable[..., Any], listed: list[bytes]) -> list[Any]:
     """What the items are read as; refused E05 where one is not."""
     found = [read(item) for item in listed]
     if None in found:
@@ -122,7 +126,7 @@ def good(read, listed):
 class Object:
     """An object of a source; refused E02 to E06."""
 
-    def __init__(self, attributes, source):
+    def __init__(self, attributes: list[tuple[bytes, list[bytes]]], source: bytes) -> None:
         self.key = key_of(attributes)
         self.attributes, self.text = attributes, canonical(attributes)
         number = self.key.number
@@ -150,14 +154,14 @@ class Object:
         if named.upper() != source:
             raise Refused("E06")
 
-    def check_counts(self, number):
+    def check_counts(self, number: int) -> None:
         names = [name for name, _ in self.attributes]
         once = names.count(CLASSES[number - 1]) == 1 and names.count(b"source") == 1
         filled = items(self.attributes, b"mnt-by") and items(self.attributes, b"source")
         if not once or not filled or (number == MNTNER and b"auth" not in names):
             raise Refused("E04")
 
-    def named(self):
+    def named(self) -> set[bytes]:
         """The maintainers that the object names."""
         routes = [name for name, _ in self.grants]
         return (
@@ -167,10 +171,10 @@ class Object:
             | {name for name in self.by_ref if name != ANY}
         )
 
-    def lower_names(self):
+    def lower_names(self) -> list[bytes]:
         return self.mnt_lower or self.mnt_by
 
-    def route_names(self, asked):
+    def route_names(self, asked: tuple[int, int]) -> list[bytes]:
         """Who speaks for the object about a route of this prefix (RFC 2725, 9)."""
         if self.grants:
             return [
@@ -180,7 +184,7 @@ class Object:
             ]
         return self.mnt_by if self.key.number == AUT_NUM else self.lower_names()
 
-    def public(self):
+    def public(self) -> bytes:
         return canonical(
             [
                 (name, [b"# filtered"]) if name == b"auth" else (name, lines)
@@ -190,7 +194,7 @@ class Object:
 
 
 @functools.lru_cache(1_000)
-def read_object(text, source):
+def read_object(text: bytes, source: bytes) -> Object | str:
     """The object that a paragraph is, or what is wrong: a code, or `text`. What was read once is
     remembered."""
     attributes = read(lines_of(text))
@@ -202,12 +206,12 @@ def read_object(text, source):
         return str(refused)
 
 
-def items_in_braces(attributes):
+def items_in_braces(attributes: list[tuple[bytes, list[bytes]]]) -> list[bytes]:
     joined = b" ".join(values(attributes, b"mnt-routes"))
     return ITEM.findall(joined.replace(b"{", b" { ").replace(b"}", b" } "))
 
 
-def read_grants(listed):
+def read_grants(listed: list[bytes]) -> list[Any]:
     """Entries of `mnt-routes`: a name, and ranges, or None where any prefix is granted."""
     grants, place = [], 0
     while place < len(listed):
@@ -225,7 +229,7 @@ def read_grants(listed):
     return grants
 
 
-def read_auths(lines):
+def read_auths(lines: list[bytes]) -> list[tuple[bytes, str]]:
     """Salt and digest of each line of the scheme SHA256-PW."""
     auths = []
     for line in lines:
@@ -240,15 +244,15 @@ def read_auths(lines):
     return auths
 
 
-def referrer(item):
+def referrer(item: bytes) -> bytes | None:
     return ANY if item.upper() == ANY else numbers.maintainer(item)
 
 
-def member_reader(number):
+def member_reader(number: int) -> Callable[..., Any]:
     return as_set_member if number == AS_SET else route_set_member
 
 
-def as_set_member(item):
+def as_set_member(item: bytes) -> tuple[int | bytes, bytes] | None:
     """An AS number, or the name of an as-set, with no operator."""
     number, name = numbers.as_number(item), numbers.set_name(item)
     if number is not None:
@@ -256,7 +260,9 @@ def as_set_member(item):
     return (name, b"") if name and numbers.set_kind(name) == b"AS" else None
 
 
-def route_set_member(item):
+def route_set_member(
+    item: bytes,
+) -> Any:
     """A range (False where it is dropped), or an AS number or set with its operator."""
     held = numbers.ranged(item)
     if held is not None:

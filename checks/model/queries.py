@@ -1,6 +1,11 @@
 """What is answered to a query, and what sets stand for (RFC 2622, 5; RFC 2725, 9; RFC 3912)."""
-import re
 
+import re
+from collections.abc import Callable
+from typing import Any
+
+from checks.model.objects import Object
+from checks.model.registry import Registry
 from . import numbers
 from .objects import ANY, AS_SET, AUT_NUM, CLASSES, INETNUM, ROUTE, ROUTE_SET, read_key
 from .registry import covers_span
@@ -18,7 +23,7 @@ class TooMany(Exception):
     """An expansion over the limit."""
 
 
-def answer(registry, query, limit):
+def answer(registry: Registry, query: bytes, limit: int) -> bytes:
     """The answer to a query, byte for byte."""
     if len(query) > MOST_BYTES:
         return b"% error 2\n"
@@ -30,7 +35,7 @@ def answer(registry, query, limit):
         return b"% error 3\n"
 
 
-def found_text(registry, query, limit):
+def found_text(registry: Registry, query: bytes, limit: int) -> bytes:
     words = re.findall(rb"[^ \t\r]+", query)
     if BAD_BYTE.search(query) or not words:
         raise BadQuery
@@ -40,7 +45,7 @@ def found_text(registry, query, limit):
     return b"".join(held.public() + b"\n" for held in found) or NONE
 
 
-def asked_for(registry, words):
+def asked_for(registry: Registry, words: list[bytes]) -> list[Object]:
     """The objects that a query asks for, in the order of their keys."""
     first = words[0].lower()
     if len(words) == 1:
@@ -54,7 +59,7 @@ def asked_for(registry, words):
     raise BadQuery
 
 
-def one_word(registry, word):
+def one_word(registry: Registry, word: bytes) -> list[Object]:
     if numbers.as_number(word) is not None:
         return by_key(registry, b"aut-num", [word])
     if numbers.prefix(word) or numbers.address(word) is not None:
@@ -65,7 +70,7 @@ def one_word(registry, word):
     return by_key(registry, b"mntner", [word])
 
 
-def by_key(registry, name, words):
+def by_key(registry: Registry, name: bytes, words: list[bytes]) -> list[Object]:
     if name not in CLASSES:
         raise BadQuery
     number, origin = CLASSES.index(name) + 1, None
@@ -80,7 +85,7 @@ def by_key(registry, name, words):
     return [held] if held else []
 
 
-def asked_prefix(word):
+def asked_prefix(word: bytes) -> tuple[int, int]:
     address = numbers.address(word)
     read = (address, 32) if address is not None else numbers.prefix(word)
     if read is None:
@@ -88,11 +93,11 @@ def asked_prefix(word):
     return numbers.prefix_span(read)
 
 
-def span_of(held):
+def span_of(held: Object) -> tuple[int, int]:
     return held.key.value if held.key.number == INETNUM else numbers.prefix_span(held.key.value[0])
 
 
-def placed(registry, fits):
+def placed(registry: Registry, fits: Callable[..., Any]) -> list[Object]:
     return [
         held
         for held in registry.in_order()
@@ -100,7 +105,7 @@ def placed(registry, fits):
     ]
 
 
-def closest(registry, span):
+def closest(registry: Registry, span: tuple[int, int]) -> list[Object]:
     inetnum = registry.closest(INETNUM, span)
     return ([inetnum] if inetnum else []) + sorted(
         registry.closest_routes(span), key=lambda held: held.key.order
@@ -115,7 +120,7 @@ NEAR = {
 }
 
 
-def inverse(registry, what, word):
+def inverse(registry: Registry, what: bytes, word: bytes) -> list[Object]:
     name, number = numbers.maintainer(word), numbers.as_number(word)
     if what == b"mnt" and name:
         return [held for held in registry.in_order() if name in held.named()]
@@ -131,7 +136,7 @@ def inverse(registry, what, word):
 # Sets.
 
 
-def expansion_text(registry, as_prefixes, word, limit):
+def expansion_text(registry: Registry, as_prefixes: bool, word: bytes, limit: int) -> bytes:
     name = numbers.set_name(word)
     if name is None:
         raise BadQuery
@@ -146,18 +151,18 @@ def expansion_text(registry, as_prefixes, word, limit):
     return b"".join(line + b"\n" for line in lines) or b"% empty\n"
 
 
-def registered(registry, name):
+def registered(registry: Registry, name: bytes) -> Object | None:
     return registry.get(AS_SET if numbers.set_kind(name) == b"AS" else ROUTE_SET, name)
 
 
-def belongs(held, name, by_ref):
+def belongs(held: Object, name: bytes, by_ref: list[bytes]) -> bool:
     """Whether an object says that it is in a set which takes those of its maintainers."""
     return name in held.member_of and (
         ANY in by_ref or any(known in by_ref for known in held.mnt_by)
     )
 
 
-def listed_numbers(registry, name):
+def listed_numbers(registry: Registry, name: bytes) -> set[int]:
     """The AS numbers that an as-set has by itself, as it lists them or takes them."""
     if name == b"AS-ANY":
         return {held.key.value for held in registry.of_class(AUT_NUM)}
@@ -168,7 +173,9 @@ def listed_numbers(registry, name):
     return taken | {member for member, _ in held.members if isinstance(member, int)}
 
 
-def expand_as_set(registry, start, limit):
+def expand_as_set(
+    registry: Registry, start: bytes, limit: int
+) -> tuple[list[bytes], set[bytes]] | None:
     reached, missing, waiting, found = {start}, set(), [start], set()
     while waiting:
         name = waiting.pop()
@@ -188,7 +195,7 @@ def expand_as_set(registry, start, limit):
     return [b"AS%d" % number for number in sorted(found)], missing
 
 
-def direct(registry, name):
+def direct(registry: Registry, name: bytes | int) -> set[tuple[int, int, int, int]]:
     """The ranges that a set, an AS number, `AS-ANY` or `RS-ANY` has by itself."""
     routes = registry.of_class(ROUTE)
     if isinstance(name, int):
@@ -206,7 +213,7 @@ def direct(registry, name):
     return own
 
 
-def references(registry, name):
+def references(registry: Registry, name: bytes | int) -> list[tuple[bytes | int, bytes]]:
     """The sets and AS numbers that a name refers to, each with its operator."""
     if isinstance(name, int) or name == b"RS-ANY":
         return []
@@ -218,7 +225,7 @@ def references(registry, name):
     return members
 
 
-def is_missing(registry, name):
+def is_missing(registry: Registry, name: bytes | int) -> bool:
     return (
         isinstance(name, bytes)
         and name not in (b"AS-ANY", b"RS-ANY")
@@ -226,10 +233,13 @@ def is_missing(registry, name):
     )
 
 
-def expand_route_set(registry, start, limit):
+def expand_route_set(
+    registry: Registry, start: bytes, limit: int
+) -> tuple[list[bytes], set[bytes]] | None:
     if is_missing(registry, start):
         return None
-    edges, waiting = {start: None}, [start]
+    edges: dict[Any, list[Any]] = {start: []}
+    waiting = [start]
     while waiting:
         name = waiting.pop()
         edges[name] = [] if is_missing(registry, name) else references(registry, name)
@@ -249,7 +259,10 @@ def expand_route_set(registry, start, limit):
     return [numbers.range_text(held).encode() for held in sorted(ranges[start])], missing
 
 
-def settle(edges, ranges):
+def settle(
+    edges: Any,
+    ranges: Any,
+) -> None:
     """Carries ranges back along the references, each through its operator, until nothing is new."""
     changed = True
     while changed:

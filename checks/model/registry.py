@@ -1,6 +1,12 @@
 """Who may register what (RFC 2725, 9), item by item of a submission, and dumps read again."""
-import hashlib
 
+from __future__ import annotations
+
+import hashlib
+from collections.abc import Iterable
+from typing import Any
+
+from .numbers import as_number, prefix_span, set_kind
 from .objects import (
     AS_BLOCK,
     AS_SET,
@@ -15,15 +21,21 @@ from .objects import (
     key_of,
     read_object,
 )
-from .numbers import as_number, prefix_span, set_kind
 from .text import blocks, read
 
 
 class Registry:
     """Objects by the order of their keys. It opens with the four objects of the root."""
 
-    def __init__(self, source=b"TEST", root=b"ROOT-MNT", auth=None, empty=False):
-        self.source, self.objects = source, {}
+    def __init__(
+        self,
+        source: bytes = b"TEST",
+        root: bytes = b"ROOT-MNT",
+        auth: bytes | None = None,
+        empty: bool = False,
+    ) -> None:
+        self.source = source
+        self.objects: dict[Any, Object] = {}
         if not empty:
             end = [(b"mnt-by", [root]), (b"source", [source])]
             for head in [
@@ -34,34 +46,37 @@ class Registry:
             ]:
                 self.put(Object(head + end, source))
 
-    def put(self, new):
+    def put(self, new: Object) -> None:
         self.objects[new.key.order] = new
 
-    def get(self, number, value):
+    def get(self, number: int, value: bytes | int) -> Object | None:
         return self.objects.get(Key(number, value).order)
 
-    def in_order(self):
+    def in_order(self) -> list[Object]:
         return [self.objects[order] for order in sorted(self.objects)]
 
-    def of_class(self, number):
+    def of_class(self, number: int) -> list[Object]:
         return [held for order, held in self.objects.items() if order[0] == number]
 
-    def dump(self, full=True):
+    def dump(self, full: bool = True) -> bytes:
         texts = [held.text if full else held.public() for held in self.in_order()]
         return b"".join(text + b"\n" for text in texts) + b"%% end %d\n" % len(texts)
 
     # Submissions.
 
-    def submit(self, text):
+    def submit(self, text: bytes) -> list[str]:
         """The lines of the report."""
-        lines, secrets = [], Secrets()
+        lines: list[str] = []
+        secrets = Secrets()
         for block in blocks(text):
             words = self.item(read(block), secrets)
             if words:
                 lines.append(f"{len(lines) + 1} {words}")
         return lines + [f"% items {len(lines)}"]
 
-    def item(self, attributes, secrets):
+    def item(
+        self, attributes: list[tuple[bytes, list[bytes]]] | str, secrets: Secrets
+    ) -> str | None:
         """What the report says of one paragraph behind its number, or nothing where it has
         passwords alone."""
         if isinstance(attributes, str):
@@ -85,7 +100,7 @@ class Registry:
             outcome = f"refused {refused}"
         return f"{key.report()}: {outcome}"
 
-    def accept(self, new, secrets):
+    def accept(self, new: Object, secrets: Secrets) -> str:
         old = self.objects.get(new.key.order)
         known = {held.key.value for held in self.of_class(MNTNER)} | {
             new.key.value for _ in [0] if new.key.number == MNTNER
@@ -100,7 +115,7 @@ class Registry:
         self.put(new)
         return "changed" if old else "added"
 
-    def delete(self, key, secrets):
+    def delete(self, key: Key, secrets: Secrets) -> str:
         old = self.objects.get(key.order)
         require(old is not None, "E18")
         require(self.passes(old.mnt_by, secrets), "E11")
@@ -116,7 +131,7 @@ class Registry:
 
     # Authorisation of what is new.
 
-    def passes(self, names, secrets, new=None):
+    def passes(self, names: list[bytes], secrets: Secrets, new: Object | None = None) -> bool:
         """Whether a secret fits one of the maintainers; one that is being added counts too."""
         found = [
             new
@@ -126,7 +141,7 @@ class Registry:
         ]
         return any(secrets.fit(held) for held in found if held)
 
-    def check_addition(self, new, secrets):
+    def check_addition(self, new: Object, secrets: Secrets) -> None:
         number, value = new.key.number, new.key.value
         require(self.passes(new.mnt_by, secrets, new), "E11")
         if number in (INETNUM, AS_BLOCK):
@@ -141,11 +156,11 @@ class Registry:
         elif number in (AS_SET, ROUTE_SET) and b":" in value:
             self.require_lower(self.parent(value.rpartition(b":")[0]), secrets)
 
-    def require_lower(self, cover, secrets):
+    def require_lower(self, cover: Object | None, secrets: Secrets) -> None:
         require(cover is not None, "E12")
         require(self.passes(cover.lower_names(), secrets), "E13")
 
-    def check_route(self, value, secrets):
+    def check_route(self, value: tuple[tuple[int, int], int], secrets: Secrets) -> None:
         asked, origin = value
         holder = self.get(AUT_NUM, origin)
         require(holder is not None, "E14")
@@ -156,12 +171,12 @@ class Registry:
         require(covers != [None], "E12")
         require(any(self.passes(cover.route_names(asked), secrets) for cover in covers), "E13")
 
-    def closest(self, number, span):
+    def closest(self, number: int, span: tuple[int, int]) -> Object:
         """The object with the smallest span that covers this one."""
         covers = [held for held in self.of_class(number) if covers_span(held.key.value, span)]
         return min(covers, key=lambda held: held.key.value[1] - held.key.value[0], default=None)
 
-    def closest_routes(self, span):
+    def closest_routes(self, span: tuple[int, int]) -> list[Object]:
         covers = [
             held
             for held in self.of_class(ROUTE)
@@ -170,7 +185,7 @@ class Registry:
         longest = max((held.key.value[0][1] for held in covers), default=None)
         return [held for held in covers if held.key.value[0][1] == longest]
 
-    def parent(self, name):
+    def parent(self, name: bytes) -> Object | None:
         """What all parts of a set's name but the last name: an aut-num or a set."""
         number = as_number(name)
         if number is not None:
@@ -183,42 +198,42 @@ class Registry:
 class Secrets:
     """The secrets of a submission so far. What was hashed once is remembered."""
 
-    hashed = {}
+    hashed: dict[bytes, str] = {}
 
-    def __init__(self):
-        self.held = set()
+    def __init__(self) -> None:
+        self.held: set[bytes] = set()
 
-    def add(self, secrets):
+    def add(self, secrets: Iterable[bytes]) -> None:
         self.held.update(secrets)
 
-    def fit(self, maintainer):
+    def fit(self, maintainer: Object) -> bool:
         return any(
             self.digest(salt + secret) == digest
             for salt, digest in maintainer.auths
             for secret in self.held
         )
 
-    def digest(self, text):
+    def digest(self, text: bytes) -> str:
         if text not in self.hashed:
             self.hashed[text] = hashlib.sha256(text).hexdigest()
         return self.hashed[text]
 
 
-def require(holds, code):
+def require(holds: bool, code: str) -> None:
     if not holds:
         raise Refused(code)
 
 
-def covers_span(wide, narrow):
+def covers_span(wide: tuple[int, int], narrow: tuple[int, int]) -> bool:
     return wide[0] <= narrow[0] and narrow[1] <= wide[1]
 
 
-def crosses(one, other):
+def crosses(one: tuple[int, int], other: tuple[int, int]) -> bool:
     meet = one[0] <= other[1] and other[0] <= one[1]
     return meet and not covers_span(one, other) and not covers_span(other, one)
 
 
-def load(text, source):
+def load(text: bytes, source: bytes) -> Any:
     """The registry of a dump, or the number of the paragraph that is at fault and what is wrong: a
     code, or a word."""
     registry, taken = Registry(source, empty=True), []

@@ -1,5 +1,7 @@
 """RPSL text (RFC 2622, 2): paragraphs of attributes, what their values mean, and canonical text."""
+
 import re
+from collections.abc import Iterator
 
 BLANKS = b" \t\r"
 MOST_BYTES = 65_536
@@ -7,10 +9,10 @@ ATTRIBUTE_NAME = re.compile(rb"[A-Za-z][A-Za-z0-9_-]{0,63}")
 BAD_BYTE = re.compile(rb"[\x00-\x08\x0a-\x0c\x0e-\x1f\x7f]")
 
 
-def blocks(text):
+def blocks(text: bytes) -> Iterator[list[bytes]]:
     """The runs of lines between blank ones, each with its line ends, from its first line that is
     not skipped on."""
-    held = []
+    held: list[bytes] = []
     for line in lines_of(text):
         if not line.rstrip(b"\n").strip(BLANKS):
             if held:
@@ -22,21 +24,21 @@ def blocks(text):
         yield held
 
 
-def lines_of(text):
+def lines_of(text: bytes) -> list[bytes]:
     """The lines of a text with their ends, cut at LF alone."""
     parts = text.split(b"\n")
     return [part + b"\n" for part in parts[:-1]] + ([parts[-1]] if parts[-1] else [])
 
 
-def is_skipped(line):
+def is_skipped(line: bytes) -> bool:
     return line[:1] in (b"#", b"%")
 
 
-def read(block):
+def read(block: list[bytes]) -> list[tuple[bytes, list[bytes]]] | str:
     """The attributes of a block, each a name and lines, or the code of its fault."""
     if sum(map(len, block)) > MOST_BYTES:
         return "E07"
-    attributes = []
+    attributes: list[tuple[bytes, list[bytes]]] = []
     for line in block:
         line = line.rstrip(b"\n")
         if is_skipped(line):
@@ -56,12 +58,12 @@ def read(block):
     return attributes
 
 
-def meaning(lines):
+def meaning(lines: list[bytes]) -> bytes:
     """What a value says: its lines without comments, joined by one space."""
     return b" ".join(line.partition(b"#")[0].strip(BLANKS) for line in lines).strip(BLANKS)
 
 
-def canonical(attributes):
+def canonical(attributes: list[tuple[bytes, list[bytes]]]) -> bytes:
     """The one text that stands for the attributes."""
     out = []
     for name, lines in attributes:

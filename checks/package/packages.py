@@ -1,29 +1,29 @@
 """Debian packages of the program: the one of dist/ if it is of these sources, or one that is made
 for a trial."""
+
 import os
 import re
 import shutil
 import subprocess
 
-from irr import VERSION
-
 from checks.running import TOP, Failure, Skipped, expect, short
+from irr import VERSION
 
 DIST = os.path.join(TOP, "dist")
 
 
-def record(path):
+def record(path: str) -> dict[str, str]:
     with open(path, encoding="utf-8") as opened:
         return dict(line.rstrip("\n").split(": ", 1) for line in opened)
 
 
-def package_of(folder):
+def package_of(folder: str) -> str:
     return os.path.join(
         folder, f"irrdesk_{record(os.path.join(folder, 'PROOF'))['Version']}_amd64.deb"
     )
 
 
-def is_released(program):
+def is_released(program: str) -> bool:
     """Whether the release in dist/ has this program, and is of these sources and of this tool."""
     sources = subprocess.run(
         [f"{TOP}/scripts/sources"], stdout=subprocess.PIPE, text=True, check=True
@@ -37,7 +37,7 @@ def is_released(program):
     return {key: found.get(key) for key in wanted} == wanted
 
 
-def make_release(program, folder):
+def make_release(program: str, folder: str) -> str:
     made = subprocess.run(
         [f"{TOP}/scripts/release", "--try", program, folder],
         capture_output=True,
@@ -72,7 +72,7 @@ def older_package(package, folder):
     return made
 
 
-def change(path, pattern, words):
+def change(path, pattern, words) -> None:
     with open(path, encoding="utf-8") as opened:
         text, count = re.subn(pattern, words, opened.read())
     expect(count, 1, f"how often {pattern} stands in {path}")
@@ -80,7 +80,7 @@ def change(path, pattern, words):
         out.write(text)
 
 
-def no_error(package):
+def no_error(package: str) -> str:
     """That lintian finds no error in a package; warnings are told."""
     if shutil.which("lintian") is None:
         raise Skipped("lintian is not there")

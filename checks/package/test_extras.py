@@ -6,10 +6,11 @@ import re
 import shutil
 import socket
 import subprocess
+from typing import Any
 
 import pytest
 
-from checks.running import PATIENCE, TOP, Failure, expect, short, write, write_settings
+from checks.running import PATIENCE, TOP, Failure, Tell, Trial, expect, short, write, write_settings
 from checks.serving import free_port, read_all
 from checks.texts import item
 
@@ -22,7 +23,7 @@ LIMIT = 10_000
 NOBODY = 65_534
 
 
-def done(command, **options):
+def done(command: list[str], **options: Any) -> str:
     """What a command prints that has to end with status 0."""
     made = subprocess.run(
         command, capture_output=True, text=True, timeout=120, check=False, **options
@@ -32,10 +33,10 @@ def done(command, **options):
     return made.stdout
 
 
-def working(*commands):
+def working(*commands: list[str]) -> Any:
     """Skips a check where one of these commands is not there, or may not do its work."""
 
-    def works(command):
+    def works(command: list[str]) -> bool:
         if shutil.which(command[0]) is None:
             return False
         return subprocess.run(command, capture_output=True, check=False).returncode == 0
@@ -51,7 +52,7 @@ limiting = working(["strace", "-o", "/dev/null", "true"], ["setpriv", "true"], [
 # The manual.
 
 
-def test_mandoc_finds_nothing_in_the_manual(tell):
+def test_mandoc_finds_nothing_in_the_manual(tell: Tell) -> None:
     """That mandoc and groff find no fault in any page; which pages of others the index of manuals
     lacks doesn't matter."""
     pages = sorted(os.listdir(os.path.dirname(MANUAL)))
@@ -71,7 +72,7 @@ def test_mandoc_finds_nothing_in_the_manual(tell):
     tell(f"mandoc -Tlint and groff of {len(pages)} pages")
 
 
-def test_the_manual_and_the_help_say_the_same(trial, tell):
+def test_the_manual_and_the_help_say_the_same(trial: Trial, tell: Tell) -> None:
     """That the manual and the help name the same commands, and the manual each status."""
     with open(MANUAL, encoding="ascii") as opened:
         manual = opened.read()
@@ -89,7 +90,7 @@ def test_the_manual_and_the_help_say_the_same(trial, tell):
 # scripts/install.
 
 
-def tree(folder):
+def tree(folder: str) -> list[str]:
     return sorted(
         os.path.relpath(os.path.join(path, name), folder)
         for path, folders, names in os.walk(folder)
@@ -97,7 +98,7 @@ def tree(folder):
     )
 
 
-def test_what_is_installed_works_and_is_taken_away_again(trial, tell):
+def test_what_is_installed_works_and_is_taken_away_again(trial: Trial, tell: Tell) -> None:
     """That what is put in place works from there, and is taken away to the last folder, and nothing
     else."""
     prefix, script = trial.place("prefix"), os.path.join(TOP, "scripts", "install")
@@ -143,7 +144,7 @@ def test_what_is_installed_works_and_is_taken_away_again(trial, tell):
 
 
 @systemd
-def test_systemd_finds_no_fault_in_the_units(trial, tell):
+def test_systemd_finds_no_fault_in_the_units(trial: Trial, tell: Tell) -> None:
     """That systemd-analyze accepts the units, the programs that they start being in place."""
     folder = trial.place("units")
     units = [
@@ -174,7 +175,7 @@ def test_systemd_finds_no_fault_in_the_units(trial, tell):
     tell(f"{len(units)} units")
 
 
-def allowed_calls():
+def allowed_calls() -> set[str]:
     """The system calls that the unit's filter lets through."""
     groups = {}
     for line in done(["systemd-analyze", "syscall-filter"]).splitlines():
@@ -184,7 +185,7 @@ def allowed_calls():
         elif line.strip() and not line.strip().startswith("#"):
             calls.add(line.strip())
 
-    def calls_of(group):
+    def calls_of(group: str) -> set[str]:
         return set().union(
             *(calls_of(call) if call.startswith("@") else {call} for call in groups[group])
         )
@@ -194,7 +195,7 @@ def allowed_calls():
     )
 
 
-def unit_lines(name):
+def unit_lines(name: str) -> dict[str, str]:
     with open(os.path.join(UNITS, name), encoding="ascii") as opened:
         return dict(
             line.rstrip("\n").split("=", 1) for line in opened if re.match(r"[A-Z]\w+=", line)
@@ -203,7 +204,7 @@ def unit_lines(name):
 
 @systemd
 @limiting
-def test_the_command_of_the_unit_does_within_its_limits(trial, tell):
+def test_the_command_of_the_unit_does_within_its_limits(trial: Trial, tell: Tell) -> None:
     """The unit's command, as a user without capabilities and within the unit's limits: what it asks
     of the system is allowed."""
     folder = trial.place("unit")
@@ -250,7 +251,7 @@ def test_the_command_of_the_unit_does_within_its_limits(trial, tell):
     tell(f"{len(calls)} calls of the system, all allowed")
 
 
-def packed(trial):
+def packed(trial: Trial) -> str:
     """The path of the tool, packed as it is installed."""
     path = os.path.join(trial.work, "irr")
     if not os.path.exists(path):

@@ -10,11 +10,24 @@ import socket
 import subprocess
 import time
 import urllib.request
+from collections.abc import Iterator
+from typing import Any
 
 import pytest
 
 from checks.package.packages import DIST, is_released, make_release, no_error, package_of
-from checks.running import PATIENCE, DIGEST, TOP, Failure, Skipped, expect, short, write
+from checks.running import (
+    DIGEST,
+    PATIENCE,
+    TOP,
+    Failure,
+    Skipped,
+    Tell,
+    Trial,
+    expect,
+    short,
+    write,
+)
 from checks.serving import free_port, read_all
 from irr import VERSION
 
@@ -41,7 +54,15 @@ class Ended:
     """How a command in the root ended: its status, what it printed and said, and the seconds that
     it took."""
 
-    def __init__(self, plain_root, command, user=None, folder="/", given=b"", patience=300):
+    def __init__(
+        self,
+        plain_root: str,
+        command: str,
+        user: int | None = None,
+        folder: str = "/",
+        given: bytes = b"",
+        patience: int = 300,
+    ) -> None:
         words = [
             "chroot",
             *([f"--userspec={user}:{user}"] if user else []),
@@ -64,7 +85,7 @@ class Ended:
 
 
 @pytest.fixture(scope="module")
-def root(trial):
+def root(trial: Trial) -> str:
     """The folder of a plain Debian."""
     lacking = [word for word in ["debootstrap", "chroot"] if shutil.which(word) is None]
     if lacking or os.geteuid():
@@ -75,12 +96,12 @@ def root(trial):
 
 
 @pytest.fixture(scope="module")
-def before(root):
+def before(root: str) -> set[str]:
     """What the root has before the package is installed."""
     return listing(root)
 
 
-def done(root, command, **options):
+def done(root: str, command: str, **options: Any) -> str:
     """What a command in the root prints, which has to end with status 0."""
     ended = Ended(root, command, **options)
     if ended.status:
@@ -88,14 +109,14 @@ def done(root, command, **options):
     return ended.printed
 
 
-def inside(root, path):
+def inside(root: str, path: str) -> str:
     return os.path.join(root, path.lstrip("/"))
 
 
 # The root, and the clone in it.
 
 
-def make_root(path):
+def make_root(path: str) -> None:
     """Makes the root in the cache, if it is not there, and copies it."""
     if not os.path.isdir(CACHE):
         os.makedirs(os.path.dirname(CACHE), exist_ok=True)
@@ -116,13 +137,13 @@ def make_root(path):
     subprocess.run(["cp", "-a", CACHE, path], check=True)
 
 
-def test_a_plain_debian_has_no_toolchain(root, tell):
+def test_a_plain_debian_has_no_toolchain(root: str, tell: Tell) -> None:
     done(root, f"useradd --uid {VISITOR} --create-home visitor")
     done(root, "! command -v rt && ! command -v python3 && ! command -v gcc")
     tell(done(root, "cat /etc/debian_version").strip())
 
 
-def test_the_clone_has_a_release(trial, root, tell):
+def test_the_clone_has_a_release(trial: Trial, root: str, tell: Tell) -> None:
     """Copies the repository's files, without what was made, and with a release of the program."""
     clone = inside(root, CLONE)
     os.makedirs(clone)
@@ -141,7 +162,7 @@ def test_the_clone_has_a_release(trial, root, tell):
     tell("with the release of dist/" if is_shipped else "with a release that was made for this")
 
 
-def package(root):
+def package(root: str) -> str:
     """The path of the package in the root."""
     return package_of(inside(root, f"{CLONE}/dist")).removeprefix(root)
 
@@ -149,7 +170,7 @@ def package(root):
 # The clone.
 
 
-def test_the_first_command_prints_what_the_page_says_in_time(root, tell):
+def test_the_first_command_prints_what_the_page_says_in_time(root: str, tell: Tell) -> None:
     """That the README's first command prints what stands below it, and within two seconds where it
     never ran: the best of three."""
     with open(os.path.join(TOP, "README.md"), encoding="utf-8") as opened:
@@ -171,7 +192,7 @@ def test_the_first_command_prints_what_the_page_says_in_time(root, tell):
     tell(f"`{command}` within {min(times):.1f} s, and then {again.seconds:.1f} s")
 
 
-def test_changed_sources_are_told_what_a_build_takes(root, tell):
+def test_changed_sources_are_told_what_a_build_takes(root: str, tell: Tell) -> None:
     """That no program of other sources is run: with changed ones ./irrdesk says what a build takes,
     and begins none."""
     source = inside(root, f"{CLONE}/crates/rr_cli/src/main.rt")
@@ -187,7 +208,7 @@ def test_changed_sources_are_told_what_a_build_takes(root, tell):
     tell(f"after {ended.seconds:.1f} s")
 
 
-def test_a_damaged_package_runs_nothing(root, tell):
+def test_a_damaged_package_runs_nothing(root: str, tell: Tell) -> None:
     """That a program whose digest is not that of PROOF is not run."""
     released = inside(root, f"{CLONE}/out/release/irrdesk")
     with open(released, "ab") as opened:
@@ -204,7 +225,7 @@ def test_a_damaged_package_runs_nothing(root, tell):
     tell("a damaged program is unpacked again, another one is refused")
 
 
-def test_the_sums_of_the_release_fit(root, tell):
+def test_the_sums_of_the_release_fit(root: str, tell: Tell) -> None:
     """That the sums in SHA256SUMS are those of the package and of PROOF."""
     tell(
         ", ".join(
@@ -213,7 +234,7 @@ def test_the_sums_of_the_release_fit(root, tell):
     )
 
 
-def test_the_package_runs_unpacked(root, tell):
+def test_the_package_runs_unpacked(root: str, tell: Tell) -> None:
     """The package in a folder of one's own."""
     done(
         root, f"mkdir own && dpkg-deb -x {package(root)} own", user=VISITOR, folder="/home/visitor"
@@ -224,7 +245,7 @@ def test_the_package_runs_unpacked(root, tell):
 # The package.
 
 
-def listing(root):
+def listing(root: str) -> set[str]:
     """All that is in the root, but for what dpkg, apt and adduser keep of their own."""
     found = set()
     for folder, folders, names in os.walk(root):
@@ -236,7 +257,7 @@ def listing(root):
     return found
 
 
-def test_the_package_is_installed(before, root, tell):
+def test_the_package_is_installed(before: set[str], root: str, tell: Tell) -> None:
     """That apt installs the package, says what to do next, and neither makes a registry nor starts
     anything."""
     ended = Ended(root, f"apt-get install --yes --no-install-recommends {package(root)}")
@@ -280,7 +301,7 @@ def test_the_package_is_installed(before, root, tell):
 
 
 @contextlib.contextmanager
-def served(root):
+def served(root: str) -> Iterator[Any]:
     """The command of the unit, as its user, on a free port."""
     with open(inside(root, "/usr/lib/systemd/system/irrdesk.service"), encoding="ascii") as opened:
         command = re.search(r"^ExecStart=(.*)$", opened.read(), re.MULTILINE)[1]
@@ -301,13 +322,13 @@ def served(root):
         server.kill()
 
 
-def ask(port, text):
+def ask(port: int, text: bytes) -> bytes:
     with contextlib.closing(socket.create_connection(("127.0.0.1", port), 30)) as peer:
         peer.sendall(text)
         return read_all(peer).decode()
 
 
-def test_a_registry_of_the_package_is_served(root, tell):
+def test_a_registry_of_the_package_is_served(root: str, tell: Tell) -> None:
     """That the settings, edited, make a registry, which the unit's command serves."""
     done(
         root,
@@ -335,7 +356,7 @@ def test_a_registry_of_the_package_is_served(root, tell):
     tell("init, whois, a submission, a dump")
 
 
-def test_the_package_is_installed_again(root, tell):
+def test_the_package_is_installed_again(root: str, tell: Tell) -> None:
     """That a package put in again asks nothing, keeps what was edited, and says nothing of a
     registry to be made."""
     before = done(root, "cat /etc/irrdesk/irr.toml; stat -c '%U:%G %a' /etc/irrdesk/irr.toml")
@@ -350,7 +371,9 @@ def test_the_package_is_installed_again(root, tell):
     tell("the settings stay as they were edited")
 
 
-def test_the_package_is_taken_away_to_the_last_file(root, before, tell):
+def test_the_package_is_taken_away_to_the_last_file(
+    root: str, before: set[str], tell: Tell
+) -> None:
     """That a removal keeps settings and data, a purge the data alone, and one without data
     nothing."""
     # What `systemctl enable` makes.
@@ -380,11 +403,11 @@ def test_the_package_is_taken_away_to_the_last_file(root, before, tell):
 # The making of a release.
 
 
-def test_lintian_finds_no_error_in_the_package(root, tell):
+def test_lintian_finds_no_error_in_the_package(root: str, tell: Tell) -> None:
     tell(no_error(package_of(inside(root, f"{CLONE}/dist"))))
 
 
-def test_a_release_made_twice_is_the_same_bytes(trial, tell):
+def test_a_release_made_twice_is_the_same_bytes(trial: Trial, tell: Tell) -> None:
     """Two releases in two folders, made under other masks, are the same bytes."""
     seen = []
     for name, mask in [("one", 0o022), ("two", 0o077)]:

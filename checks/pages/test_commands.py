@@ -17,6 +17,7 @@ import subprocess
 import tempfile
 from dataclasses import dataclass, field
 from pathlib import Path
+from typing import Any
 
 import pytest
 
@@ -170,7 +171,7 @@ PAGES = [
 
 
 @pytest.mark.parametrize("page", PAGES, ids=[str(page.relative_to(TOP)) for page in PAGES])
-def test_commands_of_a_page_print_what_it_says(program, page, subtests):
+def test_commands_of_a_page_print_what_it_says(program: str, page: Path, subtests: Any) -> None:
     blocks = read_blocks(page)
     passed = {block.line: reason for block in blocks if (reason := reason_to_pass(block))}
     seen = run_page(page, [block for block in blocks if block.line not in passed], Path(program))

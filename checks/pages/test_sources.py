@@ -9,7 +9,7 @@ from pathlib import Path
 
 import pytest
 
-from checks.running import TOP as FOLDER
+from checks.running import TOP as FOLDER, Tell
 
 TOP = Path(FOLDER)
 COLUMNS, SUBJECT = 100, 72
@@ -124,20 +124,20 @@ def judged(*command: str | Path) -> list[str]:
 # The crates.
 
 
-def test_no_line_of_the_crates_is_too_wide():
+def test_no_line_of_the_crates_is_too_wide() -> None:
     parts = ("src", "specs")
     paths = [path for part in parts for path in TOP.glob(f"crates/*/{part}/**/*") if path.is_file()]
     assert not long_lines(sorted(paths))
 
 
-def test_the_crates_use_what_they_import_for_contracts_and_proofs():
+def test_the_crates_use_what_they_import_for_contracts_and_proofs() -> None:
     assert not unused_imports()
 
 
 # The rest.
 
 
-def test_no_line_of_python_shell_scripts_or_styles_is_too_wide():
+def test_no_line_of_python_shell_scripts_or_styles_is_too_wide() -> None:
     paths = {
         path
         for place in WIDE_PLACES
@@ -149,23 +149,29 @@ def test_no_line_of_python_shell_scripts_or_styles_is_too_wide():
     assert not long_lines(sorted(paths))
 
 
-def test_pyflakes_finds_nothing(tell):
+def test_pyflakes_finds_nothing(tell: Tell) -> None:
     files = programs_of("python3")
     tell(f"{len(files)} files")
     assert not judged(needed("pyflakes3"), *files)
 
 
-def test_mypy_finds_nothing_in_the_tool():
+def test_mypy_finds_nothing_in_the_tool() -> None:
     assert not judged(needed("mypy"), "tools/irr")
 
 
-def test_black_would_change_nothing(tell):
+def test_mypy_finds_nothing_in_what_the_checks_share() -> None:
+    shared = sorted((TOP / "checks").glob("*.py"))
+    folders = [TOP / "checks" / name for name in ("model", "pages", "proxies", "server")]
+    assert not judged(needed("mypy"), *shared, *folders)
+
+
+def test_black_would_change_nothing(tell: Tell) -> None:
     files = [path for path in programs_of("python3") if path.parts[len(TOP.parts)] != "bench"]
     tell(f"{len(files)} files")
     assert not judged(needed("black"), "--check", "-q", *files)
 
 
-def test_what_mypy_is_told_to_pass_over_has_its_reason_beside_it():
+def test_what_mypy_is_told_to_pass_over_has_its_reason_beside_it() -> None:
     silent = re.compile(r"# type: ignore(?!\[[\w, -]+\]  ?# \S)")
     assert not [
         f"{path.relative_to(TOP)}:{number}"
@@ -176,20 +182,20 @@ def test_what_mypy_is_told_to_pass_over_has_its_reason_beside_it():
     ]
 
 
-def test_shellcheck_finds_nothing(tell):
+def test_shellcheck_finds_nothing(tell: Tell) -> None:
     files = programs_of("/bin/sh")
     tell(f"{len(files)} files")
     assert not judged(needed("shellcheck"), "-x", *files)
 
 
-def test_eslint_finds_nothing():
+def test_eslint_finds_nothing() -> None:
     assert not judged(needed("eslint"), "web", "checks/web")
 
 
 # Versions and commits.
 
 
-def test_the_program_is_of_the_version_of_the_tool_or_unchanged_since_its_release():
+def test_the_program_is_of_the_version_of_the_tool_or_unchanged_since_its_release() -> None:
     places = {
         "crates/rr_arguments/src/grammar.rt": r'^const VERSION: &str = "([^ "]+)',
         "tools/irr/__init__.py": r'^VERSION = "([^"]+)"$',
@@ -208,14 +214,14 @@ def history() -> None:
         pytest.skip("the history here is cut off")
 
 
-def test_the_subjects_of_commits_since_the_release_are_short():
+def test_the_subjects_of_commits_since_the_release_are_short() -> None:
     history()
     last = printed("git", "log", "-1", "--format=%H", "--", "dist/PROOF")
     subjects = printed("git", "log", "--no-merges", "--format=%s", f"{last}..HEAD").splitlines()
     assert not [subject for subject in subjects if len(subject) > SUBJECT]
 
 
-def test_a_version_is_released_once():
+def test_a_version_is_released_once() -> None:
     """A package of one version has had the same bytes in all of the history."""
     history()
     seen: dict[str, set[str]] = {}
@@ -227,7 +233,7 @@ def test_a_version_is_released_once():
     assert not [name for name in seen if len(seen[name]) > 1 and name not in RELEASED_AGAIN]
 
 
-def test_the_release_is_whole_and_in_the_changelog():
+def test_the_release_is_whole_and_in_the_changelog() -> None:
     """dist/ has one package, its sums fit, and CHANGELOG has a section of its version."""
     proof = dict(
         line.split(": ", 1) for line in (TOP / "dist/PROOF").read_text("utf-8").splitlines()
@@ -240,7 +246,7 @@ def test_the_release_is_whole_and_in_the_changelog():
     assert versions == sorted(versions, key=lambda one: [*map(int, one.split("."))], reverse=True)
 
 
-def test_the_tag_of_the_release_is_that_of_its_commit():
+def test_the_tag_of_the_release_is_that_of_its_commit() -> None:
     """A tag `vVERSION`, if it is there, names a commit whose dist/PROOF is of that version."""
     history()
     bad = []

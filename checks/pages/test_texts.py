@@ -17,6 +17,7 @@ from checks.pages.text import (
     sentences_of,
     text_of,
 )
+from checks.running import Tell
 
 # What no page says, outside code, and what stands in its place.
 WORDS = {
@@ -56,7 +57,7 @@ PLACES = "bench", "checks", "dist", "examples", "scripts", "tools", "units", "we
 
 
 @pytest.mark.parametrize("name", [*PAGES, *MANUAL])
-def test_a_page_has_no_word_that_the_house_avoids(name):
+def test_a_page_has_no_word_that_the_house_avoids(name: str) -> None:
     forbidden = WORDS | (USER_WORDS if name in USER or name in MANUAL else {})
     text = prose_of(name)
     found = [
@@ -67,7 +68,7 @@ def test_a_page_has_no_word_that_the_house_avoids(name):
     assert not found
 
 
-def test_what_the_tool_prints_has_no_word_that_the_house_avoids():
+def test_what_the_tool_prints_has_no_word_that_the_house_avoids() -> None:
     """Its texts, but for those that only its authors read."""
     bad = []
     for path in sorted((TOP / "tools/irr").rglob("*.py")):
@@ -90,7 +91,7 @@ def test_what_the_tool_prints_has_no_word_that_the_house_avoids():
 
 
 @pytest.mark.parametrize("name", PAGES)
-def test_the_sentences_of_a_page_are_short(name, tell):
+def test_the_sentences_of_a_page_are_short(name: str, tell: Tell) -> None:
     counts = sorted(sentences_of(name), reverse=True)
     many = sum(count > MANY for count, _ in counts)
     tell(f"{len(counts)} sentences, {many} of over {MANY} words; the longest has {counts[0][0]}")
@@ -98,7 +99,7 @@ def test_the_sentences_of_a_page_are_short(name, tell):
 
 
 @pytest.mark.parametrize("name", [*PAGES, "bench/README.md", "checks/README.md"])
-def test_the_links_of_a_page_lead_to_files_and_headings(name):
+def test_the_links_of_a_page_lead_to_files_and_headings(name: str) -> None:
     bad = []
     for target in LINK.findall(CODE.sub("", text_of(name))):
         if re.match(r"[a-z]+:", target):
@@ -112,7 +113,7 @@ def test_the_links_of_a_page_lead_to_files_and_headings(name):
     assert not bad
 
 
-def test_pages_that_files_name_are_there():
+def test_pages_that_files_name_are_there() -> None:
     bad = []
     for place in PLACES:
         for path in sorted((TOP / place).rglob("*")):
@@ -125,13 +126,13 @@ def test_pages_that_files_name_are_there():
 
 
 @pytest.mark.parametrize("name", MANUAL)
-def test_manuals_that_a_manual_names_are_there(name):
+def test_manuals_that_a_manual_names_are_there(name: str) -> None:
     named = re.findall(r"\.Xr (irr\S*) (\d)", text_of(name))
     assert not [f"{page}({of})" for page, of in named if not (TOP / f"man/{page}.{of}").exists()]
 
 
 @pytest.mark.parametrize("name", [*USER, *MANUAL])
-def test_a_page_for_users_has_as_numbers_for_documentation_alone(name):
+def test_a_page_for_users_has_as_numbers_for_documentation_alone(name: str) -> None:
     """RFC 5398 has those for documentation."""
     found = sorted(set(map(int, NUMBERS.findall(text_of(name)))))
     known = {0, 65_536, 4_294_967_295}
@@ -140,7 +141,7 @@ def test_a_page_for_users_has_as_numbers_for_documentation_alone(name):
     ]
 
 
-def test_each_file_of_definitions_is_named_below_the_heading_of_its_crate():
+def test_each_file_of_definitions_is_named_below_the_heading_of_its_crate() -> None:
     named: dict[str, set[str]] = {}
     for section in text_of("docs/DEFINITIONS.md").split("\n## ")[1:]:
         heading, _, body = section.partition("\n")

@@ -18,7 +18,7 @@ PAGES = [
 ]
 MANUAL = [f"man/{path.name}" for path in sorted((TOP / "man").glob("*"))]
 # Tags of a page or of mdoc that are code.
-CODE = re.compile(r"^```.*?^```|``.+?``|`[^`]+`", re.M | re.S)
+CODE = re.compile(r"^ *```.*?^ *```|``.+?``|`[^`]+`", re.M | re.S)
 MDOC = re.compile(r"^\.Bd.*?^\.Ed|^\.(?!Sh|Ss|It)[A-Z][^\n]*", re.M | re.S)
 LINK = re.compile(r"\]\(([^)\s]+)\)")
 # Where a paragraph of a page ends, and where a sentence does.

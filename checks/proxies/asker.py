@@ -16,20 +16,20 @@ import urllib.parse
 VERSION = re.compile(rb"version [0-9]+")
 
 
-def read_all(peer):
+def read_all(peer: socket.socket) -> bytes:
     parts = []
     while part := peer.recv(65_536):
         parts.append(part)
     return b"".join(parts)
 
 
-def ask_whois(place, query):
+def ask_whois(place: tuple[str, int], query: bytes) -> bytes:
     with socket.create_connection(place, 60) as peer:
         peer.sendall(query + b"\r\n")
         return read_all(peer)
 
 
-def ask_http(place, query):
+def ask_http(place: tuple[str, int], query: bytes) -> bytes:
     with socket.create_connection(place, 60) as peer:
         peer.sendall(
             b"GET /query/%s HTTP/1.1\r\nHost: irr.example.net\r\nConnection: close\r\n\r\n"
@@ -39,12 +39,12 @@ def ask_http(place, query):
     return body if head.startswith(b"HTTP/1.1 200 ") else head + body
 
 
-def place_of(text):
+def place_of(text: str) -> tuple[str, int]:
     host, _, port = text.partition(":")
     return host, int(port)
 
 
-def main():
+def main() -> None:
     http, whois, count, lanes = (
         place_of(sys.argv[1]),
         place_of(sys.argv[2]),
@@ -58,7 +58,7 @@ def main():
         ]
     guard = threading.Lock()
 
-    def lane(number):
+    def lane(number: int) -> None:
         for turn in range(number, count, lanes):
             query, answer = wanted[turn // 2 % len(wanted)]
             way, ask, place = [("http", ask_http, http), ("whois", ask_whois, whois)][turn % 2]

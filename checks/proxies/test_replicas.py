@@ -18,12 +18,14 @@ from checks.keeping import (
     wait_until,
     whois_answer,
 )
-from checks.running import AUTH, expect
+from checks.running import AUTH, Tell, Trial, expect
 from checks.serving import free_port
-from checks.worlds import World, expect_line
+from checks.worlds import Tool, World, expect_line
 
 
-def test_replicas_answer_as_the_registry_does_while_it_changes(trial, tool, tell):
+def test_replicas_answer_as_the_registry_does_while_it_changes(
+    trial: Trial, tool: Tool, tell: Tell
+) -> None:
     """Replicas answer as the registry does, byte by byte, follow it, and go on without it, also
     when they are started then."""
     with World(trial, tool, "replicas") as world:
@@ -118,7 +120,7 @@ def test_replicas_answer_as_the_registry_does_while_it_changes(trial, tool, tell
 class Told:
     """What a unit tells systemd."""
 
-    def __init__(self, path):
+    def __init__(self, path: str) -> None:
         self.path, self.text = path, ""
         self.socket = socket.socket(socket.AF_UNIX, socket.SOCK_DGRAM | socket.SOCK_NONBLOCK)
         self.socket.bind(path)
@@ -130,7 +132,7 @@ class Told:
         return self.text
 
 
-def same_answers(world, ports, tools):
+def same_answers(world: World, ports: list[int], tools: list[Tool]) -> None:
     """That all replicas answer as the registry."""
     for query in [*QUERIES, "198.51.100.1"]:
         wanted = whois_answer(world.server.port, query.encode())
@@ -142,10 +144,11 @@ def same_answers(world, ports, tools):
         expect(tool("dump").printed, wanted, "the dump")
 
 
-def always(world, ports, log):
+def always(world: World, ports: list[int], log: str) -> None:
     """That one replica answers at any time while both are made anew, and no answer is cut."""
     expect(world.tool("submit", "-", stdin=VERSIONED.format(1).encode()).status, 0, "a submission")
-    end, asked, seen = time.monotonic() + PATIENCE, 0, set()
+    end, asked = time.monotonic() + PATIENCE, 0
+    seen: set[int] = set()
     while time.monotonic() < end and seen != set(ports):
         answers = {}
         for port in ports:
@@ -160,6 +163,6 @@ def always(world, ports, log):
     expect(seen, set(ports), f"replicas with what was submitted; {said_by(log)[-300:]}")
 
 
-def children(number):
+def children(number: int) -> list[int]:
     with open(f"/proc/{number}/task/{number}/children", encoding="ascii") as file:
         return [int(word) for word in file.read().split()]

@@ -1,6 +1,7 @@
 """A replica on another machine, reached through a door of its own."""
 
 import contextlib
+import functools
 import json
 import os
 import shutil
@@ -10,13 +11,14 @@ import sys
 import threading
 import time
 from pathlib import Path
+from typing import Any, Self
 
 from checks.keeping import PATIENCE, QUERIES, SLACK, VERSIONED, running, said_by, wait_until
 from checks.model.queries import answer
 from checks.model.registry import Registry
 from checks.proxied import HOST, certificate, example, replaced
-from checks.running import AUTH, TOP, Failure, Skipped, expect, write
-from checks.worlds import WORLD, World
+from checks.running import AUTH, TOP, Failure, Skipped, Tell, Trial, expect, write
+from checks.worlds import WORLD, Tool, World
 
 
 # A namespace of mounts of one's own (unshare).
@@ -28,7 +30,7 @@ class Machines:
     """Two network namespaces with an address each, and what runs in them. Each knows the other one
     as irr.example.net."""
 
-    def __init__(self, trial, folder):
+    def __init__(self, trial: Trial, folder: str) -> None:
         self.trial, self.folder, self.names = (
             trial,
             folder,
@@ -36,7 +38,7 @@ class Machines:
         )
         self.addresses = ["192.0.2.1", "192.0.2.2"]
 
-    def __enter__(self):
+    def __enter__(self) -> Self:
         if os.geteuid() != 0 or not shutil.which("ip") or not HAPROXY:
             raise Skipped("it needs root, ip and haproxy")
         self.stack = contextlib.ExitStack()
@@ -46,8 +48,9 @@ class Machines:
                     ["ip", "netns", "add", name], capture_output=True, check=False
                 ).returncode:
                     raise Skipped("no network namespace can be made here")
+                delete = ["ip", "netns", "del", name]
                 stack.callback(
-                    subprocess.run, ["ip", "netns", "del", name], capture_output=True, check=False
+                    functools.partial(subprocess.run, delete, capture_output=True, check=False)
                 )
             first, second = self.names
             commands = [
@@ -79,10 +82,10 @@ class Machines:
             self.stack.push(stack.pop_all())
         return self
 
-    def __exit__(self, *_):
+    def __exit__(self, *_: object) -> None:
         self.stack.close()
 
-    def words(self, side, *words):
+    def words(self, side: int, *words: str) -> list[str]:
         hosts = write(
             self.folder,
             f"hosts{side}",
@@ -100,13 +103,15 @@ class Machines:
             *words,
         ]
 
-    def start(self, side, name, *words, **options):
+    def start(
+        self, side: int, name: str, *words: str, **options: Any
+    ) -> tuple[subprocess.Popen[bytes], str]:
         """A process on a machine, which ends with the machines, and the file of what it says."""
         said = os.path.join(self.folder, f"{name}.log")
         return self.stack.enter_context(running(self.words(side, *words), said, **options)), said
 
 
-def doors(trial, machines, tool):
+def doors(trial: Trial, machines: Machines, tool: Tool) -> None:
     """A door on both machines, as docs/OPERATING.md has them, and HAProxy before the first, with
     the file of examples/; but without budgets, since one client stands for many, and on the second
     one with a port without TLS for it."""
@@ -134,7 +139,9 @@ def doors(trial, machines, tool):
     machines.start(1, "door1", python, tool.path, "door", *free, *second, env=tool.environment)
 
 
-def test_a_replica_on_another_machine_outlives_the_network(trial, tool, tell):
+def test_a_replica_on_another_machine_outlives_the_network(
+    trial: Trial, tool: Tool, tell: Tell
+) -> None:
     """A client asks replicas on one machine while the registry on the other one changes, is killed,
     stands still, and is replaced by another program: no answer is wrong, cut or missing, and none
     is older than an interval and what it takes to make replicas."""
@@ -156,7 +163,7 @@ def test_a_replica_on_another_machine_outlives_the_network(trial, tool, tell):
         program = os.path.join(world.folder, "irrdesk")
         shutil.copy(trial.program, program)
 
-        def serve():
+        def serve() -> subprocess.Popen[bytes]:
             return machines.start(
                 0,
                 "primary",
@@ -208,7 +215,7 @@ def test_a_replica_on_another_machine_outlives_the_network(trial, tool, tell):
         told, changes = [], [(0, time.time())]
         is_over = threading.Event()
 
-        def ask():
+        def ask() -> None:
             part, asked = count // 8, 0
             while asked < count or not is_over.is_set():
                 done = subprocess.run(
@@ -254,7 +261,14 @@ def test_a_replica_on_another_machine_outlives_the_network(trial, tool, tell):
     tell(judged(told, changes, count))
 
 
-def change(tool, machines, world, number, changes, environment):
+def change(
+    tool: Tool,
+    machines: Machines,
+    world: World,
+    number: int,
+    changes: list[tuple[int, float]],
+    environment: dict[str, str],
+) -> None:
     """Submits another version, from the second machine to the first, again where the registry is
     away."""
     path = write(world.folder, "v.rpsl", VERSIONED.format(number).encode())
@@ -272,7 +286,7 @@ def change(tool, machines, world, number, changes, environment):
         time.sleep(0.2)
 
 
-def judged(told, changes, count):
+def judged(told: list[str], changes: list[tuple[int, float]], count: int) -> str:
     """What the client's answers come to."""
     wrong = [line for line in told if " wrong" in line]
     expect(

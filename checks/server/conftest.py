@@ -3,14 +3,17 @@
 import concurrent.futures
 import os
 import shutil
+from collections.abc import Callable, Iterator
+from concurrent.futures._base import Future
+from typing import Any
 
 import pytest
 
-from checks.running import Failure, write_settings
+from checks.running import Failure, Trial, write_settings
 from checks.server.peers import INETNUM, run
 
 
-def make_registry(program, folder, submission):
+def make_registry(program: str, folder: str, submission: str) -> None:
     os.mkdir(folder)
     write_settings(folder)
     with open(os.path.join(folder, "first.rpsl"), "w", encoding="ascii") as out:
@@ -22,7 +25,9 @@ def make_registry(program, folder, submission):
 
 
 @pytest.fixture(scope="module")
-def running(request, trial):
+def running(
+    request: pytest.FixtureRequest, trial: Trial
+) -> Iterator[dict[Callable[..., Any], Future]]:
     """What became of each case that was chosen, once it is done: all of them run at once."""
     missing = [command for command in ("whois", "curl") if shutil.which(command) is None]
     if missing:
@@ -33,10 +38,10 @@ def running(request, trial):
         "medium": "\n".join(large[:64]),
         "large": "\n".join(large),
     }
-    chosen = [
+    chosen: list[Any] = [
         item.callspec.params["check"]
         for item in request.session.items
-        if item.module is request.module
+        if isinstance(item, pytest.Function) and item.module is request.module
     ]
     for store in {store for store, _ in chosen}:
         make_registry(trial.program, os.path.join(trial.work, store), stores[store])

@@ -3,6 +3,8 @@
 import contextlib
 import socket
 import subprocess
+from collections.abc import Callable
+from typing import Any
 
 from checks.running import expect
 from checks.serving import GIVEN, Serving, read_all
@@ -20,18 +22,20 @@ LONGEST = 180
 class Cases(list):
     """The cases of a module, as rows for `cases_of`."""
 
-    def case(self, name, store="small", is_long=False):
+    def case(
+        self, name: str, store: str = "small", is_long: bool = False
+    ) -> Callable[[Callable[..., Any]], Callable[..., Any]]:
         """Registers a case, which gets the program and a folder with settings and a registry of its
         own."""
 
-        def register(function):
+        def register(function: Callable[..., Any]) -> Callable[..., Any]:
             self.append((name, (store, function), is_long))
             return function
 
         return register
 
 
-def run(program, folder, *words, stdin=None):
+def run(program: str, folder: str, *words: str, stdin: None = None) -> tuple[int, str, str]:
     made = subprocess.run(
         [program, *words],
         cwd=folder,
@@ -47,19 +51,19 @@ def run(program, folder, *words, stdin=None):
 class Server(Serving):
     """The program while it serves so many connections, and its peers."""
 
-    def __init__(self, program, folder, count, **given):
+    def __init__(self, program: str, folder: str, count: int, **given: Any) -> None:
         super().__init__([program], folder, count, **given)
 
-    def end(self, said=""):
+    def end(self, said: str = "") -> str:
         """The last line, once it has served all, and said this."""
         printed, found = (text.decode() for text in self.process.communicate(timeout=LONGEST))
         expect((self.process.returncode, found), (0, said), "status and standard error of serve")
         return printed
 
-    def expect_end(self, served, failed, said=""):
+    def expect_end(self, served: int, failed: int, said: str = "") -> None:
         expect(self.end(said), f"served {served}, failed {failed}\n", "the last line")
 
-    def connect(self, window=None):
+    def connect(self, window: int | None = None) -> socket.socket:
         peer = socket.socket()
         peer.settimeout(LONGEST)
         if window:
@@ -67,7 +71,7 @@ class Server(Serving):
         peer.connect(("127.0.0.1", self.port))
         return peer
 
-    def ask(self, text, ends=False):
+    def ask(self, text: str | bytes, ends: bool = False) -> str:
         """What a peer is answered that sends this, and then no more where `ends`. A reset is a
         failure of the case."""
         with contextlib.closing(self.connect()) as peer:
@@ -77,7 +81,7 @@ class Server(Serving):
             return read_all(peer).decode()
 
 
-def post(body, fields=""):
+def post(body: bytes, fields: str = "") -> bytes:
     return (
         "POST /submissions HTTP/1.1\r\nHost: localhost\r\nContent-Length:"
         f" {len(body)}\r\n{fields}\r\n".encode() + body

@@ -4,6 +4,9 @@ import os
 import socket
 import subprocess
 import time
+from collections.abc import Callable
+from concurrent.futures._base import Future
+from typing import Any
 
 import pytest
 
@@ -18,7 +21,7 @@ CASES = Cases()
 case = CASES.case
 
 
-def refusal(status, allow=None):
+def refusal(status: str, allow: str | None = None) -> str:
     allowed = f"Allow: {allow}\r\n" if allow else ""
     return (
         f"HTTP/1.1 {status}\r\nContent-Type: text/plain\r\nContent-Length:"
@@ -26,7 +29,7 @@ def refusal(status, allow=None):
     )
 
 
-def curl(server, path, *options):
+def curl(server: Server, path: str, *options: str) -> tuple[str, str]:
     """The head's first line and the body that curl gets."""
     made = subprocess.run(
         [
@@ -49,7 +52,7 @@ def curl(server, path, *options):
     return head.split("\r\n\r\n")[-1].split("\r\n")[0], body
 
 
-def whois(server, query):
+def whois(server: Server, query: str) -> str:
     made = subprocess.run(
         ["whois", "-h", "127.0.0.1", "-p", str(server.port), "--", query],
         capture_output=True,
@@ -61,7 +64,7 @@ def whois(server, query):
     return made.stdout
 
 
-def skipped_lines(size):
+def skipped_lines(size: int) -> bytes:
     """A submission of so many bytes without an item."""
     line = b"% " + b"x" * 61 + b"\n"
     return (line * (size // len(line) + 1))[: size - 1] + b"\n"
@@ -71,7 +74,7 @@ def skipped_lines(size):
 
 
 @case("whois")
-def stock_whois(program, folder):
+def stock_whois(program: str, folder: str) -> None:
     with Server(program, folder, 3) as server:
         expect(whois(server, "root-mnt"), ROOT, "the answer to a name")
         expect(whois(server, "closest 10.1.0.0/16"), TEN, "the answer to a prefix")
@@ -80,7 +83,7 @@ def stock_whois(program, folder):
 
 
 @case("curl, each page and each refusal")
-def stock_curl(program, folder):
+def stock_curl(program: str, folder: str) -> None:
     with Server(program, folder, 9) as server:
         ok = "HTTP/1.1 200 OK"
         expect(curl(server, "/query/ROOT-MNT"), (ok, ROOT), "a query")
@@ -105,7 +108,7 @@ def stock_curl(program, folder):
 
 
 @case("curl submits a file, with Expect and without")
-def stock_submission(program, folder):
+def stock_submission(program: str, folder: str) -> None:
     path = os.path.join(folder, "new.rpsl")
     with open(path, "w", encoding="ascii") as out:
         out.write(
@@ -138,7 +141,7 @@ def stock_submission(program, folder):
 
 
 @case("curl sends a body of 1 MiB, and one of a byte more")
-def stock_large_bodies(program, folder):
+def stock_large_bodies(program: str, folder: str) -> None:
     path = os.path.join(folder, "large.rpsl")
     with Server(program, folder, 4) as server:
         for size, wanted in [
@@ -160,7 +163,7 @@ def stock_large_bodies(program, folder):
 
 
 @case("queries by hand: without LF, of no bytes, too long, refused")
-def bare_queries(program, folder):
+def bare_queries(program: str, folder: str) -> None:
     with Server(program, folder, 6) as server:
         expect(server.ask("root-mnt\r\n"), ROOT, "CR LF")
         expect(server.ask("root-mnt", ends=True), ROOT, "no LF")
@@ -172,7 +175,7 @@ def bare_queries(program, folder):
 
 
 @case("heads by hand: each status, byte for byte")
-def bare_heads(program, folder):
+def bare_heads(program: str, folder: str) -> None:
     with Server(program, folder, 11) as server:
         expect(server.ask("GET /query/root-mnt HTTP/1.0\r\n\r\n"), GIVEN_HEAD + ROOT, "200")
         expect(
@@ -228,7 +231,7 @@ def bare_heads(program, folder):
         "without a reset"
     ),
 )
-def two_requests(program, folder):
+def two_requests(program: str, folder: str) -> None:
     with Server(program, folder, 1) as server:
         request = "GET /query/root-mnt HTTP/1.1\r\nHost: localhost\r\n\r\n"
         expect(server.ask(request * 2), GIVEN_HEAD + ROOT, "the reply")
@@ -236,7 +239,7 @@ def two_requests(program, folder):
 
 
 @case("bytes behind a body are not read as a part of it, and lose no reply")
-def bytes_behind_a_body(program, folder):
+def bytes_behind_a_body(program: str, folder: str) -> None:
     body = ("password: bc\n\n" + INETNUM.format("11.0.0.0/8")).encode()
     added = "1 inetnum 11.0.0.0 - 11.255.255.255: added\n% items 1\n"
     with Server(program, folder, 2) as server:
@@ -250,7 +253,7 @@ def bytes_behind_a_body(program, folder):
 
 
 @case("a refused body of 1 MiB that is sent whole loses no reply")
-def refused_body(program, folder):
+def refused_body(program: str, folder: str) -> None:
     with Server(program, folder, 2) as server:
         expect(
             server.ask(post(skipped_lines(BODY_SIZE + 1))),
@@ -266,7 +269,7 @@ def refused_body(program, folder):
 
 
 @case("a body that ends too soon: its complete paragraphs count, and it is served")
-def short_body(program, folder):
+def short_body(program: str, folder: str) -> None:
     body = (
         "password: bc\n\n" + INETNUM.format("11.0.0.0/8") + "\n" + INETNUM.format("12.0.0.0/8")
     ).encode()
@@ -289,7 +292,7 @@ def short_body(program, folder):
 
 
 @case("a server that is started again at once listens on the port that it had")
-def started_again(program, folder):
+def started_again(program: str, folder: str) -> None:
     port = None
     for _ in range(2):
         with Server(program, folder, 1, port=port) as server:
@@ -304,7 +307,7 @@ def started_again(program, folder):
         "and ends as ever"
     ),
 )
-def stopped_desk(program, folder):
+def stopped_desk(program: str, folder: str) -> None:
     items = "\n".join(
         INETNUM.format(f"11.{n}.0.0/16") + "descr: " + "x" * 50_000 + "\n" for n in range(20)
     )
@@ -329,19 +332,19 @@ def stopped_desk(program, folder):
 
 
 @case("probe prints the root maintainer")
-def probe_root(program, folder):
+def probe_root(program: str, folder: str) -> None:
     expect(run(program, folder, "probe", "s.toml"), (0, ROOT, ""), "status and streams")
 
 
 @case("probe of a root that is not registered prints that there are no entries")
-def probe_missing_root(program, folder):
+def probe_missing_root(program: str, folder: str) -> None:
     with open(os.path.join(folder, "s.toml"), "w", encoding="ascii") as out:
         out.write(SETTINGS.format(limit=10_000, store="irr.db").replace("ROOT-MNT", "OTHER-MNT"))
     expect(run(program, folder, "probe", "s.toml"), (0, "% no entries\n", ""), "status and streams")
 
 
 @case("a port that is taken: status 5")
-def taken_port(program, folder):
+def taken_port(program: str, folder: str) -> None:
     with socket.socket() as taken:
         taken.bind(("127.0.0.1", 0))
         taken.listen()
@@ -358,7 +361,7 @@ def taken_port(program, folder):
 
 
 @case("standard output that cannot be written: status 5, and nobody is served")
-def no_output(program, folder):
+def no_output(program: str, folder: str) -> None:
     with open("/dev/full", "w", encoding="ascii") as full:
         made = subprocess.run(
             [program, "serve", "s.toml", "--port", str(free_port()), "--count", "1"],
@@ -378,7 +381,7 @@ def no_output(program, folder):
 
 
 @case("standard output that nobody reads at the end: status 5, and no signal ends the program")
-def closed_output(program, folder):
+def closed_output(program: str, folder: str) -> None:
     with Server(program, folder, 1) as server:
         server.process.stdout.close()
         # The children of other cases hold the stream until they become the program.
@@ -394,7 +397,7 @@ def closed_output(program, folder):
 
 
 @case("wrong words: status 2; wrong settings: 3; no database: 4; each before the port is looked at")
-def wrong_words(program, folder):
+def wrong_words(program: str, folder: str) -> None:
     port = str(free_port())
     for words in [
         ["serve"],
@@ -430,5 +433,7 @@ def wrong_words(program, folder):
 
 
 @pytest.mark.parametrize("check", cases_of(CASES))
-def test_peers_get_what_they_should(running, check):
+def test_peers_get_what_they_should(
+    running: dict[Callable[..., Any], Future], check: tuple[str, Callable[..., Any]]
+) -> None:
     running[check[1]].result()

@@ -9,6 +9,8 @@ import signal
 import socket
 import subprocess
 import time
+from collections.abc import Iterator
+from typing import Any
 
 import pytest
 
@@ -16,7 +18,17 @@ from checks.failing import NEVER_MADE
 from checks.model.queries import answer
 from checks.model.registry import load
 from checks.old import old_items, write_old
-from checks.running import Failure, difference, expect, short, write, write_settings
+from checks.running import (
+    Failure,
+    Ran,
+    Tell,
+    Trial,
+    difference,
+    expect,
+    short,
+    write,
+    write_settings,
+)
 from checks.serving import Server, read_all
 from checks.texts import changing_items, digest, fronts, last_of
 
@@ -31,7 +43,13 @@ SIZES = [0, 0, 20, 300, 6_000]
 # Kills.
 
 
-def killed(trial, folder, words, lines=None, seconds=None):
+def killed(
+    trial: Trial,
+    folder: str,
+    words: list[str],
+    lines: int | None = None,
+    seconds: float | None = None,
+) -> tuple[int, bytes]:
     """Starts the program, and kills it once it has printed so many lines, or after so many seconds;
     what it printed."""
     process = subprocess.Popen(
@@ -56,11 +74,11 @@ def killed(trial, folder, words, lines=None, seconds=None):
     return process.wait(), printed
 
 
-def full_dump(trial, folder):
+def full_dump(trial: Trial, folder: str) -> Ran:
     return trial.run(folder, "dump", "s.toml", "--full", timeout=120)
 
 
-def check_integrity(folder):
+def check_integrity(folder: str) -> None:
     """What sqlite3 says of the file with its log, as they were left."""
     made = subprocess.run(
         ["sqlite3", "-batch", "irr.db", "PRAGMA integrity_check"],
@@ -73,7 +91,7 @@ def check_integrity(folder):
     expect((made.returncode, made.stdout, made.stderr), (0, "ok\n", ""), "PRAGMA integrity_check")
 
 
-def check_copy(folder):
+def check_copy(folder: str) -> None:
     """The same of a copy, which the program has not opened since."""
     copy = folder + "-copy"
     shutil.copytree(folder, copy)
@@ -81,7 +99,7 @@ def check_copy(folder):
     shutil.rmtree(copy)
 
 
-def copied(trial, base, name):
+def copied(trial: Trial, base: str, name: str) -> str:
     folder = os.path.join(trial.work, name)
     shutil.copytree(base, folder)
     return folder
@@ -90,14 +108,14 @@ def copied(trial, base, name):
 # Cases.
 
 
-def made_registry(trial, name):
+def made_registry(trial: Trial, name: str) -> str:
     folder = trial.place(name)
     write_settings(folder)
     expect(trial.run(folder, "init", "s.toml").status, 0, "init")
     return folder
 
 
-def timed(trial, folder, *words):
+def timed(trial: Trial, folder: str, *words: str) -> float:
     """How long a command takes that nobody ends."""
     start = time.monotonic()
     ran = trial.run(folder, *words, timeout=600)
@@ -108,7 +126,7 @@ def timed(trial, folder, *words):
     return time.monotonic() - start
 
 
-def test_of_a_killed_submission_what_was_told_stands(trial, tell):
+def test_of_a_killed_submission_what_was_told_stands(trial: Trial, tell: Tell) -> None:
     """Kills of a submission: by turns after a line, and after some time."""
     count, kills = trial.pick(400, 2_000), trial.pick(20, 200)
     chance = trial.chance("submit")
@@ -126,7 +144,7 @@ def test_of_a_killed_submission_what_was_told_stands(trial, tell):
     seen = []
     for turn in range(kills):
         folder = copied(trial, base, f"submit-{turn}")
-        moment = (
+        moment: dict[str, Any] = (
             {"lines": chance.randrange(count)} if turn % 2 else {"seconds": chance.uniform(0, took)}
         )
         seen.append(after_kill(trial, folder, moment, turn, found, count))
@@ -140,7 +158,14 @@ def test_of_a_killed_submission_what_was_told_stands(trial, tell):
     )
 
 
-def after_kill(trial, folder, moment, turn, found, count):
+def after_kill(
+    trial: Trial,
+    folder: str,
+    moment: dict[str, Any],
+    turn: int,
+    found: dict[bytes, list[int]],
+    count: int,
+) -> tuple[int, int]:
     """Kills one submission, and gives how many lines it printed and of how many items the rows
     are."""
     _, printed = killed(trial, folder, ["submit", "s.toml", "items.rpsl"], **moment)
@@ -159,7 +184,7 @@ def after_kill(trial, folder, moment, turn, found, count):
     return told, told if told in stands else told + 1
 
 
-def again(trial, base, texts):
+def again(trial: Trial, base: str, texts: list[bytes]) -> None:
     """A submission that was killed is sent again, whole: each item is answered as on the registry
     that stood."""
     folder = copied(trial, base, "submit-again")
@@ -182,7 +207,7 @@ def again(trial, base, texts):
 
 
 @contextlib.contextmanager
-def held_still(process):
+def held_still(process: subprocess.Popen[bytes]) -> Iterator[None]:
     """Holds a process still, where it has not ended, and lets it go on."""
     # Not send_signal, which would take leave of a process that has ended.
     os.kill(process.pid, signal.SIGSTOP)
@@ -193,7 +218,7 @@ def held_still(process):
         os.kill(process.pid, signal.SIGCONT)
 
 
-def test_a_copy_of_a_submission_held_still_has_what_was_told(trial, tell):
+def test_a_copy_of_a_submission_held_still_has_what_was_told(trial: Trial, tell: Tell) -> None:
     """Copies of the database of a submission that is held still: each is that of a front of the
     items, as after a kill."""
     count, copies = trial.pick(400, 2_000), trial.pick(10, 100)
@@ -236,7 +261,9 @@ def test_a_copy_of_a_submission_held_still_has_what_was_told(trial, tell):
     tell(f"{copies} copies in {count} items, after {min(seen)} to {max(seen)}")
 
 
-def stands_copied(trial, folder, told, found, what):
+def stands_copied(
+    trial: Trial, folder: str, told: int, found: dict[bytes, list[int]], what: str
+) -> int:
     """Of how many items the rows of a copy are."""
     check_copy(folder)
     ran = full_dump(trial, folder)
@@ -249,7 +276,7 @@ def stands_copied(trial, folder, told, found, what):
     return told if told in stands else told + 1
 
 
-def test_a_copy_of_a_server_held_still_has_what_was_told(trial, tell):
+def test_a_copy_of_a_server_held_still_has_what_was_told(trial: Trial, tell: Tell) -> None:
     """Copies of the database of a server that is held still while it waits for the rest of a query:
     the peer has its whole answer afterwards, since the system breaks off the call that waits and
     the program makes it again."""
@@ -281,7 +308,7 @@ def test_a_copy_of_a_server_held_still_has_what_was_told(trial, tell):
     tell(f"{copies} copies, behind each of which a peer has its answer")
 
 
-def test_a_killed_load_is_whole_or_nothing(trial, tell):
+def test_a_killed_load_is_whole_or_nothing(trial: Trial, tell: Tell) -> None:
     """Kills of a load: after each the registry is there whole, or a load makes it."""
     count, kills = trial.pick(1_000, 2_000), trial.pick(5, 50)
     chance = trial.chance("load")
@@ -304,12 +331,12 @@ def test_a_killed_load_is_whole_or_nothing(trial, tell):
     )
 
 
-def first_byte(folder):
+def first_byte(folder: str) -> bytes:
     with open(os.path.join(folder, "irr.db"), "rb") as file:
         return file.read(1)
 
 
-def stands_loaded(trial, folder, what, dump):
+def stands_loaded(trial: Trial, folder: str, what: str, dump: bytes) -> int:
     """Whether a load stands that was killed; where it doesn't, nothing does, and the load is done
     again."""
     # The first byte of a new database is written last: until then sqlite3 takes the file for none.
@@ -329,7 +356,7 @@ def stands_loaded(trial, folder, what, dump):
     return 0
 
 
-def test_a_killed_migration_is_whole_or_nothing(trial, tell):
+def test_a_killed_migration_is_whole_or_nothing(trial: Trial, tell: Tell) -> None:
     """Kills of a migration: after each the rows are of version 1, and are migrated, or all of
     version 2."""
     count, kills = trial.pick(1_000, 5_000), trial.pick(5, 50)
@@ -354,7 +381,7 @@ def test_a_killed_migration_is_whole_or_nothing(trial, tell):
     )
 
 
-def stands_migrated(trial, folder, what, dump):
+def stands_migrated(trial: Trial, folder: str, what: str, dump: bytes) -> int:
     check_copy(folder)
     ran = full_dump(trial, folder)
     if ran.status == 4 and b"the tables of the database are of version 1" in ran.said:

@@ -5,6 +5,9 @@ import select
 import socket
 import struct
 import time
+from collections.abc import Callable
+from concurrent.futures._base import Future
+from typing import Any
 
 import pytest
 
@@ -18,14 +21,14 @@ CASES = Cases()
 case = CASES.case
 
 
-def expect_within(found, least, most, what):
+def expect_within(found: float, least: float, most: float, what: str) -> None:
     """That it took so many seconds: more above the least where others have the processors."""
     most = least + (most - least) * pace(time.monotonic)
     if not least <= found <= most:
         raise Failure(f"{what}: {found:.1f} s and not {least} to {most} s")
 
 
-def reset(peer):
+def reset(peer: socket.socket) -> None:
     """Closes a connection by a reset."""
     peer.setsockopt(socket.SOL_SOCKET, socket.SO_LINGER, struct.pack("ii", 1, 0))
     peer.close()
@@ -35,7 +38,7 @@ def reset(peer):
 
 
 @case("a reset in mid-body: the connection failed, and the next is served")
-def reset_in_a_body(program, folder):
+def reset_in_a_body(program: str, folder: str) -> None:
     with Server(program, folder, 2) as server:
         peer = server.connect()
         peer.sendall(post(b"password: bc\n\n" + b"x" * 100_000)[:50_000])
@@ -46,7 +49,7 @@ def reset_in_a_body(program, folder):
 
 
 @case("a reset before the first line is whole: the connection failed, and the next is served")
-def reset_in_a_line(program, folder):
+def reset_in_a_line(program: str, folder: str) -> None:
     with Server(program, folder, 2) as server:
         peer = server.connect()
         peer.sendall(b"root-")
@@ -57,7 +60,7 @@ def reset_in_a_line(program, folder):
 
 
 @case("a hundred resets leave no connection open: a program that may have 24 files goes on")
-def many_resets(program, folder):
+def many_resets(program: str, folder: str) -> None:
     with Server(program, folder, 101, most_files=24) as server:
         for turn in range(100):
             peer = server.connect()
@@ -71,7 +74,7 @@ def many_resets(program, folder):
 
 
 @case("peers that reset the connection once they have asked: the program goes on", store="large")
-def reset_while_answered(program, folder):
+def reset_while_answered(program: str, folder: str) -> None:
     with Server(program, folder, 4) as server:
         peer = server.connect()
         peer.sendall(b"root-mnt\n")
@@ -95,7 +98,7 @@ def reset_while_answered(program, folder):
 
 
 @case("a peer that says nothing is cut off after 10 seconds, and another one is served then")
-def silent_peer(program, folder):
+def silent_peer(program: str, folder: str) -> None:
     with Server(program, folder, 2) as server:
         start = time.monotonic()
         with contextlib.closing(server.connect()) as silent:
@@ -111,7 +114,7 @@ def silent_peer(program, folder):
         "is served then"
     ),
 )
-def dripping_peer(program, folder):
+def dripping_peer(program: str, folder: str) -> None:
     with Server(program, folder, 2) as server:
         start = time.monotonic()
         with (
@@ -133,7 +136,7 @@ def dripping_peer(program, folder):
         "the reply is not lost to a reset"
     ),
 )
-def slow_body(program, folder):
+def slow_body(program: str, folder: str) -> None:
     body = ("password: bc\n\n" + INETNUM.format("11.0.0.0/8") + "\n").encode()
     with Server(program, folder, 2) as server:
         start = time.monotonic()
@@ -164,7 +167,7 @@ def slow_body(program, folder):
     ),
     store="large",
 )
-def peer_that_takes_nothing(program, folder):
+def peer_that_takes_nothing(program: str, folder: str) -> None:
     with Server(program, folder, 2) as server:
         start = time.monotonic()
         with contextlib.closing(server.connect(window=4_096)) as stuck:
@@ -181,7 +184,7 @@ def peer_that_takes_nothing(program, folder):
     ),
     store="large",
 )
-def peer_that_stops(program, folder):
+def peer_that_stops(program: str, folder: str) -> None:
     with Server(program, folder, 2) as server:
         with contextlib.closing(server.connect(window=65_536)) as stopped:
             stopped.sendall(b"GET /dump HTTP/1.1\r\n\r\n")
@@ -195,7 +198,7 @@ def peer_that_stops(program, folder):
 
 
 @case("a reader of 32 KiB a second gets a dump of 4 MB whole", store="medium")
-def steady_reader(program, folder):
+def steady_reader(program: str, folder: str) -> None:
     with Server(program, folder, 1) as server:
         with contextlib.closing(server.connect(window=16_384)) as slow:
             slow.sendall(b"GET /dump HTTP/1.1\r\n\r\n")
@@ -213,7 +216,7 @@ def steady_reader(program, folder):
     store="large",
     is_long=True,
 )
-def dripping_reader(program, folder):
+def dripping_reader(program: str, folder: str) -> None:
     with Server(program, folder, 2) as server:
         start, taken = time.monotonic(), 0
         with (
@@ -238,7 +241,7 @@ def dripping_reader(program, folder):
 
 
 @case("a slow reader gets a long dump whole", store="large")
-def slow_reader(program, folder):
+def slow_reader(program: str, folder: str) -> None:
     with Server(program, folder, 2) as server:
         with contextlib.closing(server.connect(window=65_536)) as slow:
             slow.sendall(b"GET /dump HTTP/1.1\r\n\r\n")
@@ -254,7 +257,7 @@ def slow_reader(program, folder):
 
 
 @case("a peer that never ends its side after the reply does not hold the port")
-def peer_that_never_ends(program, folder):
+def peer_that_never_ends(program: str, folder: str) -> None:
     with Server(program, folder, 2) as server:
         with contextlib.closing(server.connect()) as first:
             first.sendall(b"root-mnt\n")
@@ -266,7 +269,7 @@ def peer_that_never_ends(program, folder):
 
 
 @case("a hundred peers at once are served one after the other")
-def many_peers(program, folder):
+def many_peers(program: str, folder: str) -> None:
     with Server(program, folder, 100) as server:
         peers = [server.connect() for _ in range(100)]
         for peer in reversed(peers):
@@ -282,5 +285,7 @@ def many_peers(program, folder):
 
 
 @pytest.mark.parametrize("check", cases_of(CASES))
-def test_peers_get_what_they_should(running, check):
+def test_peers_get_what_they_should(
+    running: dict[Callable[..., Any], Future], check: tuple[str, Callable[..., Any]]
+) -> None:
     running[check[1]].result()

@@ -1,5 +1,6 @@
 """The tool in forks of this process, which has its modules already: for calls by the thousand.
 Other cases run the packed file."""
+
 import os
 import signal
 import socket
@@ -7,11 +8,13 @@ import sys
 import tempfile
 import traceback
 
-from irr.main import main
+from checks.proxied import Haproxy, Nginx
 from checks.running import Ran
+from checks.worlds import Tool
+from irr.main import main
 
 
-def begun(words, environment, streams):
+def begun(words: list[str], environment: dict[str, str], streams: list[int]) -> int:
     """The number of a fork that does what `irr` does with these words, with these files as its
     standard streams."""
     number = os.fork()
@@ -37,7 +40,7 @@ def begun(words, environment, streams):
         os._exit(status)
 
 
-def run_forked(tool, *words):
+def run_forked(tool: Tool, *words: str) -> Ran:
     """How it ends."""
     with tempfile.TemporaryFile() as printed, tempfile.TemporaryFile() as said, open(
         os.devnull, "rb"
@@ -55,11 +58,11 @@ class Forks:
     """The port at which each connection is handed to a fork, as the socket unit hands it to a
     command, while a `with` block runs."""
 
-    def __init__(self, tool, words):
+    def __init__(self, tool: Tool, words) -> None:
         self.tool, self.words = tool, words
         self.listener = socket.create_server(("127.0.0.1", 0), backlog=64)
 
-    def __enter__(self):
+    def __enter__(self) -> Nginx | Haproxy:
         self.number = os.fork()
         if not self.number:
             try:
@@ -68,7 +71,7 @@ class Forks:
                 os._exit(1)
         return self.listener.getsockname()[1]
 
-    def serve(self):
+    def serve(self) -> None:
         signal.signal(signal.SIGCHLD, signal.SIG_IGN)
         with open(os.devnull, "wb") as nothing:
             while True:
@@ -80,7 +83,7 @@ class Forks:
                         [peer.fileno(), peer.fileno(), nothing.fileno()],
                     )
 
-    def __exit__(self, *_):
+    def __exit__(self, *_: object) -> None:
         os.kill(self.number, signal.SIGKILL)
         os.waitpid(self.number, 0)
         self.listener.close()

@@ -1,7 +1,9 @@
 """Imports of dumps in a test: what a paragraph becomes, and what files become."""
+
 import io
 import os
 import tempfile
+from typing import Any
 
 from irr.migrate import conversion, parting
 from irr.migrate.normalisation import LeftOut, Mender
@@ -11,7 +13,7 @@ from irr.rpsl import syntax
 AUTH = "SHA256-PW a:" + "0" * 64
 
 
-def mended(text, off=()):
+def mended(text: bytes, off: tuple[()] | list[str] = ()) -> str | tuple[bytes, set[str]]:
     """The text that a paragraph becomes and the kinds of what was mended, or why it is left out."""
     (block,) = syntax.blocks([text])
     (part,) = parting.parts(block)
@@ -22,7 +24,13 @@ def mended(text, off=()):
     return found.text, set(found.kinds)
 
 
-def made(*texts, off=(), auths=None, left_out=None, keeps_scoped=False):
+def made(
+    *texts: bytes,
+    off: tuple[()] | list[str] = (),
+    auths: None = None,
+    left_out: io.BytesIO | None = None,
+    keeps_scoped: bool = False,
+) -> tuple[bytes, Tally]:
     """What an import of files with these texts writes, and its tally."""
     with tempfile.TemporaryDirectory() as folder:
         paths = []
@@ -44,31 +52,31 @@ def made(*texts, off=(), auths=None, left_out=None, keeps_scoped=False):
         return out.getvalue(), tally
 
 
-def obj(*lines):
+def obj(*lines: str) -> bytes:
     return "".join(line + "\n" for line in lines).encode("latin-1") + b"\n"
 
 
-def keys_of(dump):
+def keys_of(dump: bytes) -> list[str]:
     return [
         block.text.partition(b"\n")[0].partition(b":")[2].strip().decode("latin-1")
         for block in syntax.blocks([dump])
     ]
 
 
-def listed(*texts, **more):
+def listed(*texts, **more: Any):
     """The lines of the list of what is left out, dropped, or odd about what is taken."""
     out = io.BytesIO()
     made(*texts, left_out=out, **more)
     return out.getvalue().decode().splitlines()
 
 
-def left_out(*texts, **more):
+def left_out(*texts: bytes, **more: bool) -> list[str]:
     """What is left out or dropped, without the words which of them it is."""
     lines = [line.partition("\t") for line in listed(*texts, **more)]
     return [rest for what, _, rest in lines if what in ("left out", "dropped from lists")]
 
 
-def texts_of(dump, *kinds):
+def texts_of(dump: bytes, *kinds: str) -> list[str]:
     """The texts of the objects of some classes."""
     return [
         block.text.decode("latin-1")

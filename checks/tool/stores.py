@@ -1,9 +1,11 @@
 """Folders with settings and a database for the modules of stores, and what they run."""
+
 import contextlib
 import os
 import resource
 import tempfile
 import unittest
+from collections.abc import Iterator
 from pathlib import Path
 from unittest import mock
 
@@ -15,7 +17,7 @@ TEXT = f'source = "TEST"\nroot = "ROOT-MNT"\nauth = "{AUTH}"\nlimit = 10\nstore 
 
 
 @contextlib.contextmanager
-def program(words):
+def program(words: str) -> Iterator[None]:
     """A program in the place of irrdesk, which is these words of the shell."""
     with tempfile.TemporaryDirectory() as folder:
         path = Path(folder) / "irrdesk"
@@ -26,7 +28,7 @@ def program(words):
 
 
 @contextlib.contextmanager
-def limited(most):
+def limited(most: int) -> Iterator[None]:
     """Lets no file grow above so many bytes."""
     was = resource.getrlimit(resource.RLIMIT_FSIZE)
     resource.setrlimit(resource.RLIMIT_FSIZE, (most, was[1]))
@@ -37,19 +39,19 @@ def limited(most):
 
 
 class Folder(unittest.TestCase):
-    def setUp(self):
+    def setUp(self) -> None:
         self.temporary = tempfile.TemporaryDirectory()
         self.folder = Path(self.temporary.name).resolve()
 
-    def tearDown(self):
+    def tearDown(self) -> None:
         self.temporary.cleanup()
 
-    def file(self, name, text):
+    def file(self, name: str, text: bytes) -> Path:
         path = self.folder / name
         path.write_bytes(text)
         return path
 
-    def settings(self):
+    def settings(self) -> Settings:
         return Settings(
             self.folder / "irr.toml", "TEST", "ROOT-MNT", AUTH, 10, self.file("irr.db", b"rows")
         )

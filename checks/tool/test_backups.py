@@ -9,6 +9,8 @@ import subprocess
 import sys
 import threading
 import time
+from collections.abc import Iterator
+from typing import Any
 
 from checks.keeping import (
     PATIENCE,
@@ -20,9 +22,9 @@ from checks.keeping import (
     state,
     wait_until,
 )
-from checks.running import TOP, Skipped, expect, write, write_settings
+from checks.running import TOP, Skipped, Tell, Trial, expect, write, write_settings
 from checks.serving import free_port
-from checks.worlds import World, expect_line, items
+from checks.worlds import Tool, World, expect_line, items
 
 SECONDS = 60
 
@@ -31,14 +33,16 @@ SECONDS = 60
 CLONE_NEWNS = 0x2_0000
 
 
-def test_a_backup_is_whole_and_restored_as_its_page_says(trial, tool, tell):
+def test_a_backup_is_whole_and_restored_as_its_page_says(
+    trial: Trial, tool: Tool, tell: Tell
+) -> None:
     """Backups of a registry that is served under load, of one that is not, and of a snapshot; each
     restored by both its files."""
     with World(trial, tool, "backups") as world:
         folder, settings = os.path.join(world.folder, "b"), os.path.join(world.folder, "s.toml")
         numbers, is_over = [], threading.Event()
 
-        def submit():
+        def submit() -> None:
             number = 0
             while not is_over.is_set():
                 number += 1
@@ -95,7 +99,7 @@ def test_a_backup_is_whole_and_restored_as_its_page_says(trial, tool, tell):
     tell(f"{len(numbers)} submissions meanwhile")
 
 
-def as_its_user(tool, trial):
+def as_its_user(tool: Tool, trial: Trial) -> None:
     """A backup by the server's user, to whom the system does not show what the server has open."""
     if os.geteuid() != 0:
         return
@@ -140,7 +144,9 @@ def as_its_user(tool, trial):
         expect(state(server.pid) in "RS", True, "that the server goes on")
 
 
-def test_a_backup_that_fails_says_so_and_leaves_nothing(trial, tool, tell):
+def test_a_backup_that_fails_says_so_and_leaves_nothing(
+    trial: Trial, tool: Tool, tell: Tell
+) -> None:
     """A backup that can't be made says so by its status and a line, leaves those that there are,
     and never a server that stands still."""
     with World(trial, tool, "bad-backups") as world:
@@ -153,7 +159,7 @@ def test_a_backup_that_fails_says_so_and_leaves_nothing(trial, tool, tell):
         kept = sorted(os.listdir(folder))
         time.sleep(1.1)
 
-        def fails(status, pattern, *words, **environment):
+        def fails(status: int, pattern: str, *words: str, **environment: str) -> None:
             ran = tool.at(**environment)(
                 "backup", "--settings", settings, *words, folder, folder=world.folder
             )
@@ -242,7 +248,7 @@ def test_a_backup_that_fails_says_so_and_leaves_nothing(trial, tool, tell):
     tell("10 failures")
 
 
-def keep_mounts():
+def keep_mounts() -> None:
     """Lets nobody else see what this process mounts, so that it goes with it."""
     if (
         ctypes.CDLL(None).unshare(CLONE_NEWNS)
@@ -254,7 +260,7 @@ def keep_mounts():
 
 
 @contextlib.contextmanager
-def mounted(folder, *words):
+def mounted(folder: str, *words: str) -> Iterator[None]:
     """What these words mount, in a new folder while the block runs."""
     os.mkdir(folder)
     if subprocess.run(["mount", *words, folder], capture_output=True, check=False).returncode:
@@ -265,16 +271,18 @@ def mounted(folder, *words):
         subprocess.run(["umount", folder], check=True)
 
 
-def disk(folder, size):
+def disk(folder: str, size: int) -> Any:
     """A small file system."""
     return mounted(folder, "-t", "tmpfs", "-o", f"size={size}k,mode=700", "tmpfs")
 
 
-def remount(folder, options):
+def remount(folder: str, options: str) -> None:
     subprocess.run(["mount", "-o", f"remount,{options}", folder], check=True)
 
 
-def test_a_full_or_read_only_disk_costs_nothing_that_was_kept(trial, tool, tell):
+def test_a_full_or_read_only_disk_costs_nothing_that_was_kept(
+    trial: Trial, tool: Tool, tell: Tell
+) -> None:
     """A backup that finds no room leaves those that there are, and names its folder; a reset that
     finds none, no password. A database that can't be written is taken by --copy, unless it is
     served."""
@@ -377,7 +385,9 @@ def test_a_full_or_read_only_disk_costs_nothing_that_was_kept(trial, tool, tell)
     tell(f"{size} KiB at last")
 
 
-def test_a_database_through_a_link_is_backed_up_and_reset(trial, tool, tell):
+def test_a_database_through_a_link_is_backed_up_and_reset(
+    trial: Trial, tool: Tool, tell: Tell
+) -> None:
     """A database that `store` leads to by a link has its log beside it: a backup has what is in
     that, and a reset keeps the link. A log that is missing where a link leads is not none; and a
     link to a backup that was moved is let be."""

@@ -5,8 +5,8 @@ import sys
 import tempfile
 import time
 
-from checks.running import expect, run, write
-from checks.worlds import World, items
+from checks.running import Tell, Trial, expect, run, write
+from checks.worlds import Tool, World, items
 
 IN_MEMORY = True
 
@@ -16,7 +16,9 @@ IN_MEMORY = True
 QUERY_SECONDS, QUERY_TIMES, SUBMIT_TIMES, ITEM_TIMES = 0.15, 1.8, 1.2, 1 / 800
 
 
-def test_a_query_and_a_long_submission_take_no_longer_than_they_may(trial, tool, tell):
+def test_a_query_and_a_long_submission_take_no_longer_than_they_may(
+    trial: Trial, tool: Tool, tell: Tell
+) -> None:
     """What a query takes beside a local server, and a long submission beside that of the program.
     In the long form by the clock, on a disk, for which the machine is to be idle; in the short one
     by the processor's time, against that of Python for the modules that a query can't do
@@ -27,7 +29,7 @@ def test_a_query_and_a_long_submission_take_no_longer_than_they_may(trial, tool,
         tell(measured(tool, trial, folder))
 
 
-def measured(tool, trial, folder):
+def measured(tool: Tool, trial: Trial, folder: str) -> str:
     with World(trial, tool, os.path.join(folder, "query")) as world:
         clock, processor, least = [], [], []
         for _ in range(trial.pick(8, 40)):

@@ -3,14 +3,15 @@
 import os
 import re
 import shutil
+from collections.abc import Iterator
 from types import SimpleNamespace
 
 from checks.chances import any_submission
 from checks.model.registry import Registry, Secrets
 from checks.model.text import blocks, read
-from checks.running import AUTH, expect, write
+from checks.running import AUTH, Tell, Trial, expect, write
 from checks.tool.forking import run_forked
-from checks.worlds import A_AUTH, WORLD, World, expect_line
+from checks.worlds import A_AUTH, WORLD, Tool, World, expect_line
 from irr.local import dry_run
 from irr.registry import answers
 from irr.registry.submissions import Item, Reported
@@ -23,7 +24,7 @@ IN_MEMORY, SECONDS = True, 20
 IN_ONE = 25
 
 
-def test_dry_runs_of_chance_say_what_comes(trial, tool, tell):
+def test_dry_runs_of_chance_say_what_comes(trial: Trial, tool: Tool, tell: Tell) -> None:
     """Submissions of chance, judged on a copy and then for good."""
     count, chance = trial.count or trial.pick(60, 1_000), trial.chance("dry runs")
     compared = unknown = 0
@@ -64,7 +65,7 @@ def test_dry_runs_of_chance_say_what_comes(trial, tool, tell):
     )
 
 
-def owners(text, model):
+def owners(text: bytes, model: Registry) -> Iterator[str]:
     """Whose each password of a submission is, in the order in which they come."""
     secrets = {}
     for block in blocks(text):
@@ -79,7 +80,9 @@ def owners(text, model):
         yield ",".join(names) or "-"
 
 
-def test_a_dry_run_says_what_it_took_and_leaves_nothing(trial, tool, tell):
+def test_a_dry_run_says_what_it_took_and_leaves_nothing(
+    trial: Trial, tool: Tool, tell: Tell
+) -> None:
     """What a dry run asks, says and leaves."""
     with World(trial, tool, "dry") as world:
         before = world.tool("dump").printed
@@ -145,7 +148,7 @@ def test_a_dry_run_says_what_it_took_and_leaves_nothing(trial, tool, tell):
     tell("asked, told, and nothing left")
 
 
-def test_hidden_lines_are_unknown_until_an_item_is_taken():
+def test_hidden_lines_are_unknown_until_an_item_is_taken() -> None:
     """What is refused tells nothing of the registered `auth` lines; what is taken tells them."""
     text = b"mntner: A-MNT\nauth: SHA256-PW x\nmnt-by: A-MNT\nsource: TEST\n"
     (block,) = syntax.blocks([text])

@@ -1,9 +1,11 @@
 """Objects near the bound of a paragraph: each has a text of at most so many bytes that a replica
 loads, and that is public as it was."""
 
+import random
+
 import pytest
 
-from checks.running import AUTH, expect, write, write_settings
+from checks.running import AUTH, Tell, Trial, expect, write, write_settings
 from irr.local import temporary
 from irr.rpsl import syntax
 
@@ -33,7 +35,7 @@ CLASSES = [
 HEAD = f"mntner: ROOT-MNT\nauth: {AUTH}\nmnt-by: ROOT-MNT\nsource: TEST\n\n"
 
 
-def edge(chance, number):
+def edge(chance: random.Random, number: int) -> str:
     """An object whose paragraph has just as many bytes as it may, or a few fewer."""
     head = chance.choice(CLASSES) % number + "\nmnt-by:ROOT-MNT\nsource:TEST\n"
     if head.startswith("mntner"):
@@ -56,7 +58,9 @@ def edge(chance, number):
 
 
 @pytest.mark.parametrize("part", range(2))
-def test_an_object_near_the_bound_is_loaded_by_replicas(trial, tell, part):
+def test_an_object_near_the_bound_is_loaded_by_replicas(
+    trial: Trial, tell: Tell, part: int
+) -> None:
     count, chance = trial.pick(6, 2_500), trial.chance(f"edge {part}")
     folder = trial.place(f"edge-{part}")
     write_settings(folder, limit=1_000)
@@ -84,7 +88,7 @@ def test_an_object_near_the_bound_is_loaded_by_replicas(trial, tell, part):
     tell(f"{added} objects, {over} of them over {MOST} bytes as they are printed")
 
 
-def test_what_is_hidden_in_a_text_stays(trial):
+def test_what_is_hidden_in_a_text_stays(trial: Trial) -> None:
     """Words in a text that look like what replaces a hidden line are kept."""
     text = (
         b"mntner:         A-MNT\nauth:           # filtered\nremarks:        auth: FILTERED "

@@ -6,8 +6,8 @@ import subprocess
 import sys
 import time
 
-from checks.running import expect, run, write
-from checks.worlds import World, answering, certificate, expect_line, items, nginx
+from checks.running import Tell, Trial, expect, run, write
+from checks.worlds import Tool, World, answering, certificate, expect_line, items, nginx
 from irr.local.excerpts import MOST_ITEMS
 
 HEAD = b"HTTP/1.1 %s\r\nContent-Type: text/plain\r\nConnection: close\r\n%s\r\n"
@@ -15,7 +15,7 @@ GOOD = HEAD % (b"200 OK", b"")
 OBJECT = b"aut-num:        AS1\nmnt-by:         A-MNT\nsource:         TEST\n\n"
 
 
-def test_bad_servers_end_as_one_line_and_a_status(trial, tool, tell):
+def test_bad_servers_end_as_one_line_and_a_status(trial: Trial, tool: Tool, tell: Tell) -> None:
     """Servers that are none, that are others, and whose answers are cut off: a line and status
     5."""
     with World(trial, tool, "servers") as world:
@@ -246,7 +246,9 @@ def test_bad_servers_end_as_one_line_and_a_status(trial, tool, tell):
     )
 
 
-def test_a_busy_server_is_asked_again_and_not_for_ever(trial, tool, tell):
+def test_a_busy_server_is_asked_again_and_not_for_ever(
+    trial: Trial, tool: Tool, tell: Tell
+) -> None:
     """A server that asks to wait is asked again, as often as it asks, and not for ever."""
     place = write(trial.place("busy"), "a.rpsl", items(1)[0])
     report = b"1 inetnum 10.0.0.0 - 10.0.0.31: added\n% items 1\n"
@@ -280,7 +282,7 @@ def test_a_busy_server_is_asked_again_and_not_for_ever(trial, tool, tell):
     tell("429 and 503")
 
 
-def test_tls_and_a_door_with_a_password(trial, tool, tell):
+def test_tls_and_a_door_with_a_password(trial: Trial, tool: Tool, tell: Tell) -> None:
     """TLS with a certificate that is known or not, and a door with a password."""
     with World(trial, tool, "doors") as world:
         tls = certificate(world.folder)
@@ -348,7 +350,9 @@ def test_tls_and_a_door_with_a_password(trial, tool, tell):
     tell("TLS, netrc")
 
 
-def test_bad_files_and_words_end_as_one_line_that_says_what_to_do(trial, tool, tell):
+def test_bad_files_and_words_end_as_one_line_that_says_what_to_do(
+    trial: Trial, tool: Tool, tell: Tell
+) -> None:
     """Files that are none, that are no RPSL, and words that are wrong: a line that says what to do,
     and nothing sent."""
     with World(trial, tool, "files") as world:
@@ -456,7 +460,7 @@ def test_bad_files_and_words_end_as_one_line_that_says_what_to_do(trial, tool, t
     tell(f"{len(wrong)} files")
 
 
-def test_no_control_character_reaches_a_terminal(trial, tool, tell):
+def test_no_control_character_reaches_a_terminal(trial: Trial, tool: Tool, tell: Tell) -> None:
     """No byte of a registry or a server gets raw to a terminal."""
     nasty = bytes(set(range(256)) - set(range(32)) - {127, ord("#")} | {9, 13})
     text = (

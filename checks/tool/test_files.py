@@ -1,10 +1,13 @@
 """Files put in place, folders held, dumps made loadable, and maps drawn."""
+
 import os
 import shutil
 import tempfile
 import unittest
+from collections.abc import Iterator
 from pathlib import Path
 from types import SimpleNamespace
+from typing import Any
 from unittest import mock
 
 from irr.errors import Failure
@@ -17,14 +20,14 @@ from irr.system import files
 
 
 class Files(unittest.TestCase):
-    def setUp(self):
+    def setUp(self) -> None:
         self.temporary = tempfile.TemporaryDirectory()
         self.folder = Path(self.temporary.name)
 
-    def tearDown(self):
+    def tearDown(self) -> None:
         self.temporary.cleanup()
 
-    def test_put(self):
+    def test_put(self) -> None:
         path = self.folder / "file"
         files.put(path, [b"a", b"b"], files.PRIVATE)
         self.assertEqual((path.read_bytes(), path.stat().st_mode & 0o777), (b"ab", 0o600))
@@ -34,11 +37,11 @@ class Files(unittest.TestCase):
         files.put(self.folder / "other", b"d")
         self.assertEqual((self.folder / "other").stat().st_mode & 0o777, 0o644)
 
-    def test_put_fails(self):
+    def test_put_fails(self) -> None:
         path = self.folder / "file"
         path.write_bytes(b"kept")
 
-        def pieces():
+        def pieces() -> Iterator[Any]:
             yield b"new"
             raise Failure("x", "cut off")
 
@@ -48,7 +51,7 @@ class Files(unittest.TestCase):
         (self.folder / "taken").mkdir()
         self.assertRaises(Failure, files.put, self.folder / "taken", b"x")
 
-    def test_put_in_place_of_no_file(self):
+    def test_put_in_place_of_no_file(self) -> None:
         pipe, link = self.folder / "pipe", self.folder / "link"
         os.mkfifo(pipe)
         link.symlink_to(pipe)
@@ -60,7 +63,7 @@ class Files(unittest.TestCase):
         self.assertEqual(sorted(os.listdir(self.folder)), ["link", "pipe"])
         self.assertTrue(pipe.is_fifo() and link.is_symlink())
 
-    def test_put_through_links(self):
+    def test_put_through_links(self) -> None:
         """A link stays, and what it leads to is replaced in one step, also where that is not there
         yet."""
         there, here = self.folder / "there", self.folder / "here"
@@ -74,7 +77,7 @@ class Files(unittest.TestCase):
             self.assertEqual((path.is_symlink(), (there / "file").read_bytes()), (True, text))
         beside = []
 
-        def pieces():
+        def pieces() -> Iterator[Any]:
             beside.append([len(os.listdir(there)), len(os.listdir(here))])
             yield b"c"
 
@@ -85,7 +88,7 @@ class Files(unittest.TestCase):
             files.put(here / "loop", b"x")
         self.assertTrue((here / "loop").is_symlink())
 
-    def test_need_own(self):
+    def test_need_own(self) -> None:
         """A link is followed where the kernel follows it too: of the user or the folder's owner, if
         it is in a sticky folder of all."""
         me = os.geteuid()
@@ -113,7 +116,7 @@ class Files(unittest.TestCase):
                     ):
                         files.need_own(Path("/x/link"), "/y")
 
-    def test_put_through_planted_links(self):
+    def test_put_through_planted_links(self) -> None:
         """Wherever on the way the link of another user is, what it leads to stays as it was."""
         folder, real = self.folder / "of-all", self.folder / "file"
         folder.mkdir()
@@ -132,7 +135,7 @@ class Files(unittest.TestCase):
             (real.read_bytes(), sorted(os.listdir(self.folder))), (b"kept", ["file", "of-all"])
         )
 
-    def test_put_in_place_of_what_is_open(self):
+    def test_put_in_place_of_what_is_open(self) -> None:
         """A name of what is open is not the name of the file that it was opened as."""
         log, link, gone = self.folder / "log", self.folder / "so", self.folder / "gone"
         link.symlink_to("//dev/stdout")
@@ -153,7 +156,7 @@ class Files(unittest.TestCase):
             self.assertRaises(Failure, files.put, path, b"x")
             self.assertRaises(Failure, files.put_new, path, b"x")
 
-    def test_followed(self):
+    def test_followed(self) -> None:
         """Links lead where the system takes them."""
         there, here = self.folder / "there", self.folder / "here"
         for folder in there, there / "deep", here:
@@ -180,7 +183,7 @@ class Files(unittest.TestCase):
             )
         self.assertEqual(str(files.followed("x/../y")), os.path.realpath("x/../y"))
 
-    def test_put_new(self):
+    def test_put_new(self) -> None:
         """Nothing is replaced or followed, and what fails leaves nothing."""
         path, link = self.folder / "file", self.folder / "link"
         files.put_new(str(path), b"a")
@@ -207,7 +210,7 @@ class Files(unittest.TestCase):
             (path.read_bytes(), sorted(os.listdir(self.folder))), (b"a", ["file", "link"])
         )
 
-    def test_remove(self):
+    def test_remove(self) -> None:
         """A link is removed, and what it leads to is not."""
         (self.folder / "real").mkdir()
         (self.folder / "real" / "file").write_bytes(b"x")
@@ -218,27 +221,27 @@ class Files(unittest.TestCase):
         files.remove(self.folder / "real")
         self.assertEqual(os.listdir(self.folder), [])
 
-    def test_named(self):
+    def test_named(self) -> None:
         for given, wanted in (None, "/x"), ("/y", "/y"):
             with self.assertRaises(OSError) as raised, files.named("/x"):
                 raise OSError(28, "No space left on device", given)
             self.assertEqual(raised.exception.filename, wanted)
 
-    def test_put_nowhere(self):
+    def test_put_nowhere(self) -> None:
         with self.assertRaisesRegex(
             Failure, "^the name of the file to write is empty; give its path$"
         ) as raised:
             files.put("", b"x")
         self.assertEqual(raised.exception.status, 2)
 
-    def test_locked(self):
+    def test_locked(self) -> None:
         with files.locked(self.folder):
             with self.assertRaises(Failure), files.locked(self.folder):
                 pass
         with files.locked(self.folder):
             pass
 
-    def test_keep_last(self):
+    def test_keep_last(self) -> None:
         for name in "a", "b", "c":
             (self.folder / name).write_bytes(b"")
         self.assertEqual([path.name for path in files.keep_last(self.folder.iterdir(), 2)], ["a"])
@@ -251,7 +254,7 @@ class Loadable(unittest.TestCase):
         b" filtered\nmnt-by:         A-MNT\nsource:         T\n\n"
     )
 
-    def test_auths(self):
+    def test_auths(self) -> None:
         other = (
             b"mntner:         B-MNT\nauth:           # filtered\nremarks:        auth: #"
             b" filtered\n\n"
@@ -268,7 +271,7 @@ class Loadable(unittest.TestCase):
             + other.replace(b"auth:           # filtered", b"auth:           FILTERED"),
         )
 
-    def test_long_objects(self):
+    def test_long_objects(self) -> None:
         lines = b"".join(
             b"a%d:" % number + b" " * (14 - len(str(number))) + b"x\n" for number in range(5_000)
         )
@@ -282,7 +285,7 @@ class Loadable(unittest.TestCase):
 
 
 class Programs(unittest.TestCase):
-    def test_folder(self):
+    def test_folder(self) -> None:
         with mock.patch.dict(os.environ, {"IRRDESK": "/usr"}):
             self.assertRaisesRegex(
                 Failure,
@@ -290,7 +293,7 @@ class Programs(unittest.TestCase):
                 temporary.find_program,
             )
 
-    def test_no_report(self):
+    def test_no_report(self) -> None:
         """Of a program that is not irrdesk, which says nothing or something else."""
         for name in "true", "echo":
             program = shutil.which(name)
@@ -307,7 +310,7 @@ class Programs(unittest.TestCase):
 
 
 class Hashes(unittest.TestCase):
-    def test_auth(self):
+    def test_auth(self) -> None:
         self.assertEqual(
             hashes.auth_of(b"one good secret", "k3"),
             "SHA256-PW k3:ccda736dc82df011aa4a1a69307e8691d784c89481923035847c51743d3da2ca",
@@ -318,7 +321,7 @@ class Hashes(unittest.TestCase):
 
 
 class Maps(unittest.TestCase):
-    def test_boxes(self):
+    def test_boxes(self) -> None:
         top = Prefix(10 << 24, 8)
         for length in range(8, 17):
             inside = [
@@ -342,7 +345,7 @@ class Maps(unittest.TestCase):
 
 
 class Addresses(unittest.TestCase):
-    def test_urls(self):
+    def test_urls(self) -> None:
         for url in [
             "http://127.0.0.1:4343",
             "http://localhost/irr/",
@@ -369,7 +372,7 @@ class Addresses(unittest.TestCase):
             self.assertRaises(Failure, Server, url)
         self.assertFalse(Server("http://irr.example.net", plain=True).is_private)
 
-    def test_empty(self):
+    def test_empty(self) -> None:
         """An empty address is not one that was not given."""
         environment = {name: value for name, value in os.environ.items() if name != "IRR_SERVER"}
         for given, variable, wanted in [
@@ -391,7 +394,7 @@ class Addresses(unittest.TestCase):
                         Server.from_options(given)
                     self.assertEqual(raised.exception.status, 2)
 
-    def test_shown(self):
+    def test_shown(self) -> None:
         self.assertEqual(shown_url("https://u:p@irr.example.net/x?y"), "https://irr.example.net/x")
         self.assertEqual(shown_url("https://u:p/q@irr.example.net/x"), "https://irr.example.net/x")
 

@@ -6,11 +6,11 @@ import subprocess
 import time
 
 from checks.keeping import QUERIES, VERSIONED, whois_answer
-from checks.running import expect
-from checks.worlds import World, expect_line
+from checks.running import Tell, Trial, expect
+from checks.worlds import Tool, World, expect_line
 
 
-def test_history_says_who_held_what_and_when(trial, tool, tell):
+def test_history_says_who_held_what_and_when(trial: Trial, tool: Tool, tell: Tell) -> None:
     """Each change is a commit that counts it; an object's versions, and what was answered at a
     time."""
     with World(trial, tool, "history") as world:

@@ -3,13 +3,13 @@
 import os
 import xml.etree.ElementTree
 
-from checks.running import expect, write
-from checks.worlds import B_AUTH, World, expect_line
+from checks.running import Tell, Trial, expect, write
+from checks.worlds import B_AUTH, Tool, World, expect_line
 
 IN_MEMORY = True
 
 
-def test_diff_says_what_a_file_would_change(trial, tool, tell):
+def test_diff_says_what_a_file_would_change(trial: Trial, tool: Tool, tell: Tell) -> None:
     """What a file would change."""
     with World(trial, tool, "diff") as world:
         text = b"""password: one good secret
@@ -85,7 +85,7 @@ person: x
     tell("8 paragraphs")
 
 
-def test_what_is_delegated_is_then_held(trial, tool, tell):
+def test_what_is_delegated_is_then_held(trial: Trial, tool: Tool, tell: Tell) -> None:
     """Space and a number are handed over to a maintainer, who then holds them."""
     with World(trial, tool, "delegate") as world:
         tool, folder = world.tool, world.folder
@@ -156,7 +156,7 @@ def test_what_is_delegated_is_then_held(trial, tool, tell):
     tell("12 items, then held")
 
 
-def test_what_a_prefix_lacks_is_found_and_mended(trial, tool, tell):
+def test_what_a_prefix_lacks_is_found_and_mended(trial: Trial, tool: Tool, tell: Tell) -> None:
     """What a prefix lacks is found and mended."""
     start = (
         b"""password: bc
@@ -266,7 +266,9 @@ delete: x
     tell("found and mended")
 
 
-def test_a_tree_has_who_holds_what_as_lines_and_as_a_map(trial, tool, tell):
+def test_a_tree_has_who_holds_what_as_lines_and_as_a_map(
+    trial: Trial, tool: Tool, tell: Tell
+) -> None:
     """Who holds what, as lines and as a picture."""
     with World(trial, tool, "tree") as world:
         ran = world.tool("tree", "192.0.2.0/23")

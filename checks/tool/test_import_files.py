@@ -1,4 +1,5 @@
 """The files that `irr import` reads and writes."""
+
 import bz2
 import gzip
 import io
@@ -8,7 +9,9 @@ import stat
 import subprocess
 import sys
 import zipfile
+from collections.abc import Iterator
 from pathlib import Path
+from typing import Any
 
 import pytest
 
@@ -25,17 +28,17 @@ HTML = b"<!DOCTYPE html>\n<html>\n<head><title>404</title></head>\n<body>\nno\n<
 
 
 @pytest.fixture(autouse=True)
-def folder(tmp_path, monkeypatch):
+def folder(tmp_path: Path, monkeypatch: pytest.MonkeyPatch) -> Path:
     monkeypatch.chdir(tmp_path)
     return tmp_path
 
 
-def run(*words):
+def run(*words: str) -> int:
     """The status of an import."""
     return main.main(["import", *map(str, words), *WORDS])
 
 
-def packed_by_zip(text):
+def packed_by_zip(text: bytes) -> bytes:
     out = io.BytesIO()
     with zipfile.ZipFile(out, "w") as made:
         made.writestr(zipfile.ZipInfo("ripe.db"), text)
@@ -55,7 +58,9 @@ def packed_by_zip(text):
     ],
     ids=["bzip2", "xz", "zip", "bzip2 in gzip", "UTF-16", "tar", "a program"],
 )
-def test_what_is_not_text_ends_by_one_line(content, said, folder, capsys):
+def test_what_is_not_text_ends_by_one_line(
+    content: bytes, said: str, folder: Path, capsys: pytest.CaptureFixture[str]
+) -> None:
     Path("dump").write_bytes(content)
     Path("full").write_bytes(b"before")
     assert run("dump", "-o", "full", "--left-out", "list") == FAILED
@@ -65,7 +70,7 @@ def test_what_is_not_text_ends_by_one_line(content, said, folder, capsys):
     assert sorted(os.listdir()) == ["dump", "full"]
 
 
-def test_a_control_character_costs_one_paragraph(capsys):
+def test_a_control_character_costs_one_paragraph(capsys: pytest.CaptureFixture[str]) -> None:
     Path("dump").write_bytes(GOOD + GOOD.replace(b"AS1", b"AS2 \x07"))
     assert run("dump", "-o", "full") == 0
     assert "left out, text: it has a control character: 1" in capsys.readouterr().err
@@ -76,7 +81,7 @@ def test_a_control_character_costs_one_paragraph(capsys):
     [b"", b"% no objects\n", HTML, b"person: Jo\nsource: RIPE\n"],
     ids=["nothing", "a comment", "HTML", "another class"],
 )
-def test_nothing_taken_replaces_nothing(content, capsys):
+def test_nothing_taken_replaces_nothing(content: bytes, capsys: pytest.CaptureFixture[str]) -> None:
     Path("dump").write_bytes(content)
     for name in ("full", "list", "names"):
         Path(name).write_bytes(b"before")
@@ -99,13 +104,13 @@ def test_nothing_taken_replaces_nothing(content, capsys):
 class Drops(io.RawIOBase):
     """A stream that gives a byte at a read."""
 
-    def __init__(self, content):
+    def __init__(self, content: bytes) -> None:
         self.rest = io.BytesIO(content)
 
-    def readable(self):
+    def readable(self) -> bool:
         return True
 
-    def readinto(self, buffer):
+    def readinto(self, buffer: memoryview) -> int:
         found = self.rest.read(1)
         buffer[: len(found)] = found
         return len(found)
@@ -116,7 +121,7 @@ class Drops(io.RawIOBase):
     [gzip.compress(GOOD, mtime=0), dumps.MARK + GOOD, GOOD, b"", b"%"],
     ids=["gzip", "a byte order mark", "plain", "nothing", "one byte"],
 )
-def test_reads_of_one_byte(content, monkeypatch):
+def test_reads_of_one_byte(content: bytes, monkeypatch: pytest.MonkeyPatch) -> None:
     plain = b"".join(whole(content))
     monkeypatch.setattr(
         dumps.files, "opened", lambda _: io.BufferedReader(Drops(content), buffer_size=16)
@@ -124,12 +129,12 @@ def test_reads_of_one_byte(content, monkeypatch):
     assert b"".join(dumps.pieces_of("-")) == plain == whole_text(content)
 
 
-def whole(content):
+def whole(content: bytes) -> Iterator[Any]:
     Path("whole").write_bytes(content)
     return dumps.pieces_of("whole")
 
 
-def whole_text(content):
+def whole_text(content: bytes) -> bytes:
     text = gzip.decompress(content) if content[:2] == dumps.ZIPPED else content
     return text.removeprefix(dumps.MARK)
 
@@ -137,7 +142,7 @@ def whole_text(content):
 @pytest.mark.parametrize(
     "content", [gzip.compress(GOOD, mtime=0), dumps.MARK + GOOD], ids=["gzip", "a byte order mark"]
 )
-def test_a_pipe_whose_first_read_is_one_byte(content, folder):
+def test_a_pipe_whose_first_read_is_one_byte(content: bytes, folder: Path) -> None:
     """The real thing: a pipe that has one byte at first."""
     words = [sys.executable, "-m", "irr", "import", "-", *WORDS]
     with subprocess.Popen(
@@ -156,14 +161,14 @@ def test_a_pipe_whose_first_read_is_one_byte(content, folder):
     assert (child.returncode, b"aut-num:        AS1\n" in out) == (0, True), said
 
 
-def test_gzip_of_two_members():
+def test_gzip_of_two_members() -> None:
     Path("dump").write_bytes(
         gzip.compress(GOOD, mtime=0) + gzip.compress(GOOD.replace(b"AS1", b"AS2"))
     )
     assert b"".join(dumps.pieces_of("dump")) == GOOD + GOOD.replace(b"AS1", b"AS2")
 
 
-def test_a_file_name_that_is_not_utf8(folder, capsys):
+def test_a_file_name_that_is_not_utf8(folder: Path, capsys: pytest.CaptureFixture[str]) -> None:
     name = os.fsdecode(b"caf\xe9\t.db")
     last = obj("as-set: AS-X", "members: ::/0", "source: RIPE")
     Path(name).write_bytes(GOOD + obj("person: Jo") + last)
@@ -178,7 +183,7 @@ def test_a_file_name_that_is_not_utf8(folder, capsys):
 
 
 @pytest.mark.parametrize("mask, mode", [(0o077, 0o600), (0o022, 0o644), (0o027, 0o640)])
-def test_lists_heed_the_umask(mask, mode, folder):
+def test_lists_heed_the_umask(mask: int, mode: int, folder: Path) -> None:
     Path("dump").write_bytes(GOOD)
     before = os.umask(mask)
     try:
@@ -189,7 +194,7 @@ def test_lists_heed_the_umask(mask, mode, folder):
     assert modes == {"full": 0o600, "list": mode, "names": mode}
 
 
-def test_routes_without_an_aut_num_are_told(capsys):
+def test_routes_without_an_aut_num_are_told(capsys: pytest.CaptureFixture[str]) -> None:
     Path("dump").write_bytes(
         GOOD
         + obj("route: 10.0.0.0/8", "origin: AS1", "source: RIPE")
@@ -203,14 +208,14 @@ def test_routes_without_an_aut_num_are_told(capsys):
     ) in capsys.readouterr().err
 
 
-def test_scopes_are_kept_by_an_option():
+def test_scopes_are_kept_by_an_option() -> None:
     Path("dump").write_bytes(obj("as-set: AS-X", "members: RADB::AS-Y", "source: RIPE"))
     for more, kept in ([], False), (["--keep-scoped"], True):
         assert run("dump", "-o", "full", *more) == 0
         assert (b"members:        AS-Y\n" in Path("full").read_bytes()) is kept
 
 
-def test_the_help_says_what_an_object_is(capsys):
+def test_the_help_says_what_an_object_is(capsys: pytest.CaptureFixture[str]) -> None:
     assert main.main(["import", "--help"]) == 0
     words = " ".join(capsys.readouterr().out.split())
     assert (

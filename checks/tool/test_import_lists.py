@@ -1,4 +1,5 @@
 """What an import makes of lists: nothing is gone from one that is not told."""
+
 import pytest
 
 from checks.tool.importing import left_out, made, mended, obj, texts_of
@@ -7,7 +8,7 @@ from irr.rpsl import syntax
 SET = ("as-set: AS-X", "mnt-by: A-MNT", "source: RIPE")
 
 
-def lists_of(text, off=()):
+def lists_of(text: bytes, off: tuple[()] = ()) -> tuple[list[tuple[bytes, list[bytes]]], set[str]]:
     """The lines of the lists that a paragraph has in the end, and what was mended."""
     new, kinds = mended(text, off)
     found = syntax.read(new).attributes
@@ -15,14 +16,14 @@ def lists_of(text, off=()):
     return [(one.name, one.lines) for one in found if one.name in names], kinds
 
 
-def rest(*lines):
+def rest(*lines: str) -> bytes:
     return obj(*lines, "mnt-by: A-MNT", "source: TEST")
 
 
 # Both families (RFC 4012).
 
 
-def test_mp_members_of_ipv4_are_members():
+def test_mp_members_of_ipv4_are_members() -> None:
     found = lists_of(
         rest(
             "route-set: RS-MP",
@@ -40,7 +41,7 @@ def test_mp_members_of_ipv4_are_members():
     )
 
 
-def test_mp_members_of_ipv6_alone_are_gone():
+def test_mp_members_of_ipv6_alone_are_gone() -> None:
     text = rest("route-set: RS-MP", "mp-members: 2001:db8::/32, ::/0")
     assert lists_of(text) == ([], {"mp-members", "ipv6"})
     assert [line.split("\t")[:1] + line.split("\t")[2:] for line in left_out(text)] == [
@@ -49,7 +50,7 @@ def test_mp_members_of_ipv6_alone_are_gone():
     ]
 
 
-def test_mp_members_elsewhere_are_text():
+def test_mp_members_elsewhere_are_text() -> None:
     for lines in (
         ["as-set: AS-X", "mp-members: 2001:db8::/32, AS1"],
         ["route-set: RS-X", "mp-members:"],
@@ -58,7 +59,7 @@ def test_mp_members_elsewhere_are_text():
         assert mended(text) == (syntax.read(text[:-1]).text(), set())
 
 
-def test_policies_of_both_families_are_text():
+def test_policies_of_both_families_are_text() -> None:
     text = rest(
         "aut-num: AS1",
         "mp-import: afi ipv6.unicast from AS2 accept 2001:db8::/32",
@@ -71,7 +72,7 @@ def test_policies_of_both_families_are_text():
 # `member-of` (RFC 2622, 5): of a route it names route-sets.
 
 
-def test_a_route_is_in_no_as_set():
+def test_a_route_is_in_no_as_set() -> None:
     text = rest("route: 10.0.0.0/8", "origin: AS1", "member-of: AS-X, RS-X, AS1:AS-Y, RIPE::AS-Z")
     assert lists_of(text)[0] == [(b"member-of", [b"RS-X"])]
     assert "member-of" in lists_of(text)[1]
@@ -85,16 +86,16 @@ def test_a_route_is_in_no_as_set():
 # Scopes.
 
 
-def members(dump, name="AS-X"):
+def members(dump: bytes, name: str = "AS-X") -> list[bytes]:
     (text,) = [text for text in texts_of(dump, "as-set") if text.split()[1] == name]
     return syntax.read(text.encode()).items(b"members")
 
 
-def of(source, *lines):
+def of(source: str, *lines: str) -> bytes:
     return obj(*lines, "mnt-by: A-MNT", f"source: {source}")
 
 
-def test_a_scope_that_is_not_imported():
+def test_a_scope_that_is_not_imported() -> None:
     text = of("RIPE", "as-set: AS-X", "members: AS1, RADB::AS-Y, ripe::AS-Z, RIPE::AS2, RADB::AS3")
     text += of("RIPE", "as-set: AS-Y", "members: AS666")
     dump, tally = made(text)
@@ -112,20 +113,20 @@ def test_a_scope_that_is_not_imported():
     assert report[place + 1].endswith("as-set: AS-X  members  RADB::AS-Y")
 
 
-def test_kept_scopes():
+def test_kept_scopes() -> None:
     text = of("RIPE", "as-set: AS-X", "members: RADB::AS-Y")
     dump, tally = made(text, keeps_scoped=True)
     assert (members(dump), tally.items.causes.total()) == ([b"AS-Y"], 0)
     assert made(text, off=["scope"])[1].taken == 0
 
 
-def test_a_scope_that_is_imported_later():
+def test_a_scope_that_is_imported_later() -> None:
     text = of("RIPE", "as-set: AS-X", "members: RADB::AS-Y, RADB::AS-Z")
     dump, _ = made(text, of("radb # x", "as-set: AS-Y", "members: AS1"))
     assert members(dump) == [b"AS-Y", b"AS-Z"]
 
 
-def test_a_name_that_another_registry_has():
+def test_a_name_that_another_registry_has() -> None:
     """RIPE's AS-Y came first, so RADB's is left out, and `RADB::AS-Y` must not become RIPE's."""
     text = of("RIPE", "as-set: AS-X", "members: RADB::AS-Y, RIPE::AS-Y, AS-Y")
     text += of("RIPE", "as-set: AS-Y", "members: AS1")
@@ -135,7 +136,7 @@ def test_a_name_that_another_registry_has():
     assert tally.items.causes == {"its name is that of a set of another registry": 1}
 
 
-def test_a_name_with_an_operator_that_another_registry_has():
+def test_a_name_with_an_operator_that_another_registry_has() -> None:
     """The operator after a scoped name does not hide whose set it is."""
     text = of("RIPE", "route-set: RS-X", "members: RADB::RS-Y^+, RADB::RS-Y, RIPE::RS-Y^24")
     text += of("RIPE", "route-set: RS-Y", "members: 10.0.0.0/8")
@@ -146,7 +147,7 @@ def test_a_name_with_an_operator_that_another_registry_has():
     assert tally.items.causes == {"its name is that of a set of another registry": 2}
 
 
-def test_a_registry_of_which_nothing_is_taken():
+def test_a_registry_of_which_nothing_is_taken() -> None:
     text = of("RIPE", "as-set: AS-X", "members: RADB::AS-Y") + obj("person: Jo", "source: RADB")
     assert members(made(text)[0]) == []
     text += of("RIPE", "inetnum: 10.0.0.0 - 10.0.0.9")
@@ -155,7 +156,7 @@ def test_a_registry_of_which_nothing_is_taken():
     assert members(made(crossing, text)[0]) == [b"AS-Y"]
 
 
-def test_scopes_with_operators_and_new_names():
+def test_scopes_with_operators_and_new_names() -> None:
     text = obj(
         "route-set: RS-X",
         "members: RIPE::RS-Y^+, RIPE::AS1^24, RIPE::10.0.0.1/8^+ # one",
@@ -189,14 +190,14 @@ def test_scopes_with_operators_and_new_names():
         ),
     ],
 )
-def test_host_bits(lines, wanted):
+def test_host_bits(lines: list[str], wanted: str) -> None:
     text, kinds = mended(rest(*lines))
     assert wanted in text.decode()
     assert kinds - {"mp-members"} == {"host-bits"}
     assert mended(rest(*lines), ["host-bits"]) == "not mended because of --no-host-bits"
 
 
-def test_prefixes_that_are_whole():
+def test_prefixes_that_are_whole() -> None:
     for lines in (
         ["route: 192.0.2.0/24", "origin: AS1"],
         ["inetnum: 192.0.2.1 - 192.0.2.9"],
@@ -205,7 +206,7 @@ def test_prefixes_that_are_whole():
         assert mended(rest(*lines))[1] == set(), lines
 
 
-def test_a_short_prefix_keeps_its_comment():
+def test_a_short_prefix_keeps_its_comment() -> None:
     text, kinds = mended(rest("inetnum: 10.1/8 # ten"))
     assert (text.partition(b"\n")[0], kinds) == (
         b"inetnum:        10.0.0.0/8 # ten",
@@ -225,7 +226,9 @@ def test_a_short_prefix_keeps_its_comment():
         ("inetnum: 10.0.0.0/8", "mnt-routes", "A-MNT {10.0.0.0/8 ^24}", ["A-MNT", "{}"]),
     ],
 )
-def test_what_stands_before_an_operator_is_dropped_with_it(kind, attribute, items, kept):
+def test_what_stands_before_an_operator_is_dropped_with_it(
+    kind: str, attribute: str, items: str, kept: list[str]
+) -> None:
     """`10.0.0.0/8` alone would be another list than `10.0.0.0/8 ^24`."""
     text = obj(kind, f"{attribute}: {items}", "mnt-by: A-MNT", "source: TEST")
     ((_, lines),), kinds = lists_of(text)
@@ -242,7 +245,7 @@ def test_what_stands_before_an_operator_is_dropped_with_it(kind, attribute, item
 
 
 @pytest.mark.parametrize("end", ["members: AS1, AS64", "members: AS1,\n AS64", "mnt-by: A-MNT"])
-def test_the_last_object_of_a_file_that_was_cut_off(end):
+def test_the_last_object_of_a_file_that_was_cut_off(end: str) -> None:
     """`AS64` may have been `AS64496`: without an end of the line, and without a `source`."""
     whole = obj("as-set: AS-Y", "mnt-by: A-MNT", "source: RIPE")
     text = whole + f"as-set: AS-X\n{end}".encode()
@@ -257,7 +260,7 @@ def test_the_last_object_of_a_file_that_was_cut_off(end):
 # Names that two registries have.
 
 
-def test_all_of_one_registry_of_several_is_dropped():
+def test_all_of_one_registry_of_several_is_dropped() -> None:
     """`AS-ANY` here is the aut-nums of all registries that are imported."""
     sets = obj("route-set: RS-X", "members: RADB::AS-ANY^+, RADB::rs-any, AS1", *SET[1:])
     other = obj("as-set: AS-Z", "mnt-by: A-MNT", "source: RADB")
@@ -270,7 +273,7 @@ def test_all_of_one_registry_of_several_is_dropped():
     assert b"AS-ANY^+, rs-any, AS1" in made(alone)[0]
 
 
-def test_names_of_two_registries():
+def test_names_of_two_registries() -> None:
     """What of another registry has the name of a maintainer or a set is no mere duplicate."""
     for kind in "mntner: A-MNT", "as-set: AS-X", "route-set: RS-X":
         one = obj(kind, "mnt-by: A-MNT", "source: RIPE")
@@ -291,7 +294,7 @@ def test_names_of_two_registries():
 # The list of what is left out.
 
 
-def test_items_of_what_is_left_out_are_not_listed():
+def test_items_of_what_is_left_out_are_not_listed() -> None:
     """A duplicate, and a range that crosses another, is listed as a whole."""
     one = obj("as-set: AS-X", "members: x!", "mnt-by: A-MNT", "source: RIPE")
     lines = left_out(one + obj("as-set: RS-X", "members: y!") + one)
@@ -305,7 +308,7 @@ def test_items_of_what_is_left_out_are_not_listed():
     assert [line.split("\t")[0] for line in lines] == ["crossing", "IPv6"]
 
 
-def test_each_reason_is_listed_with_object_attribute_and_item():
+def test_each_reason_is_listed_with_object_attribute_and_item() -> None:
     lines = left_out(
         obj(
             "as-set: AS-X",

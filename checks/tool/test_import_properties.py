@@ -1,22 +1,26 @@
 """Imports of messy dumps beside a second reading: nothing is lost, nothing is merged, and `irrdesk`
 takes what is written."""
+
 import io
 import os
 import re
 import subprocess
+from typing import Any
 
 from hypothesis import given, settings
 
 from checks import rpsl
+from checks.rpsl import Registry
 from checks.tool import second_reading
 from checks.tool.importing import AUTH, made
-from checks.tool.second_reading import LISTS, NAME, RESERVED, key_of, meaning, tokens_of
+from checks.tool.second_reading import LISTS, NAME, RESERVED, Piece, key_of, meaning, tokens_of
+from irr.migrate.report import Tally
 
 IS_LONG = bool(os.environ.get("CHECKS_LONG"))
 SETTINGS = f'source = "TEST"\nroot = "ROOT-MNT"\nauth = "{AUTH}"\nlimit = 1000\nstore = "irr.db"\n'
 
 
-def imported(dump):
+def imported(dump: bytes) -> tuple[bytes, Tally, list[list[str]]]:
     """What is written of a dump as pieces, the tally, and the lines of what is left out."""
     listed = io.BytesIO()
     text, tally = made(dump, left_out=listed)
@@ -24,11 +28,11 @@ def imported(dump):
     return text, tally, lines
 
 
-def line_of(place):
+def line_of(place: str) -> int:
     return int(place.rpartition(":")[2])
 
 
-def normal(piece, kind):
+def normal(piece: Piece, kind: str) -> list[tuple[str, list[str]]]:
     """An object as its attributes: the lines of each, or the items of a list."""
     return [
         (name, tokens_of(name, meaning(lines)) if kind in LISTS.get(name, []) else lines)
@@ -36,7 +40,7 @@ def normal(piece, kind):
     ]
 
 
-def is_name(name):
+def is_name(name) -> bool:
     return bool(
         NAME.fullmatch(name)
         and name.lower() not in RESERVED
@@ -44,7 +48,9 @@ def is_name(name):
     )
 
 
-def with_new_names(attributes, new):
+def with_new_names(
+    attributes: list[tuple[str, list[str]]], new: dict[Any, Any]
+) -> list[tuple[str, list[str]]]:
     """The attributes with new names where names of maintainers are read."""
     kind, found = attributes[0][0], []
     for place, (name, items) in enumerate(attributes):
@@ -61,11 +67,11 @@ def with_new_names(attributes, new):
 
 
 @given(rpsl.dumps())
-def test_nothing_is_lost_and_nothing_is_merged(dump):
+def test_nothing_is_lost_and_nothing_is_merged(dump: bytes) -> None:
     compare(dump)
 
 
-def compare(dump):
+def compare(dump: bytes) -> None:
     """What an import makes of a dump, with what the second reading makes of it."""
     wanted = second_reading.Registry(dump, "TEST", "ROOT-MNT")
     text, tally, lines = imported(dump)
@@ -100,20 +106,20 @@ def compare(dump):
 
 
 @given(rpsl.registries())
-def test_a_registry_stays_as_it_is(registry):
+def test_a_registry_stays_as_it_is(registry: Registry) -> None:
     text, tally, lines = imported(registry.text().encode("latin-1"))
     own = re.sub(r"(ROOT-MNT\n)auth: .*", rf"\g<1>auth:           {AUTH}", registry.text(), 1)
     assert without_auths(text.decode("latin-1")) == without_auths(own)
     assert (tally.taken, lines, +tally.mended) == (len(registry.objects), [], {})
 
 
-def without_auths(text):
+def without_auths(text: str) -> str:
     return re.sub("(?m)^auth: .*\n", "", text)
 
 
 @settings(max_examples=300 if IS_LONG else 12)
 @given(rpsl.dumps(36))
-def test_irrdesk_has_just_what_is_written(program, tmp_path_factory, dump):
+def test_irrdesk_has_just_what_is_written(program: str, tmp_path_factory: Any, dump: bytes) -> None:
     """Its public dump is what was written, with each `auth` hidden."""
     folder = tmp_path_factory.mktemp("load")
     text, tally = made(dump)

@@ -1,4 +1,5 @@
 """Dumps of other registries, mended."""
+
 import contextlib
 import gzip
 import io
@@ -13,7 +14,7 @@ from irr.rpsl import spans, syntax
 
 
 class Mending(unittest.TestCase):
-    def test_a_good_object_stays(self):
+    def test_a_good_object_stays(self) -> None:
         text = obj(
             "route: 192.0.2.0/24",
             "descr: caf\xe9",
@@ -23,7 +24,7 @@ class Mending(unittest.TestCase):
         )
         self.assertEqual(mended(text), (syntax.read(text[:-1]).text(), set()))
 
-    def test_source(self):
+    def test_source(self) -> None:
         for sources in (
             ["source: RIPE # Filtered"],
             [],
@@ -40,7 +41,7 @@ class Mending(unittest.TestCase):
             "not mended because of --no-source",
         )
 
-    def test_lists(self):
+    def test_lists(self) -> None:
         for number, (kind, name, value, new, kinds) in enumerate(
             [
                 (
@@ -107,7 +108,7 @@ class Mending(unittest.TestCase):
             text, found = mended(obj(kind, f"{name}: {value}", "mnt-by: A-MNT", "source: TEST"))
             self.assertEqual((syntax.read(text).attributes[1].lines, found), ([new], kinds), number)
 
-    def test_a_list_of_several_lines(self):
+    def test_a_list_of_several_lines(self) -> None:
         text, _ = mended(
             obj(
                 "as-set: AS-X",
@@ -122,7 +123,7 @@ class Mending(unittest.TestCase):
         self.assertEqual(syntax.read(text).attributes[1].lines, [b"AS1, # one"])
         self.assertEqual(text.count(b"members"), 1)
 
-    def test_what_is_missing(self):
+    def test_what_is_missing(self) -> None:
         text, kinds = mended(obj("mntner: A-MNT", "mnt-by:", "source: TEST"))
         self.assertEqual(
             text,
@@ -131,7 +132,7 @@ class Mending(unittest.TestCase):
         )
         self.assertEqual(kinds, {"auth", "mnt-by"})
 
-    def test_auth(self):
+    def test_auth(self) -> None:
         for value, is_kept in [
             ("MD5-PW $1$x # Filtered", True),
             ("SSO # Filtered", True),
@@ -156,7 +157,7 @@ class Mending(unittest.TestCase):
                 value,
             )
 
-    def test_short_prefixes(self):
+    def test_short_prefixes(self) -> None:
         for value, full in [
             ("10/8", "10.0.0.0/8"),
             ("192.0.2/24", "192.0.2.0/24"),
@@ -167,7 +168,7 @@ class Mending(unittest.TestCase):
                 (text.partition(b"\n")[0].split()[1].decode(), kinds), (full, {"prefix"})
             )
 
-    def test_what_is_left_out(self):
+    def test_what_is_left_out(self) -> None:
         for lines, cause in [
             (["person: Jo", "nic-hdl: J1"], "class person"),
             (["route6: ::/0"], "class route6"),
@@ -189,14 +190,14 @@ class Mending(unittest.TestCase):
         ]:
             self.assertEqual(mended(obj(*lines, "mnt-by: A-MNT", "source: TEST")), cause, lines)
 
-    def test_a_long_text_is_pressed(self):
+    def test_a_long_text_is_pressed(self) -> None:
         text, kinds = mended(
             obj("as-set: AS-X", *["members:AS1"] * 4_000, "mnt-by:A-MNT", "source:TEST")
         )
         self.assertEqual((len(text) < 65_536, kinds), (True, {"long"}))
         self.assertEqual(len(syntax.read(text).attributes), 4_003)
 
-    def test_each_kind_is_turned_off(self):
+    def test_each_kind_is_turned_off(self) -> None:
         bad = {
             "source": "source: RIPE",
             "ipv6": "members: ::/0",
@@ -212,7 +213,7 @@ class Mending(unittest.TestCase):
             self.assertEqual(mended(text)[1], {kind})
             self.assertEqual(mended(text, [kind]), f"not mended because of --no-{kind}")
 
-    def test_names(self):
+    def test_names(self) -> None:
         for old, new in [
             ("1AND1-MNT", "MNT-1AND1-MNT"),
             ("AS-MNT", "MNT-AS-MNT"),
@@ -226,7 +227,7 @@ class Mending(unittest.TestCase):
 
 
 class Importing(unittest.TestCase):
-    def test_nothing(self):
+    def test_nothing(self) -> None:
         dump, tally = made(b"")
         self.assertEqual(
             keys_of(dump),
@@ -238,7 +239,7 @@ class Importing(unittest.TestCase):
         dump, _ = made(obj("aut-num: AS1", "mnt-by: A-MNT", "source: TEST"), off=["initial"])
         self.assertEqual(keys_of(dump), ["A-MNT", "ROOT-MNT", "AS1"])
 
-    def test_its_own_dump_stays(self):
+    def test_its_own_dump_stays(self) -> None:
         first, _ = made(
             obj("route: 192.0.2.0/24", "origin: AS1", "mnt-by: 1-MNT"),
             obj("mntner: B-MNT", "auth: X", "mnt-by: B-MNT"),
@@ -247,7 +248,7 @@ class Importing(unittest.TestCase):
         self.assertEqual(again, first)
         self.assertEqual((tally.made, +tally.mended), (0, {}))
 
-    def test_order_and_duplicates(self):
+    def test_order_and_duplicates(self) -> None:
         one = obj(
             "route: 192.0.2.0/24", "origin: AS1", "descr: first", "mnt-by: ROOT-MNT", "source: TEST"
         )
@@ -263,7 +264,7 @@ class Importing(unittest.TestCase):
         with self.assertRaisesRegex(Failure, ":7: its key"):
             made(one + one, off=["duplicate"])
 
-    def test_crossing(self):
+    def test_crossing(self) -> None:
         text = b"".join(
             obj(f"inetnum: 10.0.0.{first} - 10.0.0.{last}", "mnt-by: ROOT-MNT")
             for first, last in [(0, 9), (5, 12), (10, 14), (5, 9)]
@@ -280,7 +281,7 @@ class Importing(unittest.TestCase):
         with self.assertRaisesRegex(Failure, ":4: it overlaps"):
             made(text, off=["crossing"])
 
-    def test_what_covers_everything(self):
+    def test_what_covers_everything(self) -> None:
         for blocks, wanted in [
             (["AS0 - AS4294967295"], []),
             (["AS0 - AS65535"], ["AS65536 - AS4294967295"]),
@@ -295,7 +296,7 @@ class Importing(unittest.TestCase):
                 sorted(["ROOT-MNT", *blocks, *wanted, "0.0.0.0 - 255.255.255.255"]),
             )
 
-    def test_maintainers(self):
+    def test_maintainers(self) -> None:
         text = (
             obj("mntner: 1-mnt", "auth: X", "mnt-by: 1-MNT # own", "source: TEST")
             + obj(
@@ -335,7 +336,7 @@ class Importing(unittest.TestCase):
         with self.assertRaisesRegex(Failure, "Z-MNT"):
             made(text, auths={"Z-MNT": [AUTH.encode()]})
 
-    def test_two_bad_names_stay_two_maintainers(self):
+    def test_two_bad_names_stay_two_maintainers(self) -> None:
         """Also where both would get the same new name: neither gets what is the other's."""
         names = ["A.B-MNT", "A!B-MNT", "A/B-MNT"]
         text = b"".join(
@@ -353,7 +354,7 @@ class Importing(unittest.TestCase):
             self.assertIn(f"mntner:         {new}\n{own}".encode(), dump)
             self.assertIn(f"aut-num:        AS{place}\nmnt-by:         {new}\n".encode(), dump)
 
-    def test_a_range_is_no_maintainer(self):
+    def test_a_range_is_no_maintainer(self) -> None:
         dump, tally = made(
             obj(
                 "inetnum: 10.0.0.0/8",
@@ -365,7 +366,7 @@ class Importing(unittest.TestCase):
         self.assertEqual(tally.renamed, {"10.0.0.0/8": "MNT-10-0-0-0-8"})
         self.assertIn(b"mnt-routes:     MNT-10-0-0-0-8 {10.0.0.0/8}\n", dump)
 
-    def test_without_mntners(self):
+    def test_without_mntners(self) -> None:
         text = obj("mntner: A-MNT", "auth: X", "mnt-by: B-MNT") + obj(
             "aut-num: AS1", "mnt-by: A-MNT"
         )
@@ -377,7 +378,7 @@ class Importing(unittest.TestCase):
         )
         self.assertEqual(made(text, off=["mntner", "initial"])[0], b"% end 0\n")
 
-    def test_without_mntners_goes_on_until_none_is_left(self):
+    def test_without_mntners_goes_on_until_none_is_left(self) -> None:
         """A maintainer that goes takes those with it that name it, also those before it."""
         text = b"".join(
             obj(f"mntner: {name}-MNT", "auth: X", f"mnt-by: {by}-MNT")
@@ -390,7 +391,7 @@ class Importing(unittest.TestCase):
             (tally.taken, dict(tally.causes)), (2, {"a maintainer without a mntner": 4})
         )
 
-    def test_real_files(self):
+    def test_real_files(self) -> None:
         text = (
             b"\xef\xbb\xbf% The RIPE Database\r\n\r\n# a header\r\naut-num:\tAS1  \r\n"
             b"descr: caf\xe9 \x85 \xc3\xa9\r\n  more\r\n+\r\n"
@@ -410,7 +411,7 @@ class Importing(unittest.TestCase):
         with self.assertRaisesRegex(Failure, "cut off"):
             made(gzip.compress(text)[:-9])
 
-    def test_all_that_is_left_out_is_listed(self):
+    def test_all_that_is_left_out_is_listed(self) -> None:
         listed = io.BytesIO()
         _, tally = made(
             b"".join(obj(f"person: Jo {number}") for number in range(15)), left_out=listed
@@ -435,7 +436,7 @@ class Importing(unittest.TestCase):
             (report[-1], sum("person: Jo" in line for line in report)), ("  and 5 more", 10)
         )
 
-    def test_off(self):
+    def test_off(self) -> None:
         """Every kind has an effect that ends when it is turned off."""
         text = obj("mntner: 1-MNT", "mnt-by: 1-MNT", "source: RIPE") + obj(
             "as-set: AS-X", "members: ::/0, x!, RIPE::AS-Y"
@@ -455,7 +456,7 @@ class Importing(unittest.TestCase):
 
 
 class Crossing(unittest.TestCase):
-    def test_as_one_by_one(self):
+    def test_as_one_by_one(self) -> None:
         chance = random.Random(1)
         for _ in range(300):
             size = chance.choice([5, 12, 60])

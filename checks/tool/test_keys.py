@@ -1,4 +1,5 @@
 """Names, numbers and keys."""
+
 import unittest
 
 from irr.rpsl import keys
@@ -6,7 +7,7 @@ from irr.rpsl.keys import Key, Prefix, Span
 
 
 class Readers(unittest.TestCase):
-    def test_prefixes(self):
+    def test_prefixes(self) -> None:
         self.assertEqual(keys.read_prefix(b"10.0.0.5/8").text(), "10.0.0.0/8")
         self.assertEqual(keys.read_prefix("0.0.0.0/0").span(), Span(0, keys.TOP))
         for text in [
@@ -20,7 +21,7 @@ class Readers(unittest.TestCase):
         ]:
             self.assertIsNone(keys.read_prefix(text), text)
 
-    def test_ranges(self):
+    def test_ranges(self) -> None:
         for text, printed in [
             ("10.0.0.0/16^8-24", "10.0.0.0/16^16-24"),
             ("192.0.2.0/31^32", "192.0.2.0/31^-"),
@@ -39,7 +40,7 @@ class Readers(unittest.TestCase):
             self.assertIsNone(keys.read_range(text), text)
         self.assertFalse(keys.read_range("192.0.2.1/32^-").admits(Prefix(0xC0000201, 32)))
 
-    def test_names(self):
+    def test_names(self) -> None:
         self.assertEqual(keys.read_as("as007"), 7)
         self.assertIsNone(keys.read_as("AS4294967296"))
         self.assertEqual(keys.read_set("as1:as-x"), "AS1:AS-X")
@@ -52,7 +53,7 @@ class Readers(unittest.TestCase):
         self.assertIsNone(keys.set_parent("AS1:AS2:AS-X"))
         self.assertIsNone(keys.set_parent("AS-X"))
 
-    def test_keys(self):
+    def test_keys(self) -> None:
         for kind, text, origin, printed in [
             ("mntner", "a-mnt", None, "A-MNT"),
             ("as-block", "AS1-as2", None, "AS1 - AS2"),
@@ -70,7 +71,7 @@ class Readers(unittest.TestCase):
         ]:
             self.assertIsNone(keys.read_key(kind, text))
 
-    def test_spans(self):
+    def test_spans(self) -> None:
         span = Span(1, 14)
         self.assertEqual(sum(prefix.span().size for prefix in span.prefixes()), 14)
         self.assertEqual([prefix.text() for prefix in Span(0, keys.TOP).prefixes()], ["0.0.0.0/0"])

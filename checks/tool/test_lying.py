@@ -1,5 +1,6 @@
 """A registry that answers what its query can't have, behind the door's questions of IRRd, `irr
 filter`, `irr query`, and commands that read dumps."""
+
 import argparse
 import asyncio
 import contextlib
@@ -10,6 +11,7 @@ import tempfile
 import threading
 import types
 import unittest
+from typing import Any
 from urllib.parse import unquote
 
 from irr.commands import dump as dumps, export, filter as filters, held, query, rov
@@ -237,7 +239,7 @@ WRONG = {
 }
 
 
-def wrong_answers(query):
+def wrong_answers(query: str) -> list[bytes]:
     """Each of them once."""
     found = [
         *NEVER,
@@ -260,7 +262,7 @@ def wrong_answers(query):
 class Lying(http.server.BaseHTTPRequestHandler):
     """Answers from the table of its server."""
 
-    def do_GET(self):
+    def do_GET(self) -> None:
         text = self.server.answers.get(
             unquote(self.path).rpartition("/query/")[2] or self.path, b"% no entries\n"
         )
@@ -269,14 +271,14 @@ class Lying(http.server.BaseHTTPRequestHandler):
         self.end_headers()
         self.wfile.write(text)
 
-    def log_message(self, *_):
+    def log_message(self, *_: str) -> None:
         pass
 
 
 class Table(queries.Asker):
     """Answers from a table."""
 
-    def __init__(self, answers):
+    def __init__(self, answers: dict[str, bytes]) -> None:
         ledger = cache.Ledger(1 << 30)
         kept = types.SimpleNamespace(state=0, get=lambda key, now: None, put=lambda *words: None)
         super().__init__(types.SimpleNamespace(source="TEST", ledger=ledger, cache=kept), None)
@@ -288,12 +290,12 @@ class Table(queries.Asker):
 
 
 class Questions(unittest.TestCase):
-    def asked(self, question, answers):
+    def asked(self, question: str, answers: dict[str, bytes]) -> bytes:
         table = Table({name: texts[-1] for name, texts in TRUE.items()} | answers)
         reply = asyncio.run(irrd.Session(table).answer(b"!" + question.encode()))
         return reply.text
 
-    def test_true_answers(self):
+    def test_true_answers(self) -> None:
         for question, asked in ASKS.items():
             for query_ in asked:
                 for text in TRUE[query_]:
@@ -303,7 +305,7 @@ class Questions(unittest.TestCase):
         self.assertEqual(self.asked("iAS1:AS-X", {}), irrd.data(b"AS1"))
         self.assertEqual(self.asked("gAS1", {}), irrd.data(b"10.0.0.0/8 10.1.0.0/16"))
 
-    def test_wrong_answers(self):
+    def test_wrong_answers(self) -> None:
         count = 0
         for question, asked in ASKS.items():
             for query_ in asked:
@@ -313,14 +315,14 @@ class Questions(unittest.TestCase):
                     count += 1
         self.assertGreater(count, 500)
 
-    def test_one_that_lacks_the_set(self):
+    def test_one_that_lacks_the_set(self) -> None:
         for text in b"% no entries\n", NUMBER:
             reply = self.asked("iAS1:AS-X", {"inverse mnt A-MNT": text})
             self.assertRegex(reply, b"\\AF two answers differ")
 
 
 class Commands(unittest.TestCase):
-    def setUp(self):
+    def setUp(self) -> None:
         self.server = http.server.ThreadingHTTPServer(("127.0.0.1", 0), Lying)
         self.server.answers = {}
         threading.Thread(target=self.server.serve_forever, args=(0.01,), daemon=True).start()
@@ -328,11 +330,11 @@ class Commands(unittest.TestCase):
             server=f"http://127.0.0.1:{self.server.server_port}", plain=False
         )
 
-    def tearDown(self):
+    def tearDown(self) -> None:
         self.server.shutdown()
         self.server.server_close()
 
-    def ends(self, command, *words):
+    def ends(self, command: Any, *words: str) -> tuple[int, bool]:
         """The status of a command, and whether it printed anything."""
         parser, printed = argparse.ArgumentParser(), io.TextIOWrapper(io.BytesIO())
         command.arguments(parser)
@@ -345,7 +347,7 @@ class Commands(unittest.TestCase):
         printed.flush()
         return status, bool(printed.buffer.getvalue())
 
-    def test_filters(self):
+    def test_filters(self) -> None:
         for query_, name in (
             ("inverse origin AS1", "AS1"),
             ("prefixes AS1:RS-X", "AS1:RS-X"),
@@ -361,7 +363,7 @@ class Commands(unittest.TestCase):
                     text,
                 )
 
-    def test_queries(self):
+    def test_queries(self) -> None:
         for query_ in (
             "inverse origin AS1",
             "prefixes AS1:RS-X",
@@ -383,7 +385,7 @@ class Commands(unittest.TestCase):
             self.server.answers = {" ".join(words): text}
             self.assertEqual(self.ends(query, "--json", *words)[0], status, words)
 
-    def test_dumps(self):
+    def test_dumps(self) -> None:
         good = [ALL, WIDE, NARROW, SET]
         for dump, is_good in (
             (good, True),

@@ -7,11 +7,14 @@ import subprocess
 import time
 import zipimport
 
-from checks.running import TOP, expect, run, write
+from checks.running import TOP, Tell, Trial, expect, run, write
+from checks.worlds import Tool
 from irr.registry.codes import TABLE as CODES
 
 
-def test_its_one_file_has_all_commands_and_the_same_bytes_each_time(trial, tool, tell):
+def test_its_one_file_has_all_commands_and_the_same_bytes_each_time(
+    trial: Trial, tool: Tool, tell: Tell
+) -> None:
     """The one file: the same bytes each time, compiled, and all commands in it."""
     folder = trial.place("packed")
     paths = [os.path.join(folder, name) for name in ("one", "two")]
@@ -43,7 +46,7 @@ def test_its_one_file_has_all_commands_and_the_same_bytes_each_time(trial, tool,
     tell(f"{len(listed)} commands")
 
 
-def test_shells_complete_commands_options_and_codes(trial, tool, tell):
+def test_shells_complete_commands_options_and_codes(trial: Trial, tool: Tool, tell: Tell) -> None:
     """What shells read is read by them, and bash completes commands, options and codes."""
     folder, tried = trial.place("completion"), []
     for shell in "bash", "zsh", "fish":
@@ -72,7 +75,7 @@ def test_shells_complete_commands_options_and_codes(trial, tool, tell):
     tell(", ".join(tried))
 
 
-def test_the_manual_names_each_command_option_and_code(tool, tell):
+def test_the_manual_names_each_command_option_and_code(tool: Tool, tell: Tell) -> None:
     """The manual names each command and option, and its codes are those of the table."""
     parts = {}
     for name in "irrdesk.1", "irr.1", "irr-register.1", "irr-filter.1", "irr-keep.1", "irr-door.1":
@@ -123,7 +126,7 @@ def test_the_manual_names_each_command_option_and_code(tool, tell):
     tell(f"{len(table)} codes")
 
 
-def plain(words):
+def plain(words: str) -> str:
     """Words without what marks code, and with single blanks; mdoc sets a blank before a comma or a
     full stop."""
     return re.sub(r" ([.,;:])", r"\1", " ".join(words.replace("`", "").split()))

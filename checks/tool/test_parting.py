@@ -1,4 +1,5 @@
 """What of a dump is one object: paragraphs that hold several are parted, or left out."""
+
 import pytest
 
 from checks.tool.importing import left_out, made, mended, obj, texts_of
@@ -13,7 +14,7 @@ CLASSES = """mntner as-block aut-num inetnum route as-set person role route6 ine
     poetic-form limerick as-macro community dom-prefix ipv6-site organization""".split()
 
 
-def test_parted_after_a_source():
+def test_parted_after_a_source() -> None:
     dump, tally = made(obj(*A, *B))
     assert texts_of(dump, "as-set", "route-set") == [
         "as-set:         AS-A\nmembers:        AS1\nmnt-by:         A-MNT\n"
@@ -26,7 +27,7 @@ def test_parted_after_a_source():
     assert [line.partition(":")[2] for line in tally.parted] == ["5\troute-set: RS-B"]
 
 
-def test_not_parted_where_that_is_turned_off():
+def test_not_parted_where_that_is_turned_off() -> None:
     _, tally = made(obj(*A, *B), off=["part"])
     assert (tally.read, dict(tally.causes)) == (1, {"not mended because of --no-part": 1})
 
@@ -39,7 +40,7 @@ def test_not_parted_where_that_is_turned_off():
         ["+", "# x", "\t"],
     ],
 )
-def test_what_may_stand_before_the_class(between):
+def test_what_may_stand_before_the_class(between: list[str]) -> None:
     """Skipped lines are no attributes; lines that continue `source` are part of it."""
     source = [A[-1]] if between[0][0] in "#%+" else ["source:"]
     lines = [*A[:-1], *source, *between, *B]
@@ -48,13 +49,13 @@ def test_what_may_stand_before_the_class(between):
     assert b"EVIL-MNT" not in dump.partition(b"AS-A")[2].partition(b"\n\n")[0]
 
 
-def test_ends_of_lines_and_spellings():
+def test_ends_of_lines_and_spellings() -> None:
     text = obj(*A, *B).replace(b"source:", b"SOURCE \t:").replace(b"route-set:", b"Route-Set :")
     assert made(text)[1].taken == 2
     assert made(text.replace(b"\n", b"\r\n"))[1].taken == 2
 
 
-def test_many_in_one_paragraph():
+def test_many_in_one_paragraph() -> None:
     text = obj(*(line for number in range(50) for line in (f"as-set: AS-{number}", *A[1:])))
     _, tally = made(text + obj("person: Jo", "nic-hdl: J", "source: RIPE", *B))
     assert (tally.read, tally.taken, tally.causes["class person"]) == (52, 51, 1)
@@ -62,7 +63,7 @@ def test_many_in_one_paragraph():
 
 
 @pytest.mark.parametrize("name", CLASSES)
-def test_a_class_after_the_first_line(name):
+def test_a_class_after_the_first_line(name: str) -> None:
     """Where no `source` stands before it, nobody knows where the first object ends."""
     cause = "a class again after the first line"
     for lines in (
@@ -74,7 +75,7 @@ def test_a_class_after_the_first_line(name):
         assert mended(obj(*lines)) == cause, lines
 
 
-def test_names_that_are_no_class():
+def test_names_that_are_no_class() -> None:
     """An attribute that only begins or ends as a class, a value, a comment, and `advisory`, which
     routes of RADB have."""
     text = obj(
@@ -92,7 +93,7 @@ def test_names_that_are_no_class():
     assert mended(text)[1] == set()
 
 
-def test_two_sources():
+def test_two_sources() -> None:
     for lines in (
         ("aut-num: AS1", "source: RIPE", "mnt-by: A-MNT", "source: RIPE"),
         ("aut-num: AS1", "mnt-by: A-MNT", "source: TEST", "source: TEST"),
@@ -102,7 +103,7 @@ def test_two_sources():
         assert mended(obj(*lines)) == "`source` twice", lines
 
 
-def test_a_source_that_is_none():
+def test_a_source_that_is_none() -> None:
     """Where a dump without a line end stands before another one, the class is in the value."""
     seam = obj(*A).rstrip() + obj("route-set: RS-B", "mnt-by: EVIL-MNT")
     assert mended(seam) == "a `source` that can't be read"
@@ -115,12 +116,12 @@ def test_a_source_that_is_none():
     )
 
 
-def test_a_source_in_the_first_line_ends_no_object():
+def test_a_source_in_the_first_line_ends_no_object() -> None:
     _, tally = made(obj("source: RIPE", *B[:-1]))
     assert (tally.read, tally.taken) == (1, 0)
 
 
-def test_each_part_that_is_left_out_is_listed_by_its_own_line():
+def test_each_part_that_is_left_out_is_listed_by_its_own_line() -> None:
     lines = left_out(b"\n" + obj(*A, "person: Jo", "source: RIPE", *B, *B))
     assert [line.split("\t")[:1] + line.rsplit(":", 2)[1:] for line in lines] == [
         ["class person", "6\tperson", " Jo"],
@@ -128,13 +129,13 @@ def test_each_part_that_is_left_out_is_listed_by_its_own_line():
     ]
 
 
-def test_a_part_with_a_fault_costs_no_other():
+def test_a_part_with_a_fault_costs_no_other() -> None:
     dump, tally = made(obj(*A, "route-set: RS-C", "no colon", "source: RIPE", *B))
     assert (tally.taken, dict(tally.causes)) == (2, {"text: it has a line without a colon": 1})
     assert b"RS-B" in dump and b"RS-C" not in dump
 
 
-def test_a_dump_without_blank_lines_loses_nothing(monkeypatch):
+def test_a_dump_without_blank_lines_loses_nothing(monkeypatch: pytest.MonkeyPatch) -> None:
     """Also where it is larger than what is kept of a paragraph."""
     monkeypatch.setattr(conversion, "MOST", 1_000)
     monkeypatch.setattr(syntax, "CHUNK", 700)
@@ -146,7 +147,7 @@ def test_a_dump_without_blank_lines_loses_nothing(monkeypatch):
     assert tally.mended["part"] == 100
 
 
-def test_what_is_too_large_and_has_no_seam(monkeypatch):
+def test_what_is_too_large_and_has_no_seam(monkeypatch: pytest.MonkeyPatch) -> None:
     monkeypatch.setattr(conversion, "MOST", 1_000)
     monkeypatch.setattr(syntax, "CHUNK", 700)
     text = obj("as-set: AS-A", *["x: y"] * 1_000, *A[1:]) + obj(*B)

@@ -6,13 +6,13 @@ import re
 import subprocess
 import sys
 
-from checks.running import expect, write
-from checks.worlds import World, expect_line
+from checks.running import Tell, Trial, expect, write
+from checks.worlds import Tool, World, expect_line
 
 IN_MEMORY = True
 
 
-def test_passwords_are_made_saved_asked_and_given(trial, tool, tell):
+def test_passwords_are_made_saved_asked_and_given(trial: Trial, tool: Tool, tell: Tell) -> None:
     """`auth` makes lines that the registry takes, and no password comes to where others see it."""
     with World(trial, tool, "auth") as world:
         tool, folder = world.tool, world.folder

@@ -1,4 +1,5 @@
 """Replies that come too slowly, or are too long, or not as long as was announced."""
+
 import contextlib
 import os
 import signal
@@ -9,7 +10,9 @@ import tempfile
 import threading
 import time
 import unittest
+from collections.abc import Callable, Iterator
 from pathlib import Path
+from typing import Any
 from unittest import mock
 
 from checks.running import PATIENCE
@@ -25,13 +28,15 @@ DUMP = OBJECT + b"% end 1\n"
 
 
 @contextlib.contextmanager
-def answering(*pieces, pause=0.0, is_reset=False):
+def answering(
+    *pieces: bytes | list[bytes], pause: float = 0.0, is_reset: bool = False
+) -> Iterator[Any]:
     """A registry at a server that sends these pieces, with a pause before each, or the last one for
     ever if there is none after it."""
     listener = socket.create_server(("127.0.0.1", 0))
     ended = threading.Event()
 
-    def serve():
+    def serve() -> None:
         with contextlib.suppress(OSError):
             peer, _ = listener.accept()
             with peer:
@@ -57,17 +62,17 @@ def answering(*pieces, pause=0.0, is_reset=False):
 
 
 class Replies(unittest.TestCase):
-    def fails(self, call, words, kind=Failure):
+    def fails(self, call: Callable[..., Any], words: str, kind: type[Failure] = Failure) -> None:
         with self.assertRaises(kind) as raised:
             call()
         self.assertRegex(str(raised.exception), words)
         self.assertEqual((raised.exception.status, str(raised.exception).count("\n")), (FAILED, 0))
 
-    def test_bounds_leave_room(self):
+    def test_bounds_leave_room(self) -> None:
         self.assertGreaterEqual(replies.DUMP.most, 10_000_000 * 1_000)
         self.assertLess(replies.DUMP.rate, 128 * 1_024)
 
-    def test_slow(self):
+    def test_slow(self) -> None:
         slow = Bounds(0.2, 1 << 20)
         with mock.patch.multiple(replies, ANSWER=slow, DUMP=slow, REPORT=slow):
             for call in (lambda place: place.query("AS1"), lambda place: list(place.dump())):
@@ -89,7 +94,7 @@ class Replies(unittest.TestCase):
             with answering([b"x"], pause=0.02) as place:
                 self.fails(lambda: list(place.submit(b"x")), "irr diff FILE.*`unchanged`$", Lost)
 
-    def test_rate(self):
+    def test_rate(self) -> None:
         """What comes fast enough may take longer, and is ended once it does not."""
         fast, slow = Bounds(0.3, 1 << 30, 1_000), Bounds(0.3, 1 << 30)
         pieces = [HEAD + b"\r\n", *([OBJECT * 10] * 20), b"% end 200\n"]
@@ -103,7 +108,7 @@ class Replies(unittest.TestCase):
         ):
             self.fails(lambda: list(place.dump()), "was not whole after")
 
-    def test_slow_reader(self):
+    def test_slow_reader(self) -> None:
         """Who takes the answer may take longer than who gives it."""
         pieces = [HEAD + b"\r\n", *([OBJECT * 10] * 20), b"% end 200\n"]
         with mock.patch.multiple(replies, DUMP=Bounds(2, 1 << 30)), answering(*pieces) as place:
@@ -112,7 +117,7 @@ class Replies(unittest.TestCase):
             time.sleep(2.2)
             self.assertEqual(first + b"".join(dump), OBJECT * 200 + b"% end 200\n")
 
-    def test_endless(self):
+    def test_endless(self) -> None:
         small = Bounds(60, 100_000)
         with mock.patch.multiple(replies, ANSWER=small, DUMP=small):
             for front in b"", HEAD + b"\r\n":
@@ -126,7 +131,7 @@ class Replies(unittest.TestCase):
                 self.fails(lambda: place.query("AS1"), "has over 5,000 bytes; ask for less.*")
 
     @mock.patch.object(replies, "LINGERING", 0.3)
-    def test_lengths(self):
+    def test_lengths(self) -> None:
         good = b"%d" % len(OBJECT)
         for lengths in [good], [good, good], [b" " + good + b" "], []:
             fields = b"".join(b"Content-Length:%s\r\n" % length for length in lengths)
@@ -180,7 +185,7 @@ class Submissions(unittest.TestCase):
     """Where the text was sent and no report came, that is said; where it was not taken, it is
     not."""
 
-    def test_lost(self):
+    def test_lost(self) -> None:
         for pieces, is_reset in [
             ((), True),
             ((), False),
@@ -204,7 +209,7 @@ class Submissions(unittest.TestCase):
                 place.query("AS1")
             self.assertNotIn("irr diff", str(raised.exception))
 
-    def test_unread(self):
+    def test_unread(self) -> None:
         """The same where nobody reads the report, or it finds no room."""
         unread, pipe = os.pipe()
         os.close(unread)
@@ -229,7 +234,7 @@ class Submissions(unittest.TestCase):
                     (status, f"irr submit: standard output: {words}; {SENT}\n"),
                 )
 
-    def test_refused(self):
+    def test_refused(self) -> None:
         for status, kind in [
             (b"413 Too Large", TooLarge),
             (b"401 Unauthorized", Failure),
@@ -244,7 +249,7 @@ class Submissions(unittest.TestCase):
 
 
 class Later(unittest.TestCase):
-    def test_seconds(self):
+    def test_seconds(self) -> None:
         """A wait of over a day, or of no number, is just later."""
         for asked, seconds in [
             ("0", 1),
@@ -264,7 +269,7 @@ class Later(unittest.TestCase):
 
 
 class Netrc(unittest.TestCase):
-    def found(self, text, mode=0o600):
+    def found(self, text: bytes, mode: int = 0o600) -> str | dict[str, str]:
         with tempfile.TemporaryDirectory() as folder:
             path = os.path.join(folder, "netrc")
             with open(path, "wb") as out:
@@ -278,7 +283,7 @@ class Netrc(unittest.TestCase):
                     self.assertNotIn("sesame", str(failure))
                     return failure.what
 
-    def test_files(self):
+    def test_files(self) -> None:
         line = b"machine 127.0.0.1 login me password sesame\n"
         self.assertEqual(self.found(line), {"Authorization": "Basic bWU6c2VzYW1l"})
         self.assertEqual(self.found(line.replace(b"127", b"128")), {})
@@ -293,7 +298,7 @@ class Netrc(unittest.TestCase):
         for mode in 0o640, 0o604, 0o620, 0o601:
             self.assertEqual(self.found(line, mode), "others can read it; chmod 600 it")
 
-    def test_no_file(self):
+    def test_no_file(self) -> None:
         with tempfile.TemporaryDirectory() as folder:
             for path in (
                 folder,

@@ -1,4 +1,5 @@
 """The steps of `irr reset`: the objects of a dump, the new password, the folder it works in."""
+
 import os
 import signal
 from pathlib import Path
@@ -13,7 +14,7 @@ from irr.rpsl import syntax
 
 
 class Resets(Folder):
-    def test_pressed(self):
+    def test_pressed(self) -> None:
         long = syntax.read(
             b"as-set: AS-LONG\n"
             + b"".join(b"members:AS%d\n" % number for number in range(4_000))
@@ -29,7 +30,7 @@ class Resets(Folder):
         )
         self.assertEqual([p.text() for p in syntax.paragraphs([loadable])], [short, long])
 
-    def test_reset(self):
+    def test_reset(self) -> None:
         full = self.file(
             "full.rpsl",
             (
@@ -56,7 +57,7 @@ class Resets(Folder):
         ):
             self.assertFalse(reset.lets_in(bad))
 
-    def test_handed_over(self):
+    def test_handed_over(self) -> None:
         """A new password that was saved goes again, unless the new database is in place."""
         for is_in_place in False, True:
             single, save = self.file("single.db", b""), self.folder / f"password-{is_in_place}"
@@ -69,19 +70,22 @@ class Resets(Folder):
                 raise KeyboardInterrupt
             self.assertEqual(save.exists(), is_in_place)
 
-    def test_stopped_when_saved(self):
+    def test_stopped_when_saved(self) -> None:
         """A new password goes again also if a signal comes once it is saved, and another's file
         stays."""
         single, save = self.file("single.db", b""), self.folder / "password"
         options = SimpleNamespace(save=str(save), ask=False)
 
-        def put_new(path, text):
+        def put_new(path: str, text: bytes) -> None:
             Path(path).write_bytes(text)
             # To this thread: another one, which does not hold it off, would take that of the
             # process.
             signal.raise_signal(signal.SIGINT)
             self.assertTrue(save.exists())
 
+        # A shell ignores the signal for what it starts in the background.
+        was = signal.signal(signal.SIGINT, signal.default_int_handler)
+        self.addCleanup(signal.signal, signal.SIGINT, was)
         with (
             mock.patch("irr.system.files.put_new", put_new),
             self.assertRaises(KeyboardInterrupt),
@@ -96,7 +100,7 @@ class Resets(Folder):
             self.fail("the database was put in place")
         self.assertEqual(save.read_bytes(), b"another's")
 
-    def test_alone_in_work(self):
+    def test_alone_in_work(self) -> None:
         """What a reset left that was killed goes with the next one of the database, and not what
         one of another database has."""
         settings = self.settings()
@@ -114,7 +118,7 @@ class Resets(Folder):
         ):
             pass
 
-    def test_new_auth(self):
+    def test_new_auth(self) -> None:
         for auth, save, words in ("", None, "--auth: this is not an auth line"), (
             None,
             str(self.folder),

@@ -5,11 +5,11 @@ import re
 import subprocess
 import sys
 
-from checks.running import expect, short, write
-from checks.worlds import World, expect_line
+from checks.running import Tell, Trial, expect, short, write
+from checks.worlds import Tool, World, expect_line
 
 
-def test_a_lost_password_is_reset_and_nothing_else(trial, tool, tell):
+def test_a_lost_password_is_reset_and_nothing_else(trial: Trial, tool: Tool, tell: Tell) -> None:
     """A maintainer gets another password and nothing else is changed; what can't be done changes
     nothing."""
     with World(trial, tool, "resets") as world:

@@ -1,11 +1,13 @@
 """RPSL text: blocks, attributes, canonical text."""
+
 import random
 import unittest
+from collections.abc import Iterator
 
 from irr.rpsl import syntax
 
 
-def cut(text, chance):
+def cut(text: bytes, chance: random.Random) -> Iterator[bytes]:
     """The text in pieces of chance."""
     place = 0
     while place < len(text):
@@ -14,7 +16,7 @@ def cut(text, chance):
         place += size
 
 
-def plain_blocks(text):
+def plain_blocks(text: bytes) -> list[tuple[int, list[bytes]]]:
     """The same, line by line: number of the first line, and the lines."""
     found, held, first = [], [], 0
     for number, line in enumerate(text.split(b"\n"), 1):
@@ -29,7 +31,7 @@ def plain_blocks(text):
 
 
 class Blocks(unittest.TestCase):
-    def test_chance(self):
+    def test_chance(self) -> None:
         chance = random.Random(1)
         lines = [b"", b" ", b"\t\r", b"# x", b"%", b"a: b", b" c", b"+", b"\r", b"x" * 30]
         for _ in range(3_000):
@@ -41,11 +43,11 @@ class Blocks(unittest.TestCase):
                 ]
                 self.assertEqual(found, plain_blocks(text), text)
 
-    def test_sizes_count_line_ends(self):
+    def test_sizes_count_line_ends(self) -> None:
         sizes = [block.size for block in syntax.blocks([b"% no\na: b\n# yes\n\nc: d"])]
         self.assertEqual(sizes, [11, 4])
 
-    def test_most(self):
+    def test_most(self) -> None:
         long = b"descr: x\n" * 500_000
         text = b"# " + b"y" * 5_000_000 + b"\na: b\n\n" + long + b"\nc: d\n"
         pieces = [text[place : place + 100_000] for place in range(0, len(text), 100_000)]
@@ -57,7 +59,7 @@ class Blocks(unittest.TestCase):
 
 
 class Paragraphs(unittest.TestCase):
-    def test_canonical(self):
+    def test_canonical(self) -> None:
         text = (
             b"Mntner: A-MNT\r\ndescr:  first # note\r\n\tsecond\r\n+\r\n% skipped\r\n+third\r\n"
             b"a-very-long-name-of-one: x\r\nempty:\r\nsource: test"
@@ -71,11 +73,11 @@ class Paragraphs(unittest.TestCase):
         self.assertEqual(read.value(b"descr"), b"first second  third")
         self.assertEqual(syntax.read(read.text()).text(), read.text())
 
-    def test_items(self):
+    def test_items(self) -> None:
         read = syntax.read(b"a: 1\nmnt-by: A, B # C\nmnt-by: D")
         self.assertEqual(read.items(b"mnt-by"), [b"A", b"B", b"D"])
 
-    def test_faults(self):
+    def test_faults(self) -> None:
         for text, code in [
             (b"x" * 65_537, "E07"),
             (b"a\x0b: b", "E01"),
@@ -89,7 +91,7 @@ class Paragraphs(unittest.TestCase):
                 syntax.read(text)
             self.assertEqual(fault.exception.code, code)
 
-    def test_high_bytes_stay(self):
+    def test_high_bytes_stay(self) -> None:
         self.assertEqual(
             syntax.read(b"a: \x85\xa0 \xe9\rx").text(), b"a:              \x85\xa0 \xe9\rx\n"
         )

@@ -5,6 +5,8 @@ import contextlib
 import json
 import os
 import re
+from collections.abc import Callable, Iterator
+from typing import Any
 
 import pytest
 
@@ -12,20 +14,20 @@ from checks.chances import any_query
 from checks.model.queries import answer
 from checks.model.registry import Registry
 from checks.model.text import blocks
-from checks.running import AUTH, Skipped, expect, write
-from checks.worlds import A_AUTH, NGINX, WORLD, World, expect_line, items, nginx
+from checks.running import AUTH, Skipped, Tell, Trial, expect, write
+from checks.worlds import A_AUTH, NGINX, WORLD, Tool, World, expect_line, items, nginx
 from irr.registry.codes import TABLE as CODES
 
 IN_MEMORY, SECONDS = True, 60
 
 
 @contextlib.contextmanager
-def alone(_trial, world):
+def alone(_trial: Trial, world: World) -> Iterator[Tool]:
     yield world.tool
 
 
 @contextlib.contextmanager
-def proxied(trial, world):
+def proxied(trial: Trial, world: World) -> Iterator[Tool]:
     if NGINX is None:
         raise Skipped("nginx is not there")
     with nginx(world.folder, world.url, "client_max_body_size 1m;") as url:
@@ -36,7 +38,9 @@ KINDS = [("alone", alone), ("behind-nginx", proxied)]
 
 
 @pytest.mark.parametrize("kind, wrapped", KINDS, ids=[kind for kind, _ in KINDS])
-def test_each_query_is_answered_as_the_model_does(trial, tool, kind, wrapped, tell):
+def test_each_query_is_answered_as_the_model_does(
+    trial: Trial, tool: Tool, kind: str, wrapped: Callable[..., Any], tell: Tell
+) -> None:
     """Each query as the model answers it, some as `irrdesk query` does too, and the dump."""
     world, model = World(trial, tool, f"answers-{kind}"), Registry(auth=AUTH.encode())
     model.submit(WORLD)
@@ -112,7 +116,7 @@ def test_each_query_is_answered_as_the_model_does(trial, tool, kind, wrapped, te
     tell(f"{len(queries)} queries")
 
 
-def through_links(folder, tool):
+def through_links(folder: str, tool: Tool) -> None:
     """What a link leads to is replaced, and the link stays; but not what is open, nor by a link
     that another user may have planted."""
     os.mkdir(os.path.join(folder, "there"))
@@ -157,7 +161,9 @@ def through_links(folder, tool):
 
 
 @pytest.mark.parametrize("kind, wrapped", KINDS, ids=[kind for kind, _ in KINDS])
-def test_json_says_what_the_text_says(trial, tool, kind, wrapped, tell):
+def test_json_says_what_the_text_says(
+    trial: Trial, tool: Tool, kind: str, wrapped: Callable[..., Any], tell: Tell
+) -> None:
     """Objects as JSON say what the text says."""
     with World(trial, tool, f"json-{kind}") as world, wrapped(trial, world) as tool:
         dumped = [json.loads(line) for line in tool("dump", "--json").printed.splitlines()]
@@ -187,7 +193,9 @@ def test_json_says_what_the_text_says(trial, tool, kind, wrapped, tell):
 
 
 @pytest.mark.parametrize("kind, wrapped", KINDS, ids=[kind for kind, _ in KINDS])
-def test_a_long_submission_is_answered_as_irrdesk_submit_does(trial, tool, kind, wrapped, tell):
+def test_a_long_submission_is_answered_as_irrdesk_submit_does(
+    trial: Trial, tool: Tool, kind: str, wrapped: Callable[..., Any], tell: Tell
+) -> None:
     """A submission that no server takes at once is answered as `irrdesk submit` answers it."""
     tail = b"descr: %s\n" % (b"x" * 2_000)
     parts = items(trial.pick(2_600, 26_000), tail)
@@ -337,7 +345,9 @@ DECIDED = [
 
 
 @pytest.mark.parametrize("kind, wrapped", KINDS, ids=[kind for kind, _ in KINDS])
-def test_each_refusal_has_its_words_remedy_and_what_decided(trial, tool, kind, wrapped, tell):
+def test_each_refusal_has_its_words_remedy_and_what_decided(
+    trial: Trial, tool: Tool, kind: str, wrapped: Callable[..., Any], tell: Tell
+) -> None:
     """Each refusal with its code in words, the remedy, and what decided; the same in a dry run."""
     explained = {}
     for code in CODES:
@@ -386,7 +396,9 @@ def test_each_refusal_has_its_words_remedy_and_what_decided(trial, tool, kind, w
     tell(f"{len(found)} refusals of {len(set(code for _, code, _ in found))} codes")
 
 
-def test_a_proxy_that_takes_short_submissions_alone_gets_parts(trial, tool, tell):
+def test_a_proxy_that_takes_short_submissions_alone_gets_parts(
+    trial: Trial, tool: Tool, tell: Tell
+) -> None:
     """A proxy that takes 64 KiB alone is sent parts of that length; a single paragraph above it
     ends in words."""
     world = World(trial, tool, "length")

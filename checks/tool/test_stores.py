@@ -1,4 +1,5 @@
 """Settings, copies of databases, databases that are held, and replicas of them."""
+
 import contextlib
 import errno
 import os
@@ -21,7 +22,7 @@ from irr.rpsl import syntax
 
 
 class Stores(Folder):
-    def test_settings(self):
+    def test_settings(self) -> None:
         found = Settings.read(str(self.file("irr.toml", TEXT.encode())))
         self.assertEqual(
             (found.source, found.limit, found.store), ("TEST", 10, Path.cwd() / "irr.db")
@@ -38,7 +39,7 @@ class Stores(Folder):
                 Settings.read(str(self.file("bad.toml", bad)))
             self.assertEqual(raised.exception.status, SETTINGS)
 
-    def test_link(self):
+    def test_link(self) -> None:
         """The log is beside the database that a link leads to."""
         (self.folder / "real").mkdir()
         store, link = self.file("real/irr.db", b"rows"), self.folder / "irr.db"
@@ -48,7 +49,7 @@ class Stores(Folder):
         )
         self.assertEqual((found.store, found.log), (store, self.folder / "real/irr.db-wal"))
 
-    def test_copied(self):
+    def test_copied(self) -> None:
         for name, text in (
             ("irr.db", b"rows"),
             ("irr.db-wal", b"log"),
@@ -68,14 +69,14 @@ class Stores(Folder):
             {"irr.db": b"rows", "irr.db-wal": b"log", "irr.db-journal": b"journal"},
         )
 
-    def test_copied_onto_a_full_disk(self):
+    def test_copied_onto_a_full_disk(self) -> None:
         """The fault names the file that can't be written."""
         large = self.file("large", b"x" * (1 << 17))
         with limited(1 << 16), self.assertRaises(OSError) as raised:
             databases.copied(large, self.folder / "copy")
         self.assertEqual(raised.exception.filename, str(self.folder / "copy"))
 
-    def test_sqlite_copy(self):
+    def test_sqlite_copy(self) -> None:
         """What the disk lacks is not damage."""
         store, target = self.folder / "irr.db", self.folder / "work" / "copy.db"
         target.parent.mkdir()
@@ -99,7 +100,7 @@ class Stores(Folder):
                 self.file("none.db", b"x" * 4_096), self.folder / "work" / "other.db", "NAME"
             )
 
-    def test_working(self):
+    def test_working(self) -> None:
         """What fails in the folder is said of the one that it is in, and what fails elsewhere is
         not."""
         words = "it cannot be written: no space left on device; make room, or look at its disk"
@@ -130,7 +131,7 @@ class Stores(Folder):
                 raise PermissionError(13, "Permission denied", str(work / "x"))
         self.assertEqual(os.listdir(self.folder), [])
 
-    def test_clear(self):
+    def test_clear(self) -> None:
         """What other runs left goes, and of a link the link alone."""
         for name in ".new-a", ".new-b", "kept":
             (self.folder / name).mkdir()
@@ -141,7 +142,7 @@ class Stores(Folder):
             (os.listdir(self.folder), os.listdir(self.folder / "kept")), (["kept"], ["file"])
         )
 
-    def test_read_only(self):
+    def test_read_only(self) -> None:
         with mock.patch("os.open", side_effect=OSError(errno.EROFS, "Read-only file system")):
             words = (
                 r"let this user write there \(ReadWritePaths=\), or, if nobody serves it, give it"
@@ -151,7 +152,7 @@ class Stores(Folder):
                 with databases.alone(self.settings()):
                     pass
 
-    def test_links_that_lead_nowhere(self):
+    def test_links_that_lead_nowhere(self) -> None:
         """A log or journal that is missing where a link leads is not none."""
         settings = self.settings()
         for suffix in databases.LOG, databases.JOURNAL:
@@ -176,7 +177,7 @@ class Stores(Folder):
                     pass
             link.unlink()
 
-    def test_no_file(self):
+    def test_no_file(self) -> None:
         """What is no file is not waited for, nor read for ever."""
         os.mkfifo(self.folder / "pipe")
         for path in self.folder / "pipe", self.folder, Path("/dev/zero"):
@@ -194,7 +195,7 @@ class Stores(Folder):
                 ):
                     refused()
 
-    def test_unlocked(self):
+    def test_unlocked(self) -> None:
         """A database that another process has open is not copied as one that nobody serves."""
         settings = self.settings()
         settings.log.write_bytes(b"")
@@ -224,7 +225,7 @@ class Stores(Folder):
             ):
                 databases.need_unlocked(settings.store)
 
-    def test_refused(self):
+    def test_refused(self) -> None:
         """Which words of the program say that an object is too long, and what they are said of."""
         long = "is not RPSL, or over 65536 bytes: mend it"
         for said, status, kind, thing in [
@@ -257,7 +258,7 @@ class Stores(Folder):
                 said,
             )
 
-    def test_tried(self):
+    def test_tried(self) -> None:
         """A backup has no dump only if an object is too long for it; what else stops `load` stops
         the backup."""
         settings, fault = (
@@ -293,7 +294,7 @@ class Stores(Folder):
                     ):
                         backup.tried(Path(work), settings, made)
 
-    def test_outdated(self):
+    def test_outdated(self) -> None:
         """A backup without a dump takes the place of none that has one."""
         for number in range(1, 6):
             (self.folder / f"2026010{number}T000000Z").mkdir()
@@ -319,7 +320,7 @@ class Stores(Folder):
             ["20260102T000000Z", "20260103T000000Z"],
         )
 
-    def test_retired(self):
+    def test_retired(self) -> None:
         """A backup that was removed halfway is none, and goes with the next run."""
         for number in 1, 2:
             (self.folder / f"2026010{number}T000000Z").mkdir()
@@ -342,7 +343,7 @@ class Stores(Folder):
         backup.retire(self.folder, "20260102T000000Z", 1, True)
         self.assertEqual(os.listdir(self.folder), half[1:])
 
-    def test_later(self):
+    def test_later(self) -> None:
         """Folders whose names are later than the new backup's are named, and neither count nor
         go."""
         names = ["20260101T000000Z", "20260102T000000Z", "20260103T000000Z", "20360101T000000Z"]
@@ -355,19 +356,19 @@ class Stores(Folder):
         self.assertEqual(backup.retire(self.folder, names[3], 2, True), [])
         self.assertEqual(sorted(os.listdir(self.folder)), names[2:])
 
-    def test_alone(self):
+    def test_alone(self) -> None:
         settings = self.settings()
         with databases.alone(settings) as first, databases.alone(settings) as second:
             self.assertEqual((first, second), (True, False))
         with databases.alone(settings) as again:
             self.assertTrue(again)
 
-    def test_nobody_serves(self):
+    def test_nobody_serves(self) -> None:
         settings = self.settings()
         with databases.alone(settings), self.assertRaises(Failure), databases.still(settings, 1):
             self.fail("it was copied while another process had it")
 
-    def test_held_still(self):
+    def test_held_still(self) -> None:
         settings = self.settings()
         server = self.server(settings)
         try:
@@ -381,7 +382,7 @@ class Stores(Folder):
             server.kill()
             server.communicate()
 
-    def test_goes_on_when_the_holder_is_killed(self):
+    def test_goes_on_when_the_holder_is_killed(self) -> None:
         settings = self.settings()
         server = self.server(settings)
         words = (
@@ -406,7 +407,7 @@ class Stores(Folder):
                 process.kill()
                 process.communicate()
 
-    def server(self, settings):
+    def server(self, settings: Settings) -> subprocess.Popen[bytes]:
         """A process that has the database open as `irrdesk serve` has it."""
         words = (
             "import fcntl, os, struct, sys, time\nn = os.open(sys.argv[2],"
@@ -423,7 +424,7 @@ class Stores(Folder):
         self.assertEqual(server.stdout.readline(), b"open\n")
         return server
 
-    def wait_until_it_goes_on(self, server):
+    def wait_until_it_goes_on(self, server: subprocess.Popen[bytes]) -> None:
         end = time.monotonic() + PATIENCE
         while databases.is_still(server.pid):
             self.assertLess(time.monotonic(), end, "the server was left still")
@@ -431,14 +432,14 @@ class Stores(Folder):
 
 
 class Replicas(Folder):
-    def test_agent(self):
+    def test_agent(self) -> None:
         agent = SimpleNamespace(draining={4344}, heard=set())
         self.assertEqual(replicas.Agent.word(agent, b"4344\n"), b"drain\n")
         self.assertEqual(replicas.Agent.word(agent, b"4345\n"), b"ready\n")
         self.assertEqual(replicas.Agent.word(agent, b"nonsense"), b"ready\n")
         self.assertEqual(agent.heard, {4344})
 
-    def test_stopped_in_mid_change(self):
+    def test_stopped_in_mid_change(self) -> None:
         keeper = replicas.Keeper(self.folder, [], None, 0)
         keeper.start(5)
         self.assertEqual(keeper.known, "")
@@ -454,7 +455,7 @@ class Replicas(Folder):
             (keeper.made.folder / "irr.toml").read_text(), TEXT.replace("limit = 10", "limit = 5")
         )
 
-    def test_connected(self):
+    def test_connected(self) -> None:
         import socket
 
         with socket.create_server(("127.0.0.1", 0)) as listener:

@@ -1,19 +1,22 @@
 """A submission in parts."""
+
 import io
 import os
 import tempfile
 import unittest
+from collections.abc import Iterator
 from types import SimpleNamespace
+from typing import Any
 
 from irr.commands import submit
 from irr.errors import Failure
 from irr.registry import submissions
 from irr.registry.server import SENT, Lost, TooLarge
-from irr.registry.submissions import Item, Sender, Source
+from irr.registry.submissions import Item, Reported, Sender, Source
 from irr.rpsl import syntax
 
 
-def items_of(text):
+def items_of(text: bytes) -> list[Item]:
     return [Item("a file", block) for block in syntax.blocks([text], syntax.LARGEST + 1)]
 
 
@@ -21,10 +24,10 @@ class Registry:
     """Takes parts of at most so many bytes, and adds each item under a key that tells the passwords
     before it."""
 
-    def __init__(self, most=submissions.MOST):
+    def __init__(self, most: int = submissions.MOST) -> None:
         self.most, self.parts, self.refused = most, [], 0
 
-    def post(self, text):
+    def post(self, text: bytes) -> list[bytes]:
         if len(text) > self.most:
             self.refused += 1
             raise TooLarge("the server", "status 413")
@@ -67,13 +70,15 @@ mntner: C
 
 
 class Parts(unittest.TestCase):
-    def report(self, text, part, most=submissions.MOST):
+    def report(
+        self, text: bytes, part: int, most: int = submissions.MOST
+    ) -> tuple[Registry, list[str]]:
         registry = Registry(most)
         sender = Sender(registry.post, part)
         lines = [reported.line.text() for reported in sender.send(items_of(text))]
         return registry, lines + [sender.last_line()]
 
-    def test_same_report(self):
+    def test_same_report(self) -> None:
         whole = self.report(TEXT, 1 << 20)
         self.assertEqual(len(whole[0].parts), 1)
         self.assertEqual(
@@ -92,7 +97,7 @@ class Parts(unittest.TestCase):
             self.assertEqual(lines, whole[1], part)
         self.assertGreater(len(self.report(TEXT, 1)[0].parts), 4)
 
-    def test_refused_length(self):
+    def test_refused_length(self) -> None:
         text = b"password: x\n\n" + b"\n".join(b"mntner: N%d\n" % number for number in range(100))
         registry, lines = self.report(text, 1 << 20, most=200)
         self.assertEqual((len(lines), lines[-1]), (101, "% items 100"))
@@ -102,7 +107,7 @@ class Parts(unittest.TestCase):
         with self.assertRaises(TooLarge):
             self.report(text, 1 << 20, most=20)
 
-    def test_passwords_inside_a_part_that_is_refused(self):
+    def test_passwords_inside_a_part_that_is_refused(self) -> None:
         """Its second half has those that its first half gives."""
         text = b"mntner: A\n\n" + b"\n".join(
             b"%smntner: N%d\n" % (b"password: p%d\n\n" % number if number < 4 else b"", number)
@@ -114,7 +119,7 @@ class Parts(unittest.TestCase):
             self.assertGreater(len(registry.parts), 2)
             self.assertEqual(lines, whole, most)
 
-    def test_passwords_go_on(self):
+    def test_passwords_go_on(self) -> None:
         text = (
             b"".join(b"password: %d %s\n\n" % (number, b"y" * 30_000) for number in range(9))
             + b"mntner: A\n\nmntner: B\n"
@@ -122,7 +127,7 @@ class Parts(unittest.TestCase):
         _, lines = self.report(text, 1)
         self.assertEqual(lines, ["1 mntner N9-X: added", "2 mntner N9-X: added", "% items 2"])
 
-    def test_ends(self):
+    def test_ends(self) -> None:
         for text, end, count, last in [
             (b"1 -: refused E01\n", "", 1, ""),
             (b"% stopped after 0 items\n", "stopped", 0, "% stopped after 0 items"),
@@ -134,12 +139,12 @@ class Parts(unittest.TestCase):
         with self.assertRaises(Failure):
             list(Sender(lambda _: [b"% items 0\n"]).send(items_of(b"a\n")))
 
-    def test_told_as_it_comes(self):
+    def test_told_as_it_comes(self) -> None:
         """An item is told when its line has come, and a part goes out when the report of the last
         one is whole."""
         seen = []
 
-        def post(text):
+        def post(text: bytes) -> Iterator[Any]:
             seen.append(text)
             yield b"1 -: refused E01\n2 -: ref"
             seen.append("more")
@@ -163,11 +168,11 @@ class Parts(unittest.TestCase):
         )
         self.assertEqual((sender.end, sender.count), ("", 4))
 
-    def test_lost_in_the_middle(self):
+    def test_lost_in_the_middle(self) -> None:
         """What was decided before is told, and that the rest may be registered."""
         registry = Registry()
 
-        def post(text):
+        def post(text: bytes) -> list[bytes]:
             if registry.parts:
                 raise Lost("the server", "the connection was cut off; the text was sent")
             return registry.post(text)
@@ -181,10 +186,10 @@ class Parts(unittest.TestCase):
                 submit.send(Sender(post, part), items_of(b"mntner: A\n\nmntner: B\n"), printer)
             self.assertEqual(str(raised.exception), words)
 
-    def test_unprinted(self):
+    def test_unprinted(self) -> None:
         """A report that can't be printed is of a text that was sent."""
 
-        def full(_):
+        def full(_: Reported | Sender) -> None:
             raise OSError(28, "No space left on device")
 
         for printer in SimpleNamespace(show=full), SimpleNamespace(show=lambda _: None, end=full):
@@ -195,8 +200,8 @@ class Parts(unittest.TestCase):
             submit.send(Sender(Registry().post), [], printer)
         self.assertFalse(hasattr(raised.exception, "__notes__"))
 
-    def test_read_fault(self):
-        def broken():
+    def test_read_fault(self) -> None:
+        def broken() -> Iterator[Any]:
             yield from items_of(b"mntner: A\n")
             raise OSError(5, "Input/output error")
 
@@ -207,7 +212,7 @@ class Parts(unittest.TestCase):
             self.assertEqual(sender.last_line(), "% read fault after 1 items")
             self.assertEqual(sender.read_fault.errno, 5)
 
-    def test_passwords_that_are_typed(self):
+    def test_passwords_that_are_typed(self) -> None:
         for typed in "a\nb", "\x01", " a", "a\t":
             self.assertRaises(Failure, submissions.password_item, typed, "A-MNT")
         found = submissions.password_item("one # two é", "A-MNT").passwords()
@@ -217,7 +222,7 @@ class Parts(unittest.TestCase):
 
 
 class Sources(unittest.TestCase):
-    def test_no_text(self):
+    def test_no_text(self) -> None:
         with tempfile.TemporaryDirectory() as folder:
             path = os.path.join(folder, "file")
             for text in (
@@ -235,7 +240,7 @@ class Sources(unittest.TestCase):
 
 
 class Chunks(unittest.TestCase):
-    def test_pieces(self):
+    def test_pieces(self) -> None:
         self.assertEqual(b"".join(syntax.chunks(io.BytesIO(TEXT))), TEXT)
 
 

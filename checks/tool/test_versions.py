@@ -1,20 +1,22 @@
 """The versions of objects that a history has, and the keys and times that ask for them."""
+
 from unittest import mock
 
 from checks.tool.stores import Folder
 from irr.commands.history import show
 from irr.errors import Failure
 from irr.local import history
+from irr.local.history import Repository
 from irr.rpsl import syntax
 from irr.rpsl.keys import Key
 
 
 class Past(Folder):
-    def record(self, repository, texts, now):
+    def record(self, repository: Repository, texts: list[bytes], now: int) -> str:
         blocks = [syntax.Block(1, len(text), text) for text in texts]
         return repository.record(iter(blocks), lambda: "digest", now)
 
-    def test_versions(self):
+    def test_versions(self) -> None:
         first, second = (
             b"aut-num:        AS64496\nsource:         TEST\n",
             b"aut-num:        AS64496\ndescr:          x\nsource:         TEST\n",
@@ -46,7 +48,7 @@ class Past(Folder):
         self.assertEqual(b"".join(repository.objects(repository.state(1_199))), first + b"\n")
         self.assertEqual(b"".join(repository.objects(repository.state())), other + b"\n")
 
-    def test_words(self):
+    def test_words(self) -> None:
         self.assertEqual(history.read_time("1970-01-02"), 86_400)
         self.assertEqual(history.read_time("1970-01-01T01:00+01:00"), 0)
         self.assertRaises(Failure, history.read_time, "yesterday")
@@ -65,7 +67,7 @@ class Past(Folder):
         for words in "%", "route 192.0.2.0/24", "route 192.0.2.0/24 AS1 x", "aut-num A-MNT":
             self.assertRaises(Failure, history.read_keys, words.split())
 
-    def test_shown(self):
+    def test_shown(self) -> None:
         """A key without its class is that of the object which was seen, of whichever class."""
         number, name = (
             b"aut-num:        AS64496\nsource:         TEST\n",

@@ -1,5 +1,5 @@
-"""`irr export FOLDER`: the public dump in RIPE's split form, a gzip'd file a class; with `--history`
-also in one file, with the serial from which a mirror follows it."""
+"""`irr export FOLDER`: the public dump in RIPE's split form, a gzip'd file a class; with
+`--history` also in one file, with the serial from which a mirror follows it."""
 import argparse
 import contextlib
 import gzip

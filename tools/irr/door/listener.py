@@ -4,11 +4,10 @@ handed out as fast as they are taken."""
 import time
 import asyncio
 import contextlib
-import ipaddress
 import socket
 import struct
 from collections import OrderedDict
-from typing import Any, Optional
+from typing import Optional
 
 from irr.door import dialects, irrd, proxied, ripe
 from irr.door.budget import Client, client_name
@@ -17,7 +16,7 @@ from irr.door.collecting import Dump, InMemory, Source
 from irr.door.dialects import Reply
 from irr.door.pool import Pool
 from irr.door.queries import Asker
-from irr.door.settings import Network, Settings, networks
+from irr.door.settings import Settings, is_in, networks
 from irr.door.status import Counters
 
 # Seconds that a kept connection may be silent.
@@ -71,12 +70,7 @@ class Door:
 
     def trusts(self, address: str) -> bool:
         """Whether an address is that of a proxy that says who its client is."""
-        try:
-            found = ipaddress.ip_address(address.partition("%")[0])
-        except ValueError:
-            return False
-        mapped = getattr(found, "ipv4_mapped", None)
-        return is_in(mapped or found, self.trusted)
+        return is_in(address, self.trusted)
 
     def admit(self, connection: "Connection") -> Optional[bytes]:
         """Takes a connection in; a line that says why not."""
@@ -156,10 +150,6 @@ class Door:
             ]:
                 self.counters.connection("late")
                 connection.abort()
-
-
-def is_in(address: Any, found: tuple[Network, ...]) -> bool:
-    return any(address in network for network in found if network.version == address.version)
 
 
 class Connection(asyncio.Protocol):

@@ -4,14 +4,13 @@ A range may be asked for up to `LAST`; where that would be too long an answer, i
 its first line says, and the mirror asks on.
 """
 
-import ipaddress
 import re
 import time
 from pathlib import Path
 from typing import Optional
 
 from irr.door.flags import Bad
-from irr.door.settings import Settings, networks
+from irr.door.settings import Settings, is_in, networks
 from irr.errors import Failure
 from irr.local.serials import Part, Serials, Told
 
@@ -37,12 +36,7 @@ class Mirrors:
 
     def allows(self, address: str) -> bool:
         """Whether a client may mirror."""
-        try:
-            found = ipaddress.ip_address(address.partition("%")[0])
-        except ValueError:
-            return False
-        plain = getattr(found, "ipv4_mapped", None) or found
-        return any(plain in one for one in self.allowed if one.version == plain.version)
+        return is_in(address, self.allowed)
 
     def range(self) -> Optional[Told]:
         """The serials that are kept; None where none are."""

@@ -189,3 +189,13 @@ def networks(texts: tuple[str, ...], name: str) -> tuple[Network, ...]:
                 text, f"this is not an address or prefix; correct `{name}`", SETTINGS
             ) from None
     return tuple(found)
+
+
+def is_in(text: str, found: tuple[Network, ...]) -> bool:
+    """Whether an address, in which IPv4 may stand as IPv6, is in one of the networks."""
+    try:
+        address = ipaddress.ip_address(text.partition("%")[0])
+    except ValueError:
+        return False
+    plain = getattr(address, "ipv4_mapped", None) or address
+    return any(plain in one for one in found if one.version == plain.version)

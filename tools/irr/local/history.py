@@ -276,8 +276,8 @@ class Repository:
 
 
 def order_of(path: str) -> tuple[int, list[int], str]:
-    """What the paths of objects are in order of in a dump: the numbers or the name of a key stand in
-    its path."""
+    """What the paths of objects are in order of in a dump: the numbers or the name of a key stand
+    in its path."""
     kind, _, name = path.split("/")
     return keys.order(Key(kind, name))
 

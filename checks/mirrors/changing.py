@@ -17,7 +17,7 @@ from checks.serving import Serving, free_port
 from checks.tool.forking import run_forked
 
 COUNT = 1_000_000
-DONE = re.compile(r"^[0-9]+ [^:]+: (added|changed|deleted)$", re.M)
+DONE = re.compile(r"^[0-9]+ .+: (?:added|changed|deleted)$", re.M)
 SETS = ["AS-A", "AS-B", "AS-C", "AS1:AS-D", "AS2:AS-E", "AS1:AS-D:AS-F"]
 ROUTE_SETS = ["RS-A", "RS-B", "AS1:RS-C", "AS1:AS-D:RS-D"]
 

@@ -19,8 +19,8 @@ irr backup --settings irr.toml --keep 30 backups
 irr backup --copy /snapshot/irr.db backups            of a snapshot of the file system
 
 To restore one, stop the server, put the file irr.db of the backup in the place of the database,
-and remove the log of what stood there, irr.db-wal; if `store` is a link, do this where it leads.
-Or load its dump.rpsl as a new registry.
+and remove the write-ahead log of what stood there, irr.db-wal; if `store` is a link, do this where
+it leads. Or load its dump.rpsl as a new registry.
 """
 NAME = re.compile("[0-9]{8}T[0-9]{6}Z")
 # What the name of a folder begins with that is no backup yet, or no longer.
@@ -51,7 +51,7 @@ def arguments(parser: argparse.ArgumentParser) -> None:
     parser.add_argument(
         "--copy",
         metavar="FILE",
-        help="take this database and the log beside it, of a snapshot of the file system",
+        help="take this database and the write-ahead log beside it, of a snapshot",
     )
     parser.add_argument(
         "folder",

@@ -67,7 +67,9 @@ def run(options: argparse.Namespace) -> int:
     settle(settings)
     with alone_in_work(settings) as work:
         if os.path.lexists(settings.log) and settings.log.stat().st_size >= databases.EMPTY_LOG:
-            raise Failure(str(settings.log), "the log is not empty; try again", DATABASE)
+            raise Failure(
+                str(settings.log), "this write-ahead log is not empty; try again", DATABASE
+            )
         before = Copy(work / "before", settings.text())
         databases.copied_store(settings.store, before)
         full, wanted = work / "full.rpsl", work / "wanted.rpsl"

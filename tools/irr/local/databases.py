@@ -302,7 +302,7 @@ def need_unlocked(store: Path) -> None:
                     str(path),
                     (
                         f"whether it is in use cannot be seen: {system_words(error)}; copy it and"
-                        " its log to a disk of this machine, and give that copy"
+                        " its write-ahead log to a disk of this machine, and give that copy"
                     ),
                     DATABASE,
                 ) from None

@@ -74,7 +74,8 @@ def unused_imports() -> list[str]:
     ):
         uses, comment = USES[path.suffix]
         text = path.read_text(encoding="utf-8")
-        rest = re.sub(rf"{comment}.*", "", uses.sub("", text))
+        # A text such as "--" begins no comment.
+        rest = re.sub(rf"{comment}.*", "", re.sub(r'"[^"\n]*"', '""', uses.sub("", text)))
         for name in (name for use in uses.findall(text) for name in imported(use)):
             # An operator is used where all that stands between its places is.
             words = [word for word in name.split("◌") if word]

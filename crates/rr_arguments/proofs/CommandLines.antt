@@ -1,6 +1,6 @@
 -- What a line asks for, by the facts of its parse.
 use Rattle.std.proofs.Common.{◌≡◌, ◌∙◌, ◌++◌, ◌||◌, ◌&&◌, ◌⊎◌, ◌<◌, ◌≤◌, ◌-◌, arith, zero, suc, length, nat_lt, lt-ltb, slice_index_or, ℕ, Bool, refl, sym, ap, ap₂, subst, codes, true, false, true≢false, IsTrue, List, [], ◌∷◌, map, Option, Some, None, Result, Ok, Err, inl, inr}
-use Rattle.std.specs.Prelude.{option_map, unwrap_or, string_bytes, is_some, Box}
+use Rattle.std.specs.Prelude.{option_map, unwrap_or, is_some, Box}
 use Rattle.std.specs.Box.{box_value}
 use Rattle.std.specs.Borrow.{Bor}
 use Rattle.std.specs.List.{join_by, list_any, flat_map}
@@ -12,13 +12,12 @@ use Rattle.clap.specs.Matches.{subcommand_name_of}
 use Rattle.clap.specs.declared.parser.matches.ArgMatches.{ArgMatches}
 use Rattle.clap.specs.declared.parser.matches.ArgMatches.TheViews.{out-ArgMatches, out-SubCommand}
 use Rattle.clap.specs.declared.parser.matches.SubCommand.{SubCommand}
-use Rattle.clap.specs.Values.{kind_of}
-use Rattle.clap.specs.Walk.{Row, Text, one_of}
+use Rattle.clap.specs.Walk.{Row, Text}
 use Rattle.clap.specs.declared.error.Error.{Error}
 use Rattle.clap.specs.declared.error.kind.ErrorKind.{ErrorKind}
 use Rattle.clap.specs.declared.error.kind.ErrorKind.TheVariants.{OutOfMemory}
 use Rattle.clap.proofs.OnLiterals.{clap_on_literals}
-use Rattle.rr_arguments.specs.CommandLine.{IsToldAs, Invocation, IsFlag, TellsKind, GivesInvoked, FailsToInvoke, invoked_by, invoked, asks_help, asks_query, parsed_or_helped, invoked_unless, nothing, parsed, flag_of, is_refusal, is_shown, joined, line_command, line_kinds, told}
+use Rattle.rr_arguments.specs.CommandLine.{IsToldAs, Invocation, IsFlag, GivesInvoked, invoked_by, invoked, asks_help, asks_query, parsed_or_helped, invoked_unless, nothing, parsed, is_refusal, is_shown, joined, line_command, line_kinds, told}
 use Rattle.rr_arguments.specs.Grammar.{program_app}
 use Rattle.rr_arguments.specs.declared.command.Command.{Command}
 use Rattle.rr_arguments.specs.declared.command.Command.TheVariants as command

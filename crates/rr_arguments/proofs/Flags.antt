@@ -1,23 +1,22 @@
 -- Whether `dump` has its flag.
-use Rattle.std.proofs.Common.{eqb-true, ◌+◌, ◌≡◌, ◌∙◌, ◌++◌, ◌&&◌, ◌||◌, ◌⊎◌, ◌==◌, ℕ, Bool, cond, true, false, true≢false, not, zero, suc, refl, sym, ap, ap₂, subst, arith, codes, List, [], ◌∷◌, length, take, drop, Option, Some, None, inl, inr}
+use Rattle.std.proofs.Common.{eqb-true, ◌+◌, ◌≡◌, ◌∙◌, ◌++◌, ◌&&◌, ◌||◌, ◌⊎◌, ◌==◌, ℕ, Bool, cond, true, false, true≢false, not, zero, suc, refl, sym, ap, subst, arith, codes, List, [], ◌∷◌, length, take, drop, Option, Some, None, inl, inr}
 use Rattle.std.specs.Prelude.{unwrap_or, slice_get, option_and_then, is_some}
-use Rattle.std.specs.List.{before_first, fold, find, list_any, prefix_len}
+use Rattle.std.specs.List.{before_first, fold, find, prefix_len}
 use Rattle.std.specs.Option.{option_map, option_map_or}
 use Rattle.std.specs.Char.{encode_utf8}
 use Rattle.std.specs.Bool.{Decides}
 use Rattle.std.specs.Str.{bytes_eq, chars}
 use Rattle.std.proofs.lemmas.Slice.Eq.{bytes_eq-Decides}
 use Rattle.clap.specs.Lexer.{has_byte, long_of, long_of_rest, strip_byte, name_and_value, short_of}
-use Rattle.clap.specs.Walk.{answers_to, with_values, rows_after, long_or_other, trailing, is_pending, next_position, Held, Outcome, Row, Rule, Step, Text, Waiting, Walk, after_flag, after_step, arg_by_id, arg_by_index, arg_by_long, arg_by_short, at_row, bundle_met, bundle_step, done, finished, has_row, idle, long_met, long_word, more_values, next, nothing_held, one_of, plain, plain_word, positional_held, pushed, reacted, refused, row_text, settled, short_met, short_or_plain, to_positional, used, value, waits, walk, walk_from, walked, with_default, without, word_met}
-use Rattle.clap.specs.Simple.{App, Shape, built, built_leaf, entered, help_rule, marked_built, new_rule, label_of, on_top, built_above, rows_at}
-use Rattle.clap.specs.declared.builder.action.ArgAction.TheVariants.{Help, Set, SetTrue}
+use Rattle.clap.specs.Walk.{answers_to, with_values, rows_after, long_or_other, trailing, is_pending, next_position, Held, Outcome, Row, Rule, Text, Walk, after_flag, after_step, at_row, bundle_met, bundle_step, done, finished, has_row, idle, long_met, long_word, more_values, nothing_held, one_of, plain, positional_held, pushed, reacted, refused, row_text, settled, short_met, short_or_plain, to_positional, used, value, waits, walk, walk_from, walked, with_default, without}
+use Rattle.clap.specs.Simple.{App, Shape, built, entered, help_rule, label_of, rows_at}
 use Rattle.clap.specs.declared.builder.value_parser.Reading.TheVariants as reading
 use Rattle.clap.specs.declared.builder.value_parser.ValueParser.TheVariants as vp
 use Rattle.clap.specs.declared.parser.matches.ValueSource.{ValueSource}
 use Rattle.clap.specs.declared.parser.matches.ValueSource.TheVariants.{CommandLine, DefaultValue}
 use Rattle.rr_arguments.specs.CommandLine.{IsFlag, flag_of, line_command, line_stop}
 use Rattle.rr_arguments.specs.Flags.{names_full}
-use Rattle.rr_arguments.specs.Grammar.{dump_app, full_rule, needed_rule, program_app}
+use Rattle.rr_arguments.specs.Grammar.{full_rule, needed_rule, program_app}
 
 abbrev full : Text
 full = codes "full"

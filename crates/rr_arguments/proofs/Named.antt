@@ -1,12 +1,12 @@
 -- That a dump is in full where its flag is named.
-use Rattle.std.proofs.Common.{◌≡◌, ◌∙◌, ◌&&◌, Bool, cond, codes, true, false, true≢false, refl, sym, ap, ap₂, List, [], ◌∷◌, Option, Some, None}
-use Rattle.std.specs.Prelude.{ℕ, is_some, unwrap_or, not}
+use Rattle.std.proofs.Common.{◌≡◌, ◌∙◌, Bool, cond, codes, true, false, true≢false, refl, sym, ap, List, [], ◌∷◌, Option, Some, None}
+use Rattle.std.specs.Prelude.{ℕ, is_some, unwrap_or}
 use Rattle.std.specs.Option.{option_map_or}
 use Rattle.std.specs.Str.{bytes_eq}
 use Rattle.clap.specs.Kinds.{Kinds}
 use Rattle.clap.specs.Walk.{Row, Text, all_of, first_of}
 use Rattle.rr_arguments.specs.Numbers.{number_within}
-use Rattle.rr_arguments.specs.CommandLine.{Invocation, invoked_at, invoked_by, invoked, invoked_over, invoked_unless, asks_help, asks_query, dump, flag_of, given, helped, joined, line_command, line_kinds, line_stop, load, migrate, parsed, parsed_or_helped, probe, query, serve, spelled, bad_port, bad_count, submit, init, nothing, invoked_port, invoked_count}
+use Rattle.rr_arguments.specs.CommandLine.{Invocation, invoked, invoked_over, invoked_unless, asks_help, asks_query, dump, flag_of, given, helped, joined, line_command, line_kinds, load, migrate, parsed, parsed_or_helped, probe, query, serve, spelled, bad_port, bad_count, submit, init, nothing, invoked_port, invoked_count}
 use Rattle.rr_arguments.specs.Flags.{names_full}
 use Rattle.rr_arguments.proofs.Flags.{dump_full}
 use Rattle.rr_arguments.proofs.Stops.{stop_second}

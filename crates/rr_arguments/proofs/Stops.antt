@@ -1,5 +1,5 @@
 -- Where a line stops: the command is its second word.
-use Rattle.std.proofs.Common.{◌≡◌, ◌∙◌, ◌++◌, ◌||◌, ◌==◌, ℕ, Bool, cond, true, false, true≢false, zero, suc, refl, sym, ap, ap₂, subst, codes, List, [], ◌∷◌, length, drop, Option, Some, None}
+use Rattle.std.proofs.Common.{◌≡◌, ◌∙◌, ◌||◌, ◌==◌, ℕ, Bool, cond, true, false, true≢false, zero, suc, refl, sym, ap, ap₂, codes, List, [], ◌∷◌, length, drop, Option, Some, None}
 use Rattle.std.specs.Prelude.{slice_get, is_some, unwrap_or, encode_utf8}
 use Rattle.std.specs.List.{find, fold, list_any}
 use Rattle.std.specs.Option.{option_map, option_map_or}
@@ -9,7 +9,7 @@ use Rattle.clap.specs.Faults.{other_fault, bundle_step_fault, flags_fault, flag_
 use Rattle.clap.specs.Kinds.{Kinds, or_else}
 use Rattle.clap.specs.Lexer.{long_of, short_of}
 use Rattle.clap.specs.Simple.{Shape, built, help_rule, names_of, version_rule}
-use Rattle.clap.specs.Walk.{Held, Names, Rule, Text, Walk, after_flag, after_step, answers_to, bundle_met, idle, long_or_other, nothing_held, plain, short_or_plain, subcommand_or_other, value, walk, walk_from, walked}
+use Rattle.clap.specs.Walk.{Held, Names, Rule, Text, Walk, after_flag, after_step, answers_to, bundle_met, idle, long_or_other, nothing_held, plain, short_or_plain, subcommand_or_other, walk_from, walked}
 use Rattle.clap.specs.declared.builder.value_parser.ValueParser.TheVariants as vp
 use Rattle.clap.proofs.WalkLemmas.{walk_stopped}
 use Rattle.rr_arguments.specs.CommandLine.{line_kinds, line_stop}

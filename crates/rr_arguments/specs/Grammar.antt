@@ -1,5 +1,5 @@
 -- What the arguments of the command line may be, as a parse reads it (profile).
-use Rattle.std.specs.Prelude.{◌≡◌, List, [], ◌∷◌, Some, true, false, codes}
+use Rattle.std.specs.Prelude.{◌≡◌, [], ◌∷◌, Some, true, false, codes}
 use Rattle.clap.specs.Lexer.{usize_max}
 use Rattle.clap.specs.Simple.{App, Shape, app_of, new_app, new_rule, new_shape, with_rule}
 use Rattle.clap.specs.Walk.{Rule, Text, rule_of}

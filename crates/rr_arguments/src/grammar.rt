@@ -1,7 +1,7 @@
 //! What the arguments of the command line may be.
 
-ghost use Rattle.std.specs.Prelude.{◌∷◌, ◌++◌, [], IfOk, MatchResult, codes};
-ghost use Rattle.clap.specs.Simple.{App, Shape, with_rule, with_subcommand};
+ghost use Rattle.std.specs.Prelude.{IfOk, codes};
+ghost use Rattle.clap.specs.Simple.{App, with_subcommand};
 ghost use Rattle.rr_arguments.specs.Grammar.{IsArg, IsMade, bare_app, dump_app, full_rule};
 ghost use Rattle.rr_arguments.specs.Grammar.{needed_rule};
 ghost use Rattle.rr_arguments.specs.Grammar.{option_rule, over_file, over_settings, program_app};

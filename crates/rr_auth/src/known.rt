@@ -1,10 +1,10 @@
 //! What the objects of a registry are known to answer, as long as the secrets stay.
 //!
-//! An object may name 15,000 maintainers, and each of the 3,000 items of a short submission may ask
-//! them. So it is remembered whether the mnt-by of an object passes, with a copy of the secrets that
-//! were tried, because other secrets may come with the next item.
+//! An object may name 15,000 maintainers, and each of the 3,000 items of a short submission may
+//! ask them. So it is remembered whether the mnt-by of an object passes, with a copy of the
+//! secrets that were tried, because other secrets may come with the next item.
 
-ghost use Rattle.std.specs.Prelude.{◌≡◌, ◌↔◌, List, Some, IfOk, IfSome, IsTrue, OnOk};
+ghost use Rattle.std.specs.Prelude.{◌≡◌, ◌↔◌, Some, IfOk, IfSome, IsTrue, OnOk};
 ghost use Rattle.std.specs.FinMap.{get};
 ghost use Rattle.rr_auth.specs.Known.{IsKnown, IsSameBut, IsSeen};
 ghost use Rattle.rr_auth.specs.Passing.{names_pass};

@@ -66,9 +66,10 @@ impl<G: Labelled> Effects<G> {
             ((node.now, G.kind_of value), G.group_of value)) }
         ensures made { (all : G.Node → List (Edge G.Node G.Label)) → all node.now ≡ edges.now
             → IsKnown G.keeps G.passed G.kind_of all
-            (get ⟦<(G::Node, G::Kind) as Ord>⟧.cmp self.old.map) → IfOk result (λ pairs. IsMadeBut
-            G.keeps G.passed edges.now value (contains ⟦<((G::Node, G::Kind), G::Group) as Ord>⟧.cmp self.old.marks ((node.now, G.kind_of value), G.group_of value))
-            pairs.items) }
+            (get ⟦<(G::Node, G::Kind) as Ord>⟧.cmp self.old.map) → IfOk result
+            (λ pairs. IsMadeBut G.keeps G.passed edges.now value
+            (contains ⟦<((G::Node, G::Kind), G::Group) as Ord>⟧.cmp self.old.marks
+            ((node.now, G.kind_of value), G.group_of value)) pairs.items) }
     {
         self.note(alloc, graph, node, edges, value)?;
         let first = self.mark(alloc, graph, node, value)?;

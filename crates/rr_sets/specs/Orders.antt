@@ -1,7 +1,8 @@
 -- The orders of sets, prefixes and ranges tell them apart, and each operator but none looks at the
 -- least length of a range alone. These are proofs; they stand here because ghost items of src, by
 -- which the graph of route-sets promises this, name them.
-use Rattle.std.proofs.Common.{◌≡◌, ℕ, ◌+◌, Bool, true, false, max, Option, None, Some, refl, sym, ap, ◌∙◌}
+use Rattle.std.proofs.Common.{◌≡◌, ℕ, ◌+◌, Bool, true, false, max, Option, None, Some, refl, sym}
+use Rattle.std.proofs.Common.{ap, ◌∙◌}
 use Rattle.std.specs.Option.{option_map}
 use Rattle.std.specs.declared.cmp.Ordering.{Ordering}
 use Rattle.std.specs.Ordering.{nat_cmp, ordering_then}

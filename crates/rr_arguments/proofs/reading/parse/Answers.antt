@@ -1,4 +1,4 @@
-use Rattle.std.proofs.Common.{◌≡◌, ◌∙◌, List, map, refl, sym, string_bytes}
+use Rattle.std.proofs.Common.{◌∙◌, List, map, refl, sym, string_bytes}
 use Rattle.clap.specs.Matches.{found_of}
 use Rattle.clap.specs.Simple.{subcommand_rows_of}
 use Rattle.clap.specs.Values.{kind_of}

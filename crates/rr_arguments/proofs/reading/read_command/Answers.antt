@@ -1,4 +1,4 @@
-use Rattle.std.proofs.Common.{◌≡◌, ◌≤◌, ◌<◌, rules, arith, List, length, map, string_bytes, sym, subst}
+use Rattle.std.proofs.Common.{◌≡◌, rules, arith, List, length, map, string_bytes, sym, subst}
 use Rattle.std.proofs.lemmas.List.{length-map}
 use Rattle.clap.specs.Walk.{Text}
 use Rattle.rr_arguments.specs.CommandLine.{Invocation, GivesInvoked, invoked, parsed_or_helped}

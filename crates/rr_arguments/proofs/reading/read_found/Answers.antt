@@ -1,10 +1,10 @@
-use Rattle.std.proofs.Common.{◌≡◌, ◌∙◌, rules, List, [], ◌∷◌, None, Some, ap, sym, subst, codes, map}
-use Rattle.std.specs.Prelude.{option_map, unwrap_or}
+use Rattle.std.proofs.Common.{◌≡◌, ◌∙◌, rules, List, [], ap, sym, subst, codes, map}
+use Rattle.std.specs.Prelude.{unwrap_or}
 use Rattle.std.specs.Borrow.{Bor}
 use Rattle.clap.specs.Matches.{found_of}
 use Rattle.clap.specs.Walk.{Text, all_of, one_of, rows_of}
 use Rattle.clap.proofs.WalkLemmas.{one_text-rows, raw_values-rows}
-use Rattle.rr_arguments.specs.CommandLine.{Invocation, GivesInvoked, invoked_by, invoked_over, dump, flag_of, joined, query}
+use Rattle.rr_arguments.specs.CommandLine.{Invocation, GivesInvoked, invoked_over, dump, flag_of, joined, query}
 use Rattle.rr_arguments.proofs.CommandLines.{flag_is, words_or}
 use Rattle.rr_arguments.proofs.reading.read_found.Goals as goal
 

@@ -1,5 +1,4 @@
 use Rattle.std.proofs.Common.{◌≡◌, rules, List, [], ◌∷◌, None, ap, codes, map, string_bytes}
-use Rattle.clap.specs.Simple.{app_of}
 use Rattle.clap.specs.Values.{kind_of}
 use Rattle.clap.specs.Walk.{Text}
 use Rattle.rr_arguments.specs.CommandLine.{invoked_unless, line_kinds}

@@ -4,12 +4,13 @@ use Rattle.rr_auth.specs.Registries.{Reg}
 use Rattle.rr_answer.specs.declared.fault.QueryFault.TheVariants.{Memory}
 use Rattle.rr_answer.specs.declared.query.Query.{Query}
 use Rattle.rr_answer.specs.Answers.{IsAnswer, IsRangeAnswer}
-use Rattle.rr_answer.proofs.answering.answer.Goals as goal
+use Rattle.rr_answer.specs.Founds.{found_text}
+use Rattle.rr_answer.proofs.answering.find.Goals as goal
 
 pub returns-in-Prefixes-clause-ok : goal.returns-in-Prefixes-clause-ok
 returns-in-Prefixes-clause-ok g c =
-    subst (λ (q : Query). IfOk c.ranges-in-Prefixes.result (λ text. IsAnswer c.args.registry.now c.args.limit q (Ok text.items))) (sym c.in-Prefixes.is)
-    (subst (λ (r : Reg). IfOk c.ranges-in-Prefixes.result (λ text. IsRangeAnswer r c.args.limit c.in-Prefixes.name (Ok text.items)))
+    subst (λ (q : Query). IfOk c.ranges-in-Prefixes.result (λ found. IsAnswer c.args.registry.now c.args.limit q (Ok (found_text found)))) (sym c.in-Prefixes.is)
+    (subst (λ (r : Reg). IfOk c.ranges-in-Prefixes.result (λ found. IsRangeAnswer r c.args.limit c.in-Prefixes.name (Ok (found_text found))))
     c.book-in-Prefixes.ensures.same c.ranges-in-Prefixes.ensures.ok)
 
 pub returns-in-Prefixes-clause-fault : goal.returns-in-Prefixes-clause-fault

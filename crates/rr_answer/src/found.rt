@@ -80,11 +80,3 @@ impl<'a> Found<'a> {
         }
     }
 }
-
-/// The text of objects as they are answered, in memory. The error is that memory ran out.
-pub fn objects_text(alloc: Global, objects: &[&Object]) -> Result<Vec<u8>, AllocError>
-    ensures { IfOk result (λ text. text.items ≡ texts.objects_text (lent objects.now)) }
-{
-    let found = Found::of(alloc, objects)?;
-    found.text(alloc)
-}

@@ -18,7 +18,7 @@ mod writing;
 pub use answering::{answer, answer_to, find};
 pub use dumping::{DumpFault, dump};
 pub use fault::QueryFault;
-pub use found::{Found, objects_text};
+pub use found::Found;
 pub use place::Place;
 pub use query::Query;
 pub use reading::{is_too_long, read_query};

@@ -23,9 +23,9 @@ abbrev pub answer_status : Result (List ℕ) QueryFault → ℕ
 answer_status (Ok text) = 0
 answer_status (Err fault) = 1
 
--- a desk was asked: its answer was made whole and then printed, and the status says whether it is
--- an error; or it could not be written whole. The registry, its rows and the settings stay, nothing
--- is committed, and the connection lasts (profile)
+-- a desk was asked: its answer was printed, and the status says whether it is an error; or it could
+-- not be written whole. The registry, its rows and the settings stay, nothing is committed, and the
+-- connection lasts (profile)
 pub record HasAsked {S : Type 0} (g : Ghosts S) (text : List ℕ) (old new : Told)
     (before after : Desk S) (ended : CommandEnd) : Type 0 where
   pub answer : Result (List ℕ) QueryFault

@@ -92,7 +92,7 @@ pub record IsAnswered (clean : Type 0) (source : List ℕ) (registry : Reg) (lim
       answer
   pub stopped : is_stopped ≡ (was_stopped || stops answer)
 
--- one such answer was made whole, and then written (profile)
+-- one such answer was written (profile)
 pub record Answers (clean : Type 0) (source : List ℕ) (registry : Reg) (limit : ℕ)
     (text : List ℕ) (was_stopped is_stopped : Bool) (old new : Told)
     (result : Result Answered WriteFault) : Type 0 where

@@ -38,7 +38,7 @@ GivesAnswer g old new text answer =
     IsAnswered (HasCleanDisk (desk_state g new)) old.settings.source old.stored.registry
     old.settings.limit text old.stored.stopped new.stored.stopped answer
 
--- one such answer is made whole, and then written
+-- one such answer is written
 abbrev pub WritesAnswer : {S : Type 0} → Ghosts S → Desk S → Desk S → List ℕ → Told
     → Told
     → Result Answered WriteFault → Type 0

@@ -1,28 +1,49 @@
 -- What private functions that answer queries, and look for names in the tables, promise each other.
 -- No public clause cites these.
-use Rattle.std.specs.Prelude.{◌≡◌, ℕ, Bool, true, false, List, None, Option, Some}
-use Rattle.std.specs.Prelude.{Result, Ok, Err, MatchResult}
-use Rattle.std.specs.Global.{Vec}
-use Rattle.sqlite_trees.specs.declared.store.Store.{Ghosts}
+use Rattle.std.specs.Prelude.{◌≡◌, ◌⊎◌, ℕ, Bool, true, false, List, None, Option, Some}
+use Rattle.std.specs.Prelude.{Result, Ok, Err, IfOk}
 use Rattle.sqlite.specs.declared.error.Error.{Error}
 use Rattle.sqlite.specs.declared.error.Error.TheVariants.{SqliteFailure}
 use Rattle.sqlite.specs.declared.error.ErrorCode.TheVariants as code
+use Rattle.rr_io.specs.Sending.{Writes}
+use Rattle.rr_io.specs.Told.{Told}
+use Rattle.rr_object.specs.Objects.{Obj}
 use Rattle.rr_auth.specs.Registries.{Reg}
 use Rattle.rr_store.specs.declared.fault.StoreFault.{StoreFault}
 use Rattle.rr_store.specs.declared.fault.StoreFault.TheVariants as store_fault
 use Rattle.rr_answer.specs.declared.fault.QueryFault.{QueryFault}
 use Rattle.rr_answer.specs.declared.fault.QueryFault.TheVariants.{Bad, TooLong, TooMany, Memory}
 use Rattle.rr_answer.specs.declared.fault.QueryFault.TheVariants.{Store, Stopped}
-use Rattle.rr_desk.specs.declared.desk.Desk.{Desk}
-use Rattle.rr_desk.specs.Answering.{IsNamingFound}
-use Rattle.rr_desk.specs.Desks.{GivesAnswer}
+use Rattle.rr_answer.specs.declared.found.Found.{Found}
+use Rattle.rr_answer.specs.declared.query.Query.{Query}
+use Rattle.rr_answer.specs.Answers.{IsAnswer, answer_bytes}
+use Rattle.rr_answer.specs.Founds.{found_text}
+use Rattle.rr_answer.specs.Texts.{objects_text}
+use Rattle.rr_desk.specs.declared.answering.Answered.{Answered}
+use Rattle.rr_desk.specs.declared.answering.WriteFault.{WriteFault}
+use Rattle.rr_desk.specs.Answering.{IsNamingFound, told_number}
 
--- the answer of a desk to the text of a query, as code has it
-abbrev pub HasAnswer : {S : Type 0} → Ghosts S → Desk S → Desk S → List ℕ
-    → Result (Vec ℕ) QueryFault → Type 0
-HasAnswer g old new text answer =
-    MatchResult answer (λ made. GivesAnswer g old new text (Ok made.items))
-    (λ fault. GivesAnswer g old new text (Err fault))
+-- what was found, or the error, as an answer
+abbrev pub made_answer : Result Found QueryFault → Result (List ℕ) QueryFault
+made_answer (Ok found) = Ok (found_text found)
+made_answer (Err fault) = Err fault
+
+-- an answer of this kind was written
+pub record WritesMade (IsMade : Result (List ℕ) QueryFault → Type 0) (old new : Told)
+    (result : Result Answered WriteFault) : Type 0 where
+  pub answer : Result (List ℕ) QueryFault
+  pub is_made : IsMade answer
+  pub writes : Writes old new (answer_bytes answer) result
+  pub told : IfOk result (λ done. done.error ≡ told_number answer)
+
+-- the registry's answer to a query, or that memory ran out
+abbrev pub RegistryAnswers : Reg → ℕ → Query → Result (List ℕ) QueryFault → Type 0
+RegistryAnswers registry limit query answer =
+    IsAnswer registry limit query answer ⊎ (answer ≡ Err Memory)
+
+-- the objects as they are answered, or that memory ran out
+abbrev pub IsText : List Obj → Result (List ℕ) QueryFault → Type 0
+IsText objects answer = (answer ≡ Ok (objects_text objects)) ⊎ (answer ≡ Err Memory)
 
 -- the error with which the database refused, if it did
 abbrev pub database_error : {X : Type 0} → Result X StoreFault → Option Error
@@ -50,10 +71,3 @@ abbrev pub LooksUp : Type 0 → List ℕ → Reg → List ℕ → Bool → Resul
 LooksUp clean source registry name stopped (Ok text) =
     (stopped ≡ false) × IsNamingFound clean source registry name (Ok text)
 LooksUp clean source registry name stopped (Err fault) = IsUnfound fault stopped
-
--- the same of what code has
-abbrev pub HasLooked : Type 0 → List ℕ → Reg → List ℕ → Bool → Result (Vec ℕ) QueryFault
-    → Type 0
-HasLooked clean source registry name stopped result =
-    MatchResult result (λ text. LooksUp clean source registry name stopped (Ok text.items))
-    (λ fault. LooksUp clean source registry name stopped (Err fault))

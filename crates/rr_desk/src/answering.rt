@@ -1,26 +1,22 @@
 //! What a desk answers to queries.
 
-ghost use Rattle.std.specs.Prelude.{◌≡◌, ◌≢◌, Err, Ok, false, true, IfErr, IfOk};
+ghost use Rattle.std.specs.Prelude.{◌≡◌, Err, false, true};
 ghost use Rattle.sqlite.specs.State.{HasCleanDisk};
-ghost use Rattle.rr_io.specs.Sending.{Writes};
-ghost use Rattle.rr_answer.specs.declared.fault.QueryFault.TheVariants.{Memory};
-ghost use Rattle.rr_answer.specs.Answers.{IsAnswer};
 ghost use Rattle.rr_answer.specs.Queries as queries;
-ghost use Rattle.rr_answer.specs.Texts as texts;
 ghost use Rattle.rr_desk.specs.Desks.{WritesAnswer, desk_state};
-ghost use Rattle.rr_desk.specs.LookupParts.{HasAnswer, HasLooked};
+ghost use Rattle.rr_desk.specs.LookupParts.{IsText, LooksUp, RegistryAnswers, WritesMade, made_answer};
 ghost use Rattle.rr_desk.specs.Private.{ChangesNothing};
 ghost use Rattle.rr_desk.specs.Rows.{KeepsRows, CommitsNothing};
 ghost use Rattle.rr_desk.specs.Stocks.{DatabaseLasts, StopsForCause, StoresUntilStopped};
 
 use crate::desk::Desk;
-use rr_answer::{Query, QueryFault, answer, is_too_long, objects_text, read_query};
+use rr_answer::{Found, Query, QueryFault, find, is_too_long, read_query};
 use rr_io::{Sink, write_all};
 use rr_number::Name;
 use rr_object::Object;
 use rr_store::{StoreFault, lent};
 use sqlite::Alter;
-use std::alloc::{AllocError, Global};
+use std::alloc::Global;
 use thiserror::Error;
 
 /// What was answered to a query.
@@ -36,8 +32,8 @@ pub struct Answered {
 pub struct WriteFault;
 
 impl<S: Alter> Desk<S> {
-    /// Answers the text of a query, without the LF that ended it. The answer is made whole and then
-    /// written: that of the registry, under the limit of the settings, or one line `% error n`. Its
+    /// Answers the text of a query, without the LF that ended it. What is answered is
+    /// found first, and then written part by part: what the registry has, under the limit of the settings, or one line `% error n`. Its
     /// number is 1 if the text is not a query, 2 if it has more than 1,024 bytes, 3 for an
     /// expansion over the limit, 4 if memory ran out, 5 if the store failed, and 6 if the desk is
     /// stopped; of several the order is 2, 6, 1 and then the others (profile). What names a
@@ -67,19 +63,22 @@ impl<S: Alter> Desk<S> {
             (desk_state S.Store self.old) (desk_state S.Store self.new) }
         ensures aside { W.aside writer.new ≡ W.aside writer.old }
     {
-        let made = self.answer_to(alloc, query);
+        let answered = self.answer_to(alloc, query, writer);
         // Called for its contract: the rows are those of the registry.
         let _ = self.stored.stopped();
-        match made {
-            Ok(text) => write_answer(writer, &text, 0),
-            Err(fault) => write_answer(writer, fault.line(), fault.number()),
-        }
+        answered
     }
 
-    /// The answer to the text of a query.
+    /// Answers the text of a query.
     #[tactic(auto, using(crate::proofs::LookupRows::no_stop, crate::proofs::LookupRows::no_change))]
-    fn answer_to(&mut self, alloc: Global, text: &[u8]) -> Result<Vec<u8>, QueryFault>
-        ensures answered { HasAnswer S.Store self.old self.new text.now result }
+    fn answer_to<W: Sink>(
+        &mut self,
+        alloc: Global,
+        text: &[u8],
+        writer: &mut W,
+    ) -> Result<Answered, WriteFault>
+        ensures answers { WritesAnswer S.Store self.old self.new text.now
+            (W.told writer.old) (W.told writer.new) result }
         ensures registry { self.new.stored.registry ≡ self.old.stored.registry }
         ensures settings { self.new.settings ≡ self.old.settings }
         ensures stopped { self.old.stored.stopped ≡ true → self.new ≡ self.old }
@@ -89,24 +88,31 @@ impl<S: Alter> Desk<S> {
             → KeepsRows self.old.stored.registry (desk_state S.Store self.new) }
         ensures unchanged { ChangesNothing
             (desk_state S.Store self.old) (desk_state S.Store self.new) }
+        ensures aside { W.aside writer.new ≡ W.aside writer.old }
     {
         let stopped = self.stored.stopped();
         if is_too_long(text) {
-            return Err(QueryFault::TooLong);
+            return write_fault(writer, QueryFault::TooLong);
         }
         if stopped {
-            return Err(QueryFault::Stopped);
+            return write_fault(writer, QueryFault::Stopped);
         }
-        self.running_answer(alloc, text)
+        self.running_answer(alloc, text, writer)
     }
 
-    /// The answer of a desk that is not stopped.
+    /// Answers for a desk that is not stopped.
     #[tactic(auto, using(crate::proofs::LookupRows::no_stop, crate::proofs::LookupRows::no_change))]
-    fn running_answer(&mut self, alloc: Global, text: &[u8]) -> Result<Vec<u8>, QueryFault>
+    fn running_answer<W: Sink>(
+        &mut self,
+        alloc: Global,
+        text: &[u8],
+        writer: &mut W,
+    ) -> Result<Answered, WriteFault>
         requires short { queries.is_too_long text.now ≡ false }
         requires running { self.old.stored.stopped ≡ false }
         requires keeps { KeepsRows self.old.stored.registry (desk_state S.Store self.old) }
-        ensures answered { HasAnswer S.Store self.old self.new text.now result }
+        ensures answers { WritesAnswer S.Store self.old self.new text.now
+            (W.told writer.old) (W.told writer.new) result }
         ensures registry { self.new.stored.registry ≡ self.old.stored.registry }
         ensures settings { self.new.settings ≡ self.old.settings }
         ensures why { StopsForCause S.Store self.old.settings.source
@@ -114,31 +120,44 @@ impl<S: Alter> Desk<S> {
         ensures keeps { KeepsRows self.old.stored.registry (desk_state S.Store self.new) }
         ensures unchanged { ChangesNothing
             (desk_state S.Store self.old) (desk_state S.Store self.new) }
+        ensures aside { W.aside writer.new ≡ W.aside writer.old }
     {
         match read_query(alloc, text) {
-            Ok(Query::Naming(name)) => self.looked_up(alloc, &name),
-            Ok(query) => self.registry_answer(alloc, &query),
-            Err(fault) => Err(fault),
+            Ok(Query::Naming(name)) => self.looked_up(alloc, &name, writer),
+            Ok(query) => self.registry_answer(alloc, &query, writer),
+            Err(fault) => write_fault(writer, fault),
         }
     }
 
-    /// The answer of the registry to a query.
-    fn registry_answer(&self, alloc: Global, query: &Query) -> Result<Vec<u8>, QueryFault>
-        ensures ok { IfOk result (λ text. IsAnswer
-            self.now.stored.registry self.now.settings.limit query.now (Ok text.items)) }
-        ensures fault { IfErr result (λ fault. fault ≢ Memory → IsAnswer
-            self.now.stored.registry self.now.settings.limit query.now (Err fault)) }
+    /// Answers a query by the registry.
+    #[tactic(auto, using(crate::proofs::AnswerLemmas::registry_made))]
+    fn registry_answer<W: Sink>(
+        &self,
+        alloc: Global,
+        query: &Query,
+        writer: &mut W,
+    ) -> Result<Answered, WriteFault>
+        ensures writes { WritesMade
+            (RegistryAnswers self.now.stored.registry self.now.settings.limit query.now)
+            (W.told writer.old) (W.told writer.new) result }
+        ensures aside { W.aside writer.new ≡ W.aside writer.old }
     {
         let limit = self.settings.limit() as usize;
-        answer(alloc, self.stored.registry(), limit, query)
+        let found = find(alloc, self.stored.registry(), limit, query);
+        write_found(alloc, &found, writer)
     }
 
-    /// The objects that name the maintainer, as they are answered.
-    fn looked_up(&mut self, alloc: Global, name: &Name) -> Result<Vec<u8>, QueryFault>
+    /// Answers with the objects that name the maintainer.
+    fn looked_up<W: Sink>(
+        &mut self,
+        alloc: Global,
+        name: &Name,
+        writer: &mut W,
+    ) -> Result<Answered, WriteFault>
         requires running { self.old.stored.stopped ≡ false }
-        ensures looked { HasLooked (HasCleanDisk (desk_state S.Store self.new))
-            self.old.settings.source self.old.stored.registry name.now
-            self.new.stored.stopped result }
+        ensures looked { WritesMade (LooksUp (HasCleanDisk (desk_state S.Store self.new))
+            self.old.settings.source self.old.stored.registry name.now self.new.stored.stopped)
+            (W.told writer.old) (W.told writer.new) result }
         ensures registry { self.new.stored.registry ≡ self.old.stored.registry }
         ensures settings { self.new.settings ≡ self.old.settings }
         ensures why { StopsForCause S.Store self.old.settings.source
@@ -146,31 +165,76 @@ impl<S: Alter> Desk<S> {
         ensures keeps { KeepsRows self.old.stored.registry (desk_state S.Store self.new) }
         ensures unchanged { ChangesNothing
             (desk_state S.Store self.old) (desk_state S.Store self.new) }
+        ensures aside { W.aside writer.new ≡ W.aside writer.old }
     {
         match self.stored.naming(alloc, self.settings.source(), name) {
-            Ok(objects) => Ok(text_of(alloc, &objects)?),
-            Err(StoreFault::Store(_)) => Err(QueryFault::Store),
-            Err(StoreFault::Memory) => Err(QueryFault::Memory),
+            Ok(objects) => write_objects(alloc, &objects, writer),
+            Err(StoreFault::Store(_)) => write_fault(writer, QueryFault::Store),
+            Err(StoreFault::Memory) => write_fault(writer, QueryFault::Memory),
         }
     }
 }
 
-/// The objects as they are answered; the error is that memory ran out.
-fn text_of(alloc: Global, objects: &[Object]) -> Result<Vec<u8>, AllocError>
-    ensures { IfOk result (λ text. text.items ≡ texts.objects_text objects.now) }
-{
-    let lent = lent(alloc, objects)?;
-    objects_text(alloc, &lent)
-}
-
-/// Writes an answer, whose error has this number.
-fn write_answer<W: Sink>(writer: &mut W, bytes: &[u8], error: u8) -> Result<Answered, WriteFault>
-    ensures writes { Writes (W.told writer.old) (W.told writer.new) bytes.now result }
-    ensures told { IfOk result (λ done. done.error ≡ error) }
+/// Writes the objects as they are answered, or that memory ran out.
+fn write_objects<W: Sink>(
+    alloc: Global,
+    objects: &[Object],
+    writer: &mut W,
+) -> Result<Answered, WriteFault>
+    ensures writes { WritesMade (IsText objects.now) (W.told writer.old) (W.told writer.new) result }
     ensures aside { W.aside writer.new ≡ W.aside writer.old }
 {
-    match write_all(writer, bytes) {
-        Ok(()) => Ok(Answered { error }),
+    match lent(alloc, objects) {
+        Ok(objects) => write_lent(alloc, &objects, writer),
+        Err(_) => write_fault(writer, QueryFault::Memory),
+    }
+}
+
+/// Writes objects that are lent as they are answered, or that memory ran out.
+fn write_lent<W: Sink>(
+    alloc: Global,
+    objects: &[&Object],
+    writer: &mut W,
+) -> Result<Answered, WriteFault>
+    ensures writes { WritesMade (IsText (lent objects.now))
+        (W.told writer.old) (W.told writer.new) result }
+    ensures aside { W.aside writer.new ≡ W.aside writer.old }
+{
+    match Found::of(alloc, objects) {
+        Ok(found) => write_found(alloc, &Ok(found), writer),
+        Err(_) => write_fault(writer, QueryFault::Memory),
+    }
+}
+
+/// Writes what was found, or the line of the error.
+fn write_found<W: Sink>(
+    alloc: Global,
+    found: &Result<Found<'_>, QueryFault>,
+    writer: &mut W,
+) -> Result<Answered, WriteFault>
+    ensures writes { WritesMade (λ answer. answer ≡ made_answer found.now)
+        (W.told writer.old) (W.told writer.new) result }
+    ensures aside { W.aside writer.new ≡ W.aside writer.old }
+{
+    match found {
+        Ok(found) => match found.write(alloc, writer) {
+            Ok(()) => Ok(Answered { error: 0 }),
+            Err(_) => Err(WriteFault),
+        },
+        Err(fault) => write_fault(writer, *fault),
+    }
+}
+
+/// Writes the line of an error.
+fn write_fault<W: Sink>(writer: &mut W, fault: QueryFault) -> Result<Answered, WriteFault>
+    ensures writes { WritesMade (λ answer. answer ≡ Err fault)
+        (W.told writer.old) (W.told writer.new) result }
+    ensures aside { W.aside writer.new ≡ W.aside writer.old }
+{
+    match write_all(writer, fault.line()) {
+        Ok(()) => Ok(Answered {
+            error: fault.number(),
+        }),
         Err(_) => Err(WriteFault),
     }
 }

@@ -28,8 +28,10 @@ irr import radb.db --source EXAMPLE --root ROOT-MNT --auth @holders.auth --check
 RULE = """What is written is, object by object, the paragraph that was read, but for what is mended
 and reported. A paragraph is not an object if the name of a class comes again after its
 first line, or `source` comes twice. It is parted where a class line follows directly on
-`source`; otherwise it is left out. An object is left out too if its maintainers have a
-prefix or a brace, if two of its lines were joined, or if its file ends within it."""
+`source`; otherwise it is left out. An object is left out too if one of its lists can't be
+read, if two of its lines were joined, or if its file ends within it. An item that can't be
+read is dropped alone only if it is a word: letters, digits and _ . : / - ^ inside, and no
+word of expressions, such as EXCEPT."""
 
 
 def arguments(parser: argparse.ArgumentParser) -> None:
@@ -93,6 +95,7 @@ def run(options: argparse.Namespace) -> int:
         raise Failure(options.source, "this is not a name; correct --source", ARGUMENTS)
     if options.files.count("-") > 1:
         raise Failure("-", "standard input can be read once; give it once", ARGUMENTS)
+    need_several(options)
     auths = read_auths(options.auth, root)
     if not auths.get(root):
         raise Failure(
@@ -124,6 +127,18 @@ def run(options: argparse.Namespace) -> int:
     for line in [*tally.lines(), *notes(made, root)]:
         texts.note(line)
     return DONE
+
+
+def need_several(options: argparse.Namespace) -> None:
+    """That the files to write are several: the last one would replace the others."""
+    found: dict[Path, str] = {}
+    for path in (options.output, options.left_out, options.renamed):
+        if path and found.setdefault(target := files.followed(path), path) is not path:
+            raise Failure(
+                path,
+                "two of --output, --left-out and --renamed are this file; give each its own",
+                ARGUMENTS,
+            )
 
 
 def need_some(tally: Tally) -> None:

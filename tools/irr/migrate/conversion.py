@@ -167,7 +167,7 @@ class Import:
                 raise LeftOut(self.cause_beside(mended))
         except LeftOut as cause:
             further = part.further() if part.doubt else ()
-            self.tally.leave_out(str(cause), place, part.block.text, further)
+            self.tally.leave_out(str(cause), place, part.block.text, further, cause.item)
             return
         self.keep(mended, part)
 

@@ -49,10 +49,15 @@ class Counts(Tally):
         self.left[source], self.lost[source] = Counter(), Counter()
 
     def leave_out(
-        self, cause: str, place: Place, text: bytes, further: Iterable[tuple[int, bytes]] = ()
+        self,
+        cause: str,
+        place: Place,
+        text: bytes,
+        further: Iterable[tuple[int, bytes]] = (),
+        item: Iterable[bytes] = (),
     ) -> None:
         self.left[self.source_of[place.path]][cause] += 1
-        super().leave_out(cause, place, text, further)
+        super().leave_out(cause, place, text, further, item)
 
     def drop(self, dropped: Dropped, place: Place, text: bytes) -> None:
         self.lost[self.source_of[place.path]][dropped.cause] += 1

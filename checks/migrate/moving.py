@@ -35,8 +35,14 @@ Attributes = list[tuple[bytes, list[bytes]]]
 Lists = dict[bytes, list[bytes]]
 Order = tuple[int, Any]
 Form = list[Any]
-# Prefixes, braces, colons and operators, of which no maintainer's name has any.
-NO_NAME = re.compile(rb"^[0-9.]+(/|$)|[:{}^]")
+# What may be dropped from a list by itself, and the names of maintainers.
+WORD = re.compile(rb"(?=[A-Za-z0-9])[A-Za-z0-9_.:/^-]*(?<=[A-Za-z0-9])")
+MNT = re.compile(rb"(?![ARar][Ss]-)(?=[A-Za-z])[A-Za-z0-9_-]*(?<=[A-Za-z0-9])")
+EXPRESSION = set(
+    b"""ANY AS-ANY RS-ANY PEERAS AND OR NOT ATOMIC FROM TO AT ACTION ACCEPT ANNOUNCE EXCEPT REFINE
+    NETWORKS INTO INBOUND OUTBOUND""".split()
+)
+IPV6 = re.compile(rb"[0-9A-Fa-f:.]*:[0-9A-Fa-f:.]*:[0-9A-Fa-f:.]*(/[0-9]+)?(\^.+)?")
 TOKEN = re.compile(rb"[{}]|[^, \t\r{}]+")
 ROOT, SOURCE, NOBODY = b"ROOT-MNT", b"TEST", b"FILTERED"
 TOP = (1 << 32) - 1
@@ -51,6 +57,10 @@ OF_CLASSES = set(CLASSES) | {b"person", b"role", b"inet6num", b"route6", b"organ
 
 class Out(Exception):
     """What is left out."""
+
+
+def is_maintainer(item: bytes) -> bool:
+    return MNT.fullmatch(item) is not None and item.upper() not in EXPRESSION
 
 
 def member_of(number: int) -> Callable[[bytes], bytes | None]:
@@ -190,7 +200,7 @@ class Second:
 
     def key(self, number: int, text: bytes, origin: bytes | None) -> Any:
         if number == MNTNER:
-            return text.upper() if ITEM.fullmatch(text) and not NO_NAME.search(text) else None
+            return text.upper() if is_maintainer(text) else None
         key = read_key(number, text, origin)
         return key.value if key else None
 
@@ -200,7 +210,10 @@ class Second:
         if name == b"mnt-routes":
             return list(self.grants(found))
         if name in (b"mnt-by", b"mnt-lower", b"mbrs-by-ref"):
-            return list(map(self.name, found))
+            is_any = name == b"mbrs-by-ref"
+            return [
+                item if is_any and item.upper() == b"ANY" else self.name(item) for item in found
+            ]
         is_good = (
             member_of(number)
             if name == b"member-of"
@@ -208,20 +221,14 @@ class Second:
             if number == AS_SET
             else route_set_member
         )
-        found = [item for items in listed for item in self.outside(items)]
-        return [item for item in found if is_good(SCOPE.sub(b"", item)) is not None]
+        return [item for item in found if self.stays(item, is_good(SCOPE.sub(b"", item)))]
 
-    def outside(self, items: list[bytes]) -> Iterator[bytes]:
-        """The items that are not in braces, of which each has another one."""
-        depth = 0
-        for item in items:
-            before, depth = depth, depth + item.count(b"{") - item.count(b"}")
-            if depth < 0:
-                raise Out("brace")
-            if not before and not depth:
-                yield item
-        if depth:
-            raise Out("brace")
+    def stays(self, item: bytes, read: object) -> bool:
+        """Whether an item stays that was read, or was not: then it must be a word, or of IPv6."""
+        if read is None and (item.upper() in EXPRESSION or not WORD.fullmatch(item)):
+            if not IPV6.fullmatch(item):
+                raise Out("list")
+        return read is not None
 
     def without_scopes(self, items: list[bytes]) -> Iterator[bytes]:
         """The items without a registry before them; one that another registry has, or that is not
@@ -247,15 +254,15 @@ class Second:
             head, *tokens = tokens
             if head in b"{}":
                 raise Out("brace")
-            if head.upper() == b"ANY":
-                continue
             yield self.name(head)
             if tokens[:1] == [b"{"]:
                 end = tokens.index(b"}") if b"}" in tokens else 0
                 if not end or b"{" in tokens[1:end]:
                     raise Out("brace")
                 yield b"{"
-                yield from (token for token in tokens[1:end] if numbers.ranged(token) is not None)
+                yield from (
+                    token for token in tokens[1:end] if self.stays(token, numbers.ranged(token))
+                )
                 yield b"}"
                 tokens = tokens[end + 1 :]
             elif tokens and tokens[0].upper() == b"ANY":
@@ -263,8 +270,8 @@ class Second:
                 tokens = tokens[1:]
 
     def name(self, item: bytes) -> bytes:
-        """An item in a maintainer's place, which is no prefix and has no brace."""
-        if NO_NAME.search(item):
+        """An item in a maintainer's place, which can be nothing else."""
+        if not is_maintainer(item):
             raise Out("no name")
         return item
 

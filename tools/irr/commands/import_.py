@@ -1,6 +1,7 @@
 """`irr import FILE..`: makes of dumps of other registries one that `irrdesk load` takes."""
 import argparse
 import contextlib
+import os
 import re
 import shutil
 import sys
@@ -130,15 +131,18 @@ def run(options: argparse.Namespace) -> int:
 
 
 def need_several(options: argparse.Namespace) -> None:
-    """That the files to write are several: the last one would replace the others."""
-    found: dict[Path, str] = {}
-    for path in (options.output, options.left_out, options.renamed):
-        if path and found.setdefault(target := files.followed(path), path) is not path:
+    """That the files to write are several, also through links: the last one would replace the
+    others."""
+    found: set[str] = set()
+    for path in filter(None, (options.output, options.left_out, options.renamed)):
+        target = os.path.realpath(path)
+        if target in found:
             raise Failure(
                 path,
                 "two of --output, --left-out and --renamed are this file; give each its own",
                 ARGUMENTS,
             )
+        found.add(target)
 
 
 def need_some(tally: Tally) -> None:

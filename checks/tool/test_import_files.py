@@ -240,7 +240,7 @@ def test_the_help_says_what_an_object_is(capsys: pytest.CaptureFixture[str]) -> 
     words = " ".join(capsys.readouterr().out.split())
     for rule in (
         "A paragraph is not an object if the name of a class comes again after its first",
-        "An object is left out too if its maintainers have a prefix or a brace, if two of its"
-        " lines were joined, or if its file ends within it.",
+        "An object is left out too if one of its lists can't be read, if two of its lines were"
+        " joined, or if its file ends within it.",
     ):
         assert rule in words

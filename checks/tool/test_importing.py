@@ -83,7 +83,7 @@ class Mending(unittest.TestCase):
                 (
                     "aut-num: AS1",
                     "mnt-routes",
-                    "ANY A-MNT{192.0.2.0/24^+}",
+                    "A-MNT{192.0.2.0/24^+, x}",
                     b"A-MNT{192.0.2.0/24^+}",
                     {"item"},
                 ),

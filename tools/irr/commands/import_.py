@@ -134,7 +134,8 @@ def need_several(options: argparse.Namespace) -> None:
     """That the files to write are several, also through links: the last one would replace the
     others."""
     found: set[str] = set()
-    for path in filter(None, (options.output, options.left_out, options.renamed)):
+    named: list[str | None] = [options.output, options.left_out, options.renamed]
+    for path in filter(None, named):
         target = os.path.realpath(path)
         if target in found:
             raise Failure(

@@ -1,5 +1,6 @@
 """What an import makes of lists: nothing is gone from one that is not told."""
 
+import time
 from collections.abc import Iterable
 
 import pytest
@@ -283,6 +284,17 @@ def test_a_list_of_an_expression_is_none(kind: str, values: list[str]) -> None:
     for value in "{AS-A, AS-B, AS-C}", "AS-A EXCEPT AS-B", "AS-A, PeerAS":
         assert mended(rest("aut-num: AS1", f"member-of: {value}")) == UNREAD
         assert mended(rest("route: 10.0.0.0/8", "origin: AS1", f"member-of: {value}")) == UNREAD
+
+
+def test_a_list_costs_what_it_is_long() -> None:
+    """Blanks, commas and items that are dropped, in an object as large as one may be."""
+    for value in "::/0" + " " * 60_000 + "AS1", "::/0" + " ," * 30_000 + "AS1":
+        started = time.process_time()
+        assert lists_of(rest("as-set: AS-X", f"members: {value}"))[0] == [(b"members", [b"AS1"])]
+        assert time.process_time() - started < 2
+    started = time.process_time()
+    text = rest("as-set: AS-X", "members: " + "x " * 30_000)
+    assert len(left_out(text)) == 30_000 and time.process_time() - started < 4
 
 
 # Maintainers: without an item that is none, others would get more than the text gives them.

@@ -255,14 +255,15 @@ class Import:
     def note_lists(self) -> None:
         """Notes the items that the lists of what is taken have lost, and what else is odd there."""
         for place, gone in self.dropped.items():
+            text = self.text_of(place)
             if "scope" in self.kinds[place]:
-                attributes = syntax.read_any(self.text_of(place)).attributes
+                attributes = syntax.read_any(text).attributes
                 _, scoped, had_host_bits = unscoped(attributes, self.refusal)
                 gone = (*gone, *scoped)
                 if had_host_bits:
                     self.kinds[place] |= {"host-bits"}
             for dropped in gone:
-                self.tally.drop(dropped, self.place_of(place), self.text_of(place))
+                self.tally.drop(dropped, self.place_of(place), text)
         for place, lines in self.odd.items():
             for number, line in lines:
                 own = Place(self.place_of(place).path, number)

@@ -16,12 +16,9 @@ NAME = re.compile(rb"(?!(?:AS|RS|FLTR|RTRS|PRNG)-)[A-Za-z](?:[A-Za-z0-9_-]*[A-Za
 SCOPED = re.compile(rb"([A-Za-z][A-Za-z0-9_-]*)::(.+)")
 # Items, and braces by themselves.
 TOKEN = re.compile(rb"[{}]|[^, \t\r\n{}]+")
-EMPTY_PLACES = [
-    (re.compile(rb"[ \t\r]*,(?:[ \t\r]*,)+[ \t\r]*"), b", "),
-    (re.compile(rb"\{[ \t\r,]+"), b"{"),
-    (re.compile(rb"[ \t\r,]+\}"), b"}"),
-    (re.compile(rb"[ \t\r]{2,}"), b" "),
-]
+# What stands between two items, with a brace before or after it.
+BETWEEN = re.compile(rb"(\{?)([ \t\r,]+)(\}?)")
+SEVERAL_BLANKS = re.compile(rb"[ \t\r]{2,}")
 
 
 @functools.lru_cache(1 << 16)
@@ -85,6 +82,14 @@ def without_host_bits(item: bytes) -> bytes:
     return prefix.text().encode() + hat + rest
 
 
+def tidied(between: re.Match[bytes]) -> bytes:
+    """What stands between two items once others there are gone."""
+    opened, marks, closed = between.groups()
+    if opened or closed:
+        return opened + closed
+    return b", " if marks.count(b",") > 1 else SEVERAL_BLANKS.sub(b" ", marks)
+
+
 def with_items(
     attribute: Attribute, pattern: re.Pattern[bytes], change: Callable[[bytes], bytes | None]
 ) -> Attribute | None:
@@ -102,9 +107,8 @@ def with_items(
             end = token.end()
         text = b"".join([*parts, front[end:]])
         if lost:
-            for place, spelled in EMPTY_PLACES:
-                text = place.sub(spelled, text)
-            text, has_lost = text.strip(b", \t\r") + b" " * bool(mark), True
+            text = BETWEEN.sub(tidied, text).strip(b", \t\r") + b" " * bool(mark)
+            has_lost = True
         if text or mark or not lost:
             lines.append((text + mark + comment).strip(syntax.BLANKS))
     kept = Attribute(attribute.name, lines)

@@ -368,6 +368,8 @@ def test_grants_that_are_good_stay() -> None:
         "mnt-routes: 192.0.2.128/25} C-MNT ANY, D-MNT {}, E-MNT",
     )
     assert mended(text) == (syntax.read(text[:-1]).text(), set())
+    for name in "FLTR-MNT", "prng-1", "EXCEPT-MNT":
+        assert mended(rest("aut-num: AS1", f"mnt-lower: {name}"))[1] == set()
     for name in "mnt-lower", "mnt-routes":
         assert mended(rest("aut-num: AS1", f"{name}: {'A' * 81}"))[1] == {"rename"}
 

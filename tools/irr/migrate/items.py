@@ -52,7 +52,8 @@ def is_alone(item: bytes) -> bool:
 @functools.lru_cache(1 << 16)
 def is_name(item: bytes) -> bool:
     """Whether an item can only be a maintainer's name, also one that the rules refuse."""
-    return NAME.fullmatch(item) is not None and is_alone(item)
+    is_read = keys.read_maintainer(item) is not None
+    return is_read or (NAME.fullmatch(item) is not None and is_alone(item))
 
 
 @functools.lru_cache(1 << 10)

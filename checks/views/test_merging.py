@@ -142,12 +142,7 @@ def test_a_set_taken_apart_has_its_members_by_reference(
             as-set: AS1:AS-Y|mbrs-by-ref: ANY|mnt-by: R-MNT
         """,
     }
-    lines = {name: text.strip().splitlines() for name, text in sources.items()}
-    held = {
-        name: rpsl.Registry(tuple(object_of(f"{line.strip()}|source: {name}") for line in found))
-        for name, found in lines.items()
-    }
-    folder = made(written(tmp_path, Several(held, [])))
+    folder = made(written(tmp_path, several_of(sources)))
     for name, prefixes in (
         ("AS1:RS-C", ["10.7.0.0/16"]),
         ("AS1:AS-C", ["10.7.0.0/16"]),
@@ -157,9 +152,35 @@ def test_a_set_taken_apart_has_its_members_by_reference(
         assert asked(program, folder, "prefixes", name).split() == prefixes, name
 
 
-def object_of(line: str) -> rpsl.Object:
-    pairs = [part.split(": ") for part in line.split("|")]
-    return rpsl.Object(tuple((name, value) for name, value in pairs))
+def test_a_set_taken_apart_lacks_a_member_whose_text_has_no_room(
+    program: str, tmp_path: Path, monkeypatch: pytest.MonkeyPatch
+) -> None:
+    """It is told then, and the view is made."""
+    monkeypatch.setenv("IRRDESK", program)
+    sources = {
+        "TEST": "route-set: AS1:RS-Y|mnt-by: T-MNT"
+        "\nroute-set: RS-C|members: RADB::AS1:RS-Y|mnt-by: T-MNT",
+        "RIPE": "route: 10.5.0.0/16|origin: AS5|mnt-by: X-MNT",
+        "RADB": "route-set: AS1:RS-Y|mbrs-by-ref: ANY|mnt-by: R-MNT"
+        "\nroute: 10.6.0.0/16|origin: AS6|member-of: AS1:RS-Y|mnt-by: R-MNT"
+        f"\nroute: 10.7.0.0/16|origin: AS7|member-of: AS1:RS-Y|mnt-by: R-MNT|descr: {'x' * 65_440}",
+    }
+    view = written(tmp_path, several_of(sources))
+    assert asked(program, made(view), "prefixes", "RS-C").split() == ["10.6.0.0/16"]
+    assert view.told["RADB"].lost == {"above 65,536 bytes": 1}, view.told
+    assert not view.told["RADB"].left, view.told
+
+
+def several_of(sources: dict[str, str]) -> Several:
+    """Registries whose objects are a line each, with bars between the attributes."""
+    found = {}
+    for name, text in sources.items():
+        lines = [f"{line.strip()}|source: {name}" for line in text.strip().split("\n")]
+        objects = [[part.split(": ") for part in line.split("|")] for line in lines]
+        found[name] = rpsl.Registry(
+            tuple(rpsl.Object(tuple((key, value) for key, value in pairs)) for pairs in objects)
+        )
+    return Several(found, [])
 
 
 def need_objects(found: dict[tuple[str, str], rpsl.Object], wanted: rpsl.Registry) -> None:

@@ -105,21 +105,16 @@ mnt-by:         RIPE-DBM-MNT
 source:         RIPE
 """,
     },
-    6,
-    {
-        "class inet6num": 1,
-        "class person": 1,
-        "crossing": 1,
-        "a key that can't be read": 1,
-        "a list that can't be read": 1,
-    },
-    {"source": 6, "ipv6": 1, "scope": 1, "mntner": 3, "crossing": 1, "initial": 3},
-    {},
+    8,
+    {"class inet6num": 1, "class person": 1, "crossing": 1},
+    {"source": 8, "ipv6": 1, "scope": 1, "rename": 1, "mntner": 3, "crossing": 1, "initial": 3},
+    {"1AND1-MNT": "MNT-1AND1-MNT"},
     [
         "auth:           MD5-PW # Filtered\nauth:           SSO # Filtered\n",
         "descr:          Beispiel GmbH, M\xfcnchen\n",
         "mnt-routes:     EXAMPLE-MNT {192.0.2.0/24^24-32}\nmnt-routes:     TWO-MNT {}\n",
         "members:        AS64497, AS-OWN # two\n                AS64498\n",
+        "origin:         AS64496\nmnt-by:         MNT-1AND1-MNT\nsource:         TEST\n",
         (
             "mntner:         RIPE-NCC-HM-MNT\nauth:           FILTERED\nmnt-by:        "
             " ROOT-MNT\nsource:         TEST\n"
@@ -173,7 +168,7 @@ source:     RADB\r
 as-set:     AS-EXAMPLE\r
 members:    AS64496, AS64497,,AS-NONE, AS64498.1,\r
 members:    2001:db8::/32\r
-mnt-by:     MAINT-AS64496\r
+mnt-by:     AS-EXAMPLE-MNT\r
 source:     RADB\r
 \r
 as-set:     EXAMPLE-SET\r
@@ -201,27 +196,29 @@ source:     RADB\r
 # EOF\r
 """
     },
-    5,
+    6,
     {
-        "a key that can't be read": 3,
+        "a key that can't be read": 2,
         "duplicate": 1,
         "class route6": 1,
         "a list that can't be read": 1,
     },
     {
-        "source": 5,
+        "source": 6,
         "ipv6": 2,
         "mp-members": 1,
         "host-bits": 1,
         "item": 1,
+        "rename": 1,
+        "auth": 1,
         "mntner": 1,
         "duplicate": 1,
         "initial": 4,
     },
-    {},
+    {"AS-EXAMPLE-MNT": "MNT-AS-EXAMPLE-MNT"},
     [
         "auth:           CRYPT-PW HideMe\nauth:           MAIL-FROM .*@example.net\n",
-        "members:        AS64496, AS64497, AS-NONE\nmnt-by:         MAINT-AS64496\n",
+        "members:        AS64496, AS64497, AS-NONE\nmnt-by:         MNT-AS-EXAMPLE-MNT\n",
         (
             "                Proxy-registered route object\n+\n                for a"
             " customer\norigin:         as64496\n"
@@ -231,6 +228,10 @@ source:     RADB\r
             "members:        203.0.113.0/24^25\nmnt-by:"
         ),
         "mnt-routes:     MAINT-AS64496 ANY\n",
+        (
+            "mntner:         MNT-AS-EXAMPLE-MNT\nauth:           FILTERED\nmnt-by:        "
+            " MNT-AS-EXAMPLE-MNT\n"
+        ),
     ],
     {"IPv6": 3, "an item that can't be read": 1},
 )

@@ -37,7 +37,9 @@ Order = tuple[int, Any]
 Form = list[Any]
 # What may be dropped from a list by itself, and the names of maintainers.
 WORD = re.compile(rb"(?=[A-Za-z0-9])[A-Za-z0-9_.:/^-]*(?<=[A-Za-z0-9])")
-MNT = re.compile(rb"(?![ARar][Ss]-)(?=[A-Za-z])[A-Za-z0-9_-]*(?<=[A-Za-z0-9])")
+MNT = re.compile(
+    rb"(?![AR]S-)(?=.*[A-Z])(?![_-])[A-Z0-9_-]*(?<![_-])|[AR]S-([A-Z0-9_-]*-)?MNT", re.I
+)
 EXPRESSION = set(
     b"""ANY AS-ANY RS-ANY PEERAS AND OR NOT ATOMIC FROM TO AT ACTION ACCEPT ANNOUNCE EXCEPT REFINE
     NETWORKS INTO INBOUND OUTBOUND""".split()
@@ -254,6 +256,8 @@ class Second:
             head, *tokens = tokens
             if head in b"{}":
                 raise Out("brace")
+            if head[:1].isdigit():
+                raise Out("no name")
             yield self.name(head)
             if tokens[:1] == [b"{"]:
                 end = tokens.index(b"}") if b"}" in tokens else 0

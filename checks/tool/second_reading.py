@@ -236,6 +236,7 @@ def no_list(piece: Piece) -> str:
                 before = "}"
             elif name in ("mnt-by", "mnt-lower", "mnt-routes", "mbrs-by-ref"):
                 is_good_here = is_maintainer(item)
+                is_good_here &= name != "mnt-routes" or not item[0].isdigit()
                 before = "name" if name == "mnt-routes" else before
             else:
                 scope, _, bare = item.rpartition("::")
@@ -255,9 +256,11 @@ def is_word(item: str) -> bool:
 
 
 def is_maintainer(item: str) -> bool:
-    """Whether an item of a list of maintainers is a name, of any length."""
-    is_set = item.upper().startswith(("AS-", "RS-"))
-    return is_word(item) and item[0].isalpha() and not is_set and not set(item) & set("/.:^")
+    """Whether an item of a list of maintainers is a name, of any length; that of a set ends as the
+    names of maintainers do."""
+    is_set = item.upper().startswith(("AS-", "RS-")) and not item.upper().endswith("-MNT")
+    has_letter = any(letter.isalpha() for letter in item)
+    return is_word(item) and has_letter and not is_set and not set(item) & set("/.:^")
 
 
 def is_ipv6(item: str) -> bool:

@@ -307,14 +307,9 @@ def test_a_list_costs_what_it_is_long() -> None:
         *("B-MNT 10/8", "B-MNT 10./8", "B-MNT 192.0.2.0 - 192.0.2.9", "B-MNT 192.0.2.0-192.0.2.9"),
         *("B-MNT ^25", "B-MNT 192.0.2.0/25 ^26", "B-MNT (192.0.2.0/25)", "B-MNT [192.0.2.0/25]"),
         *("B-MNT <192.0.2.0/25>", "B-MNT '192.0.2.0/25'", "B-MNT =192.0.2.0/25", "B-MNT RS-Y"),
-        *(
-            "B-MNT EXCEPT C-MNT",
-            "B-MNT as-y",
-            "B-MNT FLTR-Y^+",
-            "B-MNT a/b",
-            "B-MNT a.b",
-            "1.2-MNT",
-        ),
+        *("B-MNT EXCEPT C-MNT", "B-MNT as-y", "B-MNT FLTR-Y^+", "B-MNT a/b", "B-MNT a.b"),
+        *("B-MNT AS-XMNT", "B-MNT AS-MNT-X", "B-MNT AS1:AS-MNT", "AS-X-MNT^+", "(1-MNT)", "1-MNT-"),
+        *("1.2-MNT", "B-MNT 10-8", "B-MNT 10_1", "B-MNT '1-MNT'", "B-MNT =AS-X-MNT", "_-MNT"),
         *("192.0.2.0/25 B-MNT", "192.0.2.0/25 {192.0.2.0/25}", "B-MNT PeerAS", "64496", "B-MNT -"),
     ],
 )
@@ -372,6 +367,34 @@ def test_grants_that_are_good_stay() -> None:
         assert mended(rest("aut-num: AS1", f"mnt-lower: {name}"))[1] == set()
     for name in "mnt-lower", "mnt-routes":
         assert mended(rest("aut-num: AS1", f"{name}: {'A' * 81}"))[1] == {"rename"}
+
+
+@pytest.mark.parametrize(
+    "name",
+    ["1AND1-MNT", "1-mnt", "2x", "0_b-C", "AS-X-MNT", "as-mnt", "RS-1_2-Mnt", "7" * 80 + "A"],
+)
+def test_what_can_only_be_a_name_is_renamed(name: str) -> None:
+    """A digit first, or the name of a set that ends as those of maintainers do."""
+    lists = [("inetnum: 10.0.0.0/8", "mnt-lower"), ("as-set: AS-X", "mbrs-by-ref")]
+    for kind, attribute in [*lists, ("aut-num: AS1", "mnt-by")]:
+        for value in name, f"B-MNT, {name}":
+            assert mended(rest(kind, f"{attribute}: {value}"))[1] == {"rename"}
+            text = rest(kind, f"{attribute}: {value}")
+            assert mended(text, ["rename"]) == "not mended because of --no-rename"
+    dump, tally = made(rest(f"mntner: {name}", f"mnt-by: {name}"))
+    ((old, new),) = tally.renamed.items()
+    assert old == name.upper() and f"mntner:         {new}\n" in dump.decode()
+    assert f"mnt-by:         {new}\n" in dump.decode() and name not in dump.decode().split()
+
+
+def test_a_digit_first_is_no_name_among_grants() -> None:
+    """There a range in some other spelling may stand, and grants less than the name before it."""
+    for value in "1AND1-MNT", "B-MNT 1AND1-MNT", "B-MNT ANY, 1-MNT {10.0.0.0/8}", "B-MNT 10x8":
+        assert mended(rest("inetnum: 10.0.0.0/8", f"mnt-routes: {value}")) == UNREAD
+    text = rest("inetnum: 10.0.0.0/8", "mnt-routes: B-MNT, as-x-mnt {10.0.0.0/9^+}, RS-MNT ANY")
+    assert mended(text)[1] == {"rename"}
+    granted = b"mnt-routes:     B-MNT, MNT-AS-X-MNT {10.0.0.0/9^+}, MNT-RS-MNT ANY\n"
+    assert granted in made(text)[0]
 
 
 # Files that were cut off within a line and joined with another one.

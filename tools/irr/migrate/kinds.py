@@ -21,7 +21,7 @@ KINDS = {
         Kind("item", "words that can't be read are dropped from lists"),
         Kind("prefix", "a prefix such as 10.1/16 is written out"),
         Kind("host-bits", "the bits of a prefix after its length become zero"),
-        Kind("rename", "maintainers whose names are too long get another name"),
+        Kind("rename", "maintainers whose names the rules refuse get another name"),
         Kind("mnt-by", "an object without `mnt-by` gets the root maintainer"),
         Kind("auth", "an `auth` that is missing, empty or can't be read authorises nobody"),
         Kind("long", "a text above 65,536 bytes is written with as few blanks as can be"),

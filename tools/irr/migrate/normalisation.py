@@ -354,6 +354,9 @@ class Grants:
             if self.state != "named":
                 raise self.mender.unread(token)
             self.state = "start"
+        elif token[:1].isdigit():
+            # It may be a range in another spelling, without which the entry before it grants more.
+            raise self.mender.unread(token)
         else:
             self.names[self.mender.maintainer(token)] = None
             self.state = "named"

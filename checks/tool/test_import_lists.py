@@ -139,6 +139,24 @@ def test_a_scoped_item_that_is_dropped_is_told_as_it_was_read() -> None:
     assert made(text, off=["host-bits"])[1].causes == {"not mended because of --no-host-bits": 1}
 
 
+def test_scoped_items_of_both_families_are_told_by_their_attribute() -> None:
+    """And are in `members` where they stay."""
+    text = of("RIPE", "route-set: RS-X", "mp-members: NTT::AS-Q, ::/0, RIPE::10.0.0.1/8, AS2 # a")
+    text += of("RIPE", "route-set: RS-Y", "members: NTT::AS-Q", "mp-members: NTT::AS-Q")
+    dump, tally = made(text)
+    assert [line.split("\t")[2:] for line in left_out(text)] == [
+        ["route-set: RS-X", "mp-members", "::/0"],
+        ["route-set: RS-X", "mp-members", "NTT::AS-Q"],
+        ["route-set: RS-Y", "members", "NTT::AS-Q"],
+        ["route-set: RS-Y", "mp-members", "NTT::AS-Q"],
+    ]
+    own, other = (set_text.split("\n") for set_text in texts_of(dump, "route-set"))
+    assert own[1] == "members:        10.0.0.0/8, AS2 # a" and tally.mended["mp-members"] == 2
+    assert other[1].startswith("mnt-by:")
+    dump, _ = made(text, keeps_scoped=True)
+    assert b"mp-members" not in dump and dump.count(b"members:        AS-Q") == 3
+
+
 def test_kept_scopes() -> None:
     text = of("RIPE", "as-set: AS-X", "members: RADB::AS-Y")
     dump, tally = made(text, keeps_scoped=True)

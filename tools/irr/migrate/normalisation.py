@@ -218,12 +218,15 @@ class Mender:
         return with_items(attribute, pattern, lambda _: next(rest))
 
     def of_both_families(self, attribute: Attribute) -> Attribute | None:
-        """`members` of what `mp-members` of a route-set has of IPv4 (RFC 4012, 4)."""
+        """`members` of what `mp-members` of a route-set has of IPv4 (RFC 4012, 4). With scoped items
+        it keeps its name, by which these are told, until `unscoped`."""
         if not ITEM.search(attribute.meaning()):
             return attribute
         self.use("mp-members")
         changed = self.changed(attribute, lambda item: self.member(ROUTE_SET, item))
-        return changed and changed._replace(name=b"members")
+        if changed is None or b"::" in changed.meaning():
+            return changed
+        return changed._replace(name=b"members")
 
     def maintainer(self, item: bytes) -> str:
         if not is_name(item):
@@ -411,7 +414,10 @@ def unscoped(
     """The attributes of an object whose scoped items are what is `named` there without the registry
     and host bits, or are gone where `refusal` has a cause for the registry and the item; what is
     gone; and whether any that stays had host bits."""
-    scoped = READ[NUMBERS[attributes[0].name]] & {b"members", b"member-of"}
+    number = NUMBERS[attributes[0].name]
+    scoped = READ[number] & {b"members", b"member-of"}
+    if number == ROUTE_SET:
+        scoped |= {b"mp-members"}
     kept: list[Attribute] = []
     gone: list[Dropped] = []
     had_host_bits = False
@@ -437,7 +443,7 @@ def unscoped(
 
         changed = with_items(attribute, ITEM, bare)
         if changed is not None:
-            kept.append(changed)
+            kept.append(changed._replace(name=name.removeprefix(b"mp-")))
     return kept, gone, had_host_bits
 
 

@@ -52,6 +52,28 @@ def test_byte_order_marks_of_files_that_were_joined() -> None:
     assert listed(obj(*A)[:-1] + mark + obj(*B), off=["part"])[1].endswith("\troute-set: RS-B")
 
 
+@pytest.mark.parametrize("head", ["# a", "% a\n#route: b\n%", "", " \t\r\n# a", "\r"])
+def test_comments_after_a_byte_order_mark(head: str) -> None:
+    """They stand before an object as at the beginning of a file, and are none by themselves."""
+    mark = b"\xef\xbb\xbf" + head.encode() + b"\n"
+    for text, count in (
+        (obj(*A) + mark + obj(*B), 0),
+        (obj(*A) + mark + b"\n" + obj(*B), 0),
+        (mark + obj(*A, *B), 1),
+    ):
+        dump, tally = made(text)
+        assert tally.mended["part"] == count
+        assert texts_of(dump, "as-set", "route-set") == texts_of(
+            made(obj(*A, *B))[0], "as-set", "route-set"
+        )
+        assert (listed(text), tally.read) == ([], 2)
+    if head[:1] in ("#", "%"):
+        assert (listed(obj(*A)[:-1] + mark + obj(*B)), made(text)[1].taken) == ([], 2)
+    # Lines have the numbers that they have in the file.
+    (line,) = listed(obj(*A) + mark + obj("person: Jo"))
+    assert line.endswith(f":{7 + head.count(chr(10))}\tperson: Jo")
+
+
 def test_not_parted_where_that_is_turned_off() -> None:
     _, tally = made(obj(*A, *B), off=["part"])
     assert (tally.read, dict(tally.causes)) == (1, {"not mended because of --no-part": 1})

@@ -119,7 +119,7 @@ class Import:
             if len(found) > 1 and is_off:
                 found = [parting.Part(block, not_mended("part"), True)]
             for part in found:
-                if part.block.line > block.line or part.block.line == after:
+                if part is not found[0] or block.line == after:
                     self.tally.part(Place(path, part.block.line), part.block.text)
                 if waiting:
                     self.take(waiting, path)

@@ -1,9 +1,11 @@
 """What of a dump is one object: paragraphs that hold several are parted, or left out."""
 
 import pytest
+from hypothesis import given
+from hypothesis import strategies as st
 
 from checks.tool.importing import left_out, listed, made, mended, obj, texts_of
-from irr.migrate import conversion
+from irr.migrate import conversion, parting
 from irr.rpsl import syntax
 
 A = ("as-set: AS-A", "members: AS1", "mnt-by: A-MNT", "source: RIPE")
@@ -200,3 +202,37 @@ def test_what_is_too_large_and_has_no_seam(monkeypatch: pytest.MonkeyPatch) -> N
     text = obj("as-set: AS-A", *["x: y"] * 1_000, *A[1:]) + obj(*B)
     assert left_out(text)[0].startswith("above 65,536 bytes\t")
     assert made(text)[1].taken == 1
+
+
+LINES = [
+    "source: X",
+    "as-set: AS-A",
+    "x: y",
+    " z",
+    "# c",
+    "+",
+    "\xef\xbb\xbf# d",
+    "source: " + "Y" * 90,
+]
+LINES += ["", " \t"]
+
+
+@given(
+    st.lists(st.tuples(st.sampled_from(LINES), st.integers(1, 20)), max_size=25),
+    st.lists(st.integers(1, 150), min_size=1, max_size=9),
+)
+def test_pieces_do_not_matter(runs: list[tuple[str, int]], sizes: list[int]) -> None:
+    """A text has the same blocks whole and in pieces of any sizes."""
+    text = "".join((line + "\n") * count for line, count in runs).encode("latin-1")
+    pieces, start = [], 0
+    while start < len(text):
+        size = sizes[len(pieces) % len(sizes)]
+        pieces.append(text[start : start + size])
+        start += size
+    with pytest.MonkeyPatch.context() as patch:
+        patch.setattr(syntax, "CHUNK", 60)
+        whole, pieced = (
+            list(syntax.blocks(source, 50, parting.last_seam, parting.later))
+            for source in ([text], pieces)
+        )
+    assert pieced == whole

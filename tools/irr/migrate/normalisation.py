@@ -218,8 +218,8 @@ class Mender:
         return with_items(attribute, pattern, lambda _: next(rest))
 
     def of_both_families(self, attribute: Attribute) -> Attribute | None:
-        """`members` of what `mp-members` of a route-set has of IPv4 (RFC 4012, 4). With scoped items
-        it keeps its name, by which these are told, until `unscoped`."""
+        """`members` of what `mp-members` of a route-set has of IPv4 (RFC 4012, 4). While it has
+        scoped items it keeps its name, by which they are told; `unscoped` changes it."""
         if not ITEM.search(attribute.meaning()):
             return attribute
         self.use("mp-members")

@@ -224,7 +224,8 @@ LINES += ["", " \t"]
 def test_pieces_do_not_matter(runs: list[tuple[str, int]], sizes: list[int]) -> None:
     """A text has the same blocks whole and in pieces of any sizes."""
     text = "".join((line + "\n") * count for line, count in runs).encode("latin-1")
-    pieces, start = [], 0
+    pieces: list[bytes] = []
+    start = 0
     while start < len(text):
         size = sizes[len(pieces) % len(sizes)]
         pieces.append(text[start : start + size])

@@ -29,7 +29,8 @@ def test_it_is_used_without_a_mouse(stage: Stage, tell: Tell) -> None:
     browser.go(stage.home)
     press = lambda *keys: ActionChains(browser.driver).send_keys(*keys).perform()
     links = browser.js(
-        "return [...document.querySelectorAll('header a')].map(a => [a.dataset.view, a.textContent])"
+        "return [...document.querySelectorAll('header a')]"
+        ".map(a => [a.dataset.view, a.textContent])"
     )
     views = browser.js("return [...document.querySelectorAll('main > section')].map(at => at.id)")
     expect([view for view, _ in links], views, "the links, one to each view")

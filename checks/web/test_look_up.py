@@ -264,6 +264,8 @@ def test_a_part_that_is_late_keeps_nobody_waiting(stage: Stage, tell: Tell) -> N
         browser.write("prefix", "10.0.0.0/8")
         browser.click("#map-form button")
         browser.click("nav a[data-view=look]")
+        # What is typed before the view is there is another view's.
+        browser.until("!document.getElementById('look').hidden", "the view of answers")
         browser.write("words", "A-MNT")
         browser.click("#look-form button")
         browser.until("document.querySelectorAll('#answer .object').length === 1", "an answer")

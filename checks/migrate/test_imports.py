@@ -12,8 +12,9 @@ from typing import Any
 
 import pytest
 
+from checks.migrate.chance import any_dump, damaged
 from checks.migrate.dumps import DUMPS, messy_objects
-from checks.migrate.moving import SOURCE, Second, any_dump, damaged, normal
+from checks.migrate.moving import SOURCE, Second, normal
 from checks.model.registry import Registry, load
 from checks.running import (
     AUTH,

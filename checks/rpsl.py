@@ -56,7 +56,10 @@ BETWEEN: tuple[tuple[str, ...], ...] = (
 BAD_VALUES = (
     ("mnt-by", "1-MNT"),
     ("mnt-by", ""),
+    ("mnt-by", "AS-A"),
     ("mnt-lower", "AS-MNT"),
+    ("mnt-routes", "1-MNT {10.0.0.0/8}"),
+    ("mnt-routes", "RS-MNT {10.0.0.0/8}, A-MNT"),
     ("mnt-routes", "A-MNT {10.0.0.0/33}"),
     ("mnt-routes", "A-MNT {10.0.0.0/8"),
     ("mnt-routes", "A-MNT {2001:db8::/32, 10.0.0.9/9}"),
@@ -69,6 +72,7 @@ BAD_VALUES = (
     ("members", "10.0.0.1/8, RS-A^+, 10/8"),
     ("mp-members", "10.0.0.0/8^+, 2001:db8::/32, AS64496"),
     ("mp-members", "2001:db8::/32"),
+    ("mp-members", "RADB::RS-B, RIPE::10.0.0.9/8, ::/0"),
     ("mbrs-by-ref", "A-MNT, ::/0"),
     ("mbrs-by-ref", "AS-A"),
     ("auth", "SHA256-PW x"),

@@ -1,9 +1,12 @@
 // Looking up.
 import {Client, MEMBER, MISSING, kindOf, objectsOf, wordsOf} from './lib/client.js';
-import {$, copy, counted, decimal, el, link, listing, mapLink, shown} from './lib/nodes.js';
+import {
+    $, addressOf, copy, counted, decimal, el, link, listing, mapLink, shown,
+} from './lib/nodes.js';
 import {
     KINDS, around, isAs, isMaintainer, isSet, prefixOf, prefixText, spaceOf,
 } from './lib/rpsl.js';
+import {ofSource, sourceOf, viewAsked} from './lib/served.js';
 import {TABLE} from './lib/tables.js';
 import {addView, change} from './page.js';
 
@@ -35,13 +38,20 @@ function objectBox(object) {
     const span = spaceOf(object.kind, object.name), place = span && prefixOf(object.name);
     const also = queryFor[object.kind]
         ? [link(queryFor[object.kind][1](object), queryFor[object.kind][0])] : [];
-    if (object.kind.endsWith('-set')) also.push(link(`prefixes ${object.key}`, 'Its prefixes'));
+    if (object.kind.endsWith('-set'))
+        also.push(link(`prefixes ${object.key}`, 'Its prefixes'),
+        el('a', {href: addressOf('set', object.key)}, 'As a tree'));
     if (place) also.push(link(`less ${prefixText(place)}`, 'Around it'),
         link(`more ${prefixText(place)}`, 'Inside it'));
     if (span) also.push(mapLink(around(span), 'Map'));
     const name = `${object.kind} ${shown(object.key)}`;
+    const source = sourceOf(object), isOwn = !viewAsked();
+    if (isOwn)
+        also.push(el('a', {href: addressOf('history', `${object.kind} ${object.key}`),
+        class: 'of-history'}, 'History'));
     return el('article', {class: 'object', 'aria-label': name},
-        el('h3', {}, `${object.kind} `, link(`object ${object.kind} ${object.key}`, object.key)),
+        el('h3', {}, `${object.kind} `, link(`object ${object.kind} ${object.key}`, object.key),
+            ...source ? [' ', el('span', {class: 'source'}, `of ${source}`)] : []),
         el('dl', {},
             ...object.attributes.flatMap(([attribute, lines]) => [el('dt', {}, shown(attribute)),
             el('dd', {},
@@ -51,10 +61,10 @@ function objectBox(object) {
             el('button',
                 {type: 'button', 'aria-label': `Copy ${name}`, click: () =>
                 copy(`${object.text}\n`, look.said, `${name} is copied.`)}, 'Copy'),
-            el('button',
+            ...isOwn ? [el('button',
                 {type: 'button', 'aria-label': `Change ${name}`,
                 click: () => change(object)},
-                'Change')));
+                'Change')] : []));
 }
 
 // The lines of an expansion for BIRD and FRR; RFC 2622, 2: ^- leaves out the prefix itself, ^+ does
@@ -126,7 +136,18 @@ function expansion(query, text) {
         ? `, ${counted(missing.length, 'set')} not registered` : ''}.`, parts];
 }
 
-function grouped(objects) {
+// How many objects are of each source, in a view.
+function sourceWords(objects) {
+    const counts = new Map();
+    for (const source of objects.map(sourceOf).filter(Boolean))
+        counts.set(source, (counts.get(source) ?? 0) + 1);
+    const words = [...counts].map(([source, count]) => `${decimal(count)} of ${source}`);
+    return words.length ? ` ${words.join(', ')}.` : '';
+}
+
+function grouped(all) {
+    const objects = ofSource(all), others = all.length - objects.length;
+    const left = others ? ` ${decimal(others)} of other sources left out.` : '';
     const groups =
         KINDS.map(kind => [kind, objects.filter(object => object.kind === kind)]).filter(group =>
         group[1].length);
@@ -135,7 +156,8 @@ function grouped(objects) {
         [el('h2', {}, `${kind} (${decimal(ones.length)})`),
         ...listing(el('div'), ones, objectBox)]);
     return [`${counted(objects.length, 'object')}: ${groups.map(([kind, ones]) =>
-        `${decimal(ones.length)} ${kind}`).join(', ')}.`, parts];
+        `${decimal(ones.length)} ${kind}`).join(', ') || 'none'}.${sourceWords(objects)}${left}`,
+    parts];
 }
 
 function showLook(query) {

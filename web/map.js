@@ -4,6 +4,7 @@ import {
 } from './lib/client.js';
 import {$, addressOf, counted, decimal, el, link, listing, mapLink, shown} from './lib/nodes.js';
 import {around, blockOf, lastOf, prefixOf, prefixText, spanOf} from './lib/rpsl.js';
+import {ofSource} from './lib/served.js';
 import {addView} from './page.js';
 
 const map = new Client('map');
@@ -356,8 +357,8 @@ function showMap(given, isAnew = false) {
     map.run(async signal => {
         const text = await map.query(signal, `more ${prefixText(prefix)}`), kind = kindOf(text);
         if (kind === 'error') throw new Trouble(wordsOf(text));
-        const boxes = kind === 'objects' ? await boxesOf(await objectsOf(text, signal), signal)
-            : [];
+        const objects = kind === 'objects' ? ofSource(await objectsOf(text, signal)) : [];
+        const boxes = await boxesOf(objects, signal);
         if (signal.aborted) return;
         Object.assign(space, {root: prefix, boxes});
         await present(prefix);

@@ -70,7 +70,7 @@ const FORMS = {
 };
 
 // The form.
-const send = new Client('submit');
+const send = new Client('submit', false);
 const fields = {};
 const isSafe = location.protocol === 'https:'
     || /^(?:localhost|127(?:\.\d{1,3}){3}|\[::1\])$/.test(location.hostname);

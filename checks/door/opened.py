@@ -139,8 +139,7 @@ class Opened:
 
     def seconds(self) -> float:
         """The processor's seconds that it has taken."""
-        with open(f"/proc/{self.process.pid}/schedstat", encoding="ascii") as file:
-            return int(file.read().split()[0]) / 1e9
+        return seconds_of(self.process.pid)
 
     def memory(self) -> int:
         """The bytes that it holds."""
@@ -196,6 +195,12 @@ class Opened:
         text = self.http("GET", "/metrics", port=self.status_port)[2].decode()
         lines = [line.rpartition(" ") for line in text.splitlines() if not line.startswith("#")]
         return {name: float(value) for name, _, value in lines}
+
+
+def seconds_of(number: int) -> float:
+    """The processor's seconds that a process has taken."""
+    with open(f"/proc/{number}/schedstat", encoding="ascii") as file:
+        return int(file.read().split()[0]) / 1e9
 
 
 def read_all(peer: socket.socket) -> bytes:

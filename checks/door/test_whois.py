@@ -69,6 +69,8 @@ FOUND = {
     "--inverse origin AS1": [worlds.ZERO_1, worlds.ONE],
     "--all-less -T inetnum 10.1.0.0/16": [worlds.ALL, worlds.TEN, worlds.TEN_ONE],
     "-s TEST AS1": [worlds.AS1],
+    "-s TEST,test AS1": [worlds.AS1],
+    "-s TEST -s TEST AS1": [worlds.AS1],
     "-a AS1": [worlds.AS1],
     "-V Md5.5.15 AS1": [worlds.AS1],
     "-K 10.1.0.0/16AS1": [b"route:          10.1.0.0/16\norigin:         AS1\n"],

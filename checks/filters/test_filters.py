@@ -300,7 +300,7 @@ def test_filters_of_the_timer_take_their_place_once_their_router_reads_them(
         )
         path = write(folder, "filters.toml", text.encode())
         for file, *_ in cases:
-            old = write(folder, file, b"old\n")
+            old = write(folder, file, b"# old\n")
             os.utime(old, (time.time() - 30 * 3_600,) * 2)
         ran = tool("filter", "--settings", path)
         expect(ran.status, 1, f"the status: {ran.said!r}")
@@ -316,7 +316,7 @@ def test_filters_of_the_timer_take_their_place_once_their_router_reads_them(
                 "",
             )
             expect(
-                (made != b"old\n", what in line, "STALE: it was made 30 hours ago" in line),
+                (made != b"# old\n", what in line, "STALE: it was made 30 hours ago" in line),
                 (what == "made", True, what != "made"),
                 f"{file}: {line!r}, {made[-100:]!r}",
             )
@@ -329,6 +329,13 @@ def test_filters_of_the_timer_take_their_place_once_their_router_reads_them(
             (0, f"{folder}/a.conf: as it was\n".encode()),
             "the second time",
         )
+        for file, *_, what in cases:
+            if what == "made":
+                write(folder, file, b"<html>\n")
+        ran = tool("filter", "--settings", path)
+        expect(ran.status, 4, f"the status over lists that are none: {ran.said!r}")
+        told = ran.said.decode().count("which can't be read: it does not read the filter")
+        expect(told, sum(what == "made" for *_, what in cases), f"{ran.said!r}")
         for bad, said in [
             (b"x = 1\n", "it has no filter|there is no key x"),
             (b"[[filter]]\n", "has the texts"),

@@ -55,7 +55,8 @@ class Chance:
         for (prefix, most, number), end in given:
             line = f"AS{number},{rpsl.prefix_text(prefix)},{most},x"
             lines.append(line + f",{end}" if self.is_rpki_client else line)
-        return "".join(f"{line}\n" for line in [*lines, "AS64496,2001:db8::/32,48,x,"]).encode()
+        lines.append("AS64496,2001:db8::/32,48,x" + (",0" if self.is_rpki_client else ""))
+        return "".join(f"{line}\n" for line in lines).encode()
 
     def entry(self, roa: tuple[Prefix, int, int], end: int) -> dict[str, object]:
         prefix, most, number = roa
@@ -98,6 +99,32 @@ def test_times_are_in_utc(zone: str, monkeypatch: pytest.MonkeyPatch) -> None:
     finally:
         monkeypatch.undo()
         time.tzset()
+
+
+CSV = (
+    "ASN,IP Prefix,Max Length,Trust Anchor,Expires\n"
+    + "".join(
+        f"AS{number},10.{number}.0.0/16,{16 + number},ripe,4000000000\n" for number in range(4)
+    )
+).encode()
+
+
+def test_roas_that_are_cut_are_not_taken() -> None:
+    """Wherever JSON ends early, and within any line of CSV; lines of it that lost a part, too."""
+    json_text = Chance(Choices(bytes(range(160)))).text()
+    for place in range(len(json_text)):
+        with pytest.raises(Failure):
+            roas.read(json_text[:place], "x")
+    assert len(roas.read(CSV, "x").roas) == 4
+    for place in range(len(CSV)):
+        if CSV[:place].endswith(b"0000\n"):
+            assert len(roas.read(CSV[:place], "x").roas) == CSV[:place].count(b"\n") - 1
+            continue
+        with pytest.raises(Failure):
+            roas.read(CSV[:place], "x")
+    for line in b"AS1,10.0.0.0/8,8,x,0,0\n", b"AS1,10.0.0.0/8,8\n", b'AS1,"10.0' + b"x" * 140_000:
+        with pytest.raises(Failure):
+            roas.read(CSV + line + b"\n", "x")
 
 
 def test_states() -> None:

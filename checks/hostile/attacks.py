@@ -191,8 +191,15 @@ class Registry(Serving):
 
     def resident(self) -> int:
         """The bytes that it holds in memory."""
+        return self.memory("VmRSS")
+
+    def peak(self) -> int:
+        """The most bytes that it ever held in memory."""
+        return self.memory("VmHWM")
+
+    def memory(self, name: str) -> int:
         with open(f"/proc/{self.process.pid}/status", encoding="ascii") as lines:
-            return next(int(line.split()[1]) << 10 for line in lines if line.startswith("VmRSS"))
+            return next(int(line.split()[1]) << 10 for line in lines if line.startswith(name))
 
     def cost(self, function: Callable[..., Any], *given: str) -> tuple[bytes | None, float]:
         """What a call gives, and the processor's seconds that the registry took for it."""

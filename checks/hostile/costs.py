@@ -486,35 +486,42 @@ def dripping(trial: Trial) -> str:
 
 @case("the check restarts only what a restart mends")
 def checked(trial: Trial) -> str:
-    check = os.path.join(TOP, "units", "irrdesk-check")
+    folder = made(trial, "checked")
+    tool = os.path.join(folder, "irr")
+    subprocess.run([os.path.join(TOP, "tools", "build"), tool], check=True)
 
-    def status(url: str, *more: str) -> int:
+    def status(url: str, door: str = "", seconds: str = "", agent: str = "") -> int:
+        given = {"--url": url, "--door": door, "--seconds": seconds, "--agent": agent}
+        words = [word for pair in given.items() if pair[1] for word in pair]
         ran = subprocess.run(
-            [check, url, *more], capture_output=True, text=True, timeout=PATIENCE, check=False
+            ["/usr/bin/python3", tool, "check", "--restarts", *words],
+            capture_output=True,
+            text=True,
+            timeout=PATIENCE,
+            check=False,
         )
         expect(bool(ran.stdout), ran.returncode != 0, "whether it says what it saw")
         return ran.returncode
 
-    folder = made(trial, "checked")
     with Registry(trial, folder) as registry:
         url, place = (
             f"http://127.0.0.1:{registry.port}/query/ROOT-MNT",
             f"127.0.0.1:{registry.port}",
         )
         expect(status(url), 0, "a registry that answers")
-        expect(status(f"http://{place}/nothing"), 3, "another server's answer")
-        expect(status(url, "127.0.0.1:1"), 2, "a door that does not listen")
-        for word, wanted in ("well", 0), ("in part", 3), ("DOWN", 3):
+        expect(status(f"http://{place}/nothing"), 1, "another server's answer")
+        expect(status(url, "127.0.0.1:1"), 11, "a door that does not listen")
+        for word, wanted in ("well", 0), ("in part", 1), ("DOWN", 1):
             with told(b"HTTP/1.0 200 OK\r\n\r\n%s: TEST\nwhy\n" % word.encode()) as door:
                 expect(status(url, door), wanted, f"a door that says `{word}`")
         with told(b"HTTP/1.0 200 OK\r\n\r\nwell: TEST\n") as door:
-            for fault, wanted in ("", 0), ("x: other objects", 3):
+            for fault, wanted in ("", 0), ("x: other objects", 1):
                 with told(b'{"replicas": [], "fault": "%s"}\n' % fault.encode()) as agent:
                     expect(status(url, door, "5", agent), wanted, f"an agent that says `{fault}`")
-            expect(status(url, door, "5", "127.0.0.1:1"), 3, "an agent that does not listen")
+            expect(status(url, door, "5", "127.0.0.1:1"), 1, "an agent that does not listen")
         with contextlib.closing(registry.connect()):
-            expect(status(url, "", "2"), 1, "a registry that does not answer")
-    expect(status(url), 3, "a refused connection")
+            expect(status(url, "", "2"), 10, "a registry that does not answer")
+    expect(status(url), 1, "a refused connection")
     with Registry(trial, folder, "env", "--ignore-signal=XFSZ") as registry:
         registry.register(attacks.stranger())
         size = os.path.getsize(os.path.join(folder, "irr.db-wal"))
@@ -523,7 +530,7 @@ def checked(trial: Trial) -> str:
         expect(b"refused E91" in reply, True, "whether the database failed")
         expect(
             status(f"http://127.0.0.1:{registry.port}/query/ROOT-MNT"),
-            1,
+            10,
             "a registry whose database failed",
         )
     return "13 states"

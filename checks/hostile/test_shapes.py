@@ -53,10 +53,10 @@ def loaded(trial: Trial, folder: str, text: str) -> Ran:
     return run(trial, folder, "load", "s.toml", "dump.rpsl")
 
 
-def submitted(trial: Trial, folder: str, text: str, wanted: bytes) -> Ran:
+def submitted(trial: Trial, folder: str, text: str, wanted: bytes, status: int = 0) -> Ran:
     """Submits items, which all have this outcome."""
     write(folder, "items.rpsl", text.encode())
-    ran = run(trial, folder, "submit", "s.toml", "items.rpsl")
+    ran = run(trial, folder, "submit", "s.toml", "items.rpsl", status=status)
     expect(
         {line.rpartition(b": ")[2] for line in ran.printed.splitlines()[:-1]},
         {wanted},
@@ -326,18 +326,31 @@ def origins(trial: Trial, folder: str, size: int) -> list[Ran]:
 # Names.
 
 
+def listed_maintainers(size: int) -> tuple[str, str]:
+    """So many maintainers, and a list of their names."""
+    mntners = "".join(f"mntner: M{n}\nauth: {AUTH}\n{OWNED}" for n in range(size))
+    return mntners, ",".join(f"M{n}" for n in range(size))
+
+
 @shape("maintainers in one list", 1_000, 10_000)
 def maintainers(trial: Trial, folder: str, size: int) -> list[Ran]:
-    names = "".join(f"mntner: M{n}\nauth: {AUTH}\n{OWNED}" for n in range(size))
-    listed = ",".join(f"M{n}" for n in range(size))
+    mntners, listed = listed_maintainers(size)
     held = [
         f"inetnum: 10.0.0.0/8\ndescr: {n}\nmnt-by: {listed}\nsource: TEST\n\n" for n in range(6)
     ]
     return [
-        loaded(trial, folder, names + held[0]),
+        loaded(trial, folder, mntners + held[0]),
         submitted(trial, folder, PASSWORD + "".join(held[1:]), b"changed"),
         asked(trial, folder, f"inverse mnt M{size - 1}", lines=5),
     ]
+
+
+@shape("deletions of a set that names many maintainers", 1_000, 10_000)
+def deletions(trial: Trial, folder: str, size: int) -> list[Ran]:
+    mntners, listed = listed_maintainers(size)
+    loaded(trial, folder, f"{mntners}as-set: AS-T\nmnt-by: {listed}\nsource: TEST\n\n")
+    items = "password: no\n\n" + "as-set: AS-T\ndelete: x\n\n" * (size // 4)
+    return [submitted(trial, folder, items, b"refused E11", status=1)]
 
 
 @shape("names alike up to their last characters", 3_000, 30_000)

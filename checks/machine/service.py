@@ -197,6 +197,44 @@ class Service:
         )
         return "nothing is left"
 
+    def set_up(self) -> str:
+        """That irr setup makes a registry of the package as it is installed, and starts what it
+        was told; that the check, in the sandbox of its unit, sees all of it and finds nothing
+        wrong."""
+        guest = self.guest
+        guest.done("apt-get install --yes /run/given/irrdesk.deb")
+        saved = (
+            "--save /root/root.password --maintainer OPS-MNT --maintainer-save /root/ops.password"
+        )
+        guest.done(f"irr setup --yes --source TRIAL {saved} --no-replicas", seconds=600)
+        wanted = ["irrdesk.service", "irrdesk-check.timer", "irrdesk-door.service"]
+        wanted += ["irrdesk-backup.timer", "irrdesk-history.timer"]
+        seen = [self.show(unit, "ActiveState") for unit in wanted]
+        expect(seen, ["active"] * len(wanted), f"the states of {' '.join(wanted)}")
+        owned = f"stat -c '%U:%G %a' {SETTINGS} /var/lib/irrdesk/irr.db /root/root.password"
+        expect(
+            guest.done(owned).splitlines(),
+            ["root:irrdesk 640", "irrdesk:irrdesk 600", "root:root 600"],
+            "who owns what",
+        )
+        text = b"inetnum: 192.0.2.0/24\nmnt-by: OPS-MNT\nsource: TRIAL\n"
+        signed = "irr submit /root/root.password /root/ops.password -"
+        told = guest.done(signed, given=text)
+        expect("added" in told, True, f"what both sign: {told}")
+        guest.done("systemctl start irrdesk-backup irrdesk-history", seconds=600)
+        # The door looks at the registry again after a moment.
+        guest.until("systemctl start irrdesk-check", "that the check finds nothing wrong")
+        said = self.journal("irrdesk-check")
+        expect("not checked" in said, False, f"whether there is what it could not see: {said}")
+        again = guest.ended("irr setup --yes --source TRIAL")
+        expect((again.status, "a registry is here" in again.said), (4, True), "a second one")
+        told = guest.done("dpkg --purge irrdesk")
+        kept = re.findall(r"^  (/var/\S+)$", told, re.MULTILINE)
+        names = ["lib/irrdesk", "lib/irrdesk-backup", "lib/irrdesk-history"]
+        expect(kept[:3], [f"/var/{name}" for name in names], "what a purge keeps")
+        guest.done(f"rm -r {' '.join(kept)} /root/*.password; ! test -e /etc/irrdesk")
+        return f"{len(wanted)} units"
+
     def upgraded(self) -> str:
         """That a registry of an older package, which is served, is served by the newer one: its
         settings and links stay."""
@@ -425,7 +463,7 @@ class Service:
             self.show("irrdesk", "MainPID") != before, True, "whether the server was started again"
         )
         said = found(
-            r"^irrdesk-check: (.* status 503.*)$",
+            r"^registry-failed: (.* status 503.*)$",
             self.journal("irrdesk-check"),
             "what the check says",
         )

@@ -29,6 +29,7 @@ STEPS = [
     pytest.param("service", "boot", id="a boot"),
     pytest.param("service", "installed", id="apt install"),
     pytest.param("service", "removed_empty", id="a purge without a registry"),
+    pytest.param("service", "set_up", id="irr setup and irr check"),
     pytest.param("service", "upgraded", id="an upgrade of what is served"),
     pytest.param("service", "served", id="whois, HTTP and a submission"),
     pytest.param("service", "stopped_midway", id="a restart in mid-submission"),

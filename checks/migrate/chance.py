@@ -75,6 +75,8 @@ AUTHS = [
     "",
     "SHA256-PW a:" + "0" * 64,
     "SHA256-PW x",
+    "MD5-PW # Filtmntner: B-MNT",
+    "SHA256-PW role:" + "0" * 64,
 ]
 SOURCES: list[list[str]] = [
     ["RIPE # Filtered"],
@@ -177,7 +179,9 @@ def any_paragraph(chance: random.Random) -> list[str]:
         chance.random() < 0.02
     )
     chance.shuffle(rest)
-    return lines + rest + [f"source: {source}" for source in chance.choice(SOURCES)]
+    sources = [f"source: {source}" for source in chance.choice(SOURCES)]
+    place = chance.randrange(len(rest)) if chance.random() < 0.05 else len(rest)
+    return lines + rest[:place] + sources + rest[place:]
 
 
 def messy(chance: random.Random, line: str) -> list[str]:

@@ -57,7 +57,7 @@ status:         ASSIGNED PI
 mnt-by:         RIPE-NCC-END-MNT
 mnt-by:         EXAMPLE-MNT
 mnt-routes:     EXAMPLE-MNT {192.0.2.0/24^24-32, 2001:db8::/32^48}
-mnt-routes:     1AND1-MNT {2001:db8:1::/48^+}
+mnt-routes:     TWO-MNT {2001:db8:1::/48^+}
 mnt-domains:    EXAMPLE-MNT
 source:         RIPE
 
@@ -107,12 +107,12 @@ source:         RIPE
     },
     8,
     {"class inet6num": 1, "class person": 1, "crossing": 1},
-    {"source": 8, "ipv6": 1, "scope": 1, "rename": 1, "mntner": 2, "crossing": 1, "initial": 3},
+    {"source": 8, "ipv6": 1, "scope": 1, "rename": 1, "mntner": 3, "crossing": 1, "initial": 3},
     {"1AND1-MNT": "MNT-1AND1-MNT"},
     [
         "auth:           MD5-PW # Filtered\nauth:           SSO # Filtered\n",
         "descr:          Beispiel GmbH, M\xfcnchen\n",
-        "mnt-routes:     EXAMPLE-MNT {192.0.2.0/24^24-32}\nmnt-routes:     MNT-1AND1-MNT {}\n",
+        "mnt-routes:     EXAMPLE-MNT {192.0.2.0/24^24-32}\nmnt-routes:     TWO-MNT {}\n",
         "members:        AS64497, AS-OWN # two\n                AS64498\n",
         "origin:         AS64496\nmnt-by:         MNT-1AND1-MNT\nsource:         TEST\n",
         (
@@ -201,7 +201,7 @@ source:     RADB\r
         "a key that can't be read": 2,
         "duplicate": 1,
         "class route6": 1,
-        "braces of `mnt-routes` that are not a pair after a name": 1,
+        "a list that can't be read": 1,
     },
     {
         "source": 6,
@@ -453,20 +453,19 @@ source:         DEMO
 # EOF
 """
     },
-    6,
+    5,
     {
         "class key-cert": 1,
         "class filter-set": 1,
         "text: it has a line without a colon": 1,
-        "a prefix or a brace among maintainers": 1,
+        "a list that can't be read": 2,
     },
-    {"source": 6, "rename": 1, "mntner": 2, "initial": 3},
-    {"ANY": "MNT-ANY"},
+    {"source": 5, "mntner": 1, "initial": 3},
+    {},
     [
         "auth:           bcrypt DummyValue # Filtered for security\n",
         "members:        AS64496,\n                AS64497\n                , AS-MEMBER\n",
         "mbrs-by-ref:    DEMO-MNT\n",
-        "mbrs-by-ref:    ANY\nmnt-by:         DEMO-MNT, MNT-ANY\n",
         "as-block:       AS0 - AS4294967295\n",
         "mnt-routes:     DEMO-MNT, OTHER-MNT {192.0.2.0/24^24-32}\n",
     ],

@@ -33,12 +33,21 @@ Attributes = list[tuple[bytes, list[bytes]]]
 Lists = dict[bytes, list[bytes]]
 Order = tuple[int, Any]
 Form = list[Any]
-# Prefixes, braces, colons and operators, of which no maintainer's name has any.
-NO_NAME = re.compile(rb"^[0-9.]+(/|$)|[:{}^]")
+# What may be dropped from a list by itself, and the names of maintainers.
+WORD = re.compile(rb"(?=[A-Za-z0-9])[A-Za-z0-9_.:/^-]*(?<=[A-Za-z0-9])")
+MNT = re.compile(
+    rb"(?![AR]S-)(?=.*[A-Z])(?![_-])[A-Z0-9_-]*(?<![_-])|[AR]S-([A-Z0-9_-]*-)?MNT", re.I
+)
+EXPRESSION = set(
+    b"""ANY AS-ANY RS-ANY PEERAS AND OR NOT ATOMIC FROM TO AT ACTION ACCEPT ANNOUNCE EXCEPT REFINE
+    NETWORKS INTO INBOUND OUTBOUND""".split()
+)
+IPV6 = re.compile(rb"[0-9A-Fa-f:.]*:[0-9A-Fa-f:.]*:[0-9A-Fa-f:.]*(/[0-9]+)?(\^.+)?")
 TOKEN = re.compile(rb"[{}]|[^, \t\r{}]+")
 ROOT, SOURCE, NOBODY = b"ROOT-MNT", b"TEST", b"FILTERED"
 TOP = (1 << 32) - 1
 SOURCE_LINE = re.compile(rb"source[ \t\r]*:", re.I)
+UNSALTED = re.compile(rb"SHA256-PW " + SECRET_LINE.pattern, re.I)
 # A registry before a name, and the classes that other registries have.
 SCOPE = re.compile(rb"^([A-Za-z][A-Za-z0-9_-]*)::")
 OF_CLASSES = set(CLASSES) | {b"person", b"role", b"inet6num", b"route6", b"organisation"}
@@ -46,6 +55,10 @@ OF_CLASSES = set(CLASSES) | {b"person", b"role", b"inet6num", b"route6", b"organ
 
 class Out(Exception):
     """What is left out."""
+
+
+def is_maintainer(item: bytes) -> bool:
+    return MNT.fullmatch(item) is not None and item.upper() not in EXPRESSION
 
 
 def member_of(number: int) -> Callable[[bytes], bytes | None]:
@@ -67,6 +80,21 @@ def lists_of(number: int) -> set[bytes]:
         | ({b"member-of"} if number in MEMBER_OF_IN else set())
         | ({b"members", b"mbrs-by-ref"} if number in SETS else set())
     )
+
+
+def is_of_two(number: int, attributes: Attributes) -> bool:
+    """Whether a line is lost with which another object began: a list stands on both sides of
+    `source`, or an `auth` has a class in it."""
+    names = [name for name, _ in attributes]
+    place = names.index(b"source") if b"source" in names else len(names)
+    listed = lists_of(number) | ({b"auth"} if number == MNTNER else set())
+    auths = [line for name, lines in attributes if name == b"auth" for line in lines]
+    if number == MNTNER and any(
+        re.search(rb"(?i)(%s)\s*:(?!:)" % b"|".join(OF_CLASSES), UNSALTED.sub(b"", line))
+        for line in auths
+    ):
+        return True
+    return bool(listed & set(names[:place]) & set(names[place:]))
 
 
 def is_cut(text: bytes, paragraphs: list[list[bytes]]) -> bool:
@@ -133,6 +161,8 @@ class Second:
         source = b"".join(values(attributes, b"source"))
         if names.count(b"source") > 1 or (source and not numbers.NAME.fullmatch(source)):
             raise Out("source")
+        if is_of_two(number, attributes):
+            raise Out("two")
         first = meaning(attributes[0][1])
         origins = [meaning(lines) for name, lines in attributes if name == b"origin"]
         order = self.key(number, first, origins[0] if len(origins) == 1 else None)
@@ -185,7 +215,7 @@ class Second:
 
     def key(self, number: int, text: bytes, origin: bytes | None) -> Any:
         if number == MNTNER:
-            return text.upper() if ITEM.fullmatch(text) and not NO_NAME.search(text) else None
+            return text.upper() if is_maintainer(text) else None
         key = read_key(number, text, origin)
         return key.value if key else None
 
@@ -195,7 +225,10 @@ class Second:
         if name == b"mnt-routes":
             return list(self.grants(found))
         if name in (b"mnt-by", b"mnt-lower", b"mbrs-by-ref"):
-            return list(map(self.name, found))
+            is_any = name == b"mbrs-by-ref"
+            return [
+                item if is_any and item.upper() == b"ANY" else self.name(item) for item in found
+            ]
         is_good = (
             member_of(number)
             if name == b"member-of"
@@ -203,20 +236,14 @@ class Second:
             if number == AS_SET
             else route_set_member
         )
-        found = [item for items in listed for item in self.outside(items)]
-        return [item for item in found if is_good(SCOPE.sub(b"", item)) is not None]
+        return [item for item in found if self.stays(item, is_good(SCOPE.sub(b"", item)))]
 
-    def outside(self, items: list[bytes]) -> Iterator[bytes]:
-        """The items that are not in braces, of which each has another one."""
-        depth = 0
-        for item in items:
-            before, depth = depth, depth + item.count(b"{") - item.count(b"}")
-            if depth < 0:
-                raise Out("brace")
-            if not before and not depth:
-                yield item
-        if depth:
-            raise Out("brace")
+    def stays(self, item: bytes, read: object) -> bool:
+        """Whether an item stays that was read, or was not: then it must be a word, or of IPv6."""
+        if read is None and (item.upper() in EXPRESSION or not WORD.fullmatch(item)):
+            if not IPV6.fullmatch(item):
+                raise Out("list")
+        return read is not None
 
     def without_scopes(self, items: list[bytes]) -> Iterator[bytes]:
         """The items without a registry before them; one that another registry has, or that is not
@@ -242,15 +269,17 @@ class Second:
             head, *tokens = tokens
             if head in b"{}":
                 raise Out("brace")
-            if head.upper() == b"ANY":
-                continue
+            if head[:1].isdigit():
+                raise Out("no name")
             yield self.name(head)
             if tokens[:1] == [b"{"]:
                 end = tokens.index(b"}") if b"}" in tokens else 0
                 if not end or b"{" in tokens[1:end]:
                     raise Out("brace")
                 yield b"{"
-                yield from (token for token in tokens[1:end] if numbers.ranged(token) is not None)
+                yield from (
+                    token for token in tokens[1:end] if self.stays(token, numbers.ranged(token))
+                )
                 yield b"}"
                 tokens = tokens[end + 1 :]
             elif tokens and tokens[0].upper() == b"ANY":
@@ -258,8 +287,8 @@ class Second:
                 tokens = tokens[1:]
 
     def name(self, item: bytes) -> bytes:
-        """An item in a maintainer's place, which is no prefix and has no brace."""
-        if NO_NAME.search(item):
+        """An item in a maintainer's place, which can be nothing else."""
+        if not is_maintainer(item):
             raise Out("no name")
         return item
 

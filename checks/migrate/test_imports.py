@@ -37,6 +37,8 @@ from irr.migrate.normalisation import Mender
 from irr.migrate.report import Tally
 
 WORDS = ["--source", "TEST", "--root", "ROOT-MNT", "--auth", AUTH]
+# The causes that have the attribute and the item too.
+OF_LISTS = ("a list that can't be read", "an item with a colon, as of two lines that were joined")
 AUTHS = re.compile(rb"^auth: .*\n(?:[ +].*\n)*", re.M)
 REPORT = re.compile(
     rb"^([0-9,]+) paragraphs of 1 file: ([0-9,]+) taken, ([0-9,]+) left out\n"
@@ -134,7 +136,11 @@ def test_a_dump_of_another_registry_is_loaded_as_its_rules_say(
         )
     columns = {"left out": 4, "left out with it": 4, "dropped from lists": 6}
     expect(
-        [entry for entry in entries if len(entry) != columns.get(entry[0], len(entry))],
+        [
+            entry
+            for entry in entries
+            if len(entry) != columns.get(entry[0], len(entry)) + 2 * (entry[1] in OF_LISTS)
+        ],
         [],
         "entries of the list of other columns",
     )

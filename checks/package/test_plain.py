@@ -276,14 +276,7 @@ def test_the_package_is_installed(before: set[str], root: str, tell: Tell) -> No
         for line in ended.printed.partition("no registry yet")[2].splitlines()
         if line.startswith("  ")
     ]
-    expect(
-        told,
-        [
-            "runuser -u irrdesk -- irrdesk init /etc/irrdesk/irr.toml",
-            "systemctl enable --now irrdesk.service irrdesk-check.timer",
-        ],
-        "what it says is next",
-    )
+    expect(told, ["irr setup"], "what it says is next")
     seen = done(root, "stat -c '%U:%G %a %n' /etc/irrdesk /etc/irrdesk/irr.toml /var/lib/irrdesk")
     expect(
         seen.splitlines(),
@@ -300,7 +293,7 @@ def test_the_package_is_installed(before: set[str], root: str, tell: Tell) -> No
         VERSION,
         "the package's version",
     )
-    ended = Ended(root, told[0])
+    ended = Ended(root, "runuser -u irrdesk -- irrdesk init /etc/irrdesk/irr.toml")
     expect(
         (ended.status, "`auth`" in ended.said),
         (3, True),
@@ -357,11 +350,18 @@ def test_a_registry_of_the_package_is_served(root: str, tell: Tell) -> None:
             report = told.read().decode().splitlines()
         expect(
             [line.split(": ")[-1] for line in report],
-            [*["added"] * 3, "refused E13", "added", "% items 5"],
+            [
+                *["added", "changed"] * 3,
+                "added",
+                "refused E13",
+                "refused E15",
+                "added",
+                "% items 10",
+            ],
             "the report",
         )
         expect("origin:         AS64496\n" in ask(port, b"192.0.2.1\r\n"), True, "the route")
-        expect(ask(port, b"GET /dump HTTP/1.1\r\n\r\n").splitlines()[-1], "% end 8", "the dump")
+        expect(ask(port, b"GET /dump HTTP/1.1\r\n\r\n").splitlines()[-1], "% end 9", "the dump")
     tell("init, whois, a submission, a dump")
 
 
@@ -417,16 +417,18 @@ def test_the_package_is_taken_away_to_the_last_file(
     expect([path for path in kept if path.startswith("usr/")], [], "what it takes away")
     # What the units and the operator make.
     again = ["/var/cache/irrdesk/dump", "/var/lib/private/irrdesk-mirror/irr.db"]
+    again += ["/etc/irrdesk/setup.json", "/etc/irrdesk/submitters.conf"]
     own = [
         "/etc/systemd/system/irrdesk-mirror.service.d/override.conf",
         "/var/lib/irrdesk-backup/20261128T031502Z/irr.db",
         "/var/lib/irrdesk-history/.git/HEAD",
+        "/var/lib/private/irrdesk-view/all/irr.db",
         "/var/log/private/irrdesk-door/items.log",
     ]
     for path in [*again, *own]:
         os.makedirs(os.path.dirname(inside(root, path)), exist_ok=True)
         write(os.path.dirname(inside(root, path)), os.path.basename(path), b"")
-    for name in "lib/irrdesk-mirror", "log/irrdesk-door":
+    for name in "lib/irrdesk-mirror", "lib/irrdesk-view", "log/irrdesk-door":
         place, last = os.path.split(name)
         os.symlink(f"private/{last}", inside(root, f"/var/{place}/{last}"))
     ended = Ended(root, "dpkg --purge irrdesk")
@@ -437,18 +439,21 @@ def test_the_package_is_taken_away_to_the_last_file(
         "/var/lib/irrdesk",
         "/var/lib/irrdesk-backup",
         "/var/lib/irrdesk-history",
+        "/var/lib/private/irrdesk-view",
         "/var/log/private/irrdesk-door",
     ]
     expect(kept, wanted, "what the purge says that it keeps")
     left = done(root, f"find / -xdev -path '*irrdesk*' -prune -print | grep -v '^{CLONE}'")
     is_named = re.compile(
         r"/(etc/systemd/system/irrdesk-mirror.service.d|var/lib/irrdesk(-backup|-history)?"
-        r"|var/log/(private/)?irrdesk-door|home/visitor/.*|(proc|sys)/.*|var/lib/systemd/.*)"
+        r"|var/lib/(private/)?irrdesk-view|var/log/(private/)?irrdesk-door"
+        r"|home/visitor/.*|(proc|sys)/.*|var/lib/systemd/.*)"
     )
     expect([path for path in left.split() if not is_named.fullmatch(path)], [], "what it keeps")
     for user in "irrdesk", "irrdesk-public":
         done(root, f"getent passwd {user}")
-    done(root, f"rm -r {' '.join(kept)} /var/log/irrdesk-door /var/log/private /var/lib/private")
+    links = "/var/log/irrdesk-door /var/lib/irrdesk-view"
+    done(root, f"rm -r {' '.join(kept)} {links} /var/log/private /var/lib/private")
     done(root, f"dpkg --install {package(root)}")
     done(root, "dpkg --purge irrdesk")
     expect(sorted(listing(root) - before), [], "what a purge without data keeps")

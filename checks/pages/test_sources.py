@@ -213,6 +213,12 @@ def history() -> None:
         pytest.skip("the history here is cut off")
 
 
+def test_the_crates_are_named_in_one_file() -> None:
+    """`rt ci` takes each file of that name for a list of crates, and stops at a second one."""
+    named = [path for path in printed("git", "ls-files").splitlines() if "crates.txt" in path]
+    assert named == ["crates.txt"]
+
+
 def test_the_subjects_of_commits_since_the_release_are_short() -> None:
     history()
     last = printed("git", "log", "-1", "--format=%H", "--", "dist/PROOF")

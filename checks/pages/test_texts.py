@@ -2,10 +2,12 @@
 
 import ast
 import re
+import statistics
 
 import pytest
 
 from checks.pages.text import (
+    BESIDE,
     CODE,
     LINK,
     MANUAL,
@@ -49,8 +51,10 @@ USER_WORDS = {
     r"\b(is|are) told\b": "is reported, printed",
     r"\bregistry's desk\b|\bthe desk\b": "the registry",
 }
-# The words of a sentence that are many, and the most that one may have.
-MANY, MOST = 30, 60
+# The most words of a sentence, and of one in a page of what was; the middle sentence of a page has
+# fewer than the third.
+MOST, MOST_OF_OLD, MIDDLE = 30, 60, 16
+OLD = "CHANGELOG.md"
 NUMBERS = re.compile(r"\bAS(\d+)\b")
 # Where files name pages.
 PLACES = "bench", "checks", "dist", "examples", "scripts", "tools", "units", "web", "crates", ".ci"
@@ -90,15 +94,17 @@ def test_what_the_tool_prints_has_no_word_that_the_house_avoids() -> None:
     assert not bad
 
 
-@pytest.mark.parametrize("name", PAGES)
+@pytest.mark.parametrize("name", [*PAGES, *MANUAL])
 def test_the_sentences_of_a_page_are_short(name: str, tell: Tell) -> None:
+    most = MOST_OF_OLD if name == OLD else MOST
     counts = sorted(sentences_of(name), reverse=True)
-    many = sum(count > MANY for count, _ in counts)
-    tell(f"{len(counts)} sentences, {many} of over {MANY} words; the longest has {counts[0][0]}")
-    assert not [f"{count} words: {text}" for count, text in counts if count > MOST]
+    middle = statistics.median(count for count, _ in counts)
+    tell(f"{len(counts)} sentences; the longest has {counts[0][0]} words, the middle one {middle}")
+    assert not [f"{count} words: {text}" for count, text in counts if count > most]
+    assert middle < MIDDLE
 
 
-@pytest.mark.parametrize("name", [*PAGES, "bench/README.md", "checks/README.md"])
+@pytest.mark.parametrize("name", [*PAGES, *BESIDE])
 def test_the_links_of_a_page_lead_to_files_and_headings(name: str) -> None:
     bad = []
     for target in LINK.findall(CODE.sub("", text_of(name))):
@@ -153,3 +159,26 @@ def test_each_file_of_definitions_is_named_below_the_heading_of_its_crate() -> N
         files = {path.stem for path in folder.rglob("*.antt")} - {"Lib", "Private"}
         missing += [f"crates/{crate}/specs/{name}.antt" for name in files - named.get(crate, set())]
     assert not sorted(missing)
+
+
+def test_what_the_tables_of_the_architecture_name_is_there() -> None:
+    """Each room of the tool and of the page, with its files and the checks that try it."""
+    rows = [line for line in text_of("docs/ARCHITECTURE.md").splitlines() if line.startswith("| ")]
+    missing, rooms = [], set()
+    for row in rows:
+        cells = [re.findall(r"`([\w./]+)`", cell) for cell in row.split("|")[1:-1]]
+        room = cells[0][0] if cells[0] else ""
+        rooms.add(room)
+        for name in [*cells[0], *cells[1]]:
+            places = f"tools/irr/{room}/{name}.py", f"tools/irr/{name}.py", f"web/{name}.js"
+            others = name, f"tools/irr/{name}", f"web/{name}"
+            if not any((TOP / place).exists() for place in [*places, *others]):
+                missing.append(f"{room}: {name}")
+        missing += [
+            name
+            for name in cells[2]
+            if not ((TOP / f"checks/{name}.py").exists() and "/test_" in name)
+        ]
+    assert not missing
+    packages = {path.parent.name for path in (TOP / "tools/irr").glob("*/__init__.py")}
+    assert not sorted(packages - rooms)

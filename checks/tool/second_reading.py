@@ -25,6 +25,7 @@ LISTS = {
     "mp-members": ["route-set"],
     "mbrs-by-ref": ["as-set", "route-set"],
 }
+SECRET = re.compile("SHA256-PW [a-z0-9]{0,16}:[0-9a-f]{64}", re.I)
 Attributes = list[tuple[str, list[str]]]
 
 
@@ -157,8 +158,7 @@ def key_of(piece: Piece) -> Any:
     """What tells an object from others of its class; None where it can't be read."""
     value, kind = meaning(piece.attributes[0][1]), piece.kind
     if kind == "mntner":
-        is_name = re.fullmatch(r"[^, \t\r:]+", value) and not is_no_name(value)
-        return value.upper() if is_name else None
+        return value.upper() if is_maintainer(value) else None
     if kind == "aut-num":
         return number_of(value)
     if kind == "as-block":
@@ -213,7 +213,25 @@ def refusal(piece: Piece, is_cut_off: bool) -> str:
     if cause:
         return cause
     source = "".join(piece.values("source"))
-    return "`source` that" if source and not NAME.fullmatch(source) else ""
+    if source and not NAME.fullmatch(source):
+        return "`source` that"
+    return shows_another(piece)
+
+
+def shows_another(piece: Piece) -> str:
+    """A word of the cause where the first line of another object may be lost in a piece: a list
+    goes on after `source`, or an `auth` has a class in it."""
+    listed = [name for name, kinds in LISTS.items() if piece.kind in kinds]
+    listed += ["auth"] if piece.kind == "mntner" else []
+    for place, (name, lines) in enumerate(piece.attributes):
+        if name == "auth" and piece.kind == "mntner":
+            text = "\n".join(SECRET.sub("", line).lower() for line in lines)
+            if re.search(rf"({'|'.join(CLASSES + OTHERS)})[ \t\r]*:(?!:)", text):
+                return "inside an `auth`"
+        front = piece.names[:place]
+        if name in listed and "source" in front and name in front[: front.index("source")]:
+            return "goes on after"
+    return ""
 
 
 def no_list(piece: Piece) -> str:
@@ -226,45 +244,52 @@ def no_list(piece: Piece) -> str:
         if piece.kind not in LISTS.get(name, []):
             continue
         for item in tokens_of(name, meaning(lines)):
+            is_good_here = is_ipv6(item) or is_word(item)
             if name == "mnt-routes" and item in "{}":
-                if before != ("name" if item == "{" else "{"):
-                    return "not a pair"
+                is_good_here = before == ("name" if item == "{" else "{")
                 before = item
             elif name == "mnt-routes" and before == "{":
-                if not is_range(item) and is_joined(item):
-                    return "two lines"
+                is_good_here |= is_range(item)
+            elif item.upper() == "ANY" and name in ("mnt-routes", "mbrs-by-ref"):
+                is_good_here = name == "mbrs-by-ref" or before == "name"
+                before = "}"
             elif name in ("mnt-by", "mnt-lower", "mnt-routes", "mbrs-by-ref"):
-                if is_no_name(item):
-                    return "among maintainers"
-                if ":" in item:
-                    return "two lines"
-                if name == "mnt-routes":
-                    before = "}" if item.upper() == "ANY" else "name"
-        if name.endswith("members") or name == "member-of":
-            items = tokens_of(name, meaning(lines))
-            inside = in_braces(items)
-            if inside is None:
-                return "without the other"
-            for item, is_inside, follows in zip(items, inside, [*items[1:], ""]):
+                is_good_here = is_maintainer(item)
+                is_good_here &= name != "mnt-routes" or not item[0].isdigit()
+                before = "name" if name == "mnt-routes" else before
+            else:
                 scope, _, bare = item.rpartition("::")
                 own = bare if NAME.fullmatch(scope) else item
-                is_read = set_name(own) if name == "member-of" else is_good(piece.kind, name, own)
-                if not (is_inside or is_read or follows[:1] == "^") and is_joined(item):
-                    return "two lines"
-    return "not a pair" if before == "{" else ""
+                is_good_here |= bool(
+                    set_name(own) if name == "member-of" else is_good(piece.kind, name, own)
+                )
+            if not is_good_here:
+                return "two lines" if is_joined(item) else "a list"
+    return "a list" if before == "{" else ""
 
 
-def is_no_name(item: str) -> bool:
-    """Whether an item of a list of maintainers is a prefix, an address or an operator, or has a
-    brace or two colons."""
-    numbers = re.match("[0-9.]+", item)
-    rest = item[numbers.end() :] if numbers else "x"
-    return bool(re.search("[{}^]", item)) or rest[:1] == "/" or not rest or is_ipv6(item)
+def is_word(item: str) -> bool:
+    """Whether an item that can't be read is a word, and none of an expression, nor of two lines."""
+    is_plain = re.fullmatch("[A-Za-z0-9_.:/^-]+", item) and item[0].isalnum() and item[-1].isalnum()
+    return bool(is_plain) and item.lower() not in RESERVED and not is_joined(item)
+
+
+def is_maintainer(item: str) -> bool:
+    """Whether an item of a list of maintainers is a name, of any length; that of a set ends as the
+    names of maintainers do."""
+    is_set = item.upper().startswith(("AS-", "RS-")) and not item.upper().endswith("-MNT")
+    has_letter = any(letter.isalpha() for letter in item)
+    return is_word(item) and has_letter and not is_set and not set(item) & set("/.:^")
 
 
 def is_ipv6(item: str) -> bool:
-    front = item.partition("^")[0].partition("/")[0]
-    return item.count(":") > 1 and not set(front) - set("0123456789abcdefABCDEF:.")
+    front, hat, operator = item.partition("^")
+    try:
+        ipaddress.IPv6Address(front.partition("/")[0])
+    except ValueError:
+        return False
+    ends = re.fullmatch("[+-]|[0-9]{1,3}(-[0-9]{1,3})?", operator)
+    return bool(re.fullmatch("[^/%]+(/[0-9]{1,3})?", front) and (ends or not hat))
 
 
 def is_joined(item: str) -> bool:
@@ -276,20 +301,6 @@ def is_joined(item: str) -> bool:
     return any(word.endswith(tuple(CLASSES + OTHERS)) for word in words[:-1]) or (
         len(words) > 1 and "" in (words[0], words[-1])
     )
-
-
-def in_braces(items: list[str]) -> list[bool] | None:
-    """Which items are not wholly outside of braces; None where the braces are no pairs."""
-    depth, found = 0, []
-    for item in items:
-        is_inside = depth > 0
-        for letter in re.findall("[{}]", item):
-            is_inside = True
-            depth += 1 if letter == "{" else -1
-        if depth < 0:
-            return None
-        found.append(is_inside)
-    return found if not depth else None
 
 
 # Items of lists.
@@ -441,11 +452,6 @@ class Registry:
                 stays = is_good(piece.kind, name, bare) and self.is_imported(scope.upper(), bare)
             else:
                 stays = is_good(piece.kind, name, item)
-            follows = (items + [""])[place + 1]
-            if follows[:1] == "^" and (name != "mnt-routes" or is_range(item)):
-                stays = False
-            if name != "mnt-routes" and (in_braces(items) or [False] * len(items))[place]:
-                stays = False
             if stays:
                 kept.append(without_host_bits(bare))
             else:

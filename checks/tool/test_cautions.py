@@ -27,6 +27,7 @@ class Registry:
     """Has one maintainer, and counts what it is asked."""
 
     url = "the registry"
+    is_excerpt = False
 
     def __init__(self, registered: str = "") -> None:
         self.registered, self.asked = registered, 0

@@ -5,6 +5,7 @@ import socket
 import ssl
 import threading
 from collections.abc import Callable, Iterator
+from pathlib import Path
 
 import pytest
 
@@ -12,6 +13,7 @@ from checks import worlds
 from irr.errors import FAILED, Failure
 from irr.registry import replies
 from irr.registry.server import Server
+from irr.views import sources
 
 HEAD = b"HTTP/1.1 200 OK\r\nContent-Type: text/plain\r\nConnection: close\r\n"
 END = b"origin:         AS1\nmnt-by:         A-MNT\nsource:         T\n\n"
@@ -92,6 +94,35 @@ def test_cut_dump_over_tls(certificate: tuple[str, str], monkeypatch: pytest.Mon
     reply = HEAD + b"\r\n" + TWO + b"% end 2\n"
     with over_tls(certificate, reply, False, monkeypatch) as place, pytest.raises(Failure):
         list(place.dump())
+
+
+def test_cut_dump_of_a_view_over_tls(
+    certificate: tuple[str, str], tmp_path: Path, monkeypatch: pytest.MonkeyPatch
+) -> None:
+    """Its sources tell no end of their own, and may announce no length."""
+    for length in b"", b"Content-Length: %d\r\n" % len(TWO):
+        for has_end in True, False:
+            reply = HEAD + length + b"\r\n" + TWO
+            with over_tls(certificate, reply, has_end, monkeypatch) as place:
+                if has_end or length:
+                    sources.fetched(place.url, False, "", tmp_path / "part")
+                    assert (tmp_path / "part").read_bytes() == TWO
+                    continue
+                with pytest.raises(Failure, match="it cannot be fetched"):
+                    sources.fetched(place.url, False, "", tmp_path / "part")
+
+
+def test_a_view_asks_only_whom_it_knows(
+    certificate: tuple[str, str], tmp_path: Path, monkeypatch: pytest.MonkeyPatch
+) -> None:
+    with over_tls(certificate, HEAD + b"\r\n" + TWO, True, monkeypatch) as place:
+        monkeypatch.setenv("SSL_CERT_FILE", "/dev/null")
+        with pytest.raises(Failure, match="certificate"):
+            sources.fetched(place.url, False, "", tmp_path / "part")
+        other = place.url.replace("127.0.0.1", "localhost")
+        monkeypatch.setenv("SSL_CERT_FILE", certificate[0])
+        with pytest.raises(Failure, match="localhost"):
+            sources.fetched(other, False, "", tmp_path / "part")
 
 
 def test_cut_head_over_tls(certificate: tuple[str, str], monkeypatch: pytest.MonkeyPatch) -> None:

@@ -19,6 +19,7 @@ class Registry:
     """Has these objects, by their queries."""
 
     url = "the registry"
+    is_excerpt = False
 
     def __init__(self, **objects: str) -> None:
         self.held = {"less 0.0.0.0/0": ALL} | {

@@ -5,7 +5,8 @@ import random
 
 import pytest
 
-from checks.running import AUTH, Tell, Trial, expect, write, write_settings
+from checks.running import AUTH, Each, Tell, Trial, expect, write, write_settings
+from irr import errors
 from irr.local import temporary
 from irr.rpsl import syntax
 
@@ -86,6 +87,40 @@ def test_an_object_near_the_bound_is_loaded_by_replicas(
     over = sum(len(block.text) > MOST for block in syntax.blocks([dump]))
     expect(over > 0, True, "whether some are longer as they are printed")
     tell(f"{added} objects, {over} of them over {MOST} bytes as they are printed")
+
+
+def unended(number: int, line: str) -> str:
+    """An object of just as many bytes as a paragraph may have, without the end of its last line:
+    with it it has one more."""
+    text = f"as-set:AS-U{number}\nmnt-by:ROOT-MNT\nsource:TEST\n"
+    text += line * ((MOST - len(text) - 8) // len(line))
+    return text + "c:" + "x" * (MOST - len(text) - 2)
+
+
+def test_an_object_without_its_last_line_end_is_loaded_by_replicas(
+    trial: Trial, each: Each
+) -> None:
+    """No other text spells it but this one, at the end of a file."""
+    for number, line in enumerate(["a:b\n", "auth:\n", "b:\n+\n"]):
+        with each(repr(line)):
+            folder, copy = trial.place(f"unended-{number}"), trial.place(f"copied-{number}")
+            for one in folder, copy:
+                write_settings(one, limit=1_000)
+            trial.run(folder, "init", "s.toml")
+            text = "password: bc\n\n" + unended(number, line)
+            report = trial.run(folder, "submit", "s.toml", write(folder, "o", text.encode()))
+            expect(report.printed[-17:], b" added\n% items 1\n", "the report")
+            dump = trial.run(folder, "dump", "s.toml").printed
+            made = b"".join(temporary.loadable([dump]))
+            done = trial.run(copy, "load", "s.toml", write(copy, "dump", made))
+            expect((done.status, done.said), (0, b""), "load")
+            expect(trial.run(copy, "dump", "s.toml").printed == dump, True, "the same dump")
+
+
+def test_two_objects_that_no_file_can_have_are_named() -> None:
+    texts = [unended(number, "a:b\n").encode() for number in range(2)]
+    with pytest.raises(errors.Failure, match="as-set AS-U1"):
+        list(temporary.loadable([b"\n\n".join(texts) + b"\n\n"]))
 
 
 def test_what_is_hidden_in_a_text_stays(trial: Trial) -> None:

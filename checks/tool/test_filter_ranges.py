@@ -68,3 +68,32 @@ def test_lengths(monkeypatch: pytest.MonkeyPatch, capsys: pytest.CaptureFixture[
         "10.2.0.0/16{16,24}",
         "10.3.0.0/16{20,32}",
     ]
+
+
+def test_each_route_of_an_as_is_in_its_filter(
+    monkeypatch: pytest.MonkeyPatch, capsys: pytest.CaptureFixture[str]
+) -> None:
+    prefixes = ["10.0.0.0/8", "10.0.0.0/9", "10.1.0.0/16", "192.0.2.0/32"]
+    place = Lines()
+    place.text = "".join(
+        f"route:          {one}\norigin:         AS1\nmnt-by:         A-MNT\nsource:         T\n\n"
+        for one in prefixes
+    ).encode()
+    monkeypatch.setattr(Server, "from_options", lambda *_: place)
+    parser = argparse.ArgumentParser()
+    command.arguments(parser)
+    assert command.run(parser.parse_args(["frr", "X", "AS1", "-"])) == DONE
+    lines = capsys.readouterr().out.split("\n")[1:-2]
+    assert [line.split()[6] for line in lines] == prefixes
+
+
+def test_a_set_that_lacks_one_makes_no_filter(
+    monkeypatch: pytest.MonkeyPatch, capsys: pytest.CaptureFixture[str]
+) -> None:
+    place = Lines("10.0.0.0/16", "% missing AS1:AS-GONE")
+    with pytest.raises(Failure, match="not registered: AS1:AS-GONE") as raised:
+        made(place, monkeypatch, "bird")
+    assert raised.value.status == REFUSED
+    assert made(place, monkeypatch, "-m", "bird") == DONE
+    told = capsys.readouterr()
+    assert "AS1:AS-GONE" in told.err and "10.0.0.0/16{16,16}\n" in told.out

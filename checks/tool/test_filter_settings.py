@@ -1,6 +1,7 @@
 """The settings of filters: what a command says, what is no filter, and the guard against a list
 that shrinks."""
 
+import errno
 import os
 import shlex
 import sys
@@ -132,6 +133,55 @@ def test_a_small_list_that_shrinks_beside_a_large_one_is_kept_back(
     assert made(tmp_path, command("define Y = [ 10.0.0.0/24 ];\n")) == SHRUNK
     said = capsys.readouterr().err
     assert "its list LARGE lacks 200 of" in said and "of 1 other list too much" in said
+
+
+def refuse_garbage(router: str, new: Path) -> None:
+    """A parser of bird's that reads no other thing than definitions."""
+    if not new.read_bytes().startswith(b"define"):
+        raise Failure(router, "it does not read the filter: syntax error")
+
+
+@pytest.mark.parametrize("old", ["<html>gone</html>", "\0" * 400, LIST[5:]])
+def test_an_old_list_that_cannot_be_read_keeps_the_guard_on(
+    tmp_path: Path, old: str, monkeypatch: pytest.MonkeyPatch, capsys: pytest.CaptureFixture[str]
+) -> None:
+    monkeypatch.setattr(settings, "look", refuse_garbage)
+    (tmp_path / "0").write_text(old)
+    assert made(tmp_path, command(SHORTER)) == SHRUNK
+    said = capsys.readouterr().err
+    assert "can't be read: it does not read the filter" in said and "--accept" in said
+    assert (tmp_path / "0").read_text() == old
+    assert made(tmp_path, command(SHORTER), accepts=True) == DONE
+    assert (tmp_path / "0").read_text() == SHORTER
+
+
+def test_an_old_list_without_rights_keeps_the_guard_on(
+    tmp_path: Path, monkeypatch: pytest.MonkeyPatch, capsys: pytest.CaptureFixture[str]
+) -> None:
+    read_bytes = Path.read_bytes
+
+    def denied(path: Path) -> bytes:
+        if path == tmp_path / "0":
+            raise PermissionError(errno.EACCES, "Permission denied", str(path))
+        return read_bytes(path)
+
+    (tmp_path / "0").write_text(LIST)
+    monkeypatch.setattr(Path, "read_bytes", denied)
+    assert made(tmp_path, command(SHORTER)) == SHRUNK
+    assert "permission denied" in capsys.readouterr().err
+    assert (tmp_path / "0").read_text() == LIST
+    assert made(tmp_path, command(SHORTER), more="shrink = 100\n") == DONE
+    assert (tmp_path / "0").read_text() == SHORTER
+
+
+@pytest.mark.parametrize("old", [None, "", "# Made by nobody\n\n"])
+def test_an_old_list_of_nothing_guards_nothing(
+    tmp_path: Path, old: str | None, monkeypatch: pytest.MonkeyPatch
+) -> None:
+    monkeypatch.setattr(settings, "look", refuse_garbage)
+    if old is not None:
+        (tmp_path / "0").write_text(old)
+    assert made(tmp_path, command(SHORTER)) == DONE
 
 
 def test_a_list_at_the_bound_is_taken(tmp_path: Path) -> None:

@@ -1,15 +1,19 @@
 """What of an object is left to whom, where it is handed over or held."""
 
+from collections.abc import Iterator
 from types import SimpleNamespace
 from typing import cast
 
 import pytest
 
+from checks.submissions.running import items_of
 from irr.commands import held
 from irr.errors import Failure
+from irr.registry import answers
 from irr.registry.handovers import Handover, handed_over
 from irr.registry.refusals import Reasons, span_of
 from irr.rpsl import holders, keys, syntax
+from irr.rpsl.keys import Key
 from irr.rpsl.syntax import Paragraph
 
 SPACE = """inetnum: 10.0.0.0/8
@@ -92,3 +96,59 @@ def test_a_grant_of_no_ranges_stays_one() -> None:
     assert (holders.by(kept), kept.has(b"mnt-lower")) == (["B-MNT"], False)
     everything = held.without(space, ["A-MNT", "B-MNT", "C-MNT"])
     assert holders.grants(everything) == holders.grants(space)
+
+
+BLOCKS = """as-block: AS0 - AS65535
+mnt-by: ROOT-MNT
+source: TEST
+
+as-block: AS64500 - AS64500
+mnt-by: B-MNT
+source: TEST
+
+as-block: AS64500 - AS64509
+mnt-by: A-MNT
+mnt-lower: C-MNT
+source: TEST
+"""
+
+
+class Registry:
+    """A registry of as-blocks, and of an inetnum inside others, which stands there by now."""
+
+    url, is_excerpt = "the registry", False
+
+    def query(self, *words: str) -> answers.Answer:
+        spans = ("0.0.0.0 - 255.255.255.255", "10.0.0.0 - 10.0.0.255", "10.0.0.0 - 10.0.255.255")
+        text = "".join(
+            f"inetnum:        {span}\nmnt-by:         {name}-MNT\nsource:         TEST\n\n"
+            for span, name in zip(spans, "XZY")
+        )
+        return answers.Answer(text.encode(), " ".join(words))
+
+    def dump(self) -> Iterator[bytes]:
+        text = b"".join(one.text() + b"\n" for one in read(BLOCKS))
+        return iter([text + b"%% end %d\n" % text.count(b"source")])
+
+
+@pytest.mark.parametrize(
+    ("text", "decides"),
+    [
+        ("aut-num: AS64500", "as-block AS64500 - AS64500 decides: B-MNT may add below it."),
+        ("aut-num: AS64501", "as-block AS64500 - AS64509 decides: C-MNT may add below it."),
+        ("aut-num: AS1", "as-block AS0 - AS65535 decides: ROOT-MNT may add below it."),
+        ("as-block: AS64500 - AS64500", "as-block AS64500 - AS64509 decides: C-MNT may add"),
+        ("as-block: AS64501 - AS64502", "as-block AS64500 - AS64509 decides: C-MNT may add"),
+        ("inetnum: 10.0.0.0/24", "inetnum 10.0.0.0 - 10.0.255.255 decides: Y-MNT may add"),
+        ("inetnum: 10.0.0.0/25", "inetnum 10.0.0.0 - 10.0.0.255 decides: Z-MNT may add"),
+    ],
+)
+def test_the_closest_one_decides(text: str, decides: str) -> None:
+    """The smallest that covers the object, and never that itself (RFC 2725, 9)."""
+    (item,) = items_of(f"{text}\nmnt-by: D-MNT\nsource: TEST\n".encode())
+    (words,) = Reasons(Registry()).of(item, "E13", True)
+    assert words.startswith(decides)
+    kind, _, key = text.partition(": ")
+    if kind == "aut-num":
+        names = Handover(Reasons(Registry()), "D-MNT", None).who_may_add(Key(kind, key))
+        assert names == [words.split("decides: ")[1].split(" ")[0]]

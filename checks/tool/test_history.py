@@ -2,12 +2,20 @@
 
 import os
 import re
+import shutil
 import subprocess
 import time
+from pathlib import Path
+
+import pytest
 
 from checks.keeping import QUERIES, VERSIONED, whois_answer
 from checks.running import Tell, Trial, expect
 from checks.worlds import Tool, World, expect_line
+from irr.errors import Failure
+from irr.local.history import Repository
+from irr.rpsl import syntax
+from irr.system import files
 
 
 def test_history_says_who_held_what_and_when(trial: Trial, tool: Tool, tell: Tell) -> None:
@@ -100,3 +108,93 @@ def test_history_says_who_held_what_and_when(trial: Trial, tool: Tool, tell: Tel
     )
     expect((checked.returncode, checked.stdout), (0, ""), f"git fsck, {checked.stderr}")
     tell(f"{len(states)} states")
+
+
+# A git that is killed at its call N: before it has done anything, once all is done, or in the
+# middle, where it leaves what keeps others out.
+KILLED_GIT = """#!/bin/sh
+count=$(($(cat "$PLACE/count") + 1))
+echo $count > "$PLACE/count"
+if [ $count = $STEP ]; then
+    if [ $MODE = after ]; then $REAL "$@"; fi
+    if [ $MODE = middle ]; then
+        head -c 300 | $REAL "$@"
+        cd "$PLACE/h"
+        if [ $count = 1 ] && [ ! -e ../is-there ]; then rm -r objects; fi
+        mkdir -p refs/heads objects/info/commit-graphs objects/pack
+        touch $LEFT
+    fi
+    kill -9 $$
+fi
+exec $REAL "$@"
+"""
+LEFT = """index.lock HEAD.lock config.lock packed-refs.lock packed-refs.new refs/heads/main.lock
+    gc.pid shallow.lock objects/info/commit-graphs/commit-graph-chain.lock
+    objects/pack/tmp_pack_x"""
+ONE = b"aut-num:        AS%d\nmnt-by:         A-MNT\nsource:         TEST\n"
+
+
+@pytest.mark.parametrize("mode", ["before", "middle", "after"])
+def test_a_history_goes_on_where_git_was_killed(
+    tmp_path: Path, mode: str, monkeypatch: pytest.MonkeyPatch
+) -> None:
+    """At each of its calls, of a first state and of a later one."""
+    real = shutil.which("git")
+    assert real
+    (tmp_path / "git").write_text(KILLED_GIT)
+    (tmp_path / "git").chmod(0o755)
+    monkeypatch.setenv("PATH", f"{tmp_path}:{os.environ['PATH']}")
+    for name, value in {"PLACE": str(tmp_path), "REAL": real, "MODE": mode}.items():
+        monkeypatch.setenv(name, value)
+    folder = tmp_path / "h"
+    monkeypatch.setenv("LEFT", LEFT.replace("\n", " "))
+    states: list[list[int]] = [[], [1, 2]]
+    for before in states:
+        step = 0
+        while True:
+            step += 1
+            shutil.rmtree(folder, ignore_errors=True)
+            folder.mkdir()
+            monkeypatch.setenv("STEP", "0")
+            if before:
+                recorded(folder, before)
+                (tmp_path / "is-there").touch()
+            (tmp_path / "count").write_text("0")
+            monkeypatch.setenv("STEP", str(step))
+            try:
+                recorded(folder, [2, 3])
+            except Failure as failure:
+                expect("git " in failure.what, True, f"{failure}")
+            else:
+                break
+            recorded(folder, [2, 3])
+            last = Repository(folder).state()
+            expect(last and last.dump, "2-3", f"the last state after step {step}")
+            found = b"".join(Repository(folder).objects(last)) if last else b""
+            expect(found, b"\n".join([ONE % 2, ONE % 3, b""]), f"its objects after step {step}")
+            said = subprocess.run(
+                [real, f"--git-dir={folder}", "fsck", "--strict", "--no-dangling"],
+                capture_output=True,
+                check=True,
+            )
+            left = [one for one in LEFT.split() if (folder / one).exists()]
+            expect((said.stdout, left), (b"", []), f"what is left after step {step}")
+        expect(step > 4, True, f"whether {step} is the number of calls")
+
+
+def recorded(folder: Path, numbers: list[int]) -> None:
+    """Commits a dump of so many aut-nums."""
+    text = b"".join(ONE % number + b"\n" for number in numbers)
+    digest = "-".join(map(str, numbers))
+    Repository(folder).record(syntax.blocks([text]), lambda: digest, 1_700_000_000)
+
+
+def test_whom_a_killed_history_left_at_work_holds_its_folder(tmp_path: Path) -> None:
+    """A git that lives on is waited for."""
+    with files.locked(tmp_path) as lock:
+        left = subprocess.Popen(["cat"], stdin=subprocess.PIPE, pass_fds=[lock])
+    with left:
+        with pytest.raises(Failure, match="another irr works"), files.locked(tmp_path):
+            pass
+    with files.locked(tmp_path):
+        pass

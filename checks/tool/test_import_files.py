@@ -18,7 +18,7 @@ import pytest
 from checks.running import PATIENCE
 from checks.tool.importing import AUTH, obj
 from irr import main
-from irr.errors import FAILED, REFUSED
+from irr.errors import ARGUMENTS, FAILED, REFUSED
 from irr.migrate import dumps
 from irr.system import files
 
@@ -101,6 +101,23 @@ def test_nothing_taken_replaces_nothing(content: bytes, capsys: pytest.CaptureFi
         "list": b"before",
         "names": b"before",
     }
+
+
+@pytest.mark.parametrize("names", ["-o --left-out", "-o --renamed", "--left-out --renamed"])
+def test_files_to_write_are_several(names: str, capsys: pytest.CaptureFixture[str]) -> None:
+    """Also through a link, and where none of them is there."""
+    Path("dump").write_bytes(GOOD)
+    Path("link").symlink_to("one")
+    Path("folder").symlink_to(".")
+    first, second = names.split()
+    for other in "one", "./one", "link", "folder/one", os.path.abspath("one"):
+        assert run("dump", first, "one", second, other) == ARGUMENTS
+        assert capsys.readouterr() == (
+            "",
+            f"irr import: {other}: two of --output, --left-out and --renamed are this file; "
+            "give each its own\n",
+        )
+        assert not Path("one").exists()
 
 
 class Drops(io.RawIOBase):
@@ -223,7 +240,7 @@ def test_the_help_says_what_an_object_is(capsys: pytest.CaptureFixture[str]) -> 
     words = " ".join(capsys.readouterr().out.split())
     for rule in (
         "A paragraph is not an object if the name of a class comes again after its first",
-        "An object is left out too if its maintainers have a prefix or a brace, if two of its"
-        " lines were joined, or if its file ends within it.",
+        "An object is left out too if one of its lists can't be read, if two of its lines were"
+        " joined, or if its file ends within it.",
     ):
         assert rule in words

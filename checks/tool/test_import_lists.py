@@ -1,10 +1,14 @@
 """What an import makes of lists: nothing is gone from one that is not told."""
 
+import time
 from collections.abc import Iterable
 
 import pytest
+from hypothesis import given
+from hypothesis import strategies as st
 
 from checks.tool.importing import left_out, made, mended, obj, texts_of
+from irr.migrate import parting
 from irr.rpsl import syntax
 
 SET = ("as-set: AS-X", "mnt-by: A-MNT", "source: RIPE")
@@ -135,6 +139,24 @@ def test_a_scoped_item_that_is_dropped_is_told_as_it_was_read() -> None:
     assert made(text, off=["host-bits"])[1].causes == {"not mended because of --no-host-bits": 1}
 
 
+def test_scoped_items_of_both_families_are_told_by_their_attribute() -> None:
+    """And are in `members` where they stay."""
+    text = of("RIPE", "route-set: RS-X", "mp-members: NTT::AS-Q, ::/0, RIPE::10.0.0.1/8, AS2 # a")
+    text += of("RIPE", "route-set: RS-Y", "members: NTT::AS-Q", "mp-members: NTT::AS-Q")
+    dump, tally = made(text)
+    assert [line.split("\t")[2:] for line in left_out(text)] == [
+        ["route-set: RS-X", "mp-members", "::/0"],
+        ["route-set: RS-X", "mp-members", "NTT::AS-Q"],
+        ["route-set: RS-Y", "members", "NTT::AS-Q"],
+        ["route-set: RS-Y", "mp-members", "NTT::AS-Q"],
+    ]
+    own, other = (set_text.split("\n") for set_text in texts_of(dump, "route-set"))
+    assert own[1] == "members:        10.0.0.0/8, AS2 # a" and tally.mended["mp-members"] == 2
+    assert other[1].startswith("mnt-by:")
+    dump, _ = made(text, keeps_scoped=True)
+    assert b"mp-members" not in dump and dump.count(b"members:        AS-Q") == 3
+
+
 def test_kept_scopes() -> None:
     text = of("RIPE", "as-set: AS-X", "members: RADB::AS-Y")
     dump, tally = made(text, keeps_scoped=True)
@@ -183,13 +205,13 @@ def test_scopes_with_operators_and_new_names() -> None:
         "route-set: RS-X",
         "members: RIPE::RS-Y^+, RIPE::AS1^24, RIPE::10.0.0.1/8^+ # one",
         "members: RADB::RS-Z^- # two",
-        "mnt-by: 1-MNT",
+        "mnt-by: " + "A" * 81,
         "source: RIPE",
     )
     dump, _ = made(text)
     assert texts_of(dump, "route-set") == [
         "route-set:      RS-X\nmembers:        RS-Y^+, AS1^24, 10.0.0.0/8^+ # one\n"
-        "members:        # two\nmnt-by:         MNT-1-MNT\nsource:         TEST\n"
+        "members:        # two\nmnt-by:         " + "A" * 68 + "\nsource:         TEST\n"
     ]
 
 
@@ -236,72 +258,61 @@ def test_a_short_prefix_keeps_its_comment() -> None:
     )
 
 
-# An operator by itself.
+# What can't be read: it is dropped if the others of its list mean the same without it.
 
-
-@pytest.mark.parametrize(
-    ("kind", "attribute", "items", "kept"),
-    [
-        ("route-set: RS-X", "members", "10.0.0.0/8 ^24, 10.1.0.0/16", ["10.1.0.0/16"]),
-        ("route-set: RS-X", "mp-members", "AS1,\n ^+ AS2", ["AS2"]),
-        ("as-set: AS-X", "members", "AS1 ^24, AS2", ["AS2"]),
-        ("inetnum: 10.0.0.0/8", "mnt-routes", "A-MNT {10.0.0.0/8 ^24}", ["A-MNT", "{}"]),
-    ],
-)
-def test_what_stands_before_an_operator_is_dropped_with_it(
-    kind: str, attribute: str, items: str, kept: list[str]
-) -> None:
-    """`10.0.0.0/8` alone would be another list than `10.0.0.0/8 ^24`."""
-    text = obj(kind, f"{attribute}: {items}", "mnt-by: A-MNT", "source: TEST")
-    ((_, lines),), kinds = lists_of(text)
-    found = b" ".join(lines).decode().replace(",", " ").split()
-    assert (found, "item" in kinds) == (kept, True)
-    causes = [line.split("\t") for line in left_out(text)]
-    assert [(cause[0], cause[-1][:1]) for cause in causes] == [
-        ("an operator after it is apart from it", items.split("{")[-1][:1]),
-        ("an item that can't be read", "^"),
-    ]
-
-
-# Items in braces: without the operator after these they would mean something else.
+UNREAD = "a list that can't be read"
+# Items of a route-set that are read, that are known or words, and that may be of an expression.
+GOOD = ["10.0.0.0/8^16-24", "192.0.2.0/24", "AS1", "AS2^+", "RS-B^24", "AS3:AS-Y"]
+WORDS = ["2001:db8::/32^+", "64496", "AS1-x", "10.0.0.0/8^33", "foo_bar", "RIPE::foo", "::"]
+EXPRESSIONS = """AND or NOT EXCEPT From TO ANY PeerAS - -26 ^24 ^+ )^24 ( [AS1] <AS1> {AS1} { } =AS1
+    'AS1' "AS1" AS1; x! AS1^ AS4^24- x:: :x caf\xe9 + * | & 10.0.0.0/ /8 foo- _foo AS-""".split()
 
 
 @pytest.mark.parametrize("name", ["members", "mp-members"])
+@given(st.lists(st.sampled_from(GOOD * 9 + WORDS * 9 + EXPRESSIONS), min_size=1, max_size=9))
+def test_a_list_is_read_or_told(name: str, items: list[str]) -> None:
+    """Either the object is left out, with the first item that may mean something of the others, or
+    what stays are the good ones, and each other one is told."""
+    text = rest("route-set: RS-X", f"{name}: {', '.join(items)}")
+    told = [line.split("\t") for line in left_out(text)]
+    bad = [item for item in items if item in EXPRESSIONS]
+    if bad:
+        (line,) = told
+        assert line[0] in (UNREAD, parting.JOINED) and line[2:4] == ["route-set: RS-X", name]
+        assert line[4] == bad[0]
+    else:
+        found = [item for _, lines in lists_of(text)[0] for item in syntax.ITEM.findall(lines[0])]
+        assert found == [item.encode() for item in items if item in GOOD]
+        assert [line[4] for line in told] == [item for item in items if item not in GOOD]
+
+
 @pytest.mark.parametrize(
-    "items, kept, gone",
+    "kind, values",
     [
-        (
-            "{10.0.0.0/9, 10.1.0.0/16, AS2}^25, AS1",
-            ["AS1"],
-            ["{10.0.0.0/9", "10.1.0.0/16", "AS2}^25"],
-        ),
-        ("AS1, { 10.0.0.0/9 10.1.0.0/16 } ^25", ["AS1"], ["{", "10.0.0.0/9", "10.1.0.0/16", "}"]),
-        ("{10.0.0.0/9}, AS1, {AS2,\n {AS3},\n AS4}^+", ["AS1"], ["{10.0.0.0/9}", "{AS2", "{AS3}"]),
-        ("AS1, 10.0.0.0/9^{24, 25, 26}", ["AS1"], ["10.0.0.0/9^{24", "25", "26}"]),
+        ("as-set: AS-X", ["AS-Y EXCEPT AS2", "AS-Y AND NOT AS2", "NOT AS2", "AS1 - AS5", "(AS1)"]),
+        ("as-set: AS-X", ["AS1 ^24, AS2", "{AS1, AS2}", "AS1, }", "AS1 any"]),
+        ("route-set: RS-X", ["NOT 10.0.0.0/8", "10.0.0.0/8^24 - 26", "RS-B^24 -26, AS1"]),
+        ("route-set: RS-X", ["( 10.0.0.0/8 11.0.0.0/8 )^24", "(10.0.0.0/8, AS1, AS2)^24"]),
+        ("route-set: RS-X", ["10.0.0.0/8 ^24", "{10.0.0.0/9, AS2, AS3}^25", "AS1^{24, 25, 26}"]),
     ],
 )
-def test_items_in_braces_are_dropped_together(
-    name: str, items: str, kept: list[str], gone: list[str]
-) -> None:
-    text = rest("route-set: RS-X", f"{name}: {items}")
-    ((_, lines),), kinds = lists_of(text)
-    found = b" ".join(lines).decode().replace(",", " ").split()
-    assert (found, kinds - {"mp-members"}) == (kept, {"item"})
-    dropped = [line.split("\t") for line in left_out(text)]
-    assert [line[-1] for line in dropped][: len(gone)] == gone
-    assert {line[0] for line in dropped if not line[-1].startswith("^")} == {
-        "it is in braces, whose operator may be its own"
-    }
+def test_a_list_of_an_expression_is_none(kind: str, values: list[str]) -> None:
+    for value in values:
+        assert mended(rest(kind, f"members: {value}")) == UNREAD
+    for value in "{AS-A, AS-B, AS-C}", "AS-A EXCEPT AS-B", "AS-A, PeerAS":
+        assert mended(rest("aut-num: AS1", f"member-of: {value}")) == UNREAD
+        assert mended(rest("route: 10.0.0.0/8", "origin: AS1", f"member-of: {value}")) == UNREAD
 
 
-def test_braces_of_other_lists() -> None:
-    text = rest("aut-num: AS1", "member-of: {AS-A, AS-B, AS-C}")
-    assert lists_of(text) == ([], {"item"})
-    for value in "{AS-A, AS-B", "AS-A}, AS-B", "}, AS-B, {", "{{AS-A}, AS-B":
-        for kind, name in ("aut-num: AS1", "member-of"), ("as-set: AS-X", "members"):
-            assert mended(rest(kind, f"{name}: {value}")) == (
-                f"a brace without the other one in `{name}`"
-            )
+def test_a_list_costs_what_it_is_long() -> None:
+    """Blanks, commas and items that are dropped, in an object as large as one may be."""
+    for value in "::/0" + " " * 60_000 + "AS1", "::/0" + " ," * 30_000 + "AS1":
+        started = time.process_time()
+        assert lists_of(rest("as-set: AS-X", f"members: {value}"))[0] == [(b"members", [b"AS1"])]
+        assert time.process_time() - started < 2
+    started = time.process_time()
+    text = rest("as-set: AS-X", "members: " + "x " * 30_000)
+    assert len(left_out(text)) == 30_000 and time.process_time() - started < 4
 
 
 # Maintainers: without an item that is none, others would get more than the text gives them.
@@ -310,29 +321,25 @@ def test_braces_of_other_lists() -> None:
 @pytest.mark.parametrize(
     "value",
     [
-        "B-MNT 192.0.2.0/25^+",
-        "B-MNT, 192.0.2.0/25",
-        "B-MNT 192.0.2.0/99",
-        "B-MNT 192.0.2/25",
-        "B-MNT 10/8",
-        "B-MNT 10./8",
-        "B-MNT 192.0.2.0 - 192.0.2.9",
-        "B-MNT 192.0.2.0-192.0.2.9",
-        "B-MNT ^25",
-        "B-MNT 192.0.2.0/25 ^26",
-        "B-MNT 2001:db8::/32",
-        "192.0.2.0/25 B-MNT",
-        "192.0.2.0/25 {192.0.2.0/25}",
+        *("B-MNT 192.0.2.0/25^+", "B-MNT, 192.0.2.0/25", "B-MNT 192.0.2.0/99", "B-MNT 192.0.2/25"),
+        *("B-MNT 10/8", "B-MNT 10./8", "B-MNT 192.0.2.0 - 192.0.2.9", "B-MNT 192.0.2.0-192.0.2.9"),
+        *("B-MNT ^25", "B-MNT 192.0.2.0/25 ^26", "B-MNT (192.0.2.0/25)", "B-MNT [192.0.2.0/25]"),
+        *("B-MNT <192.0.2.0/25>", "B-MNT '192.0.2.0/25'", "B-MNT =192.0.2.0/25", "B-MNT RS-Y"),
+        *("B-MNT EXCEPT C-MNT", "B-MNT as-y", "B-MNT FLTR-Y^+", "B-MNT a/b", "B-MNT a.b"),
+        *("B-MNT AS-XMNT", "B-MNT AS-MNT-X", "B-MNT AS1:AS-MNT", "AS-X-MNT^+", "(1-MNT)", "1-MNT-"),
+        *("1.2-MNT", "B-MNT 10-8", "B-MNT 10_1", "B-MNT '1-MNT'", "B-MNT =AS-X-MNT", "_-MNT"),
+        *("192.0.2.0/25 B-MNT", "192.0.2.0/25 {192.0.2.0/25}", "B-MNT PeerAS", "64496", "B-MNT -"),
     ],
 )
-def test_a_prefix_is_no_maintainer(value: str) -> None:
+def test_a_prefix_or_an_expression_is_no_maintainer(value: str) -> None:
     """Without it, or as a maintainer, B-MNT would have all of the object's routes."""
-    cause = "a prefix or a brace among maintainers"
-    assert mended(rest("inetnum: 192.0.2.0/24", f"mnt-routes: {value}")) == cause
+    assert mended(rest("inetnum: 192.0.2.0/24", f"mnt-routes: {value}")) == UNREAD
     for name in "mnt-lower", "mnt-by":
-        assert mended(rest("inetnum: 192.0.2.0/24", f"{name}: {value.split(' {')[0]}")) == cause
-    assert mended(rest("as-set: AS-X", f"mbrs-by-ref: {value.split(' {')[0]}")) == cause
+        assert mended(rest("inetnum: 192.0.2.0/24", f"{name}: {value.split(' {')[0]}")) == UNREAD
+    assert mended(rest("as-set: AS-X", f"mbrs-by-ref: {value.split(' {')[0]}")) == UNREAD
     assert mended(rest("mntner: 192.0.2.0/25")) == "a key that can't be read"
+    (line,) = left_out(rest("inetnum: 192.0.2.0/24", f"mnt-routes: {value}"))
+    assert line.split("\t")[3] == "mnt-routes" and line.split("\t")[4] in value
 
 
 @pytest.mark.parametrize(
@@ -348,32 +355,64 @@ def test_a_prefix_is_no_maintainer(value: str) -> None:
         ["{B-MNT 192.0.2.0/25}"],
         ["ANY {192.0.2.0/25}"],
         ["{192.0.2.0/24} A-MNT ANY {10.0.0.0/8}"],
+        ["B-MNT {10.0.0.0/8^+ EXCEPT 10.1.0.0/16^+}"],
+        ["B-MNT EXCEPT {10.1.0.0/16}"],
+        ["B-MNT {10.0.0.0/8^16 - 24}"],
+        ["B-MNT {10.0.0.0/8 ^24}"],
+        ["B-MNT {ANY}"],
+        ["ANY, B-MNT"],
     ],
 )
 def test_braces_that_are_no_pair_after_a_name(values: list[str]) -> None:
-    """Nobody knows whose ranges they have."""
+    """Nobody knows whose ranges they have, or which."""
     text = rest("inetnum: 192.0.2.0/24", *(f"mnt-routes: {value}" for value in values))
-    cause = mended(text)
-    assert cause in (
-        "braces of `mnt-routes` that are not a pair after a name",
-        "a prefix or a brace among maintainers",
-    )
-    assert [line.split("\t")[0] for line in left_out(text)] == [cause]
+    assert mended(text) == UNREAD
+    assert [line.split("\t")[0] for line in left_out(text)] == [UNREAD]
     for name in "mnt-by", "mnt-lower":
         text = rest("inetnum: 192.0.2.0/24", f"{name}: {{A-MNT, B-MNT}}")
-        assert mended(text) == "a prefix or a brace among maintainers"
+        assert mended(text) == UNREAD
 
 
 def test_grants_that_are_good_stay() -> None:
-    """Over several attributes too; names that only look like numbers are mended as others are."""
+    """Over several attributes too; a name that is only too long is mended."""
     text = rest(
         "inetnum: 192.0.2.0/24",
         "mnt-routes: B-MNT {192.0.2.0/25^+,",
         "mnt-routes: 192.0.2.128/25} C-MNT ANY, D-MNT {}, E-MNT",
     )
     assert mended(text) == (syntax.read(text[:-1]).text(), set())
-    for name in "1.2-MNT", "A/B", "64496", "X.1.2":
-        assert mended(rest("aut-num: AS1", f"mnt-lower: {name}"))[1] == {"rename"}, name
+    for name in "FLTR-MNT", "prng-1", "EXCEPT-MNT":
+        assert mended(rest("aut-num: AS1", f"mnt-lower: {name}"))[1] == set()
+    for name in "mnt-lower", "mnt-routes":
+        assert mended(rest("aut-num: AS1", f"{name}: {'A' * 81}"))[1] == {"rename"}
+
+
+@pytest.mark.parametrize(
+    "name",
+    ["1AND1-MNT", "1-mnt", "2x", "0_b-C", "AS-X-MNT", "as-mnt", "RS-1_2-Mnt", "7" * 80 + "A"],
+)
+def test_what_can_only_be_a_name_is_renamed(name: str) -> None:
+    """A digit first, or the name of a set that ends as those of maintainers do."""
+    lists = [("inetnum: 10.0.0.0/8", "mnt-lower"), ("as-set: AS-X", "mbrs-by-ref")]
+    for kind, attribute in [*lists, ("aut-num: AS1", "mnt-by")]:
+        for value in name, f"B-MNT, {name}":
+            assert mended(rest(kind, f"{attribute}: {value}"))[1] == {"rename"}
+            text = rest(kind, f"{attribute}: {value}")
+            assert mended(text, ["rename"]) == "not mended because of --no-rename"
+    dump, tally = made(rest(f"mntner: {name}", f"mnt-by: {name}"))
+    ((old, new),) = tally.renamed.items()
+    assert old == name.upper() and f"mntner:         {new}\n" in dump.decode()
+    assert f"mnt-by:         {new}\n" in dump.decode() and name not in dump.decode().split()
+
+
+def test_a_digit_first_is_no_name_among_grants() -> None:
+    """There a range in some other spelling may stand, and grants less than the name before it."""
+    for value in "1AND1-MNT", "B-MNT 1AND1-MNT", "B-MNT ANY, 1-MNT {10.0.0.0/8}", "B-MNT 10x8":
+        assert mended(rest("inetnum: 10.0.0.0/8", f"mnt-routes: {value}")) == UNREAD
+    text = rest("inetnum: 10.0.0.0/8", "mnt-routes: B-MNT, as-x-mnt {10.0.0.0/9^+}, RS-MNT ANY")
+    assert mended(text)[1] == {"rename"}
+    granted = b"mnt-routes:     B-MNT, MNT-AS-X-MNT {10.0.0.0/9^+}, MNT-RS-MNT ANY\n"
+    assert granted in made(text)[0]
 
 
 # Files that were cut off within a line and joined with another one.
@@ -406,7 +445,7 @@ def test_two_files_that_are_joined_within_a_line(kind: str, cut: str, other: str
     text = whole.replace(b"AS-X", b"AS-W") + cut_off + rest_of
     (line,) = left_out(text)
     assert line.startswith("an item with a colon, as of two lines that were joined\t")
-    assert line.endswith(kind) and made(text)[1].taken == 1
+    assert line.split("\t")[2] == kind and made(text)[1].taken == 1
 
 
 def test_colons_that_join_no_lines() -> None:
@@ -417,7 +456,7 @@ def test_colons_that_join_no_lines() -> None:
     ]:
         text = rest(kind, value)
         assert mended(text) == (syntax.read(text[:-1]).text(), set())
-    text = rest("as-set: AS-X", "members: AS-FOO:BAR, x::, ::, ::1, 2001:db8:, RIPE::foo, AS1")
+    text = rest("as-set: AS-X", "members: AS-FOO:BAR, ::, ::1, 2001:db8::, RIPE::foo, AS1")
     assert lists_of(text)[0] == [(b"members", [b"AS1"])]
 
 
@@ -487,7 +526,7 @@ def test_names_of_two_registries() -> None:
 
 def test_items_of_what_is_left_out_are_not_listed() -> None:
     """A duplicate, and a range that crosses another, is listed as a whole."""
-    one = obj("as-set: AS-X", "members: x!", "mnt-by: A-MNT", "source: RIPE")
+    one = obj("as-set: AS-X", "members: x", "mnt-by: A-MNT", "source: RIPE")
     lines = left_out(one + obj("as-set: RS-X", "members: y!") + one)
     assert sorted(line.split("\t")[0] for line in lines) == [
         "a key that can't be read",
@@ -503,15 +542,14 @@ def test_each_reason_is_listed_with_object_attribute_and_item() -> None:
     lines = left_out(
         obj(
             "as-set: AS-X",
-            "members: AS1, caf\xe9, ::/0",
+            "members: AS1, cafe, ::/0",
             "mnt-by: A-MNT",
             "source: RIPE",
         )
-        + obj("route: 10.0.0.0/8", "mnt-routes: ANY, A-MNT {x}", "origin: AS1", "source: RIPE")
+        + obj("route: 10.0.0.0/8", "mnt-routes: A-MNT {x}", "origin: AS1", "source: RIPE")
     )
     assert [line.split("\t")[:1] + line.split("\t")[2:] for line in lines] == [
-        ["an item that can't be read", "as-set: AS-X", "members", "caf\xe9"],
+        ["an item that can't be read", "as-set: AS-X", "members", "cafe"],
         ["IPv6", "as-set: AS-X", "members", "::/0"],
-        ["an item that can't be read", "route: 10.0.0.0/8 AS1", "mnt-routes", "ANY"],
         ["an item that can't be read", "route: 10.0.0.0/8 AS1", "mnt-routes", "x"],
     ]

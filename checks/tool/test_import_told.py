@@ -272,7 +272,7 @@ def test_a_class_after_what_is_kept_is_told(monkeypatch: pytest.MonkeyPatch) -> 
 
 def test_the_list_says_what_each_entry_is_and_agrees_with_the_report() -> None:
     text = (
-        obj("as-set: AS-X", "members: ::/0, x!", "# c", "source: RIPE")
+        obj("as-set: AS-X", "members: ::/0, x", "# c", "source: RIPE")
         + obj("as-set: AS-X", "members: ::/0")
         + obj("person: Jo", "role: X", "source: RIPE")
         + obj("route: 10.0.0.1/8", "origin: AS1", "mnt-routes: A-MNT {::/0}")

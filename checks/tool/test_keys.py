@@ -41,6 +41,28 @@ class Readers(unittest.TestCase):
             self.assertIsNone(keys.read_range(text), text)
         self.assertFalse(keys.read_range("192.0.2.1/32^-").admits(Prefix(0xC0000201, 32)))
 
+    def test_what_a_range_admits(self) -> None:
+        """Both of its lengths, and none beside them (RFC 2622, 2)."""
+        for text, lengths in [
+            ("10.0.0.0/22", [22]),
+            ("10.0.0.0/22^+", [22, 23, 24]),
+            ("10.0.0.0/22^-", [23, 24]),
+            ("10.0.0.0/22^23", [23]),
+            ("10.0.0.0/22^20-23", [22, 23]),
+            ("10.0.0.0/22^24-25", [24]),
+        ]:
+            found = keys.read_range(text)
+            assert found
+            admitted = [length for length in range(25) if found.admits(Prefix(10 << 24, length))]
+            self.assertEqual(admitted, lengths, text)
+            self.assertFalse(any(found.admits(Prefix(11 << 24, length)) for length in range(33)))
+
+    def test_spans_of_one(self) -> None:
+        self.assertEqual(keys.read_span("10.0.0.1 - 10.0.0.1"), Span(0x0A000001, 0x0A000001))
+        self.assertEqual(keys.read_block("AS1 - as01"), Span(1, 1))
+        self.assertIsNone(keys.read_block("AS2 - AS1"))
+        self.assertIsNone(keys.read_span("10.0.0.2 - 10.0.0.1"))
+
     def test_names(self) -> None:
         self.assertEqual(keys.read_as("as007"), 7)
         self.assertIsNone(keys.read_as("AS4294967296"))

@@ -1,9 +1,11 @@
 """What of a dump is one object: paragraphs that hold several are parted, or left out."""
 
 import pytest
+from hypothesis import given
+from hypothesis import strategies as st
 
 from checks.tool.importing import left_out, listed, made, mended, obj, texts_of
-from irr.migrate import conversion
+from irr.migrate import conversion, parting
 from irr.rpsl import syntax
 
 A = ("as-set: AS-A", "members: AS1", "mnt-by: A-MNT", "source: RIPE")
@@ -50,6 +52,28 @@ def test_byte_order_marks_of_files_that_were_joined() -> None:
         "as-set: AS-A",
     ]
     assert listed(obj(*A)[:-1] + mark + obj(*B), off=["part"])[1].endswith("\troute-set: RS-B")
+
+
+@pytest.mark.parametrize("head", ["# a", "% a\n#route: b\n%", "", " \t\r\n# a", "\r"])
+def test_comments_after_a_byte_order_mark(head: str) -> None:
+    """They stand before an object as at the beginning of a file, and are none by themselves."""
+    mark = b"\xef\xbb\xbf" + head.encode() + b"\n"
+    for text, count in (
+        (obj(*A) + mark + obj(*B), 0),
+        (obj(*A) + mark + b"\n" + obj(*B), 0),
+        (mark + obj(*A, *B), 1),
+    ):
+        dump, tally = made(text)
+        assert tally.mended["part"] == count
+        assert texts_of(dump, "as-set", "route-set") == texts_of(
+            made(obj(*A, *B))[0], "as-set", "route-set"
+        )
+        assert (listed(text), tally.read) == ([], 2)
+    if head[:1] in ("#", "%"):
+        assert (listed(obj(*A)[:-1] + mark + obj(*B)), made(text)[1].taken) == ([], 2)
+    # Lines have the numbers that they have in the file.
+    (line,) = listed(obj(*A) + mark + obj("person: Jo"))
+    assert line.endswith(f":{7 + head.count(chr(10))}\tperson: Jo")
 
 
 def test_not_parted_where_that_is_turned_off() -> None:
@@ -154,6 +178,62 @@ def test_each_part_that_is_left_out_is_listed_by_its_own_line() -> None:
     ]
 
 
+M = ("mntner: A-MNT", "auth: MD5-PW x", "mnt-by: A-MNT", "source: RIPE")
+N = ("auth: MD5-PW y", "mnt-by: B-MNT")
+SALTED = "SHA256-PW person:" + "0a" * 32
+
+
+@pytest.mark.parametrize(
+    ("lines", "item"),
+    [
+        ((*M, N[0]), "auth\tMD5-PW y"),
+        ((*M, N[1]), "mnt-by\tB-MNT"),
+        ((*M, "descr: x", *N), "auth\tMD5-PW y"),
+        ((A[0], *A[1:], "x: y", "members: AS2"), "members\tAS2"),
+        ((B[0], "mp-members: 10.0.0.0/8", *A[2:], "mp-members: 10.0.0.0/9"), "10.0.0.0/9"),
+    ],
+)
+def test_a_list_that_goes_on_after_a_source(lines: tuple[str, ...], item: str) -> None:
+    """The class line of another object is lost, with what was before it and its own `source`."""
+    (line,) = left_out(obj(*lines))
+    assert line.startswith("a list before `source` that goes on after it\t")
+    assert item in line
+    assert b"B-MNT" not in made(obj(*lines))[0]
+
+
+def test_lists_of_one_side_of_a_source() -> None:
+    """The order of the lines of an object is free (RFC 2622, 2)."""
+    for lines in (
+        (A[0], A[3], A[1], A[2]),
+        (M[0], M[1], M[3], M[2]),
+        (*M, "descr: x", "changed: y", "mnt-lower: A-MNT"),
+    ):
+        assert made(obj(*lines))[1].taken == 1, lines
+
+
+@pytest.mark.parametrize(
+    "auth",
+    [
+        "auth: MD5-PW $1$abmntner: B-MNT",
+        "auth: MD5-PW # Filtmntner: B-MNT",
+        "auth: mntner:B-MNT",
+        "auth: x\n SSO a@b.netROLE : B",
+        f"auth: {SALTED} # mntner: B-MNT",
+    ],
+)
+def test_two_mntners_that_are_joined_at_an_auth(auth: str) -> None:
+    """Who knows the password of the second one would be let in by the first one."""
+    text = obj(M[0], auth, *N, M[3])
+    (line,) = left_out(text)
+    assert line.startswith("a class inside an `auth`, as of two lines that were joined\t")
+    assert b"mntner:         A-MNT" not in made(text)[0]
+
+
+@pytest.mark.parametrize("auth", [SALTED, "MD5-PW # Filtered", "SSO role::x", "X # a person"])
+def test_an_auth_with_a_class_that_begins_none(auth: str) -> None:
+    assert made(obj(M[0], f"auth: {auth}", *M[2:]))[1].taken == 1
+
+
 def test_a_part_with_a_fault_costs_no_other() -> None:
     dump, tally = made(obj(*A, "route-set: RS-C", "no colon", "source: RIPE", *B))
     assert (tally.taken, dict(tally.causes)) == (2, {"text: it has a line without a colon": 1})
@@ -178,3 +258,38 @@ def test_what_is_too_large_and_has_no_seam(monkeypatch: pytest.MonkeyPatch) -> N
     text = obj("as-set: AS-A", *["x: y"] * 1_000, *A[1:]) + obj(*B)
     assert left_out(text)[0].startswith("above 65,536 bytes\t")
     assert made(text)[1].taken == 1
+
+
+LINES = [
+    "source: X",
+    "as-set: AS-A",
+    "x: y",
+    " z",
+    "# c",
+    "+",
+    "\xef\xbb\xbf# d",
+    "source: " + "Y" * 90,
+]
+LINES += ["", " \t"]
+
+
+@given(
+    st.lists(st.tuples(st.sampled_from(LINES), st.integers(1, 20)), max_size=25),
+    st.lists(st.integers(1, 150), min_size=1, max_size=9),
+)
+def test_pieces_do_not_matter(runs: list[tuple[str, int]], sizes: list[int]) -> None:
+    """A text has the same blocks whole and in pieces of any sizes."""
+    text = "".join((line + "\n") * count for line, count in runs).encode("latin-1")
+    pieces: list[bytes] = []
+    start = 0
+    while start < len(text):
+        size = sizes[len(pieces) % len(sizes)]
+        pieces.append(text[start : start + size])
+        start += size
+    with pytest.MonkeyPatch.context() as patch:
+        patch.setattr(syntax, "CHUNK", 60)
+        whole, pieced = (
+            list(syntax.blocks(source, 50, parting.last_seam, parting.later))
+            for source in ([text], pieces)
+        )
+    assert pieced == whole

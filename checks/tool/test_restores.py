@@ -1,11 +1,20 @@
 """A backup in the place of a registry."""
 
+import itertools
 import os
 import re
 import shutil
+from collections.abc import Callable
+from pathlib import Path
+from typing import Any
 
-from checks.running import Ran, Tell, Trial, expect, short, write
+import pytest
+
+from checks.running import Ran, Tell, Trial, expect, short, write, write_settings
+from checks.tool.forking import run_forked
 from checks.worlds import Tool, World, expect_line, items
+
+IN_MEMORY = True
 
 
 def test_a_backup_is_put_in_the_place_of_a_registry(trial: Trial, tool: Tool, tell: Tell) -> None:
@@ -103,6 +112,90 @@ def test_what_is_no_whole_backup_changes_nothing(trial: Trial, tool: Tool) -> No
         expect_line(restore(tool, folder, made), status, pattern, f"a changed {name}")
     expect(dump(trial, folder), wanted, "the registry")
     expect([name for name in os.listdir(folder) if "restore" in name], [], "what is left")
+
+
+# What changes a folder. A stop between two of these leaves what the first one left.
+CHANGES = ("replace", "rename", "link", "unlink")
+KILLED = 137
+
+
+def killed_at(step: int, folder: str, patched: pytest.MonkeyPatch) -> None:
+    """Lets this process end before so many changes of what stands in a folder."""
+    left = itertools.count(step, -1)
+
+    def before(change: Callable[..., None]) -> Callable[..., None]:
+        def changed(*paths: Any, **more: Any) -> None:
+            if folder in (os.path.dirname(path) for path in paths if isinstance(path, (str, Path))):
+                if next(left) == 1:
+                    os._exit(KILLED)
+            change(*paths, **more)
+
+        return changed
+
+    for name in CHANGES:
+        patched.setattr(os, name, before(getattr(os, name)))
+    patched.chdir(folder)
+
+
+def test_a_restore_that_is_killed_leaves_one_of_the_two_whole(
+    trial: Trial, tool: Tool, monkeypatch: pytest.MonkeyPatch, tell: Tell
+) -> None:
+    """Over a registry whose log has what its database lacks, by an older backup and by one of the
+    same objects. The next restore puts the backup in place; what stood there first is kept."""
+    with World(trial, tool, "killed") as world:
+        older = backed_up(tool, world.folder, "older")
+        text = b"password: bc\n\n" + b"\n".join(items(20))
+        expect(world.tool("submit", "-", stdin=text).status, 0, "newer objects")
+        newer, held = backed_up(tool, world.folder, "newer"), world.copy("killed-held")
+    expect(os.stat(f"{held}/irr.db-wal").st_size > 4_096, True, "whether its log has something")
+    old, moments = dumped(trial, held), 0
+    for backup, new in (older, dumped(trial, older)), (newer, old):
+        seen: set[bytes] = set()
+        for step in itertools.count(1):
+            own = shutil.copytree(held, os.path.join(trial.work, f"killed-{moments + step}"))
+            with monkeypatch.context() as patched:
+                killed_at(step, own, patched)
+                ran = run_forked(tool, "restore", "--settings", "s.toml", "--over", backup)
+            expect(ran.status in (0, KILLED), True, f"step {step}: {ran.said!r}")
+            seen.add(dumped(trial, own))
+            expect(seen <= {old, new}, True, f"the registry stopped at step {step}")
+            is_whole = ran.status == 0
+            with monkeypatch.context() as patched:
+                patched.chdir(own)
+                ran = run_forked(tool, "restore", "--settings", "s.toml", "--over", backup)
+            expect(ran.status, 0, f"the next one after step {step}: {ran.said!r}")
+            expect(dumped(trial, own), new, f"the registry after step {step}")
+            kept = [one.parent for one in Path(own).glob("replaced-*/irr.db")]
+            found = old in (dumped(trial, str(one)) for one in kept)
+            expect(found, new != old, f"what is kept after step {step}: {kept}")
+            left = [name for name in os.listdir(own) if name[0] == "."]
+            expect(left, [], f"what is left after step {step}")
+            if is_whole:
+                break
+        expect(seen, {old, new}, "the registries that were there")
+        moments += step
+    tell(f"{moments} moments")
+
+
+def backed_up(tool: Tool, folder: str, name: str) -> str:
+    """A new backup of a registry."""
+    place = os.path.join(folder, name)
+    ran = tool("backup", "--settings", "s.toml", place, folder=folder)
+    expect(ran.status, 0, f"a backup: {ran.said!r}")
+    return os.path.join(place, next(one for one in os.listdir(place) if one[0] != "."))
+
+
+def dumped(trial: Trial, folder: str) -> bytes:
+    """The full dump of the registry in a folder, which stays as it is."""
+    place = trial.place("dumped")
+    write_settings(place)
+    for name in os.listdir(folder):
+        if name.startswith("irr.db"):
+            shutil.copy(f"{folder}/{name}", place)
+    try:
+        return dump(trial, place)
+    finally:
+        shutil.rmtree(place)
 
 
 def restore(tool: Tool, folder: str, *words: str) -> Ran:

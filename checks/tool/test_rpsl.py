@@ -79,6 +79,11 @@ class Paragraphs(unittest.TestCase):
         read = syntax.read(b"a: 1\nmnt-by: A, B # C\nmnt-by: D")
         self.assertEqual(read.items(b"mnt-by"), [b"A", b"B", b"D"])
 
+    def test_a_list_goes_on_in_each_line_that_continues_it(self) -> None:
+        """Also after one that begins with a CR, or that has a comment."""
+        read = syntax.read(b"a: 1\nmnt-by: A, # x\n B # y\n\tC,\n\rD\n+E\n#no\n%no\n+\n F")
+        self.assertEqual(read.items(b"mnt-by"), [b"A", b"B", b"C", b"D", b"E", b"F"])
+
     def test_faults(self) -> None:
         for text, code in [
             (b"x" * 65_537, "E07"),

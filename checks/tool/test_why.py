@@ -294,3 +294,13 @@ def prefix(text: str) -> keys.Prefix:
     found = keys.read_prefix(text)
     assert found
     return found
+
+
+def test_a_source_is_named_in_a_view_alone(capsys: pytest.CaptureFixture[str]) -> None:
+    """Elsewhere a comment on `source` is that of whoever wrote the object."""
+    route = ROUTE.replace(b"TEST\n", b"TEST # RIPE\n")
+    registry = Table({"less 10.0.0.0/16": route})
+    for sources, wanted in [((), ""), (("TEST", "RIPE"), "RIPE"), (("TEST", "RADB"), "")]:
+        prefix = keys.need_place("10.0.0.0/16")
+        found = References(registry, prefix, 1, sources).chains(10).first
+        assert [step.source for step in found[0]] == ["", wanted]

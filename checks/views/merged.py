@@ -48,7 +48,7 @@ def of_source(chance: Choices, name: str, held: Object) -> Object:
     """An object as a registry has it, some of whose items name registries."""
     attributes = []
     for attribute, value in held.attributes:
-        if attribute == "members":
+        if attribute in ("members", "member-of"):
             value = ", ".join(scoped(chance, item) for item in value.split(", "))
         attributes.append((attribute, name if attribute == "source" else value))
     return Object((*attributes, ("descr", f"as {name} has it")))
@@ -75,8 +75,8 @@ def merged(several: Several) -> Registry:
     # A set that an earlier source has too is there by a name of its own, if it is named so.
     waiting, found, apart = [held for _, held in first.values()], [], set[tuple[str, str]]()
     while waiting:
-        held, wanted = unscoped(waiting.pop(), several, first)
-        found.append(held)
+        found.append(waiting.pop())
+        _, wanted = unscoped(found[-1], several, first)
         for source, name in wanted - apart:
             apart.add((source, name))
             own = next(
@@ -85,7 +85,21 @@ def merged(several: Several) -> Registry:
                 if one.kind in rpsl.SETS and one.key == name
             )
             waiting.append(Object(((own.kind, f"{name}--{source}"), *own.attributes[1:])))
-    return Registry(tuple(found))
+    return Registry(tuple(unscoped(joined(held, apart), several, first)[0] for held in found))
+
+
+def joined(held: Object, apart: set[tuple[str, str]]) -> Object:
+    """An object that is a member by reference of sets of its source, by their own names too."""
+    source = held.values("source")[0]
+    attributes = []
+    for attribute, value in held.attributes:
+        if attribute == "member-of":
+            items = value.split(", ")
+            value = ", ".join(
+                f"{item}, {item}--{source}" if (source, item) in apart else item for item in items
+            )
+        attributes.append((attribute, value))
+    return Object(tuple(attributes))
 
 
 def is_invalid(held: Object, roas: Roas) -> bool:
@@ -118,11 +132,11 @@ def unscoped(
 
     attributes = []
     for attribute, value in held.attributes:
-        if attribute == "members":
-            value = ", ".join(filter(None, map(kept, value.split(", "))))
         if attribute == "member-of" and held.kind == "route":
             # Routes are members of route-sets (RFC 2622, 5.2).
             value = ", ".join(item for item in value.split(", ") if "RS-" in item)
+        if attribute in ("members", "member-of"):
+            value = ", ".join(filter(None, map(kept, value.split(", "))))
         if value:
             attributes.append((attribute, value))
     return Object(tuple(attributes)), wanted

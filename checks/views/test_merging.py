@@ -82,7 +82,7 @@ def objects_in(text: str) -> dict[tuple[str, str], rpsl.Object]:
 def test_a_view_is_the_merge_of_its_sources(program: str, monkeypatch: pytest.MonkeyPatch) -> None:
     """Its objects, with the source of each, and what each set stands for."""
     monkeypatch.setenv("IRRDESK", program)
-    seen = {"sets": 0, "missing": 0, "scoped": 0, "apart": 0, "invalid": 0}
+    seen = {"sets": 0, "missing": 0, "scoped": 0, "apart": 0, "joined": 0, "invalid": 0}
 
     @settings(max_examples=1_000 if LONG else 50, deadline=None, phases=[Phase.generate])
     @given(merged.several())
@@ -106,11 +106,81 @@ def test_a_view_is_the_merge_of_its_sources(program: str, monkeypatch: pytest.Mo
                 seen["sets"] += 1
                 seen["missing"] += bool(missing)
         seen["apart"] += sum("--" in held.key for held in wanted.objects)
+        seen["joined"] += sum(
+            model.joins(held, name)
+            for name in merged.names(wanted)
+            for held in wanted.objects
+            if "--" in name and held.kind in ("aut-num", "route")
+        )
         seen["scoped"] += "::" in "".join(one.text() for one in several.registries.values())
         seen["invalid"] += sum(told.invalid for told in view.told.values())
 
     holds()
     assert min(seen.values()) > 10, seen
+
+
+def test_a_set_taken_apart_has_its_members_by_reference(
+    program: str, tmp_path: Path, monkeypatch: pytest.MonkeyPatch
+) -> None:
+    """Those of its own source, by a maintainer and by ANY, and no others."""
+    monkeypatch.setenv("IRRDESK", program)
+    sources = {
+        "TEST": """
+            route: 10.8.0.0/16|origin: AS8|member-of: AS1:RS-Y|mnt-by: R-MNT
+            route-set: AS1:RS-Y|mbrs-by-ref: R-MNT|mnt-by: T-MNT
+            route-set: AS1:RS-C|members: RADB::AS1:RS-Y|mnt-by: T-MNT
+            as-set: AS1:AS-Y|members: AS8|mnt-by: T-MNT
+            as-set: AS1:AS-C|members: RADB::AS1:AS-Y|mnt-by: T-MNT
+        """,
+        "RIPE": "route: 10.5.0.0/16|origin: AS5|member-of: AS1:RS-Y|mnt-by: X-MNT",
+        "RADB": """
+            aut-num: AS7|member-of: as1:as-y|mnt-by: X-MNT
+            route: 10.6.0.0/16|origin: AS6|member-of: AS1:RS-Y|mnt-by: X-MNT
+            route: 10.7.0.0/16|origin: AS7|member-of: AS1:RS-Y|mnt-by: R-MNT
+            route: 10.9.0.0/16|origin: AS9|member-of: TEST::AS1:RS-Y|mnt-by: R-MNT
+            route-set: AS1:RS-Y|mbrs-by-ref: R-MNT|mnt-by: R-MNT
+            as-set: AS1:AS-Y|mbrs-by-ref: ANY|mnt-by: R-MNT
+        """,
+    }
+    folder = made(written(tmp_path, several_of(sources)))
+    for name, prefixes in (
+        ("AS1:RS-C", ["10.7.0.0/16"]),
+        ("AS1:AS-C", ["10.7.0.0/16"]),
+        # A plain name is the first source's, also in the objects of later ones.
+        ("AS1:RS-Y", ["10.7.0.0/16", "10.8.0.0/16", "10.9.0.0/16"]),
+    ):
+        assert asked(program, folder, "prefixes", name).split() == prefixes, name
+
+
+def test_a_set_taken_apart_lacks_a_member_whose_text_has_no_room(
+    program: str, tmp_path: Path, monkeypatch: pytest.MonkeyPatch
+) -> None:
+    """It is told then, and the view is made."""
+    monkeypatch.setenv("IRRDESK", program)
+    sources = {
+        "TEST": "route-set: AS1:RS-Y|mnt-by: T-MNT"
+        "\nroute-set: RS-C|members: RADB::AS1:RS-Y|mnt-by: T-MNT",
+        "RIPE": "route: 10.5.0.0/16|origin: AS5|mnt-by: X-MNT",
+        "RADB": "route-set: AS1:RS-Y|mbrs-by-ref: ANY|mnt-by: R-MNT"
+        "\nroute: 10.6.0.0/16|origin: AS6|member-of: AS1:RS-Y|mnt-by: R-MNT"
+        f"\nroute: 10.7.0.0/16|origin: AS7|member-of: AS1:RS-Y|mnt-by: R-MNT|descr: {'x' * 65_440}",
+    }
+    view = written(tmp_path, several_of(sources))
+    assert asked(program, made(view), "prefixes", "RS-C").split() == ["10.6.0.0/16"]
+    assert view.told["RADB"].lost == {"above 65,536 bytes": 1}, view.told
+    assert not view.told["RADB"].left, view.told
+
+
+def several_of(sources: dict[str, str]) -> Several:
+    """Registries whose objects are a line each, with bars between the attributes."""
+    found = {}
+    for name, text in sources.items():
+        lines = [f"{line.strip()}|source: {name}" for line in text.strip().split("\n")]
+        objects = [[part.split(": ") for part in line.split("|")] for line in lines]
+        found[name] = rpsl.Registry(
+            tuple(rpsl.Object(tuple((key, value) for key, value in pairs)) for pairs in objects)
+        )
+    return Several(found, [])
 
 
 def need_objects(found: dict[tuple[str, str], rpsl.Object], wanted: rpsl.Registry) -> None:

@@ -1,6 +1,7 @@
 """A view that is served: by its replicas, and through the door by its sources, while each part is
 stopped."""
 import contextlib
+import json
 import os
 import shutil
 import signal
@@ -132,6 +133,12 @@ def served(trial: Trial, tool: Tool) -> Iterator[Served]:
         yield one
 
 
+def has_changed(port: int) -> bool:
+    """Whether a replica of the view has the route that came by NRTM."""
+    answer: bytes = whois_answer(port, b"prefixes AS1:AS-ALL")
+    return answer.split(b"\n")[0] == b"10.0.2.0/24"
+
+
 def framed(words: str) -> str:
     return f"A{len(words) + 1}\n{words}\nC\n"
 
@@ -191,6 +198,18 @@ def test_the_sources_are_chosen_by_name(served: Served, each: Each) -> None:
             found, _, text = one.door.http("GET", path)
             expect(found, status, path)
             expect(b"ALL # RIPE" in text, status == 200 and "TEST/" not in path, path)
+    with each("the page"):
+        (view,) = json.loads(one.door.http("GET", "/about")[2])["views"]
+        names = [(source["name"], source["stands"]) for source in view["sources"]]
+        expect((view["name"], view["serves"]), ("ALL", True), f"{view}")
+        expect(names, [("TEST", False), ("RIPE", False)], f"{view}")
+        expect(all(source["age"] is not None for source in view["sources"]), True, f"{view}")
+        for words, found in [("?view=ALL", True), ("?view=TEST,RIPE", True), ("", False)]:
+            text = one.door.http("GET", f"/why/10.0.1.0/24/AS1:AS-ALL{words}")[2]
+            expect(json.loads(text)["found"], found, f"{words}: {text!r}")
+        steps = json.loads(one.door.http("GET", "/why/10.0.1.0/24/AS1:AS-ALL?view=all")[2])
+        first, *_, last = steps["chains"][0]
+        expect((first["source"], last["source"]), ("TEST", "RIPE"), f"{steps}")
     with each("irr"):
         place = f"http://127.0.0.1:{one.door.http_port}/views/ALL"
         ran = one.tool("filter", "-s", place, "frr", "X", "AS1:AS-ALL", "-")
@@ -252,9 +271,9 @@ def test_a_view_goes_on_while_its_sources_are_gone(served: Served, tell: Tell) -
     words = [sys.executable, one.tool.path, "view", str(one.settings)]
     with running(words, one.log, env=one.world.tool.environment):
         wait_until("that it is back", PATIENCE, lambda: answer() == three)
+        # The second replica follows the first, which answers by then.
         for port in one.ports:
-            found = whois_answer(port, b"prefixes AS1:AS-ALL")
-            expect(found.split(b"\n")[0], b"10.0.2.0/24", f"the replica at {port}")
+            wait_until(f"the replica at {port}", PATIENCE, lambda: has_changed(port))
         count = said_by(one.log).count("irr view: RIPE: ")
     expect(os.path.exists(one.folder / "view" / "sources" / "RIPE" / "now"), True, "its folder")
     tell(f"{count} renewals")

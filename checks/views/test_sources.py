@@ -1,7 +1,9 @@
 """Sources of a view: followed by NRTM, and what stays where one can't be read or shrank."""
 import gzip
+import io
 import os
 import random
+import shutil
 from collections.abc import Iterator
 from pathlib import Path
 
@@ -11,7 +13,7 @@ from checks.running import Trial, expect
 from checks.views.serving import Files, Nrtm
 from checks.views.test_merging import asked
 from irr.errors import Failure
-from irr.views import settings
+from irr.views import nrtm, settings
 from irr.views.keeping import View
 
 OWN = "as-set: AS1:AS-OWN\nmembers: AS2, RIPE::AS-X\nmnt-by: A-MNT\nsource: TEST\n"
@@ -217,6 +219,135 @@ def test_a_stop_between_two_states_loses_neither(world: World) -> None:
     world.view = View(world.view.settings)
     expect(world.renew(), False, "after a stop")
     expect("status 500" in fault(world), True, fault(world))
+
+
+def test_the_last_change_of_an_object_counts(followed: World) -> None:
+    """Of several in one answer, and in several."""
+    world = followed
+    expect(world.renew(), True, "the first time")
+    first, back, gone = (route(n, 2, "first") for n in (900, 0, 901))
+    last = route(900, 2, "last")
+    world.nrtm.tell([("ADD", first), ("ADD", last), ("ADD", gone), ("DEL", gone)])
+    world.nrtm.tell([("DEL", world.routes[0]), ("ADD", back), ("DEL", world.routes.pop(1))])
+    world.routes |= {900: last, 0: back}
+    for text in None, route(900, 2, "later"), first:
+        if text:
+            world.nrtm.tell([("ADD", text)])
+            world.routes[900] = text
+        expect((world.renew(), fault(world)), (True, ""), "a change")
+        wanted = {(number, text.split("\n")[2]) for number, text in world.routes.items()}
+        expect(seen(world.seen), wanted, f"the routes once {text} was told")
+
+
+@pytest.mark.parametrize(
+    "serials", ["103", "102 104", "102 103 104 105", "102 103 103", "103 102", "101 102 103", "0"]
+)
+def test_changes_come_in_order_and_within_what_is_announced(serials: str) -> None:
+    """Up to serial 104, after 101; otherwise nothing is known of what they leave out."""
+    changes = "".join(f"ADD {serial}\n\n{route(1)}\n" for serial in serials.split())
+    text = f"%START Version: 3 RIPE 102-104\n\n{changes}%END RIPE\n"
+    lines = iter(text.encode().splitlines())
+    if serials in ("103", "102 104"):
+        # A registry may leave serials out.
+        expect(nrtm.taken(lines, "x", "RIPE", 101, io.BytesIO()), 104, "the last serial")
+        return
+    with pytest.raises(Failure, match="it tells no change"):
+        nrtm.taken(lines, "x", "RIPE", 101, io.BytesIO())
+
+
+AUT_NUM = b"aut-num: AS2\nmnt-by: B-MNT\nsource: RIPE\n"
+
+
+def change(world: World, old: str, new: str) -> None:
+    """Starts the view again after a change of its settings."""
+    path = world.folder / "view.toml"
+    expect(old in path.read_text(), True, f"whether {old} is there")
+    path.write_text(path.read_text().replace(old, new))
+    world.view = View(settings.read(str(path)))
+
+
+def test_what_is_taken_elsewhere_is_taken_anew(followed: World) -> None:
+    """Changes that are told since a dump do not make up for what other settings would have of it.
+    What was taken before stays until then, and is told."""
+    world = followed
+    expect(world.renew(), True, "the first time")
+    url = world.files.url
+    change(world, "ripe.db.as-set", f'ripe.db.as-set", "{url}/ripe.db.aut-num')
+    expect(world.renew(), False, "a part that is not there")
+    expect("ripe.db.aut-num: status 404" in fault(world), True, fault(world))
+    world.files.texts["/ripe.db.aut-num"] = AUT_NUM
+    expect((world.renew(), fault(world)), (True, ""), "once it is")
+    expect(b"aut-num:" in dump(world), True, "whether the aut-num is in the view")
+    change(world, f', "{url}/ripe.db.aut-num"', "")
+    expect((world.renew(), b"aut-num:" in dump(world)), (True, False), "without it again")
+    # A file's time and size are no tag of an address.
+    world.files.texts["/own.db"] = OWN.replace("AS2,", "AS9,").encode()
+    change(world, f"{world.folder}/own.db", f"{url}/own.db")
+    expect((world.renew(), world.view.faults), (True, {}), "a file that is now fetched")
+    expect(b"AS9" in dump(world), True, "its text")
+    # What the same settings took is asked for no second time.
+    world.view, count = View(world.view.settings), len(world.files.asked)
+    expect(world.renew(), False, "the same settings")
+    expect({status for _, status in world.files.asked[count:]}, {304}, "how they were asked")
+
+
+def dump(world: World) -> bytes:
+    return (world.view.folder / "made" / "dump.rpsl").read_bytes()
+
+
+def label(view: View) -> dict[str, list[tuple[str, str]]]:
+    """What a view is told to be made of."""
+    told = view.status()["view"]
+    return {told["name"]: [(one["name"], one["state"]) for one in told["sources"]]}
+
+
+def test_what_is_served_is_told_to_be_made_of_what_it_is(world: World) -> None:
+    """Also after a stop between its making and its place, and with other settings, whose view is
+    still to be made."""
+    expect(world.renew(), True, "the first time")
+    first = label(world.view)
+    expect([name for name, _ in first["ALL"]], ["TEST", "RIPE"], "its sources")
+    expect(label(View(world.view.settings)), first, "after a stop")
+    (world.folder / "own.db").write_text(OWN.replace("AS2,", "AS2, AS3,"))
+    made, work = world.view.folder / "made", world.view.folder / "made.next"
+    for is_in_place in False, True:
+        world.view = View(world.view.settings)
+        work.mkdir()
+        expect(world.view.make(work, world.known) is not None, True, "a new view")
+        (_, either), same = label(world.view)["ALL"]
+        expect(either.partition(" or ")[0], first["ALL"][0][1], "its state, or the new one")
+        expect(same, first["ALL"][1], "what did not change")
+        if is_in_place:
+            made.rename(world.view.folder / "made.old")
+            work.rename(made)
+        else:
+            shutil.rmtree(work)
+        again = label(View(world.view.settings))
+        expect(again == first, not is_in_place, f"a stop before it is kept: {again}")
+    second = label(View(world.view.settings))
+    expect(second["ALL"][0][1], either.partition(" or ")[2], "the new state")
+    world.view.commit()
+    expect(label(world.view), second, "what is told once it is kept")
+    path = world.folder / "view.toml"
+    head, own, ripe = path.read_text().split("[[source]]")
+    path.write_text("[[source]]".join([head, ripe + "\n", own]).replace('"ALL"', '"BOTH"'))
+    world.view = View(settings.read(str(path)))
+    expect(label(world.view), second, "with other settings")
+    world.known = ""
+    expect(world.renew(), True, "the view of these")
+    expect(label(world.view), {"BOTH": second["ALL"][::-1]}, "what is told of that")
+    expect(label(View(world.view.settings)), label(world.view), "and after a stop")
+
+
+def test_a_state_that_changes_nothing_of_what_is_served_is_told(world: World) -> None:
+    """Another text of a source, of which the view is as before, is what it is made of from then
+    on."""
+    expect(world.renew(), True, "the first time")
+    first = label(world.view)
+    (world.folder / "own.db").write_text("# a comment\n\n" + OWN)
+    expect(world.view.make(world.view.folder, world.known), None, "the same registry")
+    expect(label(world.view)["ALL"][0] != first["ALL"][0], True, "the state of its source")
+    expect(label(View(world.view.settings)), label(world.view), "after a stop")
 
 
 def seen(answer: str) -> set[tuple[int, str]]:

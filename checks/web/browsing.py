@@ -53,8 +53,8 @@ SERVER = """
         listen 127.0.0.1:{port}{ssl};
         server_name {host} 127.0.0.1;
         location / {{ root {web}; index index.html; }}
-        location /query/ {{ proxy_pass http://127.0.0.1:{behind}; }}
-        location = /dump {{ proxy_pass http://127.0.0.1:{behind}; }}
+        location ~ ^/(query|views|why|history)/ {{ proxy_pass http://127.0.0.1:{behind}; }}
+        location ~ ^/(dump|about)$ {{ proxy_pass http://127.0.0.1:{behind}; }}
         location = /submissions {{
             proxy_pass http://127.0.0.1:{behind};
             proxy_connect_timeout 2s;

@@ -16,13 +16,19 @@ from checks.web.staging import Stage
 
 PLACE = Path(TOP, "docs/pictures")
 WIDTH, HEIGHT = 1120, 800
+# How many colours a picture has: of all, and more of those that are no grey, whose greatest part of
+# red, green and blue is so much more than the least one.
+COLOURS, MORE, BRIGHT = 32, 8, 80
 MAP = "#map=10.0.0.0/8"
 LOOK = "#q=10.1.2.3"
+TREE = "?view=ALL#set=AS64496:AS-CUSTOMERS"
+WHY = "?view=ALL#why=10.1.2.0/24%20AS64496:AS-RING"
+HISTORY = "#history=route%2010.1.0.0/16%20AS64496"
 ROUTE = {"route": "10.1.2.0/24", "origin": "AS64496", "mnt-by": "A-MNT"}
 
 
 def packed(png: bytes) -> bytes:
-    """The same picture in the 256 colours that it has most of, or those next to them."""
+    """The same picture in the colours that it has most of, or those next to them."""
     width, height, bits, kind, *_ = struct.unpack(">IIBBBBB", png[16:29])
     size = {2: 3, 6: 4}[kind]
     assert bits == 8
@@ -34,7 +40,7 @@ def packed(png: bytes) -> bytes:
         place += 12 + length
     rows = list(unfiltered(zlib.decompress(data), width * size, height, size))
     colours = Counter(row[at : at + 3] for row in rows for at in range(0, len(row), size))
-    palette = [colour for colour, _ in colours.most_common(256)]
+    palette = chosen(colours)
     number = {colour: nearest(colour, palette) for colour in colours}
     lines = [bytes(number[row[at : at + 3]] for at in range(0, len(row), size)) for row in rows]
     head = struct.pack(">IIBBBBB", width, height, 8, 3, 0, 0, 0)
@@ -45,6 +51,13 @@ def packed(png: bytes) -> bytes:
         + chunk(b"IDAT", zlib.compress(b"".join(b"\0" + line for line in lines), 9))
         + chunk(b"IEND", b"")
     )
+
+
+def chosen(colours: Counter[bytes]) -> list[bytes]:
+    """The colours that there are most of, and of those that are no grey some more."""
+    ordered = [colour for colour, _ in colours.most_common()]
+    bright = [one for one in ordered[COLOURS:] if max(one) - min(one) > BRIGHT]
+    return ordered[:COLOURS] + bright[:MORE]
 
 
 def nearest(colour: bytes, palette: list[bytes]) -> int:
@@ -88,8 +101,9 @@ def main() -> None:
         options = argparse.Namespace(long=False, seed=1, count=None)
         stage = Stage(Trial(options, str(Path(sys.argv[1]).resolve()), folder))
         try:
-            stage.begin(0)
+            stage.begin(0, True)
             stage.home = stage.nginx.address("tls", HOST)
+            door = stage.nginx.address("door", HOST)
             browser = stage.browser
             browser.call(
                 "Emulation.setDeviceMetricsOverride",
@@ -105,6 +119,24 @@ def main() -> None:
             browser.go(stage.home + MAP)
             browser.until("document.getElementById('canvas').dataset.drawn", "the map")
             take(stage, "map")
+            offered = "document.querySelectorAll('#source option')[1]"
+            browser.go(door + TREE)
+            browser.until(f"document.querySelector('.lacking') && {offered}", "the tree")
+            for place in 1, 3:
+                browser.all("#branches summary")[place].click()
+                browser.until(
+                    f"document.querySelectorAll('#branches .inside > p').length > {place + 1}",
+                    "a branch",
+                )
+            take(stage, "tree")
+            browser.go(door + WHY)
+            browser.until(f"document.querySelector('.chain') && {offered}", "the chain")
+            take(stage, "why")
+            browser.go(door + HISTORY)
+            browser.until(f"document.querySelector('#states ins') && {offered}", "the history")
+            browser.all("#states li a")[2].click()
+            browser.until("document.querySelector('#states del')", "a change")
+            take(stage, "history")
             stage.form("route", ROUTE, [])
             take(stage, "submit")
         finally:

@@ -70,7 +70,7 @@ route: 10.1.0.0/16
 origin: AS64496
 mnt-by: A-MNT
 mnt-routes: A-MNT, B-MNT {{10.1.8.0/22^22-24}}
-source: TEST
+source: TEST # REMARK
 
 route: 10.2.0.0/16
 origin: AS64497

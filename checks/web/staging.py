@@ -9,6 +9,7 @@ from collections.abc import Sequence
 from checks.running import AUTH, TOP, Failure, Trial, expect
 from checks.serving import Server, Serving, free_port
 from checks.web.browsing import HOST, BadServer, Browser, Nginx
+from checks.web.doored import Doored
 from checks.web.shown import LIMIT, REGISTRY, REPLIES, large_registry
 from checks.web.tables import FILES
 
@@ -29,10 +30,11 @@ class Stage:
         self.bad: BadServer | None = None
         self.nginx: Nginx | None = None
         self.browser: Browser | None = None
+        self.door: Doored | None = None
         self.large, self.large_port = self.place("large"), free_port()
         os.makedirs(self.pictures, exist_ok=True)
 
-    def begin(self, large_count: int) -> None:
+    def begin(self, large_count: int, has_door: bool = False) -> None:
         """Starts all; a large registry is loaded meanwhile, unless it is to have no objects."""
         trial = self.trial
         if large_count:
@@ -63,6 +65,9 @@ class Stage:
             "large": self.large_port,
             "down": free_port(),
         }
+        if has_door:
+            self.door = Doored(trial, self.small.port)
+            behind["door"] = self.door.port
         self.nginx = Nginx(trial.place("nginx"), behind)
         self.browser = Browser(trial.place("browser"), self.pictures)
         self.home = self.nginx.address("small")
@@ -85,6 +90,8 @@ class Stage:
             self.nginx.end()
         if self.bad:
             self.bad.shutdown()
+        if self.door:
+            self.door.end()
         if self.small:
             self.small.__exit__()
         if self.large_server:
@@ -151,7 +158,7 @@ class Stage:
 
 
 # What else of the page's own origin is asked for.
-ASKED = ("/submissions", "/dump", "/favicon.ico")
+ASKED = ("/submissions", "/dump", "/favicon.ico", "/about")
 
 
 def own_origin(stage: Stage) -> str:
@@ -171,12 +178,13 @@ def own_origin(stage: Stage) -> str:
     }
     expect(strange, set(), "requests to elsewhere")
     paths = {
-        re.sub(r"^https?://[^/]+", "", url).split("?")[0].split("/query/")[0]
+        re.split("/(?:query|why|history)/", re.sub(r"^https?://[^/]+", "", url).split("?")[0])[0]
         for url in browser.requests
         if url.startswith("http")
     }
+    views = {"/views/ALL", "/views/NONE"} if stage.door else set()
     expect(
-        paths - {"/", "", *(f"/{name}" for name in FILES), *ASKED},
+        paths - {"/", "", *(f"/{name}" for name in FILES), *ASKED, *views},
         set(),
         "what is asked for",
     )

@@ -12,9 +12,21 @@ MOST, FEWEST = 150_000, 8
 
 def test_each_picture_is_small_and_is_shown_with_an_alternative(tell: Tell) -> None:
     page = Path(TOP, "docs/OPERATING.md").read_text(encoding="utf-8")
-    shown = {path: words for words, path in re.findall(r"!\[([^\]]*)\]\(pictures/(\S+)\)", page)}
-    sizes = {path.name: path.stat().st_size for path in PLACE.iterdir()}
-    assert sorted(shown) == sorted(sizes) == ["look.png", "map.png", "submit.png"]
+    found = re.findall(r"!\[([^\]]*)\]\(pictures/(\S+\.png)\)", page)
+    shown = {path: words for words, path in found}
+    sizes = {path.name: path.stat().st_size for path in PLACE.glob("*.png")}
+    assert (
+        sorted(shown)
+        == sorted(sizes)
+        == [
+            "history.png",
+            "look.png",
+            "map.png",
+            "submit.png",
+            "tree.png",
+            "why.png",
+        ]
+    )
     assert all(len(words.split()) >= FEWEST for words in shown.values())
     assert sum(sizes.values()) <= MOST
     tell(f"{sum(sizes.values()):,} bytes")

@@ -28,15 +28,29 @@ def test_it_is_used_without_a_mouse(stage: Stage, tell: Tell) -> None:
     browser = stage.browser
     browser.go(stage.home)
     press = lambda *keys: ActionChains(browser.driver).send_keys(*keys).perform()
+    links = browser.js(
+        "return [...document.querySelectorAll('header a')]"
+        ".map(a => [a.dataset.view, a.textContent])"
+    )
+    views = browser.js("return [...document.querySelectorAll('main > section')].map(at => at.id)")
+    expect([view for view, _ in links], views, "the links, one to each view")
+    browser.until("document.getElementById('source').value", "what the server says of itself")
+    links = browser.js(
+        "return [...document.querySelectorAll('header a')].filter(a => a.checkVisibility())"
+        ".map(a => [a.dataset.view, a.textContent])"
+    )
+    has = [view for view in views if view not in ("why", "past")]
+    expect([view for view, _ in links], has, "the links to what a registry without a door has")
     reached = []
-    for _ in range(6):
+    for _ in range(len(links) + 2):
         press(Keys.TAB)
         reached.append(
             browser.js("return document.activeElement.id || document.activeElement.textContent")
         )
-    expect(reached[:5], ["Look up", "Map", "Submit", "words", "Look up"], "what Tab reaches")
+    texts = [text for _, text in links]
+    expect(reached, [*texts, "words", "Look up"], "what Tab reaches")
     browser.go(stage.home)
-    press(*[Keys.TAB] * 4, "10.1.2.3", Keys.ENTER)
+    press(*[Keys.TAB] * (len(links) + 1), "10.1.2.3", Keys.ENTER)
     browser.until("document.querySelectorAll('#answer .object').length === 2", "the answer")
     outline = browser.js(
         "document.querySelector('#answer a').focus({focusVisible: true}); return"

@@ -13,7 +13,7 @@ from checks.web.browsing import Browser
 from checks.web.shown import MISTAKES
 from checks.web.staging import Stage, own_origin
 
-IN_MEMORY, SECONDS = True, 60
+IN_MEMORY, SECONDS, DOOR = True, 60, True
 WALK = Path(__file__).with_name("wcag.js").read_text(encoding="utf-8")
 # An element that has the focus, with the mark of it.
 FOCUSED = r"""
@@ -59,6 +59,30 @@ VIEWS = {
     "the map": ("#map=10.0.0.0/8", "document.getElementById('canvas').dataset.drawn"),
     "no prefix": ("#map=10/8", "document.querySelector('#map-said.bad')"),
     "the form": ("#submit", "document.getElementById('field-source').value"),
+    "no set": ("#set=10/8", "document.querySelector('#tree-said.bad')"),
+}
+# Those of what a door has.
+DOORED = {
+    "objects of a view": ("?view=ALL#q=exact%2010.1.0.0/16", "document.querySelector('.source')"),
+    "a tree": (
+        "?view=ALL#set=AS64496:AS-CUSTOMERS",
+        "document.querySelector('.lacking') && document.querySelectorAll('#source option')[1]",
+    ),
+    "a large tree": ("?view=ALL#set=AS64496:AS-BIG", "document.querySelector('.branch .branch')"),
+    "chains": (
+        "?view=ALL#why=10.1.2.0/24%20AS64496:AS-RING",
+        "document.querySelector('.chain') && document.querySelectorAll('#source option')[1]",
+    ),
+    "what is nearest": (
+        "?view=ALL#why=10.1.2.0/25%20AS64496:AS-CUSTOMERS",
+        "document.querySelectorAll('.chain')[1]",
+    ),
+    "no prefix to ask why": ("#why=10/8%20AS1", "document.querySelector('#why-said.bad')"),
+    "a history": (
+        "#history=route%2010.1.0.0/16%20AS64496",
+        "document.querySelector('#states ins') && document.querySelectorAll('#source option')[1]",
+    ),
+    "no key": ("#history=AS1", "document.querySelector('#past-said.bad')"),
 }
 OTHER_STATES = [
     "faults of fields",
@@ -80,9 +104,9 @@ GIVEN: dict[str, tuple[str, list[str]]] = {
 def show(stage: Stage, state: str) -> None:
     """Brings the page into a state."""
     browser = stage.browser
-    if state in VIEWS:
-        view, ready = VIEWS[state]
-        browser.go(stage.home + view)
+    if state in VIEWS or state in DOORED:
+        view, ready = VIEWS[state] if state in VIEWS else DOORED[state]
+        browser.go((stage.home if state in VIEWS else stage.nginx.address("door")) + view)
         browser.until(ready, state)
     elif state in GIVEN:
         stage.send_text(*GIVEN[state])
@@ -105,7 +129,7 @@ def scheme(browser: Browser, name: str) -> None:
     )
 
 
-@pytest.mark.parametrize("state", [*VIEWS, *OTHER_STATES])
+@pytest.mark.parametrize("state", [*VIEWS, *DOORED, *OTHER_STATES])
 def test_it_meets_what_a_program_can_see(stage: Stage, tell: Tell, state: str) -> None:
     """Contrast, light and dark; targets; headings, labels, names and roles; errors tied to their
     fields; reflow at 320 points."""
@@ -165,7 +189,20 @@ USED = {
 LANDMARKS = ["banner", "main", "contentinfo", "navigation", "status"]
 
 
-@pytest.mark.parametrize("state", ["objects", "an expansion", "the map", "the form", "cautions"])
+@pytest.mark.parametrize(
+    "state",
+    [
+        "objects",
+        "an expansion",
+        "the map",
+        "the form",
+        "cautions",
+        "objects of a view",
+        "a tree",
+        "chains",
+        "a history",
+    ],
+)
 def test_the_keyboard_reaches_all_in_order_and_shows_where(
     stage: Stage, tell: Tell, state: str
 ) -> None:

@@ -55,7 +55,7 @@ def overview() -> str:
     lines = [
         "usage: irr COMMAND [WORD ...]",
         "",
-        "What people and other systems want of a registry that irrdesk serves.",
+        "Query, submit to and maintain a registry that irrdesk serves.",
     ]
     width = max(len(command.name) for command in TABLE)
     for group in GROUPS:

@@ -1,6 +1,7 @@
 // Asking the registry of this address, and no other.
 import {$, counted, shown} from './nodes.js';
 import {KINDS, RpslObject} from './rpsl.js';
+import {base} from './served.js';
 
 const MOST = 32 << 20;           // bytes of an answer that this page takes in
 const PATIENCE = 200;            // seconds without a byte of an answer
@@ -22,6 +23,7 @@ const STATUSES = {
     413: 'The text is longer than the server takes: send it in parts.',
     414: 'The query is too long: it has 1,024 bytes at most.',
     421: 'The server is not of this name: correct the address.',
+    422: 'The answer is longer than the server makes it: ask for less.',
     429: 'Too many requests came from you, or from all together: wait a minute, and ask again.',
     431: 'The query is too long: it has 1,024 bytes at most.',
     502: 'The registry does not answer: it is down, or being started. Ask again in a minute.',
@@ -39,7 +41,8 @@ export class Trouble extends Error {}
 // Asks for a view: one thing at a time, of which a newer one ends the older one. The line of status
 // of the view says how it stands.
 export class Client {
-    constructor(name) {
+    constructor(name, isOfView = true) {
+        this.isOfView = isOfView;
         this.said = $(`${name}-said`);
         this.stop = $(`${name}-stop`);
         this.current = null;
@@ -78,7 +81,7 @@ export class Client {
     }
 
     // The whole text that a path answers, or a Trouble.
-    async ask(signal, path, body) {
+    async ask(signal, path, body, type = 'text/plain') {
         const cut = new AbortController(), end = () => cut.abort();
         const doubt = body === undefined ? '' : UNKNOWN;
         let heard = performance.now(), told = heard, size = 0;
@@ -102,11 +105,16 @@ export class Client {
                         `Ask again in a minute.${doubt}`;
                     throw new Trouble(this.why(signal, cut, words, doubt));
                 });
+            const given = reply.headers.get('Content-Type') ?? '';
+            if (reply.status !== 200 && type !== 'text/plain' && given.startsWith('text/plain')) {
+                const words = /^% (.+)\n$/.exec(await reply.text());
+                if (words) throw new Trouble(`The server says: ${words[1]}.`);
+            }
             if (reply.status !== 200)
                 throw new Trouble((STATUSES[reply.status]
                 ?? `The server answers with status ${reply.status}.`)
                 + (reply.status >= 500 ? doubt : ''));
-            if (!/^text\/plain\b/i.test(reply.headers.get('Content-Type') ?? ''))
+            if (given.split(';')[0].trim().toLowerCase() !== type)
                 throw new Trouble(
                 `What answers is not a registry: the server's operator has to hand ${path.split(
                 '/')[1]} on to it.`);
@@ -141,11 +149,22 @@ export class Client {
             : otherwise;
     }
 
+    // What a path answers in JSON.
+    async json(signal, path) {
+        const {text} = await this.ask(signal, path, undefined, 'application/json');
+        try {
+            return JSON.parse(text);
+        } catch {
+            throw new Trouble(STRANGE);
+        }
+    }
+
     async query(signal, words) {
         const query = words.trim();
         // A browser takes these two out of a path.
         if (query === '.' || query === '..') return '% error 1\n';
-        const path = `/query/${encodeURIComponent(query.toWellFormed?.() ?? query)}`;
+        const place = this.isOfView ? base() : '';
+        const path = `${place}/query/${encodeURIComponent(query.toWellFormed?.() ?? query)}`;
         const {text, isSized} = await this.ask(signal, path);
         const kind = kindOf(text);
         if (kind === 'cut')

@@ -26,6 +26,9 @@ export function setKind(text) {
 }
 
 export const isSet = text => setKind(text) !== null;
+// The name of a set in the one spelling by which it is known.
+export const setName = text =>
+    text.split(':').map(part => isAs(part) ? `AS${asNumber(part)}` : part.toUpperCase()).join(':');
 
 // Addresses, prefixes and spans.
 export const textOf = address => [24, 16, 8, 0].map(shift => address >>> shift & 255).join('.');
@@ -76,6 +79,9 @@ export class RpslObject {
     get key() { return this.kind === 'route' ? `${this.name} ${this.meaning('origin')}` : this.name;
         }
     get holders() { return this.held ??= this.items('mnt-by'); }
+    // The comment on the source, which in a view says where the object is from.
+    get source() { return /\nsource:[^\n#]*#[ \t]*([A-Za-z][A-Za-z0-9_-]*)[ \t]*(?:\n|$)/.exec(
+        this.text)?.[1] ?? ''; }
 
     // All attributes, each with its lines.
     get attributes() {

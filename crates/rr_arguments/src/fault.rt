@@ -1,5 +1,8 @@
 //! Why the arguments of the command line ask for nothing.
 
+ghost use Rattle.std.specs.Prelude.{◌≡◌};
+ghost use Rattle.rr_arguments.specs.declared.fault.ArgumentsFault.TheVariants.{Memory};
+
 use std::alloc::AllocError;
 
 /// Why the arguments ask for nothing that the program does.
@@ -18,6 +21,8 @@ pub enum ArgumentsFault<'a> {
 }
 
 impl From<AllocError> for ArgumentsFault<'_> {
+    ghost from_gives = { λ _ fault. fault ≡ Memory };
+
     fn from(_error: AllocError) -> Self {
         ArgumentsFault::Memory
     }

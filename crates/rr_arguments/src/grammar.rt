@@ -1,21 +1,24 @@
 //! What the arguments of the command line may be.
 
+ghost use Rattle.std.specs.Prelude.{IfOk, codes};
+ghost use Rattle.clap.specs.Simple.{App, with_subcommand};
+ghost use Rattle.rr_arguments.specs.Grammar.{IsArg, IsMade, bare_app, dump_app, full_rule};
+ghost use Rattle.rr_arguments.specs.Grammar.{needed_rule};
+ghost use Rattle.rr_arguments.specs.Grammar.{option_rule, over_file, over_settings, program_app};
+ghost use Rattle.rr_arguments.specs.Grammar.{query_app, serve_app, words_rule};
+
 use crate::help;
 use clap::{Arg, ArgAction};
 use std::alloc::{AllocError, Global};
 
 /// The version of the program, and that of the tables that it reads.
-const VERSION: &str = "1.2.8 (tables 2)";
+const VERSION: &str = "2.1.0 (tables 2)";
 
 /// What the arguments may be. The commands stand in the order in which a registry meets them.
-pub fn program<'a>(alloc: Global) -> Result<clap::Command<'a>, AllocError> {
-    let program = clap::Command::new(alloc, "irrdesk")
-        .bin_name("irrdesk")?
-        .version(VERSION)
-        .about(help::PROGRAM)
-        .after_help(help::PROGRAM_EXAMPLE)
-        .subcommand_required(true);
-    let program = with(program, init(alloc))?;
+pub fn program<'a>(alloc: Global) -> Result<clap::Command<'a>, AllocError>
+    ensures { IfOk result (IsMade program_app) }
+{
+    let program = with(bare(alloc)?, init(alloc))?;
     let program = with(program, submit(alloc))?;
     let program = with(program, query(alloc))?;
     let program = with(program, serve(alloc))?;
@@ -25,19 +28,41 @@ pub fn program<'a>(alloc: Global) -> Result<clap::Command<'a>, AllocError> {
     with(program, probe(alloc))
 }
 
+/// The program without its commands.
+fn bare<'a>(alloc: Global) -> Result<clap::Command<'a>, AllocError>
+    ensures { IfOk result (IsMade bare_app) }
+{
+    Ok(
+        clap::Command::new(alloc, "irrdesk")
+            .bin_name("irrdesk")?
+            .version(VERSION)
+            .about(help::PROGRAM)
+            .after_help(help::PROGRAM_EXAMPLE)
+            .subcommand_required(true),
+    )
+}
+
 /// The program with one more command.
 fn with<'a>(
     program: clap::Command<'a>,
     command: Result<clap::Command<'a>, AllocError>,
-) -> Result<clap::Command<'a>, AllocError> {
+) -> Result<clap::Command<'a>, AllocError>
+    ensures { (above : App) → (below : App) → IsMade above program.entry
+        → IfOk command.entry (IsMade below)
+        → IfOk result (IsMade (with_subcommand above below.top)) }
+{
     program.subcommand(command?)
 }
 
-fn init<'a>(alloc: Global) -> Result<clap::Command<'a>, AllocError> {
+fn init<'a>(alloc: Global) -> Result<clap::Command<'a>, AllocError>
+    ensures { IfOk result (IsMade (over_settings (codes "init"))) }
+{
     over_settings(alloc, "init", help::INIT, help::INIT_EXAMPLE)
 }
 
-fn submit<'a>(alloc: Global) -> Result<clap::Command<'a>, AllocError> {
+fn submit<'a>(alloc: Global) -> Result<clap::Command<'a>, AllocError>
+    ensures { IfOk result (IsMade (over_file (codes "submit"))) }
+{
     over_settings(alloc, "submit", help::SUBMIT, help::SUBMIT_EXAMPLE)?.arg(needed(
         alloc,
         "FILE",
@@ -45,26 +70,36 @@ fn submit<'a>(alloc: Global) -> Result<clap::Command<'a>, AllocError> {
     ))
 }
 
-fn query<'a>(alloc: Global) -> Result<clap::Command<'a>, AllocError> {
+fn query<'a>(alloc: Global) -> Result<clap::Command<'a>, AllocError>
+    ensures { IfOk result (IsMade query_app) }
+{
     over_settings(alloc, "query", help::QUERY, help::QUERY_EXAMPLE)?.arg(query_words(alloc))
 }
 
-fn query_words<'a>(alloc: Global) -> Arg<'a> {
+fn query_words<'a>(alloc: Global) -> Arg<'a>
+    ensures { IsArg words_rule result }
+{
     needed(alloc, "WORD", "The words of the query").num_args(1..)
 }
 
-fn dump<'a>(alloc: Global) -> Result<clap::Command<'a>, AllocError> {
+fn dump<'a>(alloc: Global) -> Result<clap::Command<'a>, AllocError>
+    ensures { IfOk result (IsMade dump_app) }
+{
     over_settings(alloc, "dump", help::DUMP, help::DUMP_EXAMPLE)?.arg(full(alloc))
 }
 
-fn full<'a>(alloc: Global) -> Arg<'a> {
+fn full<'a>(alloc: Global) -> Arg<'a>
+    ensures { IsArg full_rule result }
+{
     Arg::new(alloc, "full")
         .long("full")
         .action(ArgAction::SetTrue)
         .help("All of each object, with its `auth`, as `irrdesk load` reads it")
 }
 
-fn load<'a>(alloc: Global) -> Result<clap::Command<'a>, AllocError> {
+fn load<'a>(alloc: Global) -> Result<clap::Command<'a>, AllocError>
+    ensures { IfOk result (IsMade (over_file (codes "load"))) }
+{
     over_settings(alloc, "load", help::LOAD, help::LOAD_EXAMPLE)?.arg(needed(
         alloc,
         "FILE",
@@ -72,11 +107,15 @@ fn load<'a>(alloc: Global) -> Result<clap::Command<'a>, AllocError> {
     ))
 }
 
-fn migrate<'a>(alloc: Global) -> Result<clap::Command<'a>, AllocError> {
+fn migrate<'a>(alloc: Global) -> Result<clap::Command<'a>, AllocError>
+    ensures { IfOk result (IsMade (over_settings (codes "migrate"))) }
+{
     over_settings(alloc, "migrate", help::MIGRATE, help::MIGRATE_EXAMPLE)
 }
 
-fn serve<'a>(alloc: Global) -> Result<clap::Command<'a>, AllocError> {
+fn serve<'a>(alloc: Global) -> Result<clap::Command<'a>, AllocError>
+    ensures { IfOk result (IsMade serve_app) }
+{
     over_settings(alloc, "serve", help::SERVE, help::SERVE_EXAMPLE)?
         .arg(option(alloc, "PORT", "port", "The port, 1 to 65535"))?
         .arg(option(
@@ -87,7 +126,9 @@ fn serve<'a>(alloc: Global) -> Result<clap::Command<'a>, AllocError> {
         ))
 }
 
-fn probe<'a>(alloc: Global) -> Result<clap::Command<'a>, AllocError> {
+fn probe<'a>(alloc: Global) -> Result<clap::Command<'a>, AllocError>
+    ensures { IfOk result (IsMade (over_settings (codes "probe"))) }
+{
     over_settings(alloc, "probe", help::PROBE, help::PROBE_EXAMPLE)
 }
 
@@ -97,7 +138,9 @@ fn over_settings<'a>(
     name: &'a str,
     about: &'a str,
     example: &'a str,
-) -> Result<clap::Command<'a>, AllocError> {
+) -> Result<clap::Command<'a>, AllocError>
+    ensures { IfOk result (IsMade (over_settings name.entry.now)) }
+{
     clap::Command::new(alloc, name)
         .about(about)
         .after_help(example)
@@ -105,7 +148,9 @@ fn over_settings<'a>(
 }
 
 /// An argument that a command needs, by its place.
-fn needed<'a>(alloc: Global, place: &'a str, help: &'a str) -> Arg<'a> {
+fn needed<'a>(alloc: Global, place: &'a str, help: &'a str) -> Arg<'a>
+    ensures { IsArg (needed_rule place.entry.now) result }
+{
     Arg::new(alloc, place)
         .required(true)
         .action(ArgAction::Set)
@@ -113,6 +158,8 @@ fn needed<'a>(alloc: Global, place: &'a str, help: &'a str) -> Arg<'a> {
 }
 
 /// A value that a command needs, after an option of this name.
-fn option<'a>(alloc: Global, place: &'a str, name: &'a str, help: &'a str) -> Arg<'a> {
+fn option<'a>(alloc: Global, place: &'a str, name: &'a str, help: &'a str) -> Arg<'a>
+    ensures { IsArg (option_rule place.entry.now name.entry.now) result }
+{
     needed(alloc, place, help).long(name).value_name(place)
 }

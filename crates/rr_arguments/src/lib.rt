@@ -6,6 +6,7 @@ mod command;
 mod fault;
 mod grammar;
 mod help;
+pub mod laws;
 mod numbers;
 mod reading;
 

@@ -1,5 +1,17 @@
 //! Reading the arguments of the command line.
 
+ghost use Rattle.std.specs.Prelude.{◌≡◌, ◌&&◌, codes, map, string_bytes, IfOk, MatchResult};
+ghost use Rattle.std.specs.Prelude.{length, nat_lt, true};
+ghost use Rattle.std.specs.Str.{bytes_eq};
+ghost use Rattle.clap.specs.Values.{kind_of};
+ghost use Rattle.clap.specs.Walk.{Text, one_of, rows_of};
+ghost use Rattle.clap.specs.Matches.{found_of};
+ghost use Rattle.rr_arguments.specs.CommandLine.{FailsToInvoke, GivesInvoked, GivesPart};
+ghost use Rattle.rr_arguments.specs.CommandLine.{Invocation, IsFlag, IsToldAs, given, helped};
+ghost use Rattle.rr_arguments.specs.CommandLine.{asks_help, asks_query, invoked, invoked_by};
+ghost use Rattle.rr_arguments.specs.CommandLine.{invoked_count, invoked_port, joined, parsed};
+ghost use Rattle.rr_arguments.specs.CommandLine.{parsed_or_helped, query};
+
 use crate::command::Command;
 use crate::fault::ArgumentsFault;
 use crate::grammar::program;
@@ -23,7 +35,9 @@ const USAGE: &str = "usage: ";
 pub fn read_command<'a>(
     alloc: Global,
     arguments: &'a [String],
-) -> Result<Command<'a>, ArgumentsFault<'a>> {
+) -> Result<Command<'a>, ArgumentsFault<'a>>
+    ensures { GivesInvoked (invoked (map string_bytes arguments.now)) result }
+{
     if arguments.len() < 2 {
         return Ok(Command::Plain);
     }
@@ -37,7 +51,9 @@ pub fn read_command<'a>(
 
 /// Whether these are the arguments of a query after its settings: each of them is a word of the
 /// query, also one that begins with a dash and would be an option elsewhere (profile).
-fn is_query(name: &str, settings: &str, query: &[String]) -> bool {
+fn is_query(name: &str, settings: &str, query: &[String]) -> bool
+    ensures { result ≡ (asks_query name.now settings.now && nat_lt 0 (length query.now)) }
+{
     name == "query" && !settings.starts_with('-') && !query.is_empty()
 }
 
@@ -46,7 +62,9 @@ fn read_query<'a, S: AsStr>(
     alloc: Global,
     settings: &'a str,
     words: &[S],
-) -> Result<Command<'a>, ArgumentsFault<'a>> {
+) -> Result<Command<'a>, ArgumentsFault<'a>>
+    ensures { GivesInvoked (query settings.now (joined (map S.text words.now))) result }
+{
     let query = words.join(alloc, " ")?;
     Ok(Command::Query { settings, query })
 }
@@ -55,12 +73,28 @@ fn read_query<'a, S: AsStr>(
 fn read_arguments<'a>(
     alloc: Global,
     arguments: &'a [String],
-) -> Result<Command<'a>, ArgumentsFault<'a>> {
-    if let [first, help, name] = arguments {
-        if help.as_str() == "help" && name.as_str() != "help" {
-            return read_help(alloc, first.as_str(), name.as_str());
+) -> Result<Command<'a>, ArgumentsFault<'a>>
+    ensures { GivesInvoked (parsed_or_helped (map string_bytes arguments.now)) result }
+{
+    match arguments {
+        [first, help, name] if is_help(help.as_str(), name.as_str()) => {
+            read_help(alloc, first.as_str(), name.as_str())
         }
+        _ => parse(alloc, arguments),
     }
+}
+
+/// Whether these ask for the help on a command.
+fn is_help(help: &str, name: &str) -> bool
+    ensures { result ≡ asks_help help.now name.now }
+{
+    help == "help" && name != "help"
+}
+
+/// The command that a parse of the arguments finds.
+fn parse<'a>(alloc: Global, arguments: &'a [String]) -> Result<Command<'a>, ArgumentsFault<'a>>
+    ensures { GivesInvoked (parsed (map string_bytes arguments.now)) result }
+{
     match program(alloc)?.try_get_matches_from(arguments) {
         Ok(matches) => match matches.subcommand() {
             Some((name, found)) => read_found(alloc, name, found),
@@ -72,11 +106,9 @@ fn read_arguments<'a>(
 
 /// The help on a command: what the command says with `--help`, which suggests another for one that
 /// is unknown.
-fn read_help<'a>(
-    alloc: Global,
-    first: &str,
-    name: &str,
-) -> Result<Command<'a>, ArgumentsFault<'a>> {
+fn read_help<'a>(alloc: Global, first: &str, name: &str) -> Result<Command<'a>, ArgumentsFault<'a>>
+    ensures { GivesInvoked (helped first.now name.now) result }
+{
     let words = words_of(alloc, &[first, name, "--help"])?;
     match program(alloc)?.try_get_matches_from(words.as_slice()) {
         Ok(_) => Err(ArgumentsFault::Unexplained),
@@ -84,7 +116,10 @@ fn read_help<'a>(
     }
 }
 
-fn words_of(alloc: Global, texts: &[&str]) -> Result<Vec<String>, AllocError> {
+fn words_of(alloc: Global, texts: &[&str]) -> Result<Vec<String>, AllocError>
+    ensures { IfOk result
+        (λ words. map string_bytes words.items ≡ map (λ text. text.now) texts.now) }
+{
     let mut words = Vec::new(alloc);
     for text in texts {
         words.push(String::from_str(alloc, text)?)?;
@@ -97,7 +132,11 @@ fn read_found<'a>(
     alloc: Global,
     name: &'a str,
     found: &ArgMatches<'a>,
-) -> Result<Command<'a>, ArgumentsFault<'a>> {
+) -> Result<Command<'a>, ArgumentsFault<'a>>
+    ensures { (bytes_eq name.now (codes "dump") ≡ true
+        → IsFlag (one_of (codes "full") (rows_of (found_of found.now))))
+        → GivesInvoked (invoked_by name.now (rows_of (found_of found.now))) result }
+{
     let settings = read_argument(found, "SETTINGS")?;
     match name {
         "init" => Ok(Command::Init { settings }),
@@ -126,7 +165,11 @@ fn read_found<'a>(
 }
 
 /// The argument of a command that has this place.
-fn read_argument<'a>(found: &ArgMatches<'a>, place: &str) -> Result<&'a str, ArgumentsFault<'a>> {
+fn read_argument<'a>(found: &ArgMatches<'a>, place: &str) -> Result<&'a str, ArgumentsFault<'a>>
+    ensures { (made : Text → Invocation) → MatchResult result
+        (λ text. given place.now made (rows_of (found_of found.now)) ≡ made text.now)
+        (λ fault. FailsToInvoke fault (given place.now made (rows_of (found_of found.now)))) }
+{
     match found.get_str(place) {
         Some(argument) => Ok(argument),
         None => Err(ArgumentsFault::Unexplained),
@@ -134,7 +177,9 @@ fn read_argument<'a>(found: &ArgMatches<'a>, place: &str) -> Result<&'a str, Arg
 }
 
 /// The port that the arguments name.
-fn read_port<'a>(found: &ArgMatches<'a>) -> Result<u16, ArgumentsFault<'a>> {
+fn read_port<'a>(found: &ArgMatches<'a>) -> Result<u16, ArgumentsFault<'a>>
+    ensures { GivesPart (λ made. invoked_port made (rows_of (found_of found.now))) result }
+{
     let argument = read_argument(found, "PORT")?;
     match read_number(argument, GREATEST_PORT) {
         Some(port) => Ok(port as u16),
@@ -143,7 +188,9 @@ fn read_port<'a>(found: &ArgMatches<'a>) -> Result<u16, ArgumentsFault<'a>> {
 }
 
 /// The number of connections that the arguments name.
-fn read_count<'a>(found: &ArgMatches<'a>) -> Result<u64, ArgumentsFault<'a>> {
+fn read_count<'a>(found: &ArgMatches<'a>) -> Result<u64, ArgumentsFault<'a>>
+    ensures { GivesPart (λ made. invoked_count made (rows_of (found_of found.now))) result }
+{
     let argument = read_argument(found, "N")?;
     match read_number(argument, GREATEST_COUNT) {
         Some(count) => Ok(count as u64),
@@ -156,7 +203,9 @@ fn read_refusal<'a>(
     alloc: Global,
     arguments: &[String],
     error: &clap::Error,
-) -> Result<Command<'a>, ArgumentsFault<'a>> {
+) -> Result<Command<'a>, ArgumentsFault<'a>>
+    ensures { IsToldAs (kind_of error.now) result }
+{
     let text = error.to_string(alloc)?;
     match error.kind() {
         ErrorKind::DisplayHelp | ErrorKind::DisplayVersion => Ok(Command::Print(text)),

@@ -1,6 +1,7 @@
 pub mod Covers
 pub mod Crossing
 pub mod Keeping
+pub mod Knowing
 pub mod Members
 pub mod Nesting
 pub mod Refusing

@@ -2,6 +2,7 @@ pub mod Authority
 pub mod Closest
 pub mod Conditions
 pub mod Elements
+pub mod Known
 pub mod Laws
 pub mod Passing
 pub mod Private

@@ -1,6 +1,6 @@
 //! The verdict on an item.
 
-ghost use Rattle.std.specs.Prelude.{◌≡◌, IfOk};
+ghost use Rattle.std.specs.Prelude.{◌≡◌, IfOk, Some};
 ghost use Rattle.std.specs.List.{list_any};
 ghost use Rattle.std.specs.Option.{option_and_then, option_copied};
 ghost use Rattle.std.specs.FinMap.{get};
@@ -9,6 +9,7 @@ ghost use Rattle.rr_object.specs.KeyOrders.{IsKeyValue};
 ghost use Rattle.rr_auth.specs.Closest.{closest_inetnum};
 ghost use Rattle.rr_auth.specs.Authority.{lower_passes, routes_pass};
 ghost use Rattle.rr_auth.specs.Conditions.{is_in_use, route_passes};
+ghost use Rattle.rr_auth.specs.Known.{IsKnown};
 ghost use Rattle.rr_auth.specs.Laws.{IsItem};
 ghost use Rattle.rr_auth.specs.Private.{below, below_origin, below_parent, below_space};
 ghost use Rattle.rr_auth.specs.SetParents.{parent_key};
@@ -17,6 +18,7 @@ ghost use Rattle.rr_auth.specs.Verdicts.{addition, change, deletion, place, subm
 use crate::authority::{lower_passes, routes_pass};
 use crate::book::Book;
 use crate::item::Item;
+use crate::known::Known;
 use crate::passing::{names_pass, names_unknown};
 use crate::secrets::Secrets;
 use crate::verdict::Verdict;
@@ -25,20 +27,24 @@ use rr_object::{Code, Key, Object};
 use std::alloc::{AllocError, Global};
 
 /// The verdict on an item over the book's registry (RFC 2725, 9; profile); the error is out of
-/// memory. The key of an object that is submitted is well formed.
+/// memory. The key of an object that is submitted is well formed. What is known of the registry is
+/// used, and added to.
 pub fn judge<B: Book>(
     alloc: Global,
     book: &B,
     secrets: &mut Secrets,
+    known: &mut Known,
     item: &Item,
 ) -> Result<Verdict, AllocError>
+    requires { IsKnown (B.contents book.now) known.old }
     ensures verdict { IfOk result (λ v. v ≡ verdict (B.contents book.now) secrets.old item.now) }
     ensures formed { IsItem item.now }
     ensures same_secrets { secrets.new ≡ secrets.old }
+    ensures known { IsKnown (B.contents book.now) known.new }
 {
     match item {
-        Item::Submit(object) => judge_object(alloc, book, secrets, object),
-        Item::Delete(key) => Ok(judge_deletion(book, secrets, key)),
+        Item::Submit(object) => judge_object(alloc, book, secrets, known, object),
+        Item::Delete(key) => Ok(judge_deletion(book, secrets, known, key)),
     }
 }
 
@@ -47,16 +53,19 @@ fn judge_object<B: Book>(
     alloc: Global,
     book: &B,
     secrets: &mut Secrets,
+    known: &mut Known,
     object: &Object,
 ) -> Result<Verdict, AllocError>
+    requires { IsKnown (B.contents book.now) known.old }
     ensures verdict { IfOk result (λ v. v ≡ submission
         (get (B.contents book.now) object.now.key) (B.contents book.now) secrets.old object.now) }
     ensures formed { IsKeyValue object.now.key }
     ensures same_secrets { secrets.new ≡ secrets.old }
+    ensures known { IsKnown (B.contents book.now) known.new }
 {
     match book.get(object.key()) {
         None => judge_addition(alloc, book, secrets, object),
-        Some(stored) => Ok(judge_change(book, secrets, stored, object)),
+        Some(stored) => Ok(judge_change(book, secrets, known, stored, object)),
     }
 }
 
@@ -82,15 +91,19 @@ fn judge_addition<B: Book>(
 fn judge_change<B: Book>(
     book: &B,
     secrets: &mut Secrets,
+    known: &mut Known,
     stored: &Object,
     object: &Object,
 ) -> Verdict
+    requires stored { get (B.contents book.now) object.now.key ≡ Some stored.now }
+    requires known { IsKnown (B.contents book.now) known.old }
     ensures verdict { result ≡ change (B.contents book.now) secrets.old stored.now object.now }
     ensures same_secrets { secrets.new ≡ secrets.old }
+    ensures known { IsKnown (B.contents book.now) known.new }
 {
     if names_unknown(book, None, object) {
         Verdict::Refuse(Code::E10)
-    } else if !names_pass(book, None, secrets, stored.maintainers()) {
+    } else if !known.passes(book, secrets, object.key(), stored) {
         Verdict::Refuse(Code::E11)
     } else if stored.paragraph() == object.paragraph() {
         Verdict::Unchanged
@@ -99,15 +112,17 @@ fn judge_change<B: Book>(
     }
 }
 
-fn judge_deletion<B: Book>(book: &B, secrets: &mut Secrets, key: &Key) -> Verdict
+fn judge_deletion<B: Book>(book: &B, secrets: &mut Secrets, known: &mut Known, key: &Key) -> Verdict
+    requires { IsKnown (B.contents book.now) known.old }
     ensures verdict { result ≡ deletion
         (get (B.contents book.now) key.now) (B.contents book.now) secrets.old key.now }
     ensures same_secrets { secrets.new ≡ secrets.old }
+    ensures known { IsKnown (B.contents book.now) known.new }
 {
     match book.get(key) {
         None => Verdict::Refuse(Code::E18),
         Some(stored) => {
-            if !names_pass(book, None, secrets, stored.maintainers()) {
+            if !known.passes(book, secrets, key, stored) {
                 Verdict::Refuse(Code::E11)
             } else if is_in_use(book, key) {
                 Verdict::Refuse(Code::E17)

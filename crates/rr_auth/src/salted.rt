@@ -4,13 +4,14 @@
 //! once with each salt, and not once with each line: its digest is then looked up for all lines of
 //! that salt.
 
-ghost use Rattle.std.specs.Prelude.{◌≡◌, ℕ, true, IfOk, List};
+ghost use Rattle.std.specs.Prelude.{◌≡◌, ℕ, true, IfOk, IsSome, List, None, OnOk};
+ghost use Rattle.std.specs.BTreeMap.{get};
 ghost use Rattle.std.specs.BTreeSet.{BTreeSet as Digests, contains};
 ghost use Rattle.std.specs.Cmp.Lexicographic.{slice_cmp};
 ghost use Rattle.std.specs.List.{list_any};
 ghost use Rattle.std.specs.Ordering.{nat_cmp};
 ghost use Rattle.rr_auth.specs.Passing.{fits_line};
-ghost use Rattle.rr_auth.specs.TrialParts.{AreDigests, HasDigests, some_line_fits};
+ghost use Rattle.rr_auth.specs.TrialParts.{AreDigests, HasDigests, salt_cmp, some_line_fits};
 
 use crate::secret::{Secret, salted_digest, some_fits};
 use rr_object::Auth;
@@ -109,8 +110,9 @@ impl Salted {
         }
     }
 
-    /// Hashes the secrets with the salt. Whether one of them fits the line of the salt and this
-    /// wanted digest; the error is out of memory.
+    /// Hashes the secrets with the salt, with which they were not hashed before, nor will be again.
+    /// Whether one of them fits the line of the salt and this wanted digest; the error is out of
+    /// memory.
     fn hash(
         &mut self,
         secrets: &[Secret],
@@ -119,10 +121,12 @@ impl Salted {
         digest: &[u8; DIGEST_BYTES],
     ) -> Result<bool, AllocError>
         requires remembered { AreDigests wanted.now secrets.now self.old.digests }
+        requires unhashed { get salt_cmp self.old.digests salt ≡ None }
         requires wanted { contains (slice_cmp nat_cmp) wanted.now digest.now ≡ true }
         ensures answer { IfOk result (λ fits. fits ≡ list_any
             (fits_line (record { salt = salt.items; digest = digest.now })) secrets.now) }
         ensures remembers { AreDigests wanted.now secrets.now self.new.digests }
+        ensures hashed { OnOk result (IsSome (get salt_cmp self.new.digests salt)) }
     {
         let digests = digests(self.alloc, wanted, secrets, &salt)?;
         let fits = digests.contains(digest);

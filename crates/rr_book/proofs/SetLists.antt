@@ -13,7 +13,7 @@ use Rattle.rr_object.proofs.KeyLaws.{keys_total}
 use Rattle.rr_object.specs.KeyOrders.{key_cmp}
 use Rattle.rr_auth.specs.Registries.{Reg, Sound}
 use Rattle.rr_graph.proofs.Listings.{Contains-cons_cases}
-use Rattle.rr_graph.proofs.Lists.{Contains-head, Contains-later, Contains-map, Contains-nil}
+use Rattle.rr_graph.proofs.Lists.{Contains-filter, Contains-head, Contains-later, Contains-map, Contains-nil}
 use Rattle.rr_graph.specs.Chain.{HasNoRepeats}
 use Rattle.rr_number.specs.Prefixes.{PrefixParts}
 use Rattle.rr_object.specs.Classes.{class_number}
@@ -24,7 +24,6 @@ use Rattle.rr_object.specs.declared.key.Key.{Key}
 use Rattle.rr_object.specs.declared.key.Key.TheVariants.{Mntner, AsBlock, AutNum, Inetnum, Route, AsSet, RouteSet}
 use Rattle.rr_book.proofs.Places.{T_parts, is_Less}
 use Rattle.rr_book.specs.SetLists.{is_of_class}
-use Rattle.rr_sets.proofs.Numbers.{Contains-filter}
 use Rattle.rr_sets.specs.Lists.{IsAutNum, IsRegisteredRoute, ListsOnce, lent}
 
 abbrev Entry : Type 0

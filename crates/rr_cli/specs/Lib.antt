@@ -1,3 +1,4 @@
 pub mod Probing
-pub mod Serving
 pub mod Running
+pub mod Runs
+pub mod Serving

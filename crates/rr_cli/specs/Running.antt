@@ -18,7 +18,8 @@ use Rattle.rr_cli.specs.Probing.{Asking, ProbesBy}
 use Rattle.rr_cli.specs.Serving.{Listens, ServesBy}
 
 -- a command was carried out, by what keeps databases, and by what standard input and standard
--- output told, before and after; one without settings uses no database (profile)
+-- output told, before and after; one without settings uses no database, and the plain command alone
+-- reads standard input (profile)
 abbrev pub CarriesOut : {D S : Type 0} → Ghosts S → DatabaseCalls D S → Reads → Listens → Asking
     → Serving → Command → D → D → Told → Told → Told → Told → ProgramEnd → Type 0
 CarriesOut g calls reads listens asks serves command.Plain start end reader_old reader_new
@@ -26,29 +27,38 @@ CarriesOut g calls reads listens asks serves command.Plain start end reader_old 
     (end ≡ start) × EndsPlain over_memory reader_old reader_new writer_old writer_new result
 CarriesOut g calls reads listens asks serves (command.Init settings) start end
     reader_old reader_new writer_old writer_new result =
-    CreatesBy g calls reads settings.now start end writer_old writer_new result
+    (reader_new ≡ reader_old)
+    × CreatesBy g calls reads settings.now start end writer_old writer_new result
 CarriesOut g calls reads listens asks serves (command.Submit settings file) start end
     reader_old reader_new writer_old writer_new result =
-    SubmitsBy g calls reads settings.now file.now start end writer_old writer_new result
+    (reader_new ≡ reader_old)
+    × SubmitsBy g calls reads settings.now file.now start end writer_old writer_new result
 CarriesOut g calls reads listens asks serves (command.Query settings query) start end
     reader_old reader_new writer_old writer_new result =
-    AsksBy g calls reads settings.now (string_bytes query) start end writer_old writer_new result
+    (reader_new ≡ reader_old)
+    × AsksBy g calls reads settings.now (string_bytes query) start end writer_old writer_new result
 CarriesOut g calls reads listens asks serves (command.Dump settings full) start end
     reader_old reader_new writer_old writer_new result =
-    DumpsBy g calls reads settings.now full start end writer_old writer_new result
+    (reader_new ≡ reader_old)
+    × DumpsBy g calls reads settings.now full start end writer_old writer_new result
 CarriesOut g calls reads listens asks serves (command.Load settings file) start end
     reader_old reader_new writer_old writer_new result =
-    LoadsBy g calls reads settings.now file.now start end writer_old writer_new result
+    (reader_new ≡ reader_old)
+    × LoadsBy g calls reads settings.now file.now start end writer_old writer_new result
 CarriesOut g calls reads listens asks serves (command.Migrate settings) start end
     reader_old reader_new writer_old writer_new result =
-    MigratesBy g calls reads settings.now start end writer_old writer_new result
+    (reader_new ≡ reader_old)
+    × MigratesBy g calls reads settings.now start end writer_old writer_new result
 CarriesOut g calls reads listens asks serves (command.Serve settings port count) start end
     reader_old reader_new writer_old writer_new result =
-    ServesBy g calls reads settings.now listens serves port count start end writer_old writer_new
+    (reader_new ≡ reader_old)
+    × ServesBy g calls reads settings.now listens serves port count start end writer_old writer_new
     result
 CarriesOut g calls reads listens asks serves (command.Probe settings) start end
     reader_old reader_new writer_old writer_new result =
-    ProbesBy g calls reads settings.now listens asks serves start end writer_old writer_new result
+    (reader_new ≡ reader_old)
+    × ProbesBy g calls reads settings.now listens asks serves start end writer_old writer_new result
 CarriesOut g calls reads listens asks serves (command.Print text) start end
     reader_old reader_new writer_old writer_new result =
-    (end ≡ start) × Prints (string_bytes text) writer_old writer_new result
+    (end ≡ start) × (reader_new ≡ reader_old)
+    × Prints (string_bytes text) writer_old writer_new result

@@ -22,18 +22,20 @@ fn main(rt: HostRuntime) -> ExitCode {
     let mut input = Reading::silent(&rt, Counted::new(stdin));
     let mut output = Progress::new(&rt, Counted::new(rt.stdout()));
     let mut errors = Counted::new(rt.stderr());
-    let arguments = env::args(&rt);
     let mut databases = DatabaseFiles::new(&rt);
     let files = SystemFiles::new(&rt);
     let network = Sockets::new(&rt);
-    ExitCode::from(run::run(
-        &rt,
-        &mut databases,
-        &files,
-        &network,
-        arguments,
-        &mut input,
-        &mut output,
-        &mut errors,
-    ))
+    ExitCode::from(match run::collect(&rt, env::args(&rt)) {
+        Ok(arguments) => run::run(
+            &rt,
+            &mut databases,
+            &files,
+            &network,
+            arguments.as_slice(),
+            &mut input,
+            &mut output,
+            &mut errors,
+        ),
+        Err(trouble) => run::tell_unread(trouble, &mut errors),
+    })
 }

@@ -1,7 +1,11 @@
 //! A run of the program, over its arguments and its three streams.
 
 ghost use Rattle.rr_http.specs.DeskRegistrars.{serves_desk};
+ghost use Rattle.std.specs.Prelude.{IfErr, map, string_bytes};
+ghost use Rattle.rr_arguments.specs.CommandLine.{invoked};
 ghost use Rattle.rr_cli.specs.Running.{CarriesOut};
+ghost use Rattle.rr_cli.specs.Runs.{DoesAsInvoked, EndsRun, EndsUnread, IsOfArguments, IsUnread};
+ghost use Rattle.rr_cli.specs.Runs.{Runs};
 
 use crate::network::Network;
 use crate::probing::probe;
@@ -30,30 +34,41 @@ pub fn run<D: Databases, F: Files, N: Network, R: Input, W: Output, E: Sink>(
     databases: &mut D,
     files: &F,
     network: &N,
-    arguments: io::Result<Args>,
+    arguments: &[String],
     input: &mut R,
     output: &mut W,
     errors: &mut E,
-) -> u8 {
-    match collect(rt, arguments) {
-        Ok(arguments) => match run_arguments(
-            rt,
-            databases,
-            files,
-            network,
-            arguments.as_slice(),
-            input,
-            output,
-        ) {
-            Ok(status) => status,
-            Err(fault) => fault.legible(rt.alloc()).tell(errors),
-        },
-        Err(trouble) => ProgramFault::unnamed(trouble).tell(errors),
+) -> u8
+    ensures { Runs D.Disk.Store D.calls (F.reads files.now) (N.listens network.now)
+        (N.asks network.now) serves_desk (map string_bytes arguments.now)
+        databases.old databases.new (R.told input.old) (R.told input.new)
+        (W.told output.old) (W.told output.new) (E.told errors.old) (E.told errors.new) result }
+{
+    let end = run_arguments(rt, databases, files, network, arguments, input, output);
+    ended_with(rt.alloc(), end, errors)
+}
+
+/// The status of how a run ended, and at a fault its line on `errors`.
+fn ended_with<'a, E: Sink>(alloc: Global, end: Result<u8, ProgramFault<'a>>, errors: &mut E) -> u8
+    ensures { EndsRun end.entry (E.told errors.old) (E.told errors.new) result }
+{
+    match end {
+        Ok(status) => status,
+        Err(fault) => fault.legible(alloc).tell(errors),
     }
 }
 
+/// Tells on `errors` that the arguments could not be read, and gives the status of that.
+pub fn tell_unread<E: Sink>(trouble: Trouble, errors: &mut E) -> u8
+    ensures { EndsUnread trouble (E.told errors.old) (E.told errors.new) result }
+{
+    ProgramFault::unnamed(trouble).tell(errors)
+}
+
 /// The arguments as a list.
-fn collect(rt: &HostRuntime, arguments: io::Result<Args>) -> Result<Vec<String>, Trouble> {
+pub fn collect(rt: &HostRuntime, arguments: io::Result<Args>) -> Result<Vec<String>, Trouble>
+    ensures { IfErr result IsUnread }
+{
     match arguments {
         Ok(arguments) => match arguments.collect(rt.alloc()) {
             Ok(arguments) => Ok(arguments),
@@ -67,11 +82,9 @@ fn collect(rt: &HostRuntime, arguments: io::Result<Args>) -> Result<Vec<String>,
 }
 
 /// The fault of these arguments, which ask for nothing.
-fn fault_of<'a>(
-    alloc: Global,
-    arguments: &[String],
-    fault: ArgumentsFault<'a>,
-) -> ProgramFault<'a> {
+fn fault_of<'a>(alloc: Global, arguments: &[String], fault: ArgumentsFault<'a>) -> ProgramFault<'a>
+    ensures { IsOfArguments fault.entry result }
+{
     match fault {
         ArgumentsFault::Refused(line) => {
             // Without memory the arguments stay in it as they were given.
@@ -123,7 +136,12 @@ fn run_arguments<'a, D: Databases, F: Files, N: Network, R: Input, W: Output>(
     arguments: &'a [String],
     input: &mut R,
     output: &mut W,
-) -> Result<u8, ProgramFault<'a>> {
+) -> Result<u8, ProgramFault<'a>>
+    ensures { DoesAsInvoked D.Disk.Store D.calls (F.reads files.now) (N.listens network.now)
+        (N.asks network.now) serves_desk (invoked (map string_bytes arguments.now))
+        databases.old databases.new (R.told input.old) (R.told input.new)
+        (W.told output.old) (W.told output.new) result }
+{
     match read_command(rt.alloc(), arguments) {
         Ok(command) => carry_out(rt, databases, files, network, command, input, output),
         Err(fault) => Err(fault_of(rt.alloc(), arguments, fault)),

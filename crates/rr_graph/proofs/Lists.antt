@@ -1,6 +1,6 @@
 -- What a mapped list has.
-use Rattle.std.proofs.Common.{◌≡◌, ℕ, ◌+◌, ◌<◌, ◌⊎◌, ◌↔◌, length, get_or, take, List, [], ◌∷◌, ◌++◌, map, Contains, Option, None, Some, sym, ap, ◌∙◌, subst, inl, inr, arith}
-use Rattle.std.specs.List.{cons_option, filter_map}
+use Rattle.std.proofs.Common.{◌≡◌, ℕ, ◌+◌, ◌<◌, ◌⊎◌, ◌↔◌, Bool, true, false, cond, length, get_or, take, List, [], ◌∷◌, ◌++◌, map, Contains, IsTrue, Option, None, Some, refl, sym, ap, ◌∙◌, subst, inl, inr, arith}
+use Rattle.std.specs.List.{cons_option, filter, filter_map}
 use Rattle.std.proofs.lemmas.List.{append-nil, take_more}
 use Rattle.std.proofs.lemmas.List.Elements.{Contains-append_left, Contains-append_right, Contains-push, filter_map-append}
 use Rattle.rr_graph.proofs.Listings.{Contains-cons_cases}
@@ -70,3 +70,30 @@ filter_map_more-Some {X} {Y} h xs i x y inside is kept =
 pub filter_map_more-None : {X Y : Type 0} (h : X → Option Y) (xs : List X) (i : ℕ) (x : X) → i < length xs → x ≡ get_or xs i x → h x ≡ None → filter_map h (take (i + 1) xs) ≡ filter_map h (take i xs)
 filter_map_more-None {X} {Y} h xs i x inside is dropped =
     ap (filter_map h) (take_more xs i x inside ∙ ap (λ (z : X). take i xs ++ z ∷ []) (sym is)) ∙ filter_map-append h (take i xs) (x ∷ []) ∙ ap (λ (o : Option Y). filter_map h (take i xs) ++ cons_option o []) dropped ∙ append-nil (filter_map h (take i xs))
+
+-- a filtered list has what the list has and the test passes
+pub Contains-filter : {X : Type 0} (p : X → Bool) (xs : List X) (x : X) → Contains (filter p xs) x ↔ (Contains xs x × IsTrue (p x))
+Contains-filter {X} p xs x = (back xs, λ both. on xs both.0 both.1) where
+  begun : (b : Bool) (y : X) (rest : List X) → p y ≡ b → Contains (cond b (y ∷ rest) rest) x → ((y ≡ x) × IsTrue (p x)) ⊎ Contains rest x
+  begun true y rest is has = elim (Contains-cons_cases y rest x has) [
+    | inl first ↦ inl (first, subst (λ (z : X). p z ≡ true) first is)
+    | inr later ↦ inr later
+  ]
+  begun false y rest is has = inr has
+
+  kept : (b : Bool) (y : X) (rest : List X) → p y ≡ b → IsTrue (p x) → (y ≡ x) ⊎ Contains rest x → Contains (cond b (y ∷ rest) rest) x
+  kept true y rest is passes (inl first) = subst (Contains (y ∷ rest)) first (Contains-head y rest)
+  kept true y rest is passes (inr later) = Contains-later y rest x later
+  kept false y rest is passes (inl first) = let wrong : p x ≡ false = subst (λ (z : X). p z ≡ false) first is in cc
+  kept false y rest is passes (inr later) = later
+
+  back : (xs : List X) → Contains (filter p xs) x → Contains xs x × IsTrue (p x)
+  back [] has = absurd (Contains-nil x has)
+  back (y ∷ ys) has = elim (begun (p y) y (filter p ys) refl has) [
+    | inl first ↦ (subst (Contains (y ∷ ys)) first.0 (Contains-head y ys), first.1)
+    | inr later ↦ let r = back ys later in (Contains-later y ys x r.0, r.1)
+  ]
+
+  on : (xs : List X) → Contains xs x → IsTrue (p x) → Contains (filter p xs) x
+  on [] has passes = absurd (Contains-nil x has)
+  on (y ∷ ys) has passes = kept (p y) y (filter p ys) refl passes (elim (Contains-cons_cases y ys x has) [ inl first ↦ inl first | inr later ↦ inr (on ys later passes) ])

@@ -12,7 +12,7 @@ use Rattle.std.proofs.lemmas.Cmp.{eq_by_cmp_equiv}
 use Rattle.std.proofs.lemmas.Map.Lookups.{CmpEqualImpliesEq, exact_unsigned}
 use Rattle.std.proofs.lemmas.Map.Views.{tells_apart}
 use Rattle.rr_graph.specs.Chain.{HasNoRepeats}
-use Rattle.rr_graph.specs.NumberedParts.{IsAt, IsNumbered, IsPlaced, placed_edge}
+use Rattle.rr_graph.specs.NumberedParts.{IsAt, IsPlaced, placed_edge}
 use Rattle.rr_graph.specs.ReversedParts.{edges_at}
 use Rattle.rr_graph.specs.declared.labels.Edge.{Edge}
 use Rattle.rr_graph.proofs.Lists.{Contains-filter_map}

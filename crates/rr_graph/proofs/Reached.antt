@@ -51,18 +51,18 @@ module _ {N : Type 0} (cmp : N → N → Ordering) (edge : N → N → Type 0) (
   }
 
   -- one more node was looked at
-  pub IsSearching-more : (done : ℕ) (list new : List N) (old index : BTreeSet N) (nodes : List N) (node : N) → IsSearching cmp edge starts limit done list old → done < length list → node ≡ get_or list done node → ((c : N) → Contains nodes c ↔ edge node c) → IsListing cmp limit new index → Lists list nodes new → IsSearching cmp edge starts limit (done + 1) new index
-  IsSearching-more done list new old index nodes node search_ before is succ listing added = record {
+  pub IsSearching-more : (done : ℕ) (list new : List N) (old index : BTreeSet N) (nodes : List N) (node : N) → IsSearching cmp edge starts limit done list old → done < length list → node ≡ get_or list done node → ((c : N) → Contains nodes c → edge node c) → ((c : N) → edge node c → Contains new c) → IsListing cmp limit new index → Lists list nodes new → IsSearching cmp edge starts limit (done + 1) new index
+  IsSearching-more done list new old index nodes node search_ before is only whole listing added = record {
     listing = listing;
     inside = rw (added.after, length-append) (omega arith);
     has_starts = λ a start. Contains-Lists list nodes new a added (search_.has_starts a start);
     sound = λ b has. elim (added.only b has) [
       | inl there ↦ search_.sound b there
-      | inr next ↦ IsReached-edge edge starts node b (search_.sound node there) ((succ b).0 next)
+      | inr next ↦ IsReached-edge edge starts node b (search_.sound node there) (only b next)
     ];
     closed = λ k d h c step. elim (cases_lt k done) [
       | inl earlier ↦ Contains-Lists list nodes new c added (search_.closed k d earlier c (subst (λ (x : N). edge x c) (kept k d (omega arith)) step))
-      | inr last ↦ added.all c ((succ c).1 (subst (λ (x : N). edge x c) (at k d (omega arith)) step))
+      | inr last ↦ whole c (subst (λ (x : N). edge x c) (at k d (omega arith)) step)
     ];
   } where
     there : Contains list node

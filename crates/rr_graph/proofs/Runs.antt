@@ -1,15 +1,15 @@
 -- Runs of edges to one node, and what they make of its values.
-use Rattle.std.proofs.Common.{suc, ◌≡◌, ℕ, ◌+◌, ◌-◌, ◌<◌, ◌≤◌, Bool, true, false, not, ◌⊎◌, ◌↔◌, List, [], ◌∷◌, ◌++◌, length, get_or, take, drop, Contains, Option, None, Some, refl, sym, ap, ◌∙◌, subst, inl, inr, arith}
+use Rattle.std.proofs.Common.{suc, ◌≡◌, ℕ, ◌+◌, ◌-◌, ◌<◌, ◌≤◌, Bool, true, false, not, ◌⊎◌, ◌↔◌, List, [], ◌∷◌, ◌++◌, length, get_or, map, take, drop, Contains, Option, None, Some, refl, sym, ap, ◌∙◌, subst, inl, inr, arith}
 use Rattle.std.specs.List.{filter_map}
 use Rattle.std.proofs.Math.Seq.{drop-cons, take-add}
 use Rattle.std.proofs.lemmas.List.{length-drop, length-take-le, take-append-drop, take_all}
 use Rattle.std.proofs.lemmas.List.Elements.{Contains-append_cases, Contains-append_left, Contains-append_right, Contains-push}
-use Rattle.rr_graph.specs.EffectParts.{IsEnough, Makes}
+use Rattle.rr_graph.specs.EffectParts.{Makes}
 use Rattle.rr_graph.specs.SettledParts.{IsMade, IsPassed, IsRun}
 use Rattle.rr_graph.specs.declared.labels.Edge.{Edge}
 use Rattle.rr_graph.proofs.Backwards.{Contains-take, Contains-take_cases}
 use Rattle.rr_graph.proofs.Listings.{Contains-cons_cases}
-use Rattle.rr_graph.proofs.Lists.{Contains-filter_map, Contains-nil}
+use Rattle.rr_graph.proofs.Lists.{Contains-filter_map, Contains-map, Contains-nil}
 
 module _ {N L V : Type 0} (passed : L → V → Option V) where
   module _ (at : N → Option (List V)) where
@@ -87,29 +87,42 @@ module _ {N L V : Type 0} (passed : L → V → Option V) where
   IsMade-none old node run v = (λ has. inl has, λ both. elim both [ inl there ↦ there | inr r ↦ absurd (Contains-nil r.0 r.1) ])
 
   -- one more value
-  pub IsMade-more : (first old now new starts : List V) (i : ℕ) (w : V) (node : N) (run kept : List (Edge N L)) → i < length starts → w ≡ get_or starts i w → IsRun node run → IsEnough passed run w kept → ((v : V) → Contains old v ↔ (Contains first v ⊎ IsMade passed node run (take i starts) v)) → now ≡ old ++ filter_map (λ edge. passed edge.label w) kept → ((v : V) → Contains new v ↔ Contains now v) → (v : V) → Contains new v ↔ (Contains first v ⊎ IsMade passed node run (take (i + 1) starts) v)
-  IsMade-more first old now new starts i w node run kept inside is one enough before pushed same v = (
-    λ has. elim (Contains-append_cases old (filter_map by kept) v (subst (λ (l : List V). Contains l v) pushed ((same v).0 has))) [
+  pub IsMade-more : (first old new starts : List V) (i : ℕ) (w : V) (node : N) (run : List (Edge N L)) → i < length starts → w ≡ get_or starts i w → ((v : V) → Contains old v ↔ (Contains first v ⊎ IsMade passed node run (take i starts) v)) → ((v : V) → Contains old v → Contains new v) → ((v : V) → Contains new v → Contains old v ⊎ Makes passed w run node v) → ((v : V) → Makes passed w run node v → Contains new v) → (v : V) → Contains new v ↔ (Contains first v ⊎ IsMade passed node run (take (i + 1) starts) v)
+  IsMade-more first old new starts i w node run inside is before grows only whole v = (
+    λ has. elim (only v has) [
       | inl earlier ↦ elim ((before v).0 earlier) [
         | inl at_first ↦ inl at_first
         | inr (u, among, makes) ↦ inr (u, Contains-take starts i w u inside is (inl among), makes)
       ]
-      | inr mapped ↦
-          let r = (Contains-filter_map by kept v).0 mapped in
-          inr (w, Contains-take starts i w w inside is (inr refl), (r.0, enough.among r.0 r.1, one r.0 (enough.among r.0 r.1), r.2))
+      | inr makes ↦ inr (w, Contains-take starts i w w inside is (inr refl), makes)
     ],
-    λ both. (same v).1 (rw pushed (elim both [
-      | inl at_first ↦ Contains-append_left old (filter_map by kept) v ((before v).1 (inl at_first))
+    λ both. elim both [
+      | inl at_first ↦ grows v ((before v).1 (inl at_first))
       | inr (u, among, makes) ↦ elim (Contains-take_cases starts i w u inside is among) [
-        | inl earlier ↦ Contains-append_left old (filter_map by kept) v ((before v).1 (inr (u, earlier, makes)))
-        | inr it ↦
-            let (f, has, to, is_) = enough.whole node v (subst (λ (x : V). Makes passed x run node v) (sym it) makes) in
-            Contains-append_right old (filter_map by kept) v ((Contains-filter_map by kept v).1 (f, has, is_))
+        | inl earlier ↦ grows v ((before v).1 (inr (u, earlier, makes)))
+        | inr it ↦ whole v (subst (λ (x : V). Makes passed x run node v) (sym it) makes)
       ]
-    ])),
-  ) where
-    by : Edge N L → Option V
-    by edge = passed edge.label w
+    ],
+  )
+
+module _ {N L V : Type 0} (passed : L → V → Option V) (old now new : List V) (pairs : List (N × V)) (pushed : now ≡ old ++ map (λ (q : N × V). q.1) pairs) (same : (v : V) → Contains new v ↔ Contains now v) where
+  -- what was there before values of pairs were added
+  pub Contains-earlier : (v : V) → Contains old v → Contains new v
+  Contains-earlier v has = (same v).1 (rw pushed (Contains-append_left old (map (λ (q : N × V). q.1) pairs) v has))
+
+  -- the value of a pair
+  pub Contains-value : (q : N × V) → Contains pairs q → Contains new q.1
+  Contains-value q has = (same q.1).1 (rw pushed (Contains-append_right old (map (λ (p : N × V). p.1) pairs) q.1 ((Contains-map (λ (p : N × V). p.1) pairs q.1).1 (q, has, refl))))
+
+  -- what is there was, or an edge of the run makes it
+  pub Contains-made : (w : V) (node : N) (run : List (Edge N L)) → IsRun node run → ((q : N × V) → Contains pairs q → Makes passed w run q.0 q.1) → (v : V) → Contains new v → Contains old v ⊎ Makes passed w run node v
+  Contains-made w node run one only v has = elim (Contains-append_cases old (map (λ (q : N × V). q.1) pairs) v (subst (λ (l : List V). Contains l v) pushed ((same v).0 has))) [
+    | inl earlier ↦ inl earlier
+    | inr mapped ↦
+        let r = (Contains-map (λ (q : N × V). q.1) pairs v).0 mapped in
+        let (e, among, to, is) = only r.0 r.1 in
+        inr (e, among, one e among, is ∙ ap Some r.2)
+  ]
 
 -- the first of a list are in it
 pub Contains-whole : {X : Type 0} (n : ℕ) (xs : List X) (x : X) → Contains (take n xs) x → Contains xs x

@@ -1,8 +1,10 @@
--- Edges that are enough for a value: of those to one node that make the same of it, one. Private
--- functions promise these; what a caller reads is in `Carried`.
-use Rattle.std.specs.Prelude.{◌≡◌, List, Contains, Option, Some, IsTrue}
+-- Edges that are enough for a value: all that keep values, and of the others to one node that make
+-- the same of it, one. Private functions promise these; what a caller reads is in `Carried`.
+use Rattle.std.specs.Prelude.{◌≡◌, ◌⊎◌, Bool, List, Contains, Option, None, Some, IsTrue}
+use Rattle.std.specs.Prelude.{filter, if◌then◌else◌}
 use Rattle.std.specs.declared.cmp.Ordering.{Ordering}
 use Rattle.std.specs.BTreeSet.{BTreeSet, contains}
+use Rattle.rr_graph.specs.declared.effects.Choice.{Choice}
 use Rattle.rr_graph.specs.declared.labels.Edge.{Edge}
 
 module _ {N L V : Type 0} (passed : L → V → Option V) where
@@ -17,11 +19,41 @@ module _ {N L V : Type 0} (passed : L → V → Option V) where
     pub among : (e : Edge N L) → Contains kept e → Contains edges e
     pub whole : (node : N) (made : V) → Makes value edges node made → Makes value kept node made
 
+-- what a label that changes values makes of one
+abbrev pub changed : {L V : Type 0} → (L → Bool) → (L → V → Option V) → L → V → Option V
+changed keeps passed label value = if keeps label then None else passed label value
+
+module _ {N L V : Type 0} (keeps : L → Bool) (passed : L → V → Option V) where
+  -- Those of the edges that keep values, and some that change them and are enough for the value.
+  pub record IsChoice (edges : List (Edge N L)) (value : V) (choice : Choice N L) : Type 0 where
+    pub keeping : choice.keeping.items ≡ filter (λ e. keeps e.label) edges
+    pub changing : IsEnough (changed keeps passed) edges value choice.changing.items
+
   -- What is known of a node and a kind is enough for each value of that kind.
   abbrev pub IsKnown : {K : Type 0} → (V → K) → (N → List (Edge N L))
-      → (N × K → Option (List (Edge N L))) → Type 0
-  IsKnown kind_of all at = (node : N) (value : V) (kept : List (Edge N L))
-      → at (node, kind_of value) ≡ Some kept → IsEnough (all node) value kept
+      → (N × K → Option (Choice N L)) → Type 0
+  IsKnown kind_of all at = (node : N) (value : V) (choice : Choice N L)
+      → at (node, kind_of value) ≡ Some choice → IsChoice (all node) value choice
+
+  -- The pairs are what the edges make of the value, but may lack what those that change values do,
+  -- if that was made before.
+  pub record IsMadeBut (edges : List (Edge N L)) (value : V) (before : Bool) (pairs : List (N × V))
+      : Type 0 where
+    pub only : (p : N × V) → Contains pairs p → Makes passed value edges p.0 p.1
+    pub whole : (p : N × V) → Makes passed value edges p.0 p.1
+        → Contains pairs p ⊎ (IsTrue before × Makes (changed keeps passed) value edges p.0 p.1)
+
+  -- Of each value whose node, kind and group are marked all is there that edges which change values
+  -- make.
+  abbrev pub IsCovered : {K R : Type 0} → (V → K) → (V → R) → (N → List (Edge N L))
+      → ((N × K) × R → Bool) → (N × V → Type 0) → Type 0
+  IsCovered kind_of group_of all marked There = (node : N) (value : V)
+      → IsTrue (marked ((node, kind_of value), group_of value))
+      → (p : N × V) → Makes (changed keeps passed) value (all node) p.0 p.1 → There p
+
+-- New has at most one mark more.
+abbrev pub AddsAtMost : {M : Type 0} → (M → Bool) → (M → Bool) → M → Type 0
+AddsAtMost {M} old new mark = (m : M) → IsTrue (new m) → IsTrue (old m) ⊎ (mark ≡ m)
 
 -- The edges that are kept are enough, and the index has only what they make.
 pub record IsDistinct {N L V : Type 0} (cmp : N × V → N × V → Ordering)

@@ -1,37 +1,85 @@
-//! Edges whose labels make different things of values of one kind.
+//! What edges make of values, where many edges do the same.
 
-ghost use Rattle.std.specs.Prelude.{◌≡◌, [], ◌∷◌, ◌++◌, List, None, Some};
-ghost use Rattle.std.specs.Prelude.{IfOk, OnOk};
+ghost use Rattle.std.specs.Prelude.{◌≡◌, [], ◌∷◌, ◌++◌, List, None};
+ghost use Rattle.std.specs.Prelude.{IfOk, OnOk, false, filter, not};
+ghost use Rattle.std.specs.BTreeMap.{get};
+ghost use Rattle.std.specs.BTreeSet.{contains};
+ghost use Rattle.std.specs.List.{filter_map};
+ghost use Rattle.std.specs.Option.{option_map};
+ghost use Rattle.rr_graph.specs.EffectParts.{AddsAtMost, IsChoice, IsDistinct, IsEnough, IsKnown};
+ghost use Rattle.rr_graph.specs.EffectParts.{IsMadeBut, changed};
 ghost use Rattle.rr_graph.specs.declared.labels.Edge.{Edge};
-ghost use Rattle.rr_graph.specs.EffectParts.{IsDistinct, IsEnough, IsKnown};
-ghost use Rattle.rr_graph.specs.SettledParts.{values_at};
 
 use crate::labels::{Edge, Labelled};
 use std::alloc::{AllocError, Global};
 use std::collections::{BTreeMap, BTreeSet};
 
-/// For each node and each kind of values those of some edges that are enough for values of that
-/// kind. Many references between two sets do the same to most values: 35 operators make one range
-/// of a /32. So a value is put through each effect once, however many edges have it.
+/// For each node and each kind of values the edges that are enough for values of that kind, and
+/// which kinds and groups of values were put through those that change values. Many references
+/// between two sets do the same to most values: 35 operators make one range of a /32, and no
+/// operator but none tells `10.0.0.0/8^8-9` from `10.0.0.0/8^8-10`. So each effect is used once.
 #[derive(Drop)]
 pub(crate) struct Effects<G: Labelled> {
-    map: BTreeMap<(G::Node, G::Kind), Vec<Edge<G::Node, G::Label>>>,
+    map: BTreeMap<(G::Node, G::Kind), Choice<G::Node, G::Label>>,
+    marks: BTreeSet<((G::Node, G::Kind), G::Group)>,
+}
+
+/// Of the edges of a node those that keep values, and of the others some that are enough for values
+/// of one kind.
+#[derive(Drop)]
+struct Choice<N, L> {
+    keeping: Vec<Edge<N, L>>,
+    changing: Vec<Edge<N, L>>,
 }
 
 impl<G: Labelled> Effects<G> {
     /// None yet.
     pub(crate) fn new(alloc: Global) -> Self
-        ensures { (key : G.Node × G.Kind)
-            → values_at ⟦<(G::Node, G::Kind) as Ord>⟧.cmp result.map key ≡ None }
+        ensures known { (key : G.Node × G.Kind)
+            → get ⟦<(G::Node, G::Kind) as Ord>⟧.cmp result.map key ≡ None }
+        ensures marks { (mark : (G.Node × G.Kind) × G.Group)
+            → contains ⟦<((G::Node, G::Kind), G::Group) as Ord>⟧.cmp result.marks mark ≡ false }
     {
         Effects {
             map: BTreeMap::new(alloc),
+            marks: BTreeSet::new(alloc),
         }
+    }
+
+    /// The pairs of a node and what an edge to it makes of the value, less what edges that change
+    /// values made of one of its kind and group before.
+    pub(crate) fn made(
+        &mut self,
+        alloc: Global,
+        graph: &G,
+        node: &G::Node,
+        edges: &[Edge<G::Node, G::Label>],
+        value: G::Value,
+    ) -> Result<Vec<(G::Node, G::Value)>, AllocError>
+        ensures known { (all : G.Node → List (Edge G.Node G.Label)) → all node.now ≡ edges.now
+            → IsKnown G.keeps G.passed G.kind_of all
+            (get ⟦<(G::Node, G::Kind) as Ord>⟧.cmp self.old.map) → OnOk result (IsKnown G.keeps
+            G.passed G.kind_of all (get ⟦<(G::Node, G::Kind) as Ord>⟧.cmp self.new.map)) }
+        ensures marked { OnOk result (AddsAtMost
+            (contains ⟦<((G::Node, G::Kind), G::Group) as Ord>⟧.cmp self.old.marks)
+            (contains ⟦<((G::Node, G::Kind), G::Group) as Ord>⟧.cmp self.new.marks)
+            ((node.now, G.kind_of value), G.group_of value)) }
+        ensures made { (all : G.Node → List (Edge G.Node G.Label)) → all node.now ≡ edges.now
+            → IsKnown G.keeps G.passed G.kind_of all
+            (get ⟦<(G::Node, G::Kind) as Ord>⟧.cmp self.old.map) → IfOk result
+            (λ pairs. IsMadeBut G.keeps G.passed edges.now value
+            (contains ⟦<((G::Node, G::Kind), G::Group) as Ord>⟧.cmp self.old.marks
+            ((node.now, G.kind_of value), G.group_of value)) pairs.items) }
+    {
+        self.note(alloc, graph, node, edges, value)?;
+        let first = self.mark(alloc, graph, node, value)?;
+        let pairs = self.chosen(alloc, graph, node, edges, value, first)?;
+        Ok(pairs)
     }
 
     /// Finds which of the edges are enough for values of this one's kind, unless that is known of
     /// the node.
-    pub(crate) fn note(
+    fn note(
         &mut self,
         alloc: Global,
         graph: &G,
@@ -39,54 +87,152 @@ impl<G: Labelled> Effects<G> {
         edges: &[Edge<G::Node, G::Label>],
         value: G::Value,
     ) -> Result<(), AllocError>
-        ensures { (all : G.Node → List (Edge G.Node G.Label)) → all node.now ≡ edges.now
-            → IsKnown G.passed G.kind_of all
-            (values_at ⟦<(G::Node, G::Kind) as Ord>⟧.cmp self.old.map) → OnOk result (IsKnown
-            G.passed G.kind_of all (values_at ⟦<(G::Node, G::Kind) as Ord>⟧.cmp self.new.map)) }
+        ensures known { (all : G.Node → List (Edge G.Node G.Label)) → all node.now ≡ edges.now
+            → IsKnown G.keeps G.passed G.kind_of all
+            (get ⟦<(G::Node, G::Kind) as Ord>⟧.cmp self.old.map) → OnOk result (IsKnown G.keeps
+            G.passed G.kind_of all (get ⟦<(G::Node, G::Kind) as Ord>⟧.cmp self.new.map)) }
+        ensures marks { self.new.marks ≡ self.old.marks }
     {
         let key = (graph.copy(alloc, node)?, graph.kind(value));
         if self.map.contains_key(&key) {
             return Ok(());
         }
-        self.map.insert(key, distinct(alloc, graph, edges, value)?)?;
+        self.map.insert(key, choose(alloc, graph, edges, value)?)?;
         Ok(())
     }
 
-    /// Those of the edges that are enough for the value.
-    pub(crate) fn at<'a>(
-        &'a self,
+    /// Marks the kind and group of the value at the node, and tells whether they were not yet.
+    fn mark(
+        &mut self,
         alloc: Global,
         graph: &G,
         node: &G::Node,
-        edges: &'a [Edge<G::Node, G::Label>],
         value: G::Value,
-    ) -> Result<&'a [Edge<G::Node, G::Label>], AllocError>
+    ) -> Result<bool, AllocError>
+        ensures first { IfOk result
+            (λ first. first ≡ not (contains ⟦<((G::Node, G::Kind), G::Group) as Ord>⟧.cmp
+            self.old.marks ((node.now, G.kind_of value), G.group_of value))) }
+        ensures marked { OnOk result (AddsAtMost
+            (contains ⟦<((G::Node, G::Kind), G::Group) as Ord>⟧.cmp self.old.marks)
+            (contains ⟦<((G::Node, G::Kind), G::Group) as Ord>⟧.cmp self.new.marks)
+            ((node.now, G.kind_of value), G.group_of value)) }
+        ensures map { self.new.map ≡ self.old.map }
+    {
+        let kind = (graph.copy(alloc, node)?, graph.kind(value));
+        let first = self.marks.insert((kind, graph.group(value)))?;
+        Ok(first)
+    }
+
+    /// The pairs of a node and what an edge to it makes of the value: edges that keep values, and
+    /// unless it is not the first of its kind and group, those that change them.
+    fn chosen(
+        &self,
+        alloc: Global,
+        graph: &G,
+        node: &G::Node,
+        edges: &[Edge<G::Node, G::Label>],
+        value: G::Value,
+        first: bool,
+    ) -> Result<Vec<(G::Node, G::Value)>, AllocError>
         ensures { (all : G.Node → List (Edge G.Node G.Label)) → all node.now ≡ edges.now
-            → IsKnown G.passed G.kind_of all (values_at ⟦<(G::Node, G::Kind) as Ord>⟧.cmp
-            self.now.map) → IfOk result (λ kept. IsEnough G.passed edges.now value kept.now) }
+            → IsKnown G.keeps G.passed G.kind_of all
+            (get ⟦<(G::Node, G::Kind) as Ord>⟧.cmp self.now.map) → IfOk result
+            (λ pairs. IsMadeBut G.keeps G.passed edges.now value (not first) pairs.items) }
     {
         let key = (graph.copy(alloc, node)?, graph.kind(value));
         match self.map.get(&key) {
-            Some(kept) => Ok(kept.as_slice()),
-            None => Ok(edges),
+            Some(choice) => choice.carried(alloc, graph, value, first),
+            None => carried(alloc, graph, edges, value),
         }
     }
 }
 
-/// Of the edges that lead to one node and make the same of the value, the first.
+impl<N: Drop, L: Copy + Drop> Choice<N, L> {
+    /// The pairs of a node and what an edge to it makes of the value: those that keep values, and
+    /// also the others, if that is wanted.
+    fn carried<G: Labelled<Node = N, Label = L>>(
+        &self,
+        alloc: Global,
+        graph: &G,
+        value: G::Value,
+        others: bool,
+    ) -> Result<Vec<(N, G::Value)>, AllocError>
+        ensures { (edges : List (Edge N L)) → IsChoice G.keeps G.passed edges value self.now
+            → IfOk result
+            (λ pairs. IsMadeBut G.keeps G.passed edges value (not others) pairs.items) }
+    {
+        let mut pairs = carried(alloc, graph, &self.keeping, value)?;
+        if !others {
+            return Ok(pairs);
+        }
+        let mut more = carried(alloc, graph, &self.changing, value)?;
+        pairs.append(&mut more)?;
+        Ok(pairs)
+    }
+}
+
+/// The edges that are enough for the value.
+fn choose<G: Labelled>(
+    alloc: Global,
+    graph: &G,
+    edges: &[Edge<G::Node, G::Label>],
+    value: G::Value,
+) -> Result<Choice<G::Node, G::Label>, AllocError>
+    ensures { IfOk result (λ choice. IsChoice G.keeps G.passed edges.now value choice) }
+{
+    let keeping = keeping(alloc, graph, edges)?;
+    let changing = distinct(alloc, graph, edges, value)?;
+    Ok(Choice { keeping, changing })
+}
+
+/// Those of the edges that keep values.
+fn keeping<G: Labelled>(
+    alloc: Global,
+    graph: &G,
+    edges: &[Edge<G::Node, G::Label>],
+) -> Result<Vec<Edge<G::Node, G::Label>>, AllocError>
+    ensures { IfOk result
+        (λ kept. kept.items ≡ filter (λ edge. G.keeps edge.label) edges.now) }
+{
+    let mut kept = Vec::new(alloc);
+    for edge in edges {
+        if graph.keeps(edge.label) {
+            let to = graph.copy(alloc, &edge.to)?;
+            kept.push(Edge {
+                to,
+                label: edge.label,
+            })?;
+        }
+    }
+    Ok(kept)
+}
+
+/// Of the edges that change values, lead to one node and make the same of the value, the first.
 fn distinct<G: Labelled>(
     alloc: Global,
     graph: &G,
     edges: &[Edge<G::Node, G::Label>],
     value: G::Value,
 ) -> Result<Vec<Edge<G::Node, G::Label>>, AllocError>
-    ensures { IfOk result (λ kept. IsEnough G.passed edges.now value kept.items) }
+    ensures { IfOk result
+        (λ kept. IsEnough (changed G.keeps G.passed) edges.now value kept.items) }
 {
     let mut kept = Kept::<G>::new(alloc);
     for edge in edges {
         kept.add(alloc, graph, edge, value)?;
     }
     Ok(kept.edges)
+}
+
+/// What the label makes of the value, if it changes values.
+fn changed<G: Labelled>(graph: &G, label: G::Label, value: G::Value) -> Option<G::Value>
+    ensures { result ≡ changed G.keeps G.passed label value }
+{
+    if graph.keeps(label) {
+        None
+    } else {
+        graph.pass(label, value)
+    }
 }
 
 /// Edges, and what they make of a value.
@@ -108,7 +254,8 @@ impl<G: Labelled> Kept<G> {
         }
     }
 
-    /// Adds the edge, unless it drops the value or another to its node makes the same of it.
+    /// Adds the edge, unless it keeps or drops the value or another to its node makes the same of
+    /// it.
     fn add(
         &mut self,
         alloc: Global,
@@ -117,11 +264,12 @@ impl<G: Labelled> Kept<G> {
         value: G::Value,
     ) -> Result<(), AllocError>
         ensures { (edges : List (Edge G.Node G.Label)) → IsDistinct
-            ⟦<(G::Node, G::Value) as Ord>⟧.cmp G.passed value edges self.old.edges.items
-            self.old.made → OnOk result (IsDistinct ⟦<(G::Node, G::Value) as Ord>⟧.cmp
-            G.passed value (edges ++ edge.now ∷ []) self.new.edges.items self.new.made) }
+            ⟦<(G::Node, G::Value) as Ord>⟧.cmp (changed G.keeps G.passed) value edges
+            self.old.edges.items self.old.made → OnOk result (IsDistinct
+            ⟦<(G::Node, G::Value) as Ord>⟧.cmp (changed G.keeps G.passed) value
+            (edges ++ edge.now ∷ []) self.new.edges.items self.new.made) }
     {
-        let Some(passed) = graph.pass(edge.label, value) else {
+        let Some(passed) = changed(graph, edge.label, value) else {
             return Ok(());
         };
         let made = (graph.copy(alloc, &edge.to)?, passed);
@@ -136,4 +284,23 @@ impl<G: Labelled> Kept<G> {
         })?;
         Ok(())
     }
+}
+
+/// The pairs that the value is carried to over the edges.
+pub(crate) fn carried<G: Labelled>(
+    alloc: Global,
+    graph: &G,
+    edges: &[Edge<G::Node, G::Label>],
+    value: G::Value,
+) -> Result<Vec<(G::Node, G::Value)>, AllocError>
+    ensures { IfOk result (λ pairs. pairs.items ≡ filter_map (λ edge. option_map
+        (λ carried. (edge.to, carried)) (G.passed edge.label value)) edges.now) }
+{
+    let mut pairs = Vec::new(alloc);
+    for edge in edges {
+        if let Some(carried) = graph.pass(edge.label, value) {
+            pairs.push((graph.copy(alloc, &edge.to)?, carried))?;
+        }
+    }
+    Ok(pairs)
 }

@@ -80,9 +80,10 @@ pub struct Gathered<N, V> {
 /// chain, from the last to the first, make into this value, none dropping it.
 ///
 /// The edges of each node are listed twice. The steps are O((KE + F) log F): E counts the edges
-/// that are listed, K the kinds of values that are found at one node, and F, for each pair of a
-/// reached node and a value found at it, the pairs that edges to the node make of it, each once,
-/// however many edges do.
+/// that are listed, K the kinds of values that are found at one node, and F the pairs of a node and
+/// a value that edges make: those that keep values, of each value found at the node to which they
+/// lead, and the others, each pair once, however many edges make it, of each kind and group of
+/// these values.
 ///
 /// The fault is `TooMany` exactly if more than `limit` nodes are reached, or more than `limit` such
 /// pairs, unless memory runs out.

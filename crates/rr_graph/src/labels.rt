@@ -1,6 +1,6 @@
 //! Graphs whose edges carry labels, and whose nodes have values.
 
-ghost use Rattle.std.specs.Prelude.{◌≡◌, ◌↔◌, Contains, IfOk, None, Option};
+ghost use Rattle.std.specs.Prelude.{◌≡◌, ◌↔◌, Bool, Contains, IfOk, None, Option, false};
 ghost use Rattle.std.proofs.lemmas.Map.Lookups.{CmpEqualImpliesEq};
 
 use std::alloc::{AllocError, Global};
@@ -26,9 +26,13 @@ pub trait Labelled {
     /// A value. Two values compare `Equal` only where they are the same.
     type Value: Ord + Copy + Drop;
 
-    /// What a label looks at in a value, as a range's lengths. Two kinds compare `Equal` only where
-    /// they are the same.
+    /// What a label that changes values looks at in one, as the least length of a range. Two kinds
+    /// compare `Equal` only where they are the same.
     type Kind: Ord + Copy + Drop;
+
+    /// What it leaves of the value, as the prefix of a range. Two groups compare `Equal` only where
+    /// they are the same.
+    type Group: Ord + Copy + Drop;
 
     /// An edge with this label leads from the first node to the second.
     ghost edge: { Self → Self.Node → Self.Node → Self.Label → Type 0 };
@@ -39,8 +43,14 @@ pub trait Labelled {
     /// What the label makes of the value; nothing where it drops it.
     ghost passed: { Self.Label → Self.Value → Option Self.Value };
 
-    /// What labels look at in the value.
+    /// The label leaves values as they are. What follows is said of the others.
+    ghost keeps: { Self.Label → Bool };
+
+    /// What labels that change values look at in the value.
     ghost kind_of: { Self.Value → Self.Kind };
+
+    /// What they leave of the value.
+    ghost group_of: { Self.Value → Self.Group };
 
     /// Lists the edges that leave the node, in any order, where one may come twice.
     fn edges(
@@ -60,9 +70,17 @@ pub trait Labelled {
     fn pass(&self, label: Self::Label, value: Self::Value) -> Option<Self::Value>
         ensures { result ≡ passed label value };
 
-    /// What labels look at in the value.
+    /// Whether the label leaves values as they are.
+    fn keeps(&self, label: Self::Label) -> bool
+        ensures { result ≡ keeps label };
+
+    /// What labels that change values look at in the value.
     fn kind(&self, value: Self::Value) -> Self::Kind
         ensures { result ≡ kind_of value };
+
+    /// What they leave of the value.
+    fn group(&self, value: Self::Value) -> Self::Group
+        ensures { result ≡ group_of value };
 
     /// Makes an equal node.
     fn copy(&self, alloc: Global, node: &Self::Node) -> Result<Self::Node, AllocError>
@@ -77,11 +95,18 @@ pub trait Labelled {
     /// The order tells kinds apart.
     ghost exact_kinds: { CmpEqualImpliesEq Self.Kind.cmp };
 
+    /// The order tells groups apart.
+    ghost exact_groups: { CmpEqualImpliesEq Self.Group.cmp };
+
     /// Labels that make the same of a value make the same of each value of its kind.
-    ghost alike: { (l m : Self.Label) (v w : Self.Value) → kind_of v ≡ kind_of w
-        → passed l v ≡ passed m v → passed l w ≡ passed m w };
+    ghost alike: { (l m : Self.Label) (v w : Self.Value) → keeps l ≡ false → keeps m ≡ false
+        → kind_of v ≡ kind_of w → passed l v ≡ passed m v → passed l w ≡ passed m w };
 
     /// A label that drops a value drops each value of its kind.
-    ghost dropped: { (l : Self.Label) (v w : Self.Value) → kind_of v ≡ kind_of w
-        → passed l v ≡ None → passed l w ≡ None };
+    ghost dropped: { (l : Self.Label) (v w : Self.Value) → keeps l ≡ false
+        → kind_of v ≡ kind_of w → passed l v ≡ None → passed l w ≡ None };
+
+    /// A label makes the same of all values of one kind and group.
+    ghost same: { (l : Self.Label) (v w : Self.Value) → keeps l ≡ false → kind_of v ≡ kind_of w
+        → group_of v ≡ group_of w → passed l v ≡ passed l w };
 }

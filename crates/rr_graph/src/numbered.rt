@@ -38,6 +38,8 @@ impl<G: Labelled> Labelled for Numbered<'_, G> {
 
     type Kind = G::Kind;
 
+    type Group = G::Group;
+
     ghost edge = { λ s from to label. Contains (edges_at nat_cmp s.edges from)
         (record { to = to; label = label }) };
 
@@ -46,7 +48,11 @@ impl<G: Labelled> Labelled for Numbered<'_, G> {
 
     ghost passed = { G.passed };
 
+    ghost keeps = { G.keeps };
+
     ghost kind_of = { G.kind_of };
+
+    ghost group_of = { G.group_of };
 
     ghost exact_nodes = { exact_unsigned };
 
@@ -54,9 +60,13 @@ impl<G: Labelled> Labelled for Numbered<'_, G> {
 
     ghost exact_kinds = { G.exact_kinds };
 
+    ghost exact_groups = { G.exact_groups };
+
     ghost alike = { G.alike };
 
     ghost dropped = { G.dropped };
+
+    ghost same = { G.same };
 
     fn edges(
         &self,
@@ -80,8 +90,16 @@ impl<G: Labelled> Labelled for Numbered<'_, G> {
         self.graph.pass(label, value)
     }
 
+    fn keeps(&self, label: G::Label) -> bool {
+        self.graph.keeps(label)
+    }
+
     fn kind(&self, value: G::Value) -> G::Kind {
         self.graph.kind(value)
+    }
+
+    fn group(&self, value: G::Value) -> G::Group {
+        self.graph.group(value)
     }
 
     fn copy(&self, _alloc: Global, place: &usize) -> Result<usize, AllocError> {

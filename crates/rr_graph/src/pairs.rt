@@ -2,16 +2,15 @@
 
 ghost use Rattle.std.specs.Prelude.{◌≡◌, ◌↔◌, ◌++◌, Contains, IfOk, OnOk, map};
 ghost use Rattle.rr_graph.specs.Chain.{IsReached, MoreThan};
-ghost use Rattle.rr_graph.specs.EffectParts.{IsKnown};
-ghost use Rattle.std.specs.List.{filter_map};
-ghost use Rattle.std.specs.Option.{option_map};
+ghost use Rattle.std.specs.BTreeMap.{get};
+ghost use Rattle.std.specs.BTreeSet.{contains};
+ghost use Rattle.rr_graph.specs.EffectParts.{AddsAtMost, IsKnown, IsMadeBut};
 ghost use Rattle.std.proofs.lemmas.Map.Lookups.{exact_pairs};
 ghost use Rattle.rr_graph.specs.ReversedParts.{edges_at, IsOwnPair, LeadsBack};
-ghost use Rattle.rr_graph.specs.SettledParts.{values_at};
 
 use crate::backward::Backward;
-use crate::effects::Effects;
-use crate::labels::{Edge, Labelled};
+use crate::effects::{Effects, carried};
+use crate::labels::Labelled;
 use crate::walk::Found;
 use crate::{Graph, ReachFault};
 use std::alloc::{AllocError, Global};
@@ -52,28 +51,34 @@ impl<G: Labelled> Graph for Pairs<'_, G> {
 /// kind.
 const FEW: usize = 4;
 
-/// The pairs to which the value of the pair is carried back.
+/// The pairs to which the value of the pair is carried back, less those to which edges that change
+/// values carried one of its kind and group before.
 fn carried_back<G: Labelled>(
     alloc: Global,
     pairs: &Pairs<'_, G>,
     effects: &mut Effects<G>,
     pair: &(G::Node, G::Value),
 ) -> Result<Vec<(G::Node, G::Value)>, AllocError>
-    requires { IsKnown G.passed G.kind_of (edges_at G.Node.cmp pairs.now.backward.now.map)
-        (values_at ⟦<(G::Node, G::Kind) as Ord>⟧.cmp effects.old.map) }
+    requires { IsKnown G.keeps G.passed G.kind_of (edges_at G.Node.cmp pairs.now.backward.now.map)
+        (get ⟦<(G::Node, G::Kind) as Ord>⟧.cmp effects.old.map) }
     ensures known { OnOk result
-        (IsKnown G.passed G.kind_of (edges_at G.Node.cmp pairs.now.backward.now.map)
-        (values_at ⟦<(G::Node, G::Kind) as Ord>⟧.cmp effects.new.map)) }
-    ensures carried { IfOk result (λ carried. (q : G.Node × G.Value) → Contains carried.items q
-        ↔ LeadsBack G.passed (edges_at G.Node.cmp pairs.now.backward.now.map) pair.now q) }
+        (IsKnown G.keeps G.passed G.kind_of (edges_at G.Node.cmp pairs.now.backward.now.map)
+        (get ⟦<(G::Node, G::Kind) as Ord>⟧.cmp effects.new.map)) }
+    ensures marked { OnOk result (AddsAtMost
+        (contains ⟦<((G::Node, G::Kind), G::Group) as Ord>⟧.cmp effects.old.marks)
+        (contains ⟦<((G::Node, G::Kind), G::Group) as Ord>⟧.cmp effects.new.marks)
+        ((pair.now.0, G.kind_of pair.now.1), G.group_of pair.now.1)) }
+    ensures carried { IfOk result (λ carried. IsMadeBut G.keeps G.passed
+        (edges_at G.Node.cmp pairs.now.backward.now.map pair.now.0) pair.now.1
+        (contains ⟦<((G::Node, G::Kind), G::Group) as Ord>⟧.cmp effects.old.marks
+        ((pair.now.0, G.kind_of pair.now.1), G.group_of pair.now.1)) carried.items) }
 {
     let edges = pairs.backward.at(&pair.0);
     if edges.len() <= FEW {
-        return pairs.successors(alloc, pair);
+        return carried(alloc, pairs.graph, edges, pair.1);
     }
-    effects.note(alloc, pairs.graph, &pair.0, edges, pair.1)?;
-    let kept = effects.at(alloc, pairs.graph, &pair.0, edges, pair.1)?;
-    carried(alloc, pairs.graph, kept, pair.1)
+    let made = effects.made(alloc, pairs.graph, &pair.0, edges, pair.1)?;
+    Ok(made)
 }
 
 /// Lists what `reach` does: each pair to which values are carried back from one of `starts`, each
@@ -101,25 +106,6 @@ pub(crate) fn reach_back<G: Labelled>(
         done += 1;
     }
     Ok(found.into_list())
-}
-
-/// The pairs that the value is carried back to over the edges.
-fn carried<G: Labelled>(
-    alloc: Global,
-    graph: &G,
-    edges: &[Edge<G::Node, G::Label>],
-    value: G::Value,
-) -> Result<Vec<(G::Node, G::Value)>, AllocError>
-    ensures { IfOk result (λ pairs. pairs.items ≡ filter_map (λ edge. option_map
-        (λ carried. (edge.to, carried)) (G.passed edge.label value)) edges.now) }
-{
-    let mut pairs = Vec::new(alloc);
-    for edge in edges {
-        if let Some(carried) = graph.pass(edge.label, value) {
-            pairs.push((graph.copy(alloc, &edge.to)?, carried))?;
-        }
-    }
-    Ok(pairs)
 }
 
 /// The pairs of one of the nodes and a value that it has by itself.

@@ -2,7 +2,7 @@
 //! there are no rings.
 
 ghost use Rattle.std.specs.Prelude.{◌≡◌, ◌≤◌, ◌↔◌, ◌⊎◌, ◌++◌, true};
-ghost use Rattle.std.specs.Prelude.{Contains, IfOk, IfSome, OnOk, is_some, length, take};
+ghost use Rattle.std.specs.Prelude.{Contains, IfOk, IfSome, OnOk, is_some, length, map, take};
 ghost use Rattle.std.specs.List.{filter_map};
 ghost use Rattle.std.specs.List.Sorted.{IsStrictlySortedBy};
 ghost use Rattle.std.proofs.lemmas.Map.Lookups.{CmpEqualImpliesEq};
@@ -222,28 +222,23 @@ fn pass_effects<G: Labelled>(
     let mut effects = Effects::<G>::new(alloc);
     let mut last = last;
     for value in starts {
-        effects.note(alloc, graph, node, run, *value)?;
-        let kept = effects.at(alloc, graph, node, run, *value)?;
-        pass_each(graph, kept, *value, values)?;
+        let made = effects.made(alloc, graph, node, run, *value)?;
+        add_made(&made, values)?;
         last = dedup_if_doubled(values, last);
     }
     Ok(last)
 }
 
-/// Adds what the labels of the edges make of the value.
-fn pass_each<G: Labelled>(
-    graph: &G,
-    edges: &[Edge<G::Node, G::Label>],
-    value: G::Value,
-    values: &mut Vec<G::Value>,
+/// Adds the values of the pairs.
+fn add_made<N: Drop, V: Copy + Drop>(
+    pairs: &[(N, V)],
+    values: &mut Vec<V>,
 ) -> Result<(), AllocError>
-    ensures { OnOk result (values.new.items
-        ≡ values.old.items ++ filter_map (λ edge. G.passed edge.label value) edges.now) }
+    ensures { OnOk result
+        (values.new.items ≡ values.old.items ++ map (λ pair. pair.1) pairs.now) }
 {
-    for edge in edges {
-        if let Some(passed) = graph.pass(edge.label, value) {
-            values.push(passed)?;
-        }
+    for pair in pairs {
+        values.push(pair.1)?;
     }
     Ok(())
 }

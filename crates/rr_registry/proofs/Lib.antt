@@ -1,5 +1,6 @@
 pub mod Confined
 pub mod Empty
+pub mod Forgetting
 pub mod Gathering
 pub mod Held
 pub mod Judged

@@ -14,7 +14,9 @@ use Rattle.rr_object.specs.Objects.{Obj}
 use Rattle.rr_auth.specs.declared.item.Item.{Item}
 use Rattle.rr_auth.specs.declared.verdict.Verdict.{Verdict}
 use Rattle.rr_auth.specs.declared.verdict.Verdict.TheVariants.{Refuse}
-use Rattle.rr_auth.specs.Registries.{Reg, keys_cross}
+use Rattle.rr_auth.specs.declared.known.Known.{Known}
+use Rattle.rr_auth.specs.Known.{IsKnown}
+use Rattle.rr_auth.specs.Registries.{Reg, Sound, keys_cross}
 use Rattle.rr_auth.specs.Verdicts.{verdict}
 use Rattle.rr_book.specs.Books.{book_of, entry, is_in_order}
 use Rattle.rr_cover.specs.SpanMaps.{SpanMap}
@@ -79,6 +81,11 @@ pub record IsConsistent (g : Gathered) : Type 0 where
   pub apart : IsApart (values g.objects)
   pub keyed : g.objects.entries ≡ map entry (values g.objects)
   pub spans : HoldsSpans (values g.objects) g.spans.inetnums g.spans.blocks
+
+-- A registry is sound, and what is known of it holds.
+pub record IsKept (r : Reg) (known : Known) : Type 0 where
+  pub sound : Sound r
+  pub remembered : IsKnown r known
 
 -- The verdict on an item, or a refusal with E90 if memory runs out (profile).
 abbrev pub IsJudged : Reg → List (List ℕ) → Item → Verdict → Type 0

@@ -71,7 +71,7 @@ impl<B: Keeper> Registry<B> {
             Err(fault) => Err(fault),
             Ok(gathered) => match unnamed {
                 Some(i) => Err(LoadFault::Unnamed(i as u64 + 1)),
-                None => Ok(Registry::of(B::of(alloc, gathered)?)),
+                None => Ok(Registry::of(alloc, B::of(alloc, gathered)?)),
             },
         }
     }

@@ -10,7 +10,7 @@ ghost use Rattle.rr_registry.specs.Private.{IsJudged};
 ghost use Rattle.rr_registry.specs.Runs.{IsCarriedOut, IsOutOfMemory, IsStep};
 
 use crate::outcome::Outcome;
-use rr_auth::{Item, Secrets, Verdict, judge};
+use rr_auth::{Item, Known, Secrets, Verdict, judge};
 use rr_book::Keeper;
 use rr_number::Span;
 use rr_object::{Code, Key, Object};
@@ -18,10 +18,11 @@ use std::alloc::{AllocError, Global};
 use std::marker::Model;
 
 /// A registry, kept in a book; contracts see the finite map from keys to objects. It is always
-/// sound.
+/// sound. What its objects answered the secrets of the last item is remembered.
 #[derive(Drop)]
 pub struct Registry<B: Keeper> {
     pub(crate) book: B,
+    known: Known,
 }
 
 impl<B: Keeper> Model for Registry<B> {
@@ -36,9 +37,9 @@ impl<B: Keeper> Model for Registry<B> {
 
     ghost view = { λ a. B.contents a.book };
 
-    ghost use Rattle.rr_auth.specs.Registries.{Sound};
+    ghost use Rattle.rr_registry.specs.Private.{IsKept};
 
-    ghost invariant = { λ a. Sound (B.contents a.book) };
+    ghost invariant = { λ a. IsKept (B.contents a.book) a.known };
 }
 
 impl<B: Keeper> Registry<B> {
@@ -52,15 +53,19 @@ impl<B: Keeper> Registry<B> {
     {
         Registry {
             book: B::new(alloc),
+            known: Known::new(alloc),
         }
     }
 
     /// The registry of this book.
-    pub(crate) fn of(book: B) -> Registry<B>
+    pub(crate) fn of(alloc: Global, book: B) -> Registry<B>
         requires { Sound (B.contents book) }
         ensures { result ≡ B.contents book }
     {
-        Registry { book }
+        Registry {
+            book,
+            known: Known::new(alloc),
+        }
     }
 
     /// The book of the registry, over which other questions can be asked.
@@ -124,13 +129,14 @@ impl<B: Keeper> Registry<B> {
     }
 
     /// The verdict on the item, which is a refusal with E90 if memory runs out.
-    fn verdict(&self, alloc: Global, secrets: &mut Secrets, item: &Item) -> Verdict
-        ensures judged { IsJudged self.now secrets.old item.now result }
-        ensures sound { Sound self.now }
+    fn verdict(&mut self, alloc: Global, secrets: &mut Secrets, item: &Item) -> Verdict
+        ensures judged { IsJudged self.old secrets.old item.now result }
+        ensures sound { Sound self.old }
         ensures formed { IsItem item.now }
         ensures same_secrets { secrets.new ≡ secrets.old }
+        ensures same { self.new ≡ self.old }
     {
-        match judge(alloc, &self.book, secrets, item) {
+        match judge(alloc, &self.book, secrets, &mut self.known, item) {
             Ok(verdict) => verdict,
             Err(_) => Verdict::Refuse(Code::E90),
         }
@@ -158,6 +164,7 @@ impl<B: Keeper> Registry<B> {
         ensures { ((result ≡ done) × (self.new ≡ insert self.old object.key object))
             ⊎ IsOutOfMemory self.old result self.new }
     {
+        self.known.forget(object.key());
         match self.book.insert(alloc, object) {
             Ok(()) => done,
             Err(_) => Outcome::Refused(Code::E90),
@@ -172,6 +179,7 @@ impl<B: Keeper> Registry<B> {
     {
         match judged {
             Verdict::Delete => {
+                self.known.forget(key);
                 self.book.remove(key);
                 Outcome::Deleted
             }

@@ -11,10 +11,9 @@ use Rattle.std.proofs.lemmas.Cmp.{eq_by_cmp_equiv}
 use Rattle.std.proofs.lemmas.List.Folds.{list_any_more}
 use Rattle.std.proofs.lemmas.Map.Text.{is_eq-slice_cmp}
 use Rattle.rr_auth.specs.Registries.{Reg}
-use Rattle.rr_graph.proofs.Lists.{Contains-map, Contains-nil}
+use Rattle.rr_graph.proofs.Lists.{Contains-filter, Contains-map, Contains-nil}
 use Rattle.rr_object.specs.Objects.{Obj}
 use Rattle.rr_object.specs.Parts.{ByRefParts}
-use Rattle.rr_sets.proofs.Numbers.{Contains-filter}
 use Rattle.rr_sets.specs.Lists.{IsReferrer, ListsOnce, lent}
 use Rattle.rr_sets.specs.SetObjects.{takes}
 

@@ -1,10 +1,9 @@
 -- The AS numbers in a set itself, from the lists of a registry.
-use Rattle.std.proofs.Common.{◌≡◌, ℕ, ◌⊎◌, ◌↔◌, Bool, true, false, cond, List, [], ◌∷◌, Contains, IsTrue, None, Some, Bor, refl, sym, ap, ◌∙◌, subst, inl, inr}
+use Rattle.std.proofs.Common.{◌≡◌, ℕ, ◌⊎◌, ◌↔◌, List, [], Contains, IsTrue, None, Some, Bor, refl, sym, ap, ◌∙◌, subst, inl, inr}
 use Rattle.std.specs.FinMap.{get}
-use Rattle.std.specs.List.{filter, filter_map}
+use Rattle.std.specs.List.{filter_map}
 use Rattle.rr_auth.specs.Registries.{Reg, Sound}
-use Rattle.rr_graph.proofs.Listings.{Contains-cons_cases}
-use Rattle.rr_graph.proofs.Lists.{Contains-filter_map, Contains-head, Contains-later, Contains-map, Contains-nil}
+use Rattle.rr_graph.proofs.Lists.{Contains-filter_map, Contains-map, Contains-nil}
 use Rattle.rr_object.specs.Objects.{Obj}
 use Rattle.rr_object.specs.declared.key.Key.{Key}
 use Rattle.rr_object.specs.declared.key.Key.TheVariants.{Mntner, AsBlock, AutNum, Inetnum, Route, AsSet, RouteSet}
@@ -17,33 +16,6 @@ use Rattle.rr_sets.specs.AsSets.{BelongsTo, IsAnyNumber, IsDirect, ListsNumber, 
 use Rattle.rr_sets.specs.Lists.{IsAutNum, IsReferrer, ListsOnce, lent}
 use Rattle.rr_sets.specs.KeyParts.{number_of_key}
 use Rattle.rr_sets.specs.SetObjects.{number_listed, set_listed, takes}
-
--- a filtered list has what the list has and the test passes
-pub Contains-filter : {X : Type 0} (p : X → Bool) (xs : List X) (x : X) → Contains (filter p xs) x ↔ (Contains xs x × IsTrue (p x))
-Contains-filter {X} p xs x = (back xs, λ both. on xs both.0 both.1) where
-  begun : (b : Bool) (y : X) (rest : List X) → p y ≡ b → Contains (cond b (y ∷ rest) rest) x → ((y ≡ x) × IsTrue (p x)) ⊎ Contains rest x
-  begun true y rest is has = elim (Contains-cons_cases y rest x has) [
-    | inl first ↦ inl (first, subst (λ (z : X). p z ≡ true) first is)
-    | inr later ↦ inr later
-  ]
-  begun false y rest is has = inr has
-
-  kept : (b : Bool) (y : X) (rest : List X) → p y ≡ b → IsTrue (p x) → (y ≡ x) ⊎ Contains rest x → Contains (cond b (y ∷ rest) rest) x
-  kept true y rest is passes (inl first) = subst (Contains (y ∷ rest)) first (Contains-head y rest)
-  kept true y rest is passes (inr later) = Contains-later y rest x later
-  kept false y rest is passes (inl first) = let wrong : p x ≡ false = subst (λ (z : X). p z ≡ false) first is in cc
-  kept false y rest is passes (inr later) = later
-
-  back : (xs : List X) → Contains (filter p xs) x → Contains xs x × IsTrue (p x)
-  back [] has = absurd (Contains-nil x has)
-  back (y ∷ ys) has = elim (begun (p y) y (filter p ys) refl has) [
-    | inl first ↦ (subst (Contains (y ∷ ys)) first.0 (Contains-head y ys), first.1)
-    | inr later ↦ let r = back ys later in (Contains-later y ys x r.0, r.1)
-  ]
-
-  on : (xs : List X) → Contains xs x → IsTrue (p x) → Contains (filter p xs) x
-  on [] has passes = absurd (Contains-nil x has)
-  on (y ∷ ys) has passes = kept (p y) y (filter p ys) refl passes (elim (Contains-cons_cases y ys x has) [ inl first ↦ inl first | inr later ↦ inr (on ys later passes) ])
 
 -- what two lists have one after the other
 pub Contains-both : {X : Type 0} (xs ys all : List X) (P Q : X → Type 0) → all ≡ xs ++ ys → ((x : X) → Contains xs x ↔ P x) → ((x : X) → Contains ys x ↔ Q x) → (x : X) → Contains all x ↔ (P x ⊎ Q x)

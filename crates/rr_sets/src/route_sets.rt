@@ -18,7 +18,7 @@ use crate::members::{ExpandFault, Members};
 use crate::ranges::{has_set, ranges_in, ranges_of_origin};
 use crate::references::{Reference, copy_of, references_of};
 use rr_graph::{Gathered, Labelled, ReachFault, gather};
-use rr_number::{Operator, Range, SetName};
+use rr_number::{Operator, Prefix, Range, SetName};
 use rr_object::MemberSet;
 use std::alloc::{AllocError, Global};
 
@@ -35,12 +35,13 @@ use std::alloc::{AllocError, Global};
 /// The steps outside the book are O((P + KR + F) log P). P counts the sets reached, the members of
 /// each, listed or by reference, the routes of each AS reached, the names in its `mbrs-by-ref` and
 /// in `mnt-by` of its referrers, and those pairs; R the references of the sets reached; K the least
-/// and greatest lengths that ranges of one set have, at most 561; and F, for each pair, the ranges
-/// that references to its set make of it in each set that refers to it, each once, however many
-/// references do: m route-sets that each list all the others, under however many operators, and the
-/// same V ranges of one address have mV pairs, and F is about m²V. The book is asked at most three
-/// times for the `referrers` of each set reached that has `mbrs-by-ref`, and once for the prefixes
-/// of each AS reached; if sets refer to each other in a ring, at most four times and twice.
+/// lengths that ranges of one set have, at most 33; and F what references make in each set that
+/// refers to another: one without operator, of each range of the other, and those with operators,
+/// each range once, however many references make it, of each prefix and least length of these. The
+/// m route-sets that each list all the others under all operators, and `0.0.0.0/0`, have 561m
+/// pairs, and F is about 7,100m². The book is asked at most three times for the `referrers` of each
+/// set reached that has `mbrs-by-ref`, and once for the prefixes of each AS reached; if sets refer
+/// to each other in a ring, at most four times and twice.
 pub fn expand_route_set<B: SetBook>(
     alloc: Global,
     book: &B,
@@ -106,8 +107,10 @@ struct RouteSets<'a, B: SetBook> {
 impl<B: SetBook> Labelled for RouteSets<'_, B> {
     ghost use Rattle.rr_number.specs.Applied.{applied};
     ghost use Rattle.rr_sets.specs.RouteSets.{HasRange, Refers};
-    ghost use Rattle.rr_sets.specs.Orders.{applied_alike, applied_dropped, exact_lengths};
-    ghost use Rattle.rr_sets.specs.Orders.{exact_member_sets, exact_ranges, lengths_of};
+    ghost use Rattle.std.proofs.lemmas.Map.Lookups.{exact_unsigned};
+    ghost use Rattle.rr_sets.specs.Orders.{applied_alike, applied_dropped, applied_same};
+    ghost use Rattle.rr_sets.specs.Orders.{exact_member_sets, exact_prefixes, exact_ranges};
+    ghost use Rattle.rr_sets.specs.Orders.{is_plain, least_of, prefix_of};
 
     type Node = MemberSet;
 
@@ -115,7 +118,9 @@ impl<B: SetBook> Labelled for RouteSets<'_, B> {
 
     type Value = Range;
 
-    type Kind = (u8, u8);
+    type Kind = u8;
+
+    type Group = Prefix;
 
     ghost edge = { λ s. Refers (B.contents s.book.now) };
 
@@ -123,17 +128,25 @@ impl<B: SetBook> Labelled for RouteSets<'_, B> {
 
     ghost passed = { applied };
 
-    ghost kind_of = { lengths_of };
+    ghost keeps = { is_plain };
+
+    ghost kind_of = { least_of };
+
+    ghost group_of = { prefix_of };
 
     ghost exact_nodes = { exact_member_sets };
 
     ghost exact_values = { exact_ranges };
 
-    ghost exact_kinds = { exact_lengths };
+    ghost exact_kinds = { exact_unsigned };
+
+    ghost exact_groups = { exact_prefixes };
 
     ghost alike = { applied_alike };
 
     ghost dropped = { applied_dropped };
+
+    ghost same = { applied_same };
 
     fn edges(&self, alloc: Global, set: &MemberSet) -> Result<Vec<Reference>, AllocError> {
         references_of(alloc, self.book, set)
@@ -150,8 +163,16 @@ impl<B: SetBook> Labelled for RouteSets<'_, B> {
         operator.apply(range)
     }
 
-    fn kind(&self, range: Range) -> (u8, u8) {
-        (range.low(), range.high())
+    fn keeps(&self, operator: Operator) -> bool {
+        matches!(operator, Operator::Plain)
+    }
+
+    fn kind(&self, range: Range) -> u8 {
+        range.low()
+    }
+
+    fn group(&self, range: Range) -> Prefix {
+        range.prefix()
     }
 
     fn copy(&self, alloc: Global, set: &MemberSet) -> Result<MemberSet, AllocError> {

@@ -80,6 +80,58 @@ mnt-by: ROOT-MNT
 source: TEST
 ";
 
+/// C-MNT of the secret `abc`, which A-MNT may change, and AS-T, of which C-MNT decides and is named
+/// so often that its answer is remembered.
+const OFTEN_NAMED: &str = "\
+password: c
+password: abc
+
+mntner: C-MNT
+auth: SHA256-PW :ba7816bf8f01cfea414140de5dae2223b00361a396177a9cb410ff61f20015ad
+mnt-by: A-MNT
+source: TEST
+
+as-set: AS-T
+mnt-by: C-MNT, C-MNT, C-MNT, C-MNT, C-MNT, C-MNT
+mnt-by: C-MNT, C-MNT, C-MNT, C-MNT, C-MNT, C-MNT
+mnt-by: C-MNT, C-MNT, C-MNT, C-MNT, C-MNT, C-MNT
+source: TEST
+";
+
+/// Items of AS-T between which a secret comes, its maintainer changes, and AS-T changes to one of
+/// B-MNT.
+const ASKED_AGAIN: &str = "\
+as-set: AS-T
+delete: x
+
+as-set: AS-T
+delete: x
+
+password: c
+
+as-set: AS-T
+delete: x
+
+mntner: C-MNT
+auth: SHA256-PW ab:ba7816bf8f01cfea414140de5dae2223b00361a396177a9cb410ff61f20015ad
+mnt-by: A-MNT
+source: TEST
+
+as-set: AS-T
+mnt-by: B-MNT, B-MNT, B-MNT, B-MNT, B-MNT, B-MNT
+mnt-by: B-MNT, B-MNT, B-MNT, B-MNT, B-MNT, B-MNT
+mnt-by: B-MNT, B-MNT, B-MNT, B-MNT, B-MNT, B-MNT
+source: TEST
+
+as-set: AS-T
+delete: x
+
+password: abc
+
+as-set: AS-T
+delete: x
+";
+
 const CHANGES: &[Worked] = &[
     Worked {
         shows: "the stored maintainers judge a change",
@@ -325,6 +377,20 @@ delete: x
 5 route 11.0.0.0/8 AS2: refused E15
 6 inetnum 9.0.0.0 - 10.0.0.255: refused E16
 % items 6
+",
+    },
+    Worked {
+        shows: "what is remembered ends with a secret, a maintainer's change or the object's",
+        given: &[HOLDERS, OFTEN_NAMED, ASKED_AGAIN],
+        report: "\
+1 as-set AS-T: refused E11
+2 as-set AS-T: refused E11
+3 as-set AS-T: refused E11
+4 mntner C-MNT: changed
+5 as-set AS-T: changed
+6 as-set AS-T: refused E11
+7 as-set AS-T: deleted
+% items 7
 ",
     },
 ];

@@ -1,7 +1,7 @@
 //! Calls below the desk, each with ample memory: verdicts, runs, names for routes, and the lists of
 //! a book.
 use crate::books::{item, objects, taken};
-use rr_auth::{Book, Secrets, Verdict, judge, route_names};
+use rr_auth::{Book, Known, Secrets, Verdict, judge, route_names};
 use rr_index::IndexedBook;
 use rr_io::{Counted, write_all};
 use rr_number::{AsNumber, Prefix, SetName};
@@ -95,7 +95,8 @@ fn verdict<B: Keeper>(
 ) -> Result<Verdict, Fail> {
     let mut secrets = secrets(alloc, &[secret])?;
     let item = item(alloc, deletes, text)?;
-    Ok(judge(alloc, registry.book(), &mut secrets, &item)?)
+    let mut known = Known::new(alloc);
+    Ok(judge(alloc, registry.book(), &mut secrets, &mut known, &item)?)
 }
 
 /// A secret, whether the object or its deletion is asked for, the object, and the verdict.

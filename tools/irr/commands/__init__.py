@@ -37,6 +37,8 @@ TABLE = (
     Command("filter", FILTER, "filter", "make a filter for BIRD or FRR"),
     Command("why", FILTER, "why", "say by which references a prefix is in a set"),
     Command("rov", FILTER, "rov", "compare the registered routes with ROAs"),
+    Command("setup", KEEP, "setup", "make a first registry, by questions or by options"),
+    Command("check", KEEP, "check", "say what is wrong with the registry of this machine"),
     Command(
         "door", KEEP, "door", "answer the world: whois in three dialects, HTTP, and submissions"
     ),
@@ -50,6 +52,7 @@ TABLE = (
     Command("backup", KEEP, "backup", "make a verified backup of a registry, served or not"),
     Command("restore", KEEP, "restore", "put a backup in the place of a registry"),
     Command("history", KEEP, "history", "keep each public state of a registry, and show what was"),
+    Command("notify", KEEP, "notify", "mail what changed and was refused to those concerned"),
     Command("reset", KEEP, "reset", "give a maintainer of a stopped registry another password"),
     Command(
         "completion", ABOUT, "completion", "print what a shell needs to complete the words of irr"

@@ -1,13 +1,15 @@
 """`irr auth [NAME]`: makes an `auth` line of a new password, or of one that is asked for, and with
 a name the mntner."""
 import argparse
+import contextlib
 
 from irr.errors import ARGUMENTS, DONE, Failure
+from irr.local.databases import DEFAULT
 from irr.registry import server, submissions
 from irr.registry.refusals import source_of
 from irr.rpsl import hashes, keys
 from irr.rpsl.syntax import Attribute, Paragraph
-from irr.system import files
+from irr.system import files, tomls
 from irr.terminal import prompts, texts
 
 EXAMPLES = """
@@ -15,6 +17,7 @@ irr auth                              an `auth` line of a new password, which th
 irr auth --ask                        of a password that you type
 irr auth --save my.password EXAMPLE-MNT > mntner.rpsl
 irr submit my.password mntner.rpsl    a new maintainer, and its registration
+irr auth ROOT-MNT                     beside the settings of a registry that is not served yet
 
 The registry keeps one SHA-256 of the salt and the password. Who gets that tries billions of
 passwords a second: a random one of 96 bits withstands that, a short one does not.
@@ -38,7 +41,7 @@ def arguments(parser: argparse.ArgumentParser) -> None:
     parser.add_argument(
         "--source",
         metavar="NAME",
-        help="the registry's name for the mntner; otherwise the server is asked",
+        help="write this name of a registry into the mntner; otherwise the server is asked",
     )
     parser.add_argument(
         "name", nargs="?", metavar="NAME", help="print the mntner of this name with the line"
@@ -89,6 +92,8 @@ def registered_source(options: argparse.Namespace) -> str:
         if not isinstance(failure.__context__, ConnectionRefusedError):
             raise
         # The root's is made before there is a registry.
+        if source := source_here():
+            return source
         why = f"{failure.what}, or give the registry's name by --source NAME"
         raise Failure(failure.thing, why, failure.status) from None
     if keys.read_source(source) is None:
@@ -96,6 +101,18 @@ def registered_source(options: argparse.Namespace) -> str:
             options.name, "the registry does not say its name; give it by --source NAME", ARGUMENTS
         )
     return source
+
+
+def source_here() -> str:
+    """The name of the registry whose settings are here or in the package's folder, which need no
+    `auth` yet; nothing where there are none."""
+    for path in "irr.toml", DEFAULT:
+        with contextlib.suppress(Failure):
+            source = tomls.parsed(path, tomls.text_of(path)).get("source")
+            if isinstance(source, str) and keys.read_source(source):
+                texts.note(f"irr auth: nothing listens; {source} is the registry of {path}")
+                return source
+    return ""
 
 
 def show(password: str) -> None:

@@ -30,21 +30,21 @@ def arguments(parser: argparse.ArgumentParser) -> None:
         "--settings",
         metavar="FILE",
         default=databases.DEFAULT,
-        help=f"those of the registry; {databases.DEFAULT} otherwise",
+        help=f"read the registry's settings here, otherwise from {databases.DEFAULT}",
     )
     parser.add_argument(
         "--keep",
         metavar="COUNT",
         type=keys.number,
         default=7,
-        help="how many backups are kept, 7 otherwise",
+        help="keep this many backups, 7 otherwise",
     )
     parser.add_argument(
         "--hold",
         metavar="SECONDS",
         type=keys.decimal,
         default=30,
-        help="how long a server may be held still while its database is copied, 30 otherwise",
+        help="hold a server still for this long at most while its database is copied, 30 otherwise",
     )
     parser.add_argument(
         "--copy",
@@ -80,7 +80,7 @@ def run(options: argparse.Namespace) -> int:
             databases.clear(place, UNFINISHED)
         with databases.working(place, UNFINISHED) as work:
             made, held = make(settings, options, work)
-            name = time.strftime("%Y%m%dT%H%M%SZ", time.gmtime())
+            name = time.strftime(databases.STAMP, time.gmtime())
             if os.path.lexists(place / name):
                 raise Failure(str(place / name), "there is a backup of this second; try again")
             why = tried(work, settings, made)

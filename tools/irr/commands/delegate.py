@@ -27,18 +27,18 @@ def arguments(parser: argparse.ArgumentParser) -> None:
         "--as",
         dest="holder",
         metavar="MNT",
-        help="the maintainer that hands over; otherwise the one that may add the object",
+        help="hand over in this maintainer's name; otherwise in that of one who may add the object",
     )
     proof = parser.add_mutually_exclusive_group()
     proof.add_argument(
         "--word",
         metavar="WORD",
-        help="the word that you asked the holder to register in `remarks` of the mntner",
+        help="look for the word that you asked the holder to register in `remarks` of the mntner",
     )
     proof.add_argument(
         "--known",
         action="store_true",
-        help="you know already that the mntner is that of the right party",
+        help="ask for no word, because you know that the mntner is that of the right party",
     )
     parser.add_argument("name", metavar="MNT", help="the maintainer that gets it")
     parser.add_argument(

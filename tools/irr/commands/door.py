@@ -20,31 +20,33 @@ settings of CONFIG have the options' names, and more.
 def arguments(parser: argparse.ArgumentParser) -> None:
     parser.add_argument("config", metavar="CONFIG", nargs="?", help="settings, such as door.toml")
     for name, what in (
-        ("whois", "where whois is answered, [::]:43 otherwise; may be given several times"),
-        ("http", "where HTTP is answered, 127.0.0.1:4380 otherwise; may be given several times"),
+        ("whois", "answer whois here, at [::]:43 otherwise; may be given several times"),
+        ("http", "answer HTTP here, at 127.0.0.1:4380 otherwise; may be given several times"),
     ):
         parser.add_argument(f"--{name}", metavar="ADDRESS:PORT", action="append", help=what)
     parser.add_argument(
         "--status",
         metavar="ADDRESS:PORT",
-        help="where /status and /metrics are, 127.0.0.1:4381 otherwise",
+        help="answer /status and /metrics here, at 127.0.0.1:4381 otherwise",
     )
     parser.add_argument(
-        "--registry", metavar="URL", help="the registry, http://127.0.0.1:4343 otherwise"
+        "--registry",
+        metavar="URL",
+        help="stand before this registry, http://127.0.0.1:4343 otherwise",
     )
     parser.add_argument(
         "--replica",
         metavar="URL",
         action="append",
-        help="a replica; otherwise those that the agent of `irr mirror` tells of",
+        help="ask this replica; otherwise those that the agent of `irr mirror` tells of",
     )
     parser.add_argument(
-        "--agent", metavar="ADDRESS:PORT", help="that agent, 127.0.0.1:4340 otherwise"
+        "--agent", metavar="ADDRESS:PORT", help="ask that agent here, at 127.0.0.1:4340 otherwise"
     )
     parser.add_argument(
         "--log",
         metavar="FILE",
-        help="who did what, a line an item; `-`, standard output, otherwise",
+        help="write who did what, a line an item, here; to `-`, standard output, otherwise",
     )
     parser.add_argument(
         "--strict",

@@ -36,7 +36,7 @@ def arguments(parser: argparse.ArgumentParser) -> None:
         "--widest",
         metavar="LENGTH",
         default=str(WIDEST),
-        help="the least length of a prefix, or of the prefix of a range, "
+        help="take prefixes, and prefixes of ranges, of this length at least, "
         f"otherwise {WIDEST}; 0 allows 0.0.0.0/0",
     )
     parser.add_argument(
@@ -45,7 +45,8 @@ def arguments(parser: argparse.ArgumentParser) -> None:
     parser.add_argument(
         "--accept",
         action="store_true",
-        help="with --settings, take also a list that lost more of its entries than `shrink` allows",
+        help="with --settings, take also a list that lost more of its entries than `shrink` allows,"
+        " or whose old one can't be read",
     )
     parser.add_argument("format", metavar="FORMAT", nargs="?", help="bird or frr")
     parser.add_argument(

@@ -32,13 +32,13 @@ in front of /submissions has that.
 
 def arguments(parser: argparse.ArgumentParser) -> None:
     server.add_options(parser)
-    parser.add_argument("--folder", metavar="FOLDER", help="that of `show` and `at`")
+    parser.add_argument("--folder", metavar="FOLDER", help="take this folder for `show` and `at`")
     parser.add_argument(
         "--limit",
         metavar="COUNT",
         type=keys.number,
         default=10_000,
-        help="for `at`: `limit` of the registry's settings, 10000 otherwise",
+        help="take this `limit` of the registry's settings for `at`, 10000 otherwise",
     )
     parser.add_argument(
         "words",
@@ -81,14 +81,14 @@ def run(options: argparse.Namespace) -> int:
 
 def record(place: Path, source: server.Server) -> int:
     files.folder(place)
-    with files.locked(place):
+    with files.locked(place) as lock:
         # The dump comes whole or not at all, before anything is looked at.
         dump, digest = place / "fetched", hashlib.sha256()
         now = int(time.time())
         files.put(dump, source.dump())
         try:
             with open(dump, "rb") as file:
-                repository = Repository(place)
+                repository = Repository(place, [lock])
                 counts = repository.record(
                     syntax.blocks(digested(syntax.chunks(file), digest)),
                     digest.hexdigest,

@@ -1,6 +1,7 @@
 """`irr import FILE..`: makes of dumps of other registries one that `irrdesk load` takes."""
 import argparse
 import contextlib
+import os
 import re
 import shutil
 import sys
@@ -28,8 +29,10 @@ irr import radb.db --source EXAMPLE --root ROOT-MNT --auth @holders.auth --check
 RULE = """What is written is, object by object, the paragraph that was read, but for what is mended
 and reported. A paragraph is not an object if the name of a class comes again after its
 first line, or `source` comes twice. It is parted where a class line follows directly on
-`source`; otherwise it is left out. An object is left out too if its maintainers have a
-prefix or a brace, if two of its lines were joined, or if its file ends within it."""
+`source`; otherwise it is left out. An object is left out too if one of its lists can't be
+read, if two of its lines were joined, or if its file ends within it. An item that can't be
+read is dropped alone only if it is a word: letters, digits and _ . : / - ^ inside, and no
+word of expressions, such as EXCEPT."""
 
 
 def arguments(parser: argparse.ArgumentParser) -> None:
@@ -37,15 +40,15 @@ def arguments(parser: argparse.ArgumentParser) -> None:
         "files", nargs="+", metavar="FILE", help="a dump, plain or gzip'd; `-` for standard input"
     )
     parser.add_argument(
-        "--source", required=True, metavar="NAME", help="the name of the registry to be made"
+        "--source", required=True, metavar="NAME", help="give the registry this name"
     )
-    parser.add_argument("--root", required=True, metavar="MNT", help="its root maintainer")
+    parser.add_argument("--root", required=True, metavar="MNT", help="give it this root maintainer")
     parser.add_argument(
         "--auth",
         action="append",
         default=[],
         metavar="[MNT=]LINE",
-        help="the root's `auth`, as `irr auth` makes it; with MNT= that of another maintainer; "
+        help="give the root this `auth`, as `irr auth` makes it; with MNT= another maintainer; "
         "@FILE for a file of such lines; may be given several times",
     )
     parser.add_argument(
@@ -74,7 +77,7 @@ def arguments(parser: argparse.ArgumentParser) -> None:
     parser.add_argument(
         "--keep-scoped",
         action="store_true",
-        help="`RIPE::AS-X` becomes `AS-X` also if that set is not imported from RIPE",
+        help="turn `RIPE::AS-X` into `AS-X` also if that set is not imported from RIPE",
     )
     parser.add_argument_group("what is an object", RULE)
     mended = parser.add_argument_group(
@@ -93,6 +96,7 @@ def run(options: argparse.Namespace) -> int:
         raise Failure(options.source, "this is not a name; correct --source", ARGUMENTS)
     if options.files.count("-") > 1:
         raise Failure("-", "standard input can be read once; give it once", ARGUMENTS)
+    need_several(options)
     auths = read_auths(options.auth, root)
     if not auths.get(root):
         raise Failure(
@@ -124,6 +128,22 @@ def run(options: argparse.Namespace) -> int:
     for line in [*tally.lines(), *notes(made, root)]:
         texts.note(line)
     return DONE
+
+
+def need_several(options: argparse.Namespace) -> None:
+    """That the files to write are several, also through links: the last one would replace the
+    others."""
+    found: set[str] = set()
+    named: list[str | None] = [options.output, options.left_out, options.renamed]
+    for path in filter(None, named):
+        target = os.path.realpath(path)
+        if target in found:
+            raise Failure(
+                path,
+                "two of --output, --left-out and --renamed are this file; give each its own",
+                ARGUMENTS,
+            )
+        found.add(target)
 
 
 def need_some(tally: Tally) -> None:

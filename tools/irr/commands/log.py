@@ -3,12 +3,10 @@
 import argparse
 import datetime
 import json
-import subprocess
-from pathlib import Path
-from typing import Any, Iterator
+from typing import Any
 
-from irr.door import journal
-from irr.errors import ARGUMENTS, DONE, REFUSED, Failure, system_words
+from irr.door import journal, logs
+from irr.errors import ARGUMENTS, DONE, REFUSED, Failure
 from irr.rpsl import keys
 from irr.terminal import texts
 
@@ -18,39 +16,40 @@ irr log --file /var/log/irrdesk-door/items.log --key 192.0.2.0/24
 irr log --maintainer A-MNT --since 2026-11-01
 irr log --client 192.0.2.7 --json
 """
-UNIT = "irrdesk-door.service"
 
 
 def arguments(parser: argparse.ArgumentParser) -> None:
     parser.add_argument(
         "--file",
         metavar="FILE",
-        help="the file of the setting `log`, with those that were rotated; otherwise the journal "
+        help="read the file of the setting `log`, and rotated ones; otherwise the journal "
         "of irrdesk-door.service",
     )
     parser.add_argument(
-        "--key", metavar="KEY", help="of objects whose key is, or begins with, this"
+        "--key", metavar="KEY", help="print the lines of objects whose key is, or begins with, this"
     )
     parser.add_argument(
         "--maintainer",
         metavar="NAME",
         type=keys.need_maintainer,
-        help="of a mntner, or by its name in mnt-by",
+        help="print those of a mntner, or by its name in mnt-by",
     )
-    parser.add_argument("--client", metavar="NAME", help="from an address, or by a user")
+    parser.add_argument(
+        "--client", metavar="NAME", help="print those from an address, or by a user"
+    )
     parser.add_argument(
         "--since",
         metavar="TIME",
-        help="from this time on, as 2026-11-28 or 2026-11-28T10:00, of UTC",
+        help="print those from this time on, as 2026-11-28 or 2026-11-28T10:00, of UTC",
     )
-    parser.add_argument("--until", metavar="TIME", help="before this time")
+    parser.add_argument("--until", metavar="TIME", help="print those before this time")
     parser.add_argument("--json", action="store_true", help="print the lines as they were written")
 
 
 def run(options: argparse.Namespace) -> int:
     since, until = (read_time(given) if given else None for given in (options.since, options.until))
     count = 0
-    for entry in journal.entries(lines(options.file)):
+    for entry in journal.entries(logs.lines(options.file)):
         at = journal.time_of(entry)
         if at is None or (since is not None and at < since) or (until is not None and at >= until):
             continue
@@ -69,31 +68,6 @@ def read_time(text: str) -> float:
             text, "this is not a time; write it as 2026-11-28 or 2026-11-28T10:00", ARGUMENTS
         ) from None
     return (found if found.tzinfo else found.replace(tzinfo=datetime.timezone.utc)).timestamp()
-
-
-def lines(path: str | None) -> Iterator[bytes]:
-    """The lines of the files of a journal, or of that of systemd."""
-    if path is None:
-        yield from lines_of_unit()
-        return
-    found = [one for one in journal.files_of(Path(path)) if one.exists()]
-    if not found:
-        raise Failure(path, "there is no such file; give that of the setting `log`")
-    for one in found:
-        with open(one, "rb") as file:
-            yield from file
-
-
-def lines_of_unit() -> Iterator[bytes]:
-    words = ["journalctl", "--unit", UNIT, "--output", "cat", "--quiet", "--no-pager"]
-    try:
-        with subprocess.Popen(words, stdout=subprocess.PIPE, stdin=subprocess.DEVNULL) as process:
-            assert process.stdout is not None
-            yield from process.stdout
-    except OSError as error:
-        raise Failure(
-            "journalctl", f"it cannot be run: {system_words(error)}; give the file by --file FILE"
-        ) from None
 
 
 def fits(entry: dict[str, Any], options: argparse.Namespace) -> bool:

@@ -26,7 +26,7 @@ def arguments(parser: argparse.ArgumentParser) -> None:
         metavar="PORT",
         type=keys.number,
         action="append",
-        help="a port of 127.0.0.1 that a replica serves, 4345 "
+        help="serve a replica at this port of 127.0.0.1, 4345 "
         "otherwise; several of these options are several replicas",
     )
     parser.add_argument(
@@ -34,28 +34,28 @@ def arguments(parser: argparse.ArgumentParser) -> None:
         metavar="SECONDS",
         type=keys.decimal,
         default=60,
-        help="when the dump is fetched again, after 60 otherwise",
+        help="fetch the dump again after this time, 60 otherwise",
     )
     parser.add_argument(
         "--limit",
         metavar="COUNT",
         type=keys.number,
         default=10_000,
-        help="`limit` of the registry's settings, 10000 otherwise",
+        help="take this `limit` of the registry's settings, 10000 otherwise",
     )
     parser.add_argument(
         "--pause",
         metavar="SECONDS",
         type=keys.decimal,
         default=12,
-        help="how long after one replica answers again the next one "
-        "is ended, 12 otherwise: until a proxy has seen it",
+        help="wait so long after one replica answers again before the next one is ended, "
+        "12 otherwise: until a proxy has seen it",
     )
     parser.add_argument(
         "--agent",
         metavar="PORT",
         type=keys.number,
-        help="the port of 127.0.0.1 at which HAProxy asks which replicas end soon",
+        help="tell HAProxy at this port of 127.0.0.1 which replicas end soon",
     )
     parser.add_argument("folder", metavar="FOLDER", help="where the replicas' databases are kept")
 

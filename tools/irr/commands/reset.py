@@ -33,7 +33,7 @@ def arguments(parser: argparse.ArgumentParser) -> None:
         "--settings",
         metavar="FILE",
         default=databases.DEFAULT,
-        help=f"those of the registry; {databases.DEFAULT} otherwise",
+        help=f"read the registry's settings here, otherwise from {databases.DEFAULT}",
     )
     parser.add_argument(
         "--service",
@@ -42,7 +42,9 @@ def arguments(parser: argparse.ArgumentParser) -> None:
     )
     how = parser.add_mutually_exclusive_group()
     how.add_argument(
-        "--auth", metavar="VALUE", help="the value of the new `auth` line, as `irr auth` prints it"
+        "--auth",
+        metavar="VALUE",
+        help="take this value of the new `auth` line, as `irr auth` prints it",
     )
     how.add_argument(
         "--ask",

@@ -11,7 +11,7 @@ from irr.commands import backup as backups
 from irr.commands import reset
 from irr.errors import DATABASE, DONE, SETTINGS, Failure, reading, system_words
 from irr.local import databases
-from irr.local.databases import Copy, Settings
+from irr.local.databases import JOURNAL, LOG, Copy, Settings
 from irr.registry import server
 from irr.system import files, services
 from irr.terminal import texts
@@ -32,13 +32,13 @@ def arguments(parser: argparse.ArgumentParser) -> None:
     parser.add_argument(
         "--settings",
         metavar="FILE",
-        help="those of a registry of yours, whose server is stopped; otherwise the registry is that"
-        f" of the service, {databases.DEFAULT}",
+        help="restore a registry of yours with these settings, whose server is stopped; "
+        f"otherwise that of the service, {databases.DEFAULT}",
     )
     parser.add_argument(
         "--over",
         action="store_true",
-        help="also over a registry that has other objects than the backup",
+        help="restore also over a registry that has other objects than the backup",
     )
     parser.add_argument("folder", metavar="FOLDER", help="a backup that `irr backup` made")
 
@@ -49,7 +49,7 @@ def run(options: argparse.Namespace) -> int:
     with services.stopped() if is_service else contextlib.nullcontext():
         settings = settings_for(options.settings, backup)
         prefix = f".{settings.store.name}.irr-restore-"
-        with alone(settings), databases.working(settings.store.parent, prefix) as work:
+        with alone(settings, prefix), databases.working(settings.store.parent, prefix) as work:
             tried(backup, settings, work)
             kept = put_in_place(settings, work, options.over)
             count = texts.counted(backups.count_of(work / "full.rpsl"), "object")
@@ -111,11 +111,13 @@ def is_blank(path: str) -> bool:
 
 
 @contextlib.contextmanager
-def alone(settings: Settings) -> Iterator[None]:
-    """Nobody opens the database while the block runs, if there is one."""
+def alone(settings: Settings, prefix: str) -> Iterator[None]:
+    """Nobody opens the database while the block runs, if there is one. What a restore left that was
+    killed goes."""
     with contextlib.ExitStack() as stack:
         if os.path.lexists(settings.store):
             stack.enter_context(reset.alone(settings))
+            databases.clear(settings.store.parent, prefix)
         yield
 
 
@@ -141,42 +143,34 @@ def tried(backup: Path, settings: Settings, work: Path) -> None:
 
 
 def put_in_place(settings: Settings, work: Path, is_told: bool) -> Path | None:
-    """Puts the database of the working folder into the place of the old one. Where that has other
-    objects, or can't be opened, its files are kept, and their folder is given."""
+    """Puts the database of the working folder into the place of the old one, in one step: wherever
+    this is killed, one of the two stands there whole. Where the old one has other objects, or can't
+    be opened, its files are kept, and their folder is given."""
     owner, mode, kept = os.stat(settings.store.parent), files.PRIVATE, None
-    old = [
-        path
-        for path in (
-            settings.store,
-            settings.log,
-            databases.beside(settings.store, databases.JOURNAL),
-        )
-        if os.path.lexists(path)
-    ]
-    if settings.store.exists():
-        owner, mode = os.stat(settings.store), os.stat(settings.store).st_mode & 0o777
-        if others := what_others(settings, work):
-            if not is_told and others != UNREADABLE:
+    single, logs = work / "single.db", [settings.log, databases.beside(settings.store, JOURNAL)]
+    with contextlib.ExitStack() as stack:
+        others = ""
+        if settings.store.exists():
+            owner, mode = os.stat(settings.store), os.stat(settings.store).st_mode & 0o777
+            others = what_others(settings, work)
+            if others and not is_told and others != UNREADABLE:
                 raise Failure(
                     str(settings.store),
                     f"this registry has other objects than the backup: {others}; to lose them,"
                     " add --over",
                     DATABASE,
                 )
-            name = time.strftime("replaced-%Y%m%dT%H%M%SZ-", time.gmtime())
-            kept = Path(tempfile.mkdtemp(prefix=name, dir=settings.store.parent))
-            chown(kept, owner)
-    with files.named(work / "single.db"), open(work / "single.db", "r+b") as file:
-        os.fchmod(file.fileno(), mode)
-        chown(file.fileno(), owner)
-        os.fsync(file.fileno())
-    # The database goes first: where this is killed, no old one is left without its log.
-    for path in old:
-        if kept:
-            os.rename(path, kept / path.name)
-        elif path != settings.store:
-            path.unlink()
-    os.replace(work / "single.db", settings.store)
+            if others != UNREADABLE:
+                settle(settings, work, owner, mode, stack)
+        own(single, owner, mode)
+        old = [path for path in (settings.store, *logs) if os.path.lexists(path)]
+        if others or old and not settings.store.exists():
+            kept = keep(settings, work, old, owner)
+        # A log must not lie beside a database that is not its own.
+        for path in logs:
+            path.unlink(missing_ok=True)
+        files.sync_folder(settings.store.parent)
+        os.replace(single, settings.store)
     try:
         files.sync_folder(settings.store.parent)
     except OSError as error:
@@ -186,6 +180,58 @@ def put_in_place(settings: Settings, work: Path, is_told: bool) -> Path | None:
             DATABASE,
         ) from None
     return kept
+
+
+def settle(
+    settings: Settings,
+    work: Path,
+    owner: os.stat_result,
+    mode: int,
+    stack: contextlib.ExitStack,
+) -> None:
+    """Has the old database have all that its log has: the copy into which the program has written
+    that takes its place, which nobody else opens until the block ends. Then the log may go: read
+    once more, it says the same."""
+    standing = work / "standing" / "irr.db"
+    if not has_records(settings.log):
+        return
+    if has_records(databases.beside(standing, LOG)):
+        raise Failure(str(settings.log), "this write-ahead log is not empty; try again", DATABASE)
+    own(standing, owner, mode)
+    databases.lock(standing, stack)
+    os.replace(standing, settings.store)
+    files.sync_folder(settings.store.parent)
+
+
+def has_records(log: Path) -> bool:
+    return os.path.lexists(log) and log.stat().st_size >= databases.EMPTY_LOG
+
+
+def keep(settings: Settings, work: Path, old: list[Path], owner: os.stat_result) -> Path:
+    """A new folder beside the database, with the old files."""
+    made = work / "kept"
+    made.mkdir(mode=0o700)
+    chown(made, owner)
+    for path in old:
+        try:
+            os.link(path, made / path.name, follow_symlinks=False)
+        except OSError:
+            databases.copied(path, made / path.name)
+            own(made / path.name, owner, files.PRIVATE)
+    files.sync_folder(made)
+    name = time.strftime("replaced-%Y%m%dT%H%M%SZ-", time.gmtime())
+    # It takes the place of the empty one.
+    kept = Path(tempfile.mkdtemp(prefix=name, dir=settings.store.parent))
+    os.rename(made, kept)
+    return kept
+
+
+def own(path: Path, owner: os.stat_result, mode: int) -> None:
+    """Gives a file an owner and rights, and has it on the disk."""
+    with files.named(path), open(path, "r+b") as file:
+        os.fchmod(file.fileno(), mode)
+        chown(file.fileno(), owner)
+        os.fsync(file.fileno())
 
 
 def chown(what: Path | int, owner: os.stat_result) -> None:

@@ -55,7 +55,7 @@ def arguments(parser: argparse.ArgumentParser) -> None:
         action="append",
         default=[],
         metavar="MNT[,MNT]",
-        help="with --dry-run: whose the first `password:` of the files is; given again, the next "
+        help="name whose the first `password:` is, for --dry-run; given again, the next "
         "one; `-` for nobody's; without it, that of each `mnt-by` in the files",
     )
     parser.add_argument("--anyway", action="store_true", help=cautions.HELP)

@@ -1,6 +1,7 @@
 """`irr view VIEW.toml`: replicas of a registry made of several sources."""
 import argparse
 import os
+from pathlib import Path
 
 from irr.errors import ARGUMENTS, DONE, Failure
 from irr.local import replicas, temporary
@@ -25,7 +26,7 @@ def arguments(parser: argparse.ArgumentParser) -> None:
         "--every",
         metavar="SECONDS",
         type=keys.decimal,
-        help="when the sources are looked at again, in place of `every` of the settings",
+        help="look at the sources again after this time, in place of `every` of the settings",
     )
     parser.add_argument("settings", metavar="VIEW.toml", help="the sources and the ports")
 
@@ -41,6 +42,7 @@ def run(options: argparse.Namespace) -> int:
     with files.locked(folder):
         agent = replicas.Agent(wanted.agent) if wanted.agent else None
         keeper = Keeper(folder, list(wanted.port), agent, wanted.pause, "irr view")
+        keeper.attempt(keeper.settle)
         keeper.view = View(wanted)
         # What was served before is asked by its sources at once.
         keeper.more = keeper.view.status()
@@ -59,8 +61,14 @@ class Keeper(replicas.Keeper):
     def renew(self, make: replicas.Maker) -> bool:
         """Renews them, and says what became of each source."""
         before = self.view.lines()
+
+        def made(work: Path, known: str) -> replicas.Made | None:
+            found = make(work, known)
+            self.more = self.view.status()
+            return found
+
         try:
-            is_new = super().renew(make)
+            is_new = super().renew(made)
             self.view.commit()
         finally:
             self.more = self.view.status()

@@ -1,11 +1,11 @@
 """`irr why PREFIX SET`: by which references a prefix is in what a filter of a set has, or what is
 nearest."""
 import argparse
-from typing import Any, Iterable
+from typing import Iterable
 
 from irr.errors import ARGUMENTS, DONE, REFUSED, Failure
-from irr.registry import server
-from irr.registry.references import Chains, Near, References, Step
+from irr.registry import references, server
+from irr.registry.references import MOST_CHAINS, MOST_NEAR, Chains, Near, References, Step
 from irr.rpsl import keys
 from irr.rpsl.keys import Prefix
 from irr.terminal import texts
@@ -15,8 +15,6 @@ irr why 192.0.2.0/24 AS64496:RS-CUSTOMERS       each chain from the set to the p
 irr why 192.0.2.0/24 AS64496                    the same of the routes of an AS
 irr why --json 192.0.2.0/24 AS64496:AS-CUSTOMERS | jq .chains
 """
-# So many chains are printed, and so much of what is near.
-MOST_CHAINS, MOST_NEAR = 10, 10
 
 
 def arguments(parser: argparse.ArgumentParser) -> None:
@@ -30,8 +28,7 @@ def arguments(parser: argparse.ArgumentParser) -> None:
 
 def run(options: argparse.Namespace) -> int:
     prefix = keys.need_place(options.prefix)
-    number, name = keys.read_as(options.set), keys.read_set(options.set)
-    start = name if number is None else number
+    start = references.read_start(options.set)
     if start is None:
         raise Failure(
             options.set,
@@ -39,15 +36,18 @@ def run(options: argparse.Namespace) -> int:
             ARGUMENTS,
         )
     place = server.Server.from_options(options.server, options.plain)
-    references = References(place, prefix, start)
-    chains = references.chains(MOST_CHAINS)
-    nearest = [] if chains.first else references.nearest()
-    near = [] if chains.first else references.near()
-    shown = f"AS{start}" if isinstance(start, int) else start
+    sources = {str(one.get("name")) for one in place.view().get("sources", [])}
+    reached = References(place, prefix, start, sources)
+    chains = reached.chains(MOST_CHAINS)
+    nearest = [] if chains.first else reached.nearest()
+    near = [] if chains.first else reached.near()
     if options.json:
-        print(json_text(prefix, shown, chains, nearest, near))
+        import json
+
+        print(json.dumps(references.told(prefix, start, chains, nearest, near)))
     else:
-        print(*map(texts.shown_line, lines(prefix, shown, chains, nearest, near)), sep="\n")
+        name = references.shown(start)
+        print(*map(texts.shown_line, lines(prefix, name, chains, nearest, near)), sep="\n")
     return DONE if chains.first else REFUSED
 
 
@@ -102,38 +102,3 @@ def table(chains: list[list[Step]]) -> list[str]:
 
 def by(maintainers: list[str] | None) -> str:
     return "not registered" if maintainers is None else ", ".join(maintainers)
-
-
-def json_text(
-    prefix: Prefix, name: str, chains: Chains, nearest: list[Step], near: list[Near]
-) -> str:
-    """The same for programs."""
-    import json
-
-    def steps(chain: list[Step]) -> list[dict[str, Any]]:
-        return [
-            {
-                "object": step.name,
-                "mnt-by": step.maintainers,
-                "says": step.says,
-                "range": step.range.text() if step.range else None,
-                **({"source": step.source} if step.source else {}),
-            }
-            for step in chain
-        ]
-
-    return json.dumps(
-        {
-            "prefix": prefix.text(),
-            "set": name,
-            "found": bool(chains.first),
-            "chains": [steps(chain) for chain in chains.first],
-            "more": chains.more,
-            "all": not chains.is_cut,
-            "nearest": steps(nearest),
-            "near": [
-                {"object": one.name, "mnt-by": one.maintainers, "why": one.why}
-                for one in near[:MOST_NEAR]
-            ],
-        }
-    )

@@ -1,5 +1,7 @@
 """The door: one process between the world and a registry with its replicas.
 
+- `watching` has all sockets in one set, beside those of the event loop; `wire` lets clients in, and
+  sends what they take.
 - `listener` and `http` take connections and hold slow clients; nothing behind them waits for a
   client.
 - `dialects` tells by a line which dialect answers it: the registry's own, `irrd` or `ripe`. Both
@@ -15,7 +17,11 @@
 - An answer is kept while its state lasts: until a submission through the door changed something, a
   replica was renewed, or `keep` seconds have passed, which bound what a change past the door can be
   late.
+- `dumps` has few files of the public dump, `pacing` parts long work: one piece in a turn of the
+  loop.
 - `nrtm` tells mirrors what changed, from the serials of the history; nobody else waits for it.
+- `page` answers what the page asks: why a prefix is in a set, in slices between which others go
+  first, and by git (`past`) what an object was.
 - `submissions` go to the registry alone, one at a time; `journal` has a line an item; `status`
   tells all of it.
 """

@@ -50,7 +50,8 @@ class Clients:
         """The seconds that a client may use now; less than none if its last answer cost more than
         it had."""
         if now > client.at:
-            client.left = min(self.burst, client.left + (now - client.at) * self.refill)
+            if client.left < self.burst:
+                client.left = min(self.burst, client.left + (now - client.at) * self.refill)
             client.at = now
         return client.left
 

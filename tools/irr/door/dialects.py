@@ -6,7 +6,7 @@ from typing import Optional
 from irr.door import queries
 from irr.door.cache import Answer
 from irr.door.collecting import Source
-from irr.door.pool import Refused
+from irr.door.pool import Found, Pending, Refused, Told
 from irr.door.queries import Asker
 
 NATIVE, IRRD, RIPE, HELP = "native", "irrd", "ripe", "help"
@@ -45,16 +45,25 @@ def dialect_of(line: bytes) -> str:
     return RIPE
 
 
-async def native(asker: Asker, line: bytes) -> Reply:
-    """A line that the registry answers itself, byte for byte."""
+def native(asker: Asker, line: bytes, told: Told) -> "Reply | Pending":
+    """What the registry itself answers to a line, byte for byte, where that is known, else what is
+    waited for until it is told."""
     if b"HTTP/" in line.upper():
         # To the registry, which answers both at one port, this may be a request.
         return Reply(b"% error 1\n", "error")
     try:
-        answer = await asker.ask(line)
+        found = asker.begin(line, told)
     except Refused as refused:
-        return Reply(b"% " + refused.sentence.encode() + b"\n", refused.word)
-    return Reply(answer.text, outcome_of(answer.text), False, answer)
+        return native_reply(refused)
+    return native_reply(found) if isinstance(found, Answer) else found
+
+
+def native_reply(found: Found) -> Reply:
+    """The reply that has what came of a line."""
+    if isinstance(found, Answer):
+        return Reply(found.text, outcome_of(found.text), False, found)
+    assert isinstance(found, Refused)
+    return Reply(b"% " + found.sentence.encode() + b"\n", found.word)
 
 
 def outcome_of(text: bytes) -> str:

@@ -1,18 +1,13 @@
 """One request to an upstream: a connection, what is sent, and all that comes until the other side
-ends it.
-
-It works on a socket that the event loop watches. A transport of asyncio for each would cost more
-than all else.
-"""
+ends it."""
 
 import time
-import asyncio
-import contextlib
 import errno
 import socket
 from typing import Callable, Optional
 
 from irr.door.settings import Place
+from irr.door.watching import END, FAULT, IN, OUT, Watch
 
 # The first piece is mostly the whole answer; a long one comes in larger ones.
 FIRST, PIECE = 1 << 14, 1 << 18
@@ -23,31 +18,43 @@ class Exchange:
     end it; `ended` is called once, with None at the end of the answer, else with why there is
     none."""
 
-    __slots__ = ("loop", "socket", "rest", "take", "ended", "begun", "heard", "size", "is_over")
+    __slots__ = (
+        "watch",
+        "socket",
+        "number",
+        "rest",
+        "take",
+        "ended",
+        "begun",
+        "heard",
+        "size",
+        "is_over",
+    )
 
     def __init__(
         self,
-        loop: asyncio.AbstractEventLoop,
+        watch: Watch,
         place: Place,
         data: bytes,
         take: Callable[[bytes], None],
         ended: Callable[[Optional[str]], None],
     ) -> None:
-        self.loop, self.take, self.ended, self.rest = loop, take, ended, data
+        self.watch, self.take, self.ended, self.rest = watch, take, ended, data
         self.begun = self.heard = time.monotonic()
         self.size, self.is_over = 0, False
         family = socket.AF_INET6 if ":" in place.host else socket.AF_INET
         self.socket = socket.socket(family, socket.SOCK_STREAM | socket.SOCK_NONBLOCK)
+        self.number = self.socket.fileno()
         code = self.socket.connect_ex((place.host, place.port))
         if code not in (0, errno.EINPROGRESS):
             # Whoever asked has still to learn that it is on its way.
-            loop.call_soon(self.end, errno.errorcode.get(code, "fault"))
+            watch.loop.call_soon(self.end, errno.errorcode.get(code, "fault"))
             return
         # On one machine the connection stands by now: what is sent is sent at once.
         if self.send():
-            loop.add_reader(self.socket.fileno(), self.receive)
+            watch.add(self.number, IN | END, self.receive)
         elif not self.is_over:
-            loop.add_writer(self.socket.fileno(), self.write)
+            watch.add(self.number, OUT, self.write)
 
     def send(self) -> bool:
         """Sends what is left. Whether all of it went."""
@@ -58,23 +65,22 @@ class Exchange:
         except OSError as error:
             if error.errno == errno.ENOTCONN:
                 return False
-            self.loop.call_soon(self.end, word_of(error))
+            self.watch.loop.call_soon(self.end, word_of(error))
             return False
         self.rest = self.rest[sent:]
         return not self.rest
 
-    def write(self) -> None:
-        if self.is_over:
-            return
+    def write(self, _: int) -> None:
         if self.send():
-            self.loop.remove_writer(self.socket.fileno())
-            self.loop.add_reader(self.socket.fileno(), self.receive)
+            self.watch.remove(self.number)
+            self.watch.add(self.number, IN | END, self.receive)
 
-    def receive(self) -> None:
-        # The end has mostly come with the last piece.
+    def receive(self, events: int) -> None:
+        has_ended = events & (END | FAULT) == END
         for _ in range(8):
+            most = PIECE if self.size else FIRST
             try:
-                piece = self.socket.recv(PIECE if self.size else FIRST)
+                piece = self.socket.recv(most)
             except (BlockingIOError, InterruptedError):
                 return
             except OSError as error:
@@ -90,24 +96,24 @@ class Exchange:
             except ValueError as error:
                 self.end(str(error))
                 return
-            if self.is_over:
+            if has_ended and len(piece) < most:
+                # It was all that came before the end.
+                self.end(None)
+            if self.is_over or len(piece) < most:
                 return
 
     def end(self, fault: Optional[str]) -> None:
         """Ends it, once."""
-        if self.is_over:
-            return
-        self.close()
-        self.ended(fault)
+        if not self.is_over:
+            self.close()
+            self.ended(fault)
 
     def close(self) -> None:
         """Lets go of the connection without a word to anybody."""
-        self.is_over = True
-        with contextlib.suppress(OSError, ValueError):
-            number = self.socket.fileno()
-            self.loop.remove_reader(number)
-            self.loop.remove_writer(number)
-        self.socket.close()
+        if not self.is_over:
+            self.is_over = True
+            self.watch.forget(self.number)
+            self.socket.close()
 
 
 def word_of(error: OSError) -> str:

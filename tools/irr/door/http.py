@@ -7,11 +7,14 @@ from typing import Optional
 from urllib.parse import unquote_to_bytes, urlsplit
 
 from irr.door.budget import client_name
+from irr.door.cache import Answer
 from irr.door.collecting import Dump, InMemory
 from irr.door.dialects import outcome_of
+from irr.door.dumps import Dumps
 from irr.door.journal import Who
-from irr.door.listener import AHEAD, TOO_MANY, Connection, Door
-from irr.door.pool import DUMP, Refused
+from irr.door.listener import AHEAD, SLOW, TOO_MANY, Connection, Door
+from irr.door.page import Page, is_asked
+from irr.door.pool import Refused
 from irr.door.queries import Asker
 from irr.door.status import Status
 from irr.door.submissions import Submissions, TooMuch
@@ -41,9 +44,8 @@ REASONS = {
     503: "Service Unavailable",
 }
 # The status for what a query was refused for.
-STATUSES = {"budget": 429, "long": 422}
-DUMP_REQUEST = b"GET /dump HTTP/1.1\r\nHost: 127.0.0.1\r\nConnection: close\r\n\r\n"
-PLAIN = "text/plain"
+STATUSES = {"bad": 400, "nothing": 404, "long": 422, "budget": 429}
+PLAIN, JSON = "text/plain", "application/json"
 
 
 class Bad(Exception):
@@ -94,16 +96,23 @@ class Request:
 class Http(Connection):
     """A connection over HTTP."""
 
-    __slots__ = ("request", "submissions")
+    __slots__ = ("request", "submissions", "page", "dumps", "begun")
     port = "http"
 
-    def __init__(self, door: Door, submissions: Submissions) -> None:
+    def __init__(self, door: Door, submissions: Submissions, page: Page, dumps: Dumps) -> None:
         super().__init__(door)
-        self.submissions = submissions
+        self.submissions, self.page, self.dumps = submissions, page, dumps
+        # When a dump was begun that it takes.
+        self.begun = 0.0
         self.request: Optional[Request] = None
 
     def is_believed(self, address: str) -> bool:
         return self.door.trusts(address)
+
+    def is_done(self, now: float) -> bool:
+        """One that was answered, and sends no further request, is; proxies are used to that."""
+        is_kept = self.request is None and not self.buffer and self not in self.door.silent
+        return super().is_done(now) or (is_kept and self.is_free())
 
     def refuse(self, line: bytes) -> None:
         self.transport.write(reply_head(503, len(line), False) + line)
@@ -112,7 +121,7 @@ class Http(Connection):
     # Requests.
 
     def pump(self) -> None:
-        while self.task is None and self.held is None and not self.is_ending:
+        while self.is_free():
             try:
                 if self.request is None and not self.read_head():
                     return
@@ -147,6 +156,7 @@ class Http(Connection):
         self.door.silent.pop(self, None)
         self.deadline = time.monotonic() + self.door.settings.patience
         request = Request(head.lstrip(b"\r\n"))
+        request.is_kept = request.is_kept and not self.door.is_closing
         self.buffer = rest
         self.check(request)
         if (
@@ -164,7 +174,10 @@ class Http(Connection):
             "POST"
             if path == "/submissions"
             else "GET"
-            if path == "/dump" or path.startswith("/query/") or path != request.path
+            if path == "/dump"
+            or path.startswith("/query/")
+            or path != request.path
+            or is_asked(path)
             else ""
         )
         if not allowed or not path:
@@ -180,11 +193,8 @@ class Http(Connection):
             return
         if "content-length" not in request.fields:
             raise Bad(411)
-        origin = request.fields.get("origin")
-        if (
-            origin is not None
-            and urlsplit(origin).netloc.lower() != request.fields.get("host", "").lower()
-        ):
+        origin, host = request.fields.get("origin"), request.fields.get("host", "").lower()
+        if origin is not None and (not host or site_of(origin) != host):
             # A browser names the site whose page sends a request. Pages of other sites may not
             # submit.
             self.submissions.refused(self.who(request), "403")
@@ -216,6 +226,9 @@ class Http(Connection):
             if request.path == "/dump":
                 await self.dump(request)
                 return
+            if is_asked(request.path):
+                self.tell(request, await self.page.answer(self.client, request.path))
+                return
             pool, path = self.door.pool.views.at(request.path)
             if isinstance(pool, ViewPool) and path == "/state":
                 self.begin_reply("http", "answered")
@@ -239,15 +252,20 @@ class Http(Connection):
             status = STATUSES.get(refused.word, 503)
             self.finish(request, failed(status, fields, f"% {refused.sentence}\n", request.is_kept))
         except Exception as error:
-            self.door.counters.fault(f"{request.method} {request.path[:60]}", error)
+            self.door.counters.fault("a request over HTTP", error)
             self.begin_reply("http", "fault")
             request.is_kept = False
             self.finish(request, failed(500, "", "", False))
 
+    def tell(self, request: Request, answer: Answer) -> None:
+        """Hands out what the page asked for."""
+        self.begin_reply("page", "answered")
+        head = reply_head(200, len(answer.text), request.is_kept, JSON)
+        self.finish(request, head, InMemory(answer.text, answer))
+
     def origin_of(self, request: Request) -> str:
         """The address of the client: that of the connection, or the one that the proxy names."""
-        peer = self.transport.get_extra_info("peername")
-        address: str = peer[0] if peer else "0.0.0.0"
+        address = self.address
         if not self.is_trusted:
             return address
         for name in reversed(request.fields.get("x-forwarded-for", "").split(",")):
@@ -277,7 +295,7 @@ class Http(Connection):
         if source is None:
             self.transport.write(head)
         elif isinstance(source, InMemory):
-            self.give(head, source.text, source.answer)
+            self.give(head, source.text, source.answer, self.is_ending)
         else:
             self.hand(head, source)
         if self.held is None:
@@ -297,14 +315,11 @@ class Http(Connection):
 
     async def dump(self, request: Request) -> None:
         """The public dump, out of a file that is made anew with each state."""
-        door = self.door
-        found: Optional[Dump] = door.dump()
-        if found is None:
-            found = await door.pool.ask(self.client, b"/dump", DUMP_REQUEST, DUMP)
-            door.keep_dump(found)
+        found = await self.dumps.get(self.client)
         self.begin_reply("dump", "answered")
         # It is in a file, and holds no memory: a slow line may take it.
         self.deadline += found.size() / SLOWEST
+        self.begun = time.monotonic()
         self.finish(request, reply_head(200, found.size(), request.is_kept), found)
 
     async def submit(self, request: Request, body: bytes) -> None:
@@ -347,8 +362,10 @@ class StatusHttp(Http):
     __slots__ = ("status",)
     port = "status"
 
-    def __init__(self, door: Door, submissions: Submissions, status: Status) -> None:
-        super().__init__(door, submissions)
+    def __init__(
+        self, door: Door, submissions: Submissions, page: Page, dumps: Dumps, status: Status
+    ) -> None:
+        super().__init__(door, submissions, page, dumps)
         self.status = status
 
     def is_believed(self, address: str) -> bool:
@@ -370,7 +387,7 @@ class StatusHttp(Http):
         elif "json" in words or "json" in request.fields.get("accept", ""):
             text, kind, serves = (
                 self.status.json(),
-                "application/json",
+                JSON,
                 self.door.pool.answers,
             )
         else:
@@ -378,6 +395,25 @@ class StatusHttp(Http):
         self.deadline = time.monotonic() + self.door.settings.patience
         head = reply_head(200 if serves else 503, len(text), request.is_kept, kind)
         self.finish(request, head, InMemory(text))
+
+
+def drop_slow(door: Door) -> None:
+    """Ends connections that take a dump more slowly than is asked of them."""
+    now = time.monotonic()
+    for one in list(door.connections):
+        if isinstance(one, Http) and isinstance(one.held, Dump):
+            if one.place < (now - one.begun - SLOW) * SLOWEST:
+                door.counters.connection("slow")
+                one.abort()
+                one.held = None
+
+
+def site_of(origin: str) -> str:
+    """The host and port that an origin names; nothing where it names none."""
+    try:
+        return urlsplit(origin).netloc.lower()
+    except ValueError:
+        return ""
 
 
 def reply_head(

@@ -9,6 +9,7 @@ client that calls itself bgpq gets a line `%` before the `F`: then it prints no 
 it, unless the door is strict.
 """
 
+import ipaddress
 import json
 import re
 from typing import Awaitable, Callable, Optional
@@ -41,6 +42,10 @@ CLASSES = frozenset(
     "as-block as-set aut-num domain filter-set inet-rtr inet6num inetnum key-cert mntner "
     "peering-set person poem role route route-set route6 rtr-set".split()
 )
+
+
+# Questions that are none without a word.
+WITH_WORD = frozenset("tg6ijmnors")
 
 
 class Fault(Exception):
@@ -140,6 +145,8 @@ class Session:
 
     async def reply(self, question: str) -> "bytes | Answer":
         """The reply to a question without its `!`."""
+        if question in WITH_WORD:
+            raise Fault(f"Missing parameter for {question.upper()} query")
         for begin, answer in QUESTIONS:
             if question.startswith(begin):
                 return await answer(self, question[len(begin) :].strip(" \t"))
@@ -197,9 +204,7 @@ class Session:
 
     async def of_origin(self, word: str) -> "bytes | Answer":
         """`!gAS`: the route prefixes of an origin."""
-        number = keys.read_as(word) if word[:1].isalpha() else keys.read_as(f"AS{word}")
-        if number is None:
-            raise Fault(f"Invalid AS number: {word}")
+        number = read_origin(word)
         answer = await self.objects(f"inverse origin AS{number}")
         if answer is None:
             return NOT_FOUND
@@ -235,11 +240,12 @@ class Session:
             return []
         own = syntax.read_any(answer.text.removesuffix(b"\n"))
         listed: dict[str, None] = {}
-        for item in own.items(b"members"):
-            one = keys.read_range(item)
-            # Nothing is left of a range as 192.0.2.0/32^-.
-            if one is None or one.low <= one.high:
-                listed[spelled(one) if one else member_text(item)] = None
+        async for part in self.asker.some(own.items(b"members")):
+            for item in part:
+                one = keys.read_range(item)
+                # Nothing is left of a range as 192.0.2.0/32^-.
+                if one is None or one.low <= one.high:
+                    listed[spelled(one) if one else member_text(item)] = None
         by = [item.upper() for item in own.items(b"mbrs-by-ref")]
         if b"ANY" in by:
             joined = await self.joined_by_anybody(name)
@@ -250,7 +256,7 @@ class Session:
     async def joined(self, name: str, maintainers: list[bytes], own: bytes) -> list[str]:
         """What joins a set by one of its maintainers."""
         kind = b"aut-num" if keys.set_class(name) == "as-set" else b"route"
-        joined: set[tuple[int, int]] = set()
+        joined: dict[tuple[int, int], None] = {}
         for maintainer in dict.fromkeys(maintainers):
             answer = await self.objects(f"inverse mnt {keys.as_text(maintainer)}")
             if answer is None or own + b"\n" not in answer.text:
@@ -258,18 +264,24 @@ class Session:
             async for piece in self.asker.pieces(answer.text, b"\n\n"):
                 for block in queries.blocks(piece):
                     if block.startswith(kind + b":") and joins(block, name, maintainer):
-                        joined.add(place_of(block, kind))
-        return [place_text(one) for one in sorted(joined)]
+                        joined[place_of(block, kind)] = None
+        # Those of one maintainer are in order, which makes this short.
+        places = sorted(joined)
+        return [place_text(one) async for part in self.asker.some(places) for one in part]
 
     async def joined_by_anybody(self, name: str) -> list[str]:
         """What joins a set that takes members of anybody: of what it reaches, each that says so
         itself."""
         answer = await self.expansion("expand", name)
-        lines = [] if answer is None else answer.text.split(b"\n")
         is_as_set = keys.set_class(name) == "as-set"
-        reached = [line for line in lines if line[:1] != b"%" and line and b"^" not in line]
-        if len(reached) > MOST_LOOKED_UP:
-            raise Fault(f"{name}: it takes members of anybody by reference; ask !i{name},1 for all")
+        reached: list[bytes] = []
+        async for piece in self.asker.pieces(answer.text if answer else b"", b"\n"):
+            lines = piece.split(b"\n")
+            reached += [line for line in lines if line[:1] != b"%" and line and b"^" not in line]
+            if len(reached) > MOST_LOOKED_UP:
+                raise Fault(
+                    f"{name}: it takes members of anybody by reference; ask !i{name},1 for all"
+                )
         kind = b"aut-num" if is_as_set else b"route"
         joined: set[tuple[int, int]] = set()
         for line in reached:
@@ -334,23 +346,26 @@ class Session:
         answer = await self.objects(f"{query} {prefix.text()}")
         if answer is None:
             return NOT_FOUND
-        some: list[tuple[int, bytes]] = []
+        some: list[bytes] = []
+        longest, origins = -1, set[int]()
         async for piece in self.asker.pieces(answer.text, b"\n\n"):
             for block in queries.blocks(piece):
-                if block.startswith(b"route:"):
-                    own = queries.prefix_of(block)
-                    some.append((own.length if own else 0, block))
-        if option in ("l", "M"):
-            some = [(length, block) for length, block in some if length != prefix.length]
-        if option == "l":
-            longest = max((length for length, _ in some), default=0)
-            some = [(length, block) for length, block in some if length == longest]
+                if not block.startswith(b"route:"):
+                    continue
+                if option == "o":
+                    origins.add(keys.read_as(queries.value_of(block, b"origin")) or 0)
+                    continue
+                own = queries.prefix_of(block) if option in ("l", "M") else None
+                length = own.length if own else 0
+                if own and length == prefix.length:
+                    continue
+                if option == "l" and length > longest:
+                    some, longest = [], length
+                if option != "l" or length == longest:
+                    some.append(block)
         if option == "o":
-            numbers = {keys.read_as(queries.value_of(block, b"origin")) or 0 for _, block in some}
-            return found(
-                " ".join(f"AS{number}" for number in sorted(numbers)).encode() if some else b""
-            )
-        return self.asker.own(found(b"\n".join(block for _, block in some)[:-1]), answer.cost)
+            return found(" ".join(f"AS{number}" for number in sorted(origins)).encode())
+        return self.asker.own(found(b"\n".join(some)[:-1]), answer.cost)
 
     # The registry, and the connection.
 
@@ -360,8 +375,6 @@ class Session:
         if word.lower() == "-lc":
             self.name()
             return data(sources_of(self.asker.pool).encode())
-        if not word:
-            raise Fault("Missing parameter for s query")
         chosen = views.chosen(word)
         if chosen is None:
             raise Fault(
@@ -423,17 +436,22 @@ class Session:
             f"IRRd -- version {VERSION} of irrdesk's door; missing sets are {missing}".encode()
         )
 
-    async def nothing(self, word: str) -> bytes:
-        """There is nothing of IPv6."""
+    async def six_of_origin(self, word: str) -> bytes:
+        """`!6AS`: its prefixes of IPv6, of which there are none."""
+        read_origin(word)
         return NOT_FOUND
+
+    async def six_prefixes(self, word: str) -> bytes:
+        """`!a6SET`: the same of a set."""
+        return NOT_FOUND if word else KNOWN
 
 
 # What a question begins with, and what answers it.
 QUESTIONS: tuple[tuple[str, Callable[[Session, str], Awaitable["bytes | Answer"]]], ...] = (
-    ("a6", Session.nothing),
+    ("a6", Session.six_prefixes),
     ("a4", Session.prefixes),
     ("a", Session.prefixes),
-    ("6", Session.nothing),
+    ("6", Session.six_of_origin),
     ("g", Session.of_origin),
     ("i", Session.members),
     ("m", Session.by_key),
@@ -471,6 +489,13 @@ def read_set(word: str) -> str:
     return name
 
 
+def read_origin(word: str) -> int:
+    number = keys.read_as(word) if word[:1].isalpha() else keys.read_as(f"AS{word}")
+    if number is None:
+        raise Fault(f"Invalid AS number: {word}")
+    return number
+
+
 def ranged(line: bytes) -> bytes:
     one = keys.read_range(line)
     return spelled(one).encode() if one else line
@@ -494,7 +519,11 @@ def route_words(key: str) -> list[str]:
 
 
 def is_six(word: str) -> bool:
-    return ":" in word
+    """Whether a word is an address or prefix of IPv6."""
+    try:
+        return ipaddress.ip_interface(word.strip()).version == 6
+    except ValueError:
+        return False
 
 
 def maintainers(block: bytes) -> list[bytes]:

@@ -3,10 +3,7 @@ handed out as fast as they are taken."""
 
 import time
 import asyncio
-import contextlib
-import socket
-import struct
-from collections import OrderedDict
+from collections import Counter, OrderedDict
 from typing import Optional
 
 from irr.door import dialects, irrd, proxied, ripe
@@ -14,24 +11,27 @@ from irr.door.budget import Client, client_name
 from irr.door.cache import Answer
 from irr.door.collecting import Dump, InMemory, Source
 from irr.door.dialects import Reply
-from irr.door.pool import Pool
+from irr.door.pool import Found, Pending, Pool
 from irr.door.queries import Asker
 from irr.door.settings import Settings, is_in, networks
 from irr.door.status import Counters
+from irr.door.wire import Wire
 
 # Seconds that a kept connection may be silent.
 IDLE = 30.0
+# Seconds after which one that asks nothing ends with the door.
+QUIET = 4.0
 # The longest line, and the most bytes of lines that are read ahead.
 LONGEST, AHEAD = 1_100, 1 << 16
-# Bytes that are handed to the transport at once.
-PIECE = 1 << 17
+# Bytes that are written at once, and lines that are answered at once.
+PIECE, IN_A_TURN = 1 << 17, 100
 MANY = b"% too many connections; come again later\n"
 TOO_MANY = b"% too many connections of yours; come again later\n"
 UNNAMED = b"% the proxy does not say whose connection this is; see proxied in irr-door(1)\n"
-# That a connection ends without a wait for what is on its way.
-AT_ONCE = struct.pack("ii", 1, 0)
 # Seconds after which one that takes its answer slowly makes room for others.
 SLOW = 10.0
+# Of how many clients each may have as much of the answers in memory, where others lack room.
+SHARES = 4
 # An answer that IRRd's clients, RIPE's and all others read.
 LONG_LINE = b"% error 2\n"
 
@@ -51,6 +51,7 @@ class Door:
         self.taking: OrderedDict["Connection", float] = OrderedDict()
         pool.ledger.makers.append(self.drop_slow)
         self.number = 0
+        # Whether nobody else is let in.
         self.is_closing = False
         self.kept_dump: Optional[tuple[Dump, int, float]] = None
 
@@ -63,10 +64,11 @@ class Door:
             self.kept_dump = None
         return None
 
-    def keep_dump(self, dump: Dump) -> None:
-        if self.dump() is None:
+    def keep_dump(self, dump: Dump, state: int) -> None:
+        """Keeps a dump of a state, if that is still the state."""
+        if state == self.pool.cache.state and self.dump() is None:
             end = time.monotonic() + self.settings.keep
-            self.kept_dump = dump, self.pool.cache.state, end
+            self.kept_dump = dump, state, end
 
     def trusts(self, address: str) -> bool:
         """Whether an address is that of a proxy that says who its client is."""
@@ -74,8 +76,6 @@ class Door:
 
     def admit(self, connection: "Connection") -> Optional[bytes]:
         """Takes a connection in; a line that says why not."""
-        if self.is_closing:
-            return MANY
         client = connection.client
         if client.connections >= self.settings.of_client and not connection.is_trusted:
             self.counters.connection("refused")
@@ -108,10 +108,14 @@ class Door:
 
     def drop_slow(self) -> bool:
         """Ends the connection that has taken longest to take a long answer. Whether there was one
-        that took too long for others to lack room."""
+        that took too long for others to lack room, or whose client has more than its share."""
+        now, share = time.monotonic(), self.pool.ledger.most // SHARES
+        holding: Counter[Client] = Counter()
+        for connection in self.taking:
+            holding[connection.client] += connection.held.size() if connection.held else 0
         for connection, since in self.taking.items():
-            if time.monotonic() - since < SLOW:
-                return False
+            if now - since < SLOW and holding[connection.client] <= share:
+                continue
             self.counters.connection("slow")
             connection.abort()
             connection.held = None
@@ -152,7 +156,7 @@ class Door:
                 connection.abort()
 
 
-class Connection(asyncio.Protocol):
+class Connection:
     """A connection of a client: its deadline, and the answer that it takes."""
 
     __slots__ = (
@@ -166,7 +170,6 @@ class Connection(asyncio.Protocol):
         "deadline",
         "held",
         "place",
-        "is_paused",
         "is_ending",
         "buffer",
         "task",
@@ -174,6 +177,7 @@ class Connection(asyncio.Protocol):
         "is_full",
         "address",
         "ahead",
+        "heard",
     )
     port = ""
 
@@ -181,18 +185,17 @@ class Connection(asyncio.Protocol):
         self.door = door
         self.number, self.place, self.deadline = 0, 0, 0.0
         self.held: Optional[Source] = None
-        self.is_paused = self.is_ending = self.has_ended = self.is_trusted = self.is_full = False
+        self.is_ending = self.has_ended = self.is_trusted = self.is_full = False
         self.buffer = b""
         # The bytes that are read before what they say is answered.
         self.ahead = AHEAD
-        self.task: Optional[asyncio.Task[None]] = None
+        # What answers the request that is on its way.
+        self.task: Optional[Pending] = None
 
-    def connection_made(self, transport: asyncio.BaseTransport) -> None:
-        self.transport: asyncio.Transport = transport  # type: ignore[assignment] # of TCP
-        door = self.door
-        peer = transport.get_extra_info("peername")
-        self.address = address = peer[0] if peer else "0.0.0.0"
-        now = time.monotonic()
+    def connection_made(self, wire: Wire, address: str) -> None:
+        self.transport, self.address, door = wire, address, self.door
+        # When it last sent something, or was given something.
+        self.heard = now = time.monotonic()
         # Who asks; who is connected; and as whose connection this one counts.
         self.client = self.own = self.admitted = door.pool.clients.of(client_name(address), now)
         self.is_trusted = self.is_believed(address)
@@ -200,6 +203,7 @@ class Connection(asyncio.Protocol):
         line = door.admit(self)
         if line is not None:
             self.is_ending = True
+            wire.skip()
             self.refuse(line)
             return
         door.counters.connection(self.port)
@@ -211,37 +215,46 @@ class Connection(asyncio.Protocol):
         self.transport.write(line)
         self.transport.close()
 
-    def connection_lost(self, error: Optional[Exception]) -> None:
-        self.held = None
+    def connection_lost(self) -> None:
+        self.is_ending, self.held = True, None
         if self.task is not None:
             self.task.cancel()
         self.door.dismiss(self)
 
     def abort(self) -> None:
         self.is_ending = True
-        opened = self.transport.get_extra_info("socket")
-        is_behind = self.held is not None or self.transport.get_write_buffer_size() > 0
-        if opened is not None and is_behind:
-            # Else the kernel would go on with what the client has not taken.
-            with contextlib.suppress(OSError):
-                opened.setsockopt(socket.SOL_SOCKET, socket.SO_LINGER, AT_ONCE)
-        self.transport.abort()
+        self.transport.abort(self.held is not None)
 
-    def eof_received(self) -> bool:
+    def eof_received(self) -> None:
         """A client may end its side, and still take its answer."""
         self.has_ended = True
         if self.is_ending and self.held is None:
             self.transport.close()
         else:
             self.pump()
-        return True
+
+    def is_done(self, now: float) -> bool:
+        """Whether it has all that it asked for, and does not go on to ask."""
+        return self.is_free() and now > self.heard + QUIET
+
+    def leave(self) -> None:
+        """Ends it, where the door ends."""
+        self.is_ending = True
+        self.transport.close()
+
+    def is_free(self) -> bool:
+        """Whether what comes next is answered now; one that takes no answers gets no more of
+        them."""
+        return not (
+            self.task is not None or self.held is not None or self.is_ending or self.transport.rest
+        )
 
     def data_received(self, data: bytes) -> None:
         if self.is_ending:
             return
         self.buffer += data
-        if self.task is None and self.held is None:
-            self.pump()
+        self.heard = time.monotonic()
+        self.pump()
         if len(self.buffer) > self.ahead and not self.is_full and not self.is_ending:
             self.is_full = True
             self.transport.pause_reading()
@@ -253,16 +266,15 @@ class Connection(asyncio.Protocol):
     def read_on(self) -> None:
         if self.is_full and len(self.buffer) <= self.ahead and not self.is_ending:
             self.is_full = False
-            with contextlib.suppress(RuntimeError):
-                self.transport.resume_reading()
+            self.transport.resume_reading()
 
     # Handing out.
 
-    def give(self, head: bytes, text: bytes, answer: Optional[Answer] = None) -> None:
+    def give(self, head: bytes, text: bytes, answer: Optional[Answer], is_last: bool) -> None:
         """Hands out a head and a text, a long one as fast as it is taken; `given` follows once all
-        of it is on its way."""
+        of it is on its way, and ends the connection if it `is_last`."""
         if len(text) <= PIECE:
-            self.transport.write(head + text if head else text)
+            self.transport.write(head + text if head else text, is_last)
         else:
             self.hand(head, InMemory(text, answer))
 
@@ -275,23 +287,22 @@ class Connection(asyncio.Protocol):
         self.flow()
 
     def flow(self) -> None:
-        while self.held is not None and not self.is_paused and not self.transport.is_closing():
+        wire = self.transport
+        while self.held is not None and not wire.rest and not wire.closes:
             piece = self.held.piece(self.place, PIECE)
             self.place += len(piece)
             if self.place >= self.held.size():
                 self.held = None
                 self.door.taking.pop(self, None)
-            self.transport.write(piece)
+            wire.write(piece)
 
-    def pause_writing(self) -> None:
-        self.is_paused = True
-
-    def resume_writing(self) -> None:
-        self.is_paused = False
-        if self.held is not None:
-            self.flow()
-            if self.held is None:
-                self.given()
+    def sent(self) -> None:
+        if self.held is None:
+            self.pump()
+            return
+        self.flow()
+        if self.held is None:
+            self.given()
 
     def given(self) -> None:
         """Goes on after a long answer."""
@@ -301,11 +312,13 @@ class Connection(asyncio.Protocol):
 class Whois(Connection):
     """A connection to port 43."""
 
-    __slots__ = ("session", "stays", "idle", "is_named")
+    __slots__ = ("asker", "session", "stays", "idle", "is_named")
     port = "whois"
 
     def __init__(self, door: Door) -> None:
         super().__init__(door)
+        # Who asks for it, once a line has come, and what its lines with `!` have in common.
+        self.asker: Optional[Asker] = None
         self.session: Optional[irrd.Session] = None
         self.stays = False
         self.idle = IDLE
@@ -319,13 +332,15 @@ class Whois(Connection):
             self.name()
             if not self.is_named:
                 return
-        while self.task is None and self.held is None and not self.is_ending:
+        for _ in range(IN_A_TURN):
+            if not self.is_free():
+                return
             line, mark, rest = self.buffer.partition(b"\n")
             if not mark:
                 if len(line) > LONGEST:
                     self.end(LONG_LINE, "error")
                 elif self.has_ended:
-                    if line or self.session is None:
+                    if line or self.asker is None:
                         # Who ends without a word has asked nothing that is a query.
                         self.buffer = b""
                         self.answer(line)
@@ -335,6 +350,7 @@ class Whois(Connection):
             self.buffer = rest
             self.read_on()
             self.answer(line.removesuffix(b"\r"))
+        self.door.loop.call_soon(self.pump)
 
     def name(self) -> None:
         """Takes the header in which a proxy says whose connection this is."""
@@ -367,61 +383,68 @@ class Whois(Connection):
         if len(line) > LONGEST:
             self.end(LONG_LINE, "error")
             return
-        if self.session is None:
-            self.session = irrd.Session(
-                Asker(self.door.pool.views.default(), self.client, self.address),
-                self.door.settings.strict,
-            )
+        if self.asker is None:
+            self.asker = Asker(self.door.pool.views.default(), self.client, self.address)
         if line[:1] == b"!":
+            if self.session is None:
+                self.session = irrd.Session(self.asker, self.door.settings.strict)
             quick = self.session.at_once(line)
             if quick is not None:
-                self.reply(dialects.IRRD, quick)
+                self.reply(dialects.IRRD, quick, quick.stays)
                 return
         elif self.stays and not line.strip():
             return
         self.deadline = 0.0
-        self.task = self.door.loop.create_task(self.work(line))
-
-    async def work(self, line: bytes) -> None:
-        assert self.session is not None
         dialect = dialects.dialect_of(line)
+        if dialect == dialects.NATIVE:
+            self.ask(self.asker, line)
+        else:
+            self.task = self.door.loop.create_task(self.work(self.asker, dialect, line))
+
+    def ask(self, asker: Asker, line: bytes) -> None:
+        """Has the registry itself answer a line: no task has to wait for that."""
+        found = dialects.native(asker, line, self.told)
+        if isinstance(found, Reply):
+            self.reply(dialects.NATIVE, found, self.stays)
+        else:
+            self.task = found
+
+    def told(self, found: Found) -> None:
+        self.task = None
+        self.reply(dialects.NATIVE, dialects.native_reply(found), self.stays)
+
+    async def work(self, asker: Asker, dialect: str, line: bytes) -> None:
+        """Answers a line for which the registry may be asked several times."""
         try:
-            reply = await self.find(dialect, line)
+            reply = await self.find(asker, dialect, line)
         except asyncio.CancelledError:
             raise
         except Exception as error:
-            self.door.counters.fault(f"{dialect}: {line!r}", error)
+            self.door.counters.fault(f"a question of {dialect}", error)
             reply = Reply(faulty(dialect), "fault")
         self.task = None
-        self.reply(dialect, reply)
-        if not self.is_ending and self.held is None:
-            self.pump()
+        self.reply(dialect, reply, reply.stays)
+        self.pump()
 
-    async def find(self, dialect: str, line: bytes) -> Reply:
-        assert self.session is not None
-        if dialect == dialects.NATIVE:
-            reply = await dialects.native(self.session.asker, line)
-            reply.stays = self.stays
-            return reply
+    async def find(self, asker: Asker, dialect: str, line: bytes) -> Reply:
         if dialect == dialects.IRRD:
+            assert self.session is not None
             return await self.session.answer(line)
         if dialect == dialects.RIPE:
-            return await ripe.answer(self.session.asker, line, self.stays)
+            return await ripe.answer(asker, line, self.stays)
         return Reply(dialects.help_text(self.door.pool.source), "answered", self.stays)
 
-    def reply(self, dialect: str, reply: Reply) -> None:
+    def reply(self, dialect: str, reply: Reply, stays: bool) -> None:
         self.door.counters.query(dialect, reply.outcome)
-        if self.is_ending or self.transport.is_closing():
+        if self.is_ending or self.transport.closes:
             return
-        now = time.monotonic()
-        assert self.session is not None
-        self.stays = reply.stays
-        self.idle = self.session.seconds or IDLE
-        self.deadline = now + self.door.settings.patience
+        self.stays = stays
+        self.idle = self.session.seconds or IDLE if self.session is not None else IDLE
+        self.deadline = time.monotonic() + self.door.settings.patience
         if reply.body is not None:
             self.hand(b"", reply.body)
         elif reply.text:
-            self.give(b"", reply.text, reply.source)
+            self.give(b"", reply.text, reply.source, not stays)
         if self.held is None:
             self.given()
 
@@ -430,7 +453,8 @@ class Whois(Connection):
             self.is_ending = True
             self.transport.close()
             return
-        self.deadline = time.monotonic() + max(self.idle, 1.0)
+        self.heard = time.monotonic()
+        self.deadline = self.heard + max(self.idle, 1.0)
         if self.task is None and self.buffer:
             self.door.loop.call_soon(self.pump)
         elif self.has_ended and not self.buffer:

@@ -4,7 +4,7 @@ elsewhere."""
 import time
 import asyncio
 import contextlib
-from typing import TYPE_CHECKING, Any, Callable, Optional
+from typing import TYPE_CHECKING, Any, Callable, Optional, Protocol, Union
 
 from irr.door import upstreams
 from irr.door.budget import Client, Clients, Turn, Turns
@@ -12,8 +12,10 @@ from irr.door.cache import DEAR, Answer, Cache, Costs, Ledger
 from irr.door.collecting import Collected, Dump, Dumped
 from irr.door.exchange import Exchange, listens
 from irr.door.nrtm import Mirrors
+from irr.door.pacing import Paces
 from irr.door.settings import Place, Settings, place, upstream
 from irr.door.upstreams import Upstream
+from irr.door.watching import Watch
 from irr.errors import Failure
 
 if TYPE_CHECKING:
@@ -60,6 +62,54 @@ TOO_MUCH = "you have asked for too much; ask again later"
 FULL = "the door has no room for more answers; ask again later"
 
 
+# What comes of a query, and who gets it.
+Found = Union[Answer, Dump, Refused]
+Told = Callable[[Found], None]
+
+
+class Pending(Protocol):
+    """What is waited for, and may be let go."""
+
+    def cancel(self) -> object:
+        ...
+
+
+class Waiting:
+    """One who waits for what comes of a query."""
+
+    __slots__ = ("pool", "request", "told")
+
+    def __init__(self, pool: "Pool", request: "Request", told: Told) -> None:
+        self.pool, self.request, self.told = pool, request, told
+
+    def cancel(self) -> None:
+        """Waits no longer."""
+        self.told = lambda found: None
+        self.pool.forget(self)
+
+
+async def awaited(begin: Callable[[Told], "Answer | Pending"]) -> "Answer | Dump":
+    """What comes of a query that `begin` asks; Refused if there is no answer."""
+    future: "asyncio.Future[Answer | Dump]" = asyncio.get_running_loop().create_future()
+
+    def told(found: Found) -> None:
+        if future.done():
+            return
+        if isinstance(found, Refused):
+            future.set_exception(found)
+        else:
+            future.set_result(found)
+
+    known = begin(told)
+    if isinstance(known, Answer):
+        return known
+    try:
+        return await future
+    except asyncio.CancelledError:
+        known.cancel()
+        raise
+
+
 class Request(Turn):
     """A query on its way: who pays for it, what it is taken to cost, and those who wait for its
     answer."""
@@ -71,10 +121,9 @@ class Request(Turn):
         "is_guess",
         "is_dear",
         "is_over",
-        "is_dump",
         "since",
         "state",
-        "futures",
+        "waiting",
         "tried",
         "tries",
         "running",
@@ -85,25 +134,49 @@ class Request(Turn):
     ) -> None:
         super().__init__(client)
         self.key, self.line, self.kind, self.since, self.state = key, line, kind, since, state
-        self.is_guess = self.is_dear = self.is_over = self.is_dump = False
-        self.futures: list[asyncio.Future[Any]] = []
+        self.is_guess = self.is_dear = self.is_over = False
+        self.waiting: list[Waiting] = []
         self.tried: set[str] = set()
         # The exchanges that ask it now, and those that were begun.
         self.running = self.tries = 0
 
-    def give(self, answer: "Answer | Dump") -> None:
+    def tell(self, found: Found) -> None:
+        """Ends it, with the answer or why there is none."""
         self.is_over = True
-        for future in self.futures:
-            if not future.done():
-                future.set_result(answer)
-        self.futures.clear()
+        waiting, self.waiting = self.waiting, []
+        for one in waiting:
+            try:
+                one.told(found)
+            except Exception as error:
+                one.pool.on_fault("handing on what was found", error)
 
-    def fail(self, why: Refused) -> None:
-        self.is_over = True
-        for future in self.futures:
-            if not future.done():
-                future.set_exception(why)
-        self.futures.clear()
+
+class Queue(Turns[Request]):
+    """The queries that wait for their turn, also by what they ask."""
+
+    def __init__(self, clients: Clients) -> None:
+        super().__init__(clients)
+        self.alike: dict[bytes, list[Request]] = {}
+
+    def add(self, one: Request) -> None:
+        super().add(one)
+        self.alike.setdefault(one.key, []).append(one)
+
+    def remove(self, one: Request) -> bool:
+        alike = self.alike.get(one.key, [])
+        if one in alike:
+            alike.remove(one)
+            if not alike:
+                del self.alike[one.key]
+        return super().remove(one)
+
+    def join(self, request: Request) -> None:
+        """Has all who wait with the same query get the answer to one that begins now."""
+        for other in list(self.alike.get(request.key, ())):
+            self.remove(other)
+            request.waiting += other.waiting
+            for one in other.waiting:
+                one.request = request
 
 
 class Pool:
@@ -112,14 +185,15 @@ class Pool:
     # What else is served: it is put together once all pools are there.
     views: "Views"
 
-    def __init__(self, loop: asyncio.AbstractEventLoop, settings: Settings) -> None:
-        self.loop, self.settings = loop, settings
+    def __init__(self, watch: Watch, settings: Settings) -> None:
+        self.watch, self.loop, self.settings = watch, watch.loop, settings
         self.registry = Upstream(upstream(settings.registry), True)
         self.replicas = [Upstream(upstream(text)) for text in settings.replica]
         self.agent: Optional[Place] = place(settings.agent) if settings.agent else None
         self.clients = Clients(settings.refill, settings.burst)
+        self.paces = Paces(self.loop, self.clients)
         self.mirrors = Mirrors(settings)
-        self.turns: Turns[Request] = Turns(self.clients)
+        self.turns = Queue(self.clients)
         self.running: dict[bytes, Request] = {}
         self.costs, self.ledger = Costs(), Ledger(settings.answers)
         self.cache = Cache(settings.cache, settings.keep)
@@ -128,8 +202,9 @@ class Pool:
         self.surprise, self.surprised = SURPRISES, time.monotonic()
         self.seconds: dict[str, float] = {}
         self.refused: dict[str, int] = {}
+        # What the agent told last, and whether it was asked.
         self.told: dict[str, Any] = {}
-        self.is_held = self.is_closing = False
+        self.is_told = self.is_held = self.is_closing = False
         self.wake: Optional[asyncio.TimerHandle] = None
         self.since_down: Optional[float] = None
         self.tasks: set[asyncio.Task[None]] = set()
@@ -159,6 +234,10 @@ class Pool:
         """Whether queries are answered, now or once a submission is over."""
         return any(one.answers for one in self.all())
 
+    def is_known(self) -> bool:
+        """Whether the agent and all upstreams were asked once what they are."""
+        return self.is_told and all(one.looked and one.exchange is None for one in self.all())
+
     def start(self) -> None:
         for work in self.tick(), self.follow():
             task = self.loop.create_task(work)
@@ -174,59 +253,73 @@ class Pool:
 
     # Asking.
 
-    def ask(self, client: Client, key: bytes, line: bytes, kind: str) -> "asyncio.Future[Any]":
-        """The answer to a query, a line of whois, or to a request for the dump; Refused if there is
-        none."""
-        now, future = time.monotonic(), self.loop.create_future()
+    def ask(self, client: Client, key: bytes, line: bytes, kind: str, told: Told) -> Waiting:
+        """Asks a query, a line of whois, or for the dump. What comes of it is told later; Refused
+        if it is not asked."""
+        now = time.monotonic()
         request = self.running.get(key)
-        if request is not None and request.state == self.cache.state:
-            request.futures.append(future)
-            return future
-        wait = self.clients.wait(client, now)
-        if wait > BEHIND or self.turns.waiting(client) >= QUEUED:
-            self.count("budget")
-            raise Refused("budget", TOO_MUCH, int(wait) + 1)
-        request = Request(client, key, line, kind, now, self.cache.state)
-        request.is_dump = kind == DUMP
-        request.is_dear = request.is_dump or self.costs.expected(key, kind) >= DEAR
-        if request.is_dear and self.costs.known(key) is None and self.may_surprise(client, now):
-            request.is_dear, request.is_guess = False, True
-        request.futures.append(future)
-        self.turns.add(request)
-        self.turn()
-        return future
+        if request is None or request.state != self.cache.state:
+            wait = self.clients.wait(client, now)
+            if wait > BEHIND or self.turns.waiting(client) >= QUEUED:
+                self.count("budget")
+                raise Refused("budget", TOO_MUCH, int(wait) + 1)
+            request = Request(client, key, line, kind, now, self.cache.state)
+            request.is_dear = kind == DUMP or self.costs.expected(key, kind) >= DEAR
+            if request.is_dear and self.costs.known(key) is None and self.may_surprise(client, now):
+                request.is_dear, request.is_guess = False, True
+        waiting = Waiting(self, request, told)
+        request.waiting.append(waiting)
+        if not request.running:
+            self.queue(request, now)
+        return waiting
 
-    def forget(self, future: "asyncio.Future[Any]") -> None:
-        """Lets a query go whose client is gone, if it was not begun."""
-        for request in self.turns.all():
-            if future in request.futures:
-                request.futures.remove(future)
-                if not request.futures:
-                    self.turns.remove(request)
+    def queue(self, request: Request, now: float) -> None:
+        """Begins a query that was asked just now, if nobody waits before it."""
+        if not self.turns.count and request.client.left > 0 and not self.is_closing:
+            free, may_be_dear = self.free()
+            if free and (may_be_dear or not request.is_dear):
+                self.begin(request, self.chosen(free, request))
                 return
+        self.turns.add(request)
+        self.turn(now)
 
-    def turn(self) -> None:
+    def forget(self, waiting: Waiting) -> None:
+        """Lets a query go for which nobody waits any more, if it was not begun."""
+        request = waiting.request
+        if waiting in request.waiting:
+            request.waiting.remove(waiting)
+            if not request.waiting:
+                self.turns.remove(request)
+
+    def free(self) -> tuple[list[Upstream], bool]:
+        """The upstreams that are free, and whether one of them may be asked what is dear: of two or
+        more one is left for what is cheap."""
+        serving = self.serving()
+        free = [one for one in serving if one.exchange is None]
+        if len(serving) < 2:
+            return free, True
+        return free, sum(one.is_dear for one in serving if one.exchange) < len(serving) - 1
+
+    def turn(self, now: Optional[float] = None) -> None:
         """Begins all that can be begun now."""
         if not self.turns.count or self.is_closing:
             return
-        now = time.monotonic()
-        serving = self.serving()
-        free = [one for one in serving if one.exchange is None]
-        while free:
-            busy_dear = sum(one.is_dear for one in serving if one.exchange)
-            # Of two or more one is left for what is cheap.
-            may_be_dear = len(serving) < 2 or busy_dear < len(serving) - 1
-            request = self.turns.next(now, None if may_be_dear else False)
+        now = time.monotonic() if now is None else now
+        while self.turns.count:
+            free, may_be_dear = self.free()
+            request = self.turns.next(now, None if may_be_dear else False) if free else None
             if request is None:
                 break
-            if not request.futures:
+            if not request.waiting:
                 continue
-            kept = self.cache.get(request.key, now)
+            # What was asked just now was looked up just now.
+            kept = self.cache.get(request.key, now) if request.since < now else None
             if kept is not None:
-                request.give(kept)
-                continue
-            self.begin(request, self.chosen(free, request))
-            free = [one for one in free if one.exchange is None]
+                request.tell(kept)
+            else:
+                request.state = self.cache.state
+                self.turns.join(request)
+                self.begin(request, self.chosen(free, request))
         self.wake_later(now)
 
     def may_surprise(self, client: Client, now: float) -> bool:
@@ -239,6 +332,8 @@ class Pool:
     def chosen(self, free: list[Upstream], request: Request) -> Upstream:
         """One that has not failed at it, if there is one; of these the one that was asked least of
         late."""
+        if len(free) == 1:
+            return free[0]
         fresh = [one for one in free if one.name not in request.tried] or free
         return min(fresh, key=lambda one: one.seconds)
 
@@ -256,49 +351,61 @@ class Pool:
     def begin(self, request: Request, one: Upstream) -> None:
         """Asks an upstream, and reads the whole answer before anybody gets it."""
         found: "Dumped | Collected" = (
-            Dumped() if request.is_dump else Collected(self.settings.largest, self.ledger)
+            Dumped() if request.kind == DUMP else Collected(self.settings.largest, self.ledger)
         )
-
-        def ended(fault: Optional[str]) -> None:
-            now = time.monotonic()
-            one.exchange, one.request = None, None
-            request.running -= 1
-            one.seconds += now - exchange.begun
-            seconds = max(0.0, now - exchange.begun - one.idle)
-            if fault not in (None, "long", "full"):
-                # That an upstream fails is nobody's fault, but for who asks what it fails at.
-                seconds = min(seconds, self.settings.burst)
-            if not request.is_over:
-                self.learn(request, seconds, now)
-            if fault is None and exchange.size >= WRITTEN and not listens(one.place):
-                fault = "ECONNREFUSED"
-            answer = None
-            if fault is not None or request.is_over:
-                found.drop()
-            else:
-                answer = found.whole(seconds)
-                fault = None if answer is not None else "cut"
-            if answer is not None:
-                self.running.pop(request.key, None)
-                if seconds >= DEAR and isinstance(answer, Answer):
-                    self.cache.put(request.key, answer, request.state, now)
-                if not self.source and isinstance(answer, Answer):
-                    self.named(answer.text)
-                request.give(answer)
-            elif fault is not None:
-                self.failed(request, one, fault, now)
-            self.turn()
-            if one.is_registry:
-                self.freed()
-
         one.asked += 1
         one.request, one.is_dear = request, request.is_dear or request.is_guess
         request.running += 1
         request.tries += 1
         request.tried.add(one.name)
         self.running[request.key] = request
-        exchange = Exchange(self.loop, one.place, request.line, found.take, ended)
-        one.exchange = exchange
+        one.exchange = Exchange(
+            self.watch,
+            one.place,
+            request.line,
+            found.take,
+            lambda fault: self.ended(request, one, found, fault),
+        )
+
+    def ended(
+        self,
+        request: Request,
+        one: Upstream,
+        found: "Dumped | Collected",
+        fault: Optional[str],
+    ) -> None:
+        """Has those who wait get what came, or asks again."""
+        now, exchange = time.monotonic(), one.exchange
+        assert exchange is not None
+        one.exchange, one.request = None, None
+        request.running -= 1
+        one.seconds += now - exchange.begun
+        seconds = max(0.0, now - exchange.begun - one.idle)
+        if fault not in (None, "long", "full"):
+            # That an upstream fails is nobody's fault, but for who asks what it fails at.
+            seconds = min(seconds, self.settings.burst)
+        if not request.is_over:
+            self.learn(request, seconds, now)
+        if fault is None and exchange.size >= WRITTEN and not listens(one.place):
+            fault = "ECONNREFUSED"
+        answer = None
+        if fault is not None or request.is_over:
+            found.drop()
+        else:
+            answer = found.whole(seconds)
+            fault = None if answer is not None else "cut"
+        if answer is not None:
+            self.running.pop(request.key, None)
+            if seconds >= DEAR and isinstance(answer, Answer):
+                self.cache.put(request.key, answer, request.state, now)
+            if not self.source and isinstance(answer, Answer):
+                self.named(answer.text)
+            request.tell(answer)
+        elif fault is not None:
+            self.failed(request, one, fault, now)
+        self.turn()
+        if one.is_registry:
+            self.freed()
 
     def learn(self, request: Request, seconds: float, now: float) -> None:
         """Has the one who asked pay, and remembers what it cost."""
@@ -326,12 +433,12 @@ class Pool:
             self.give_up(request, Refused("full", FULL))
         elif request.tries > 2 * len(self.all()):
             self.give_up(request, Refused("down", NOBODY))
-        elif request.futures:
+        elif request.waiting:
             self.turns.add(request)
 
     def give_up(self, request: Request, why: Refused) -> None:
         self.count(why.word)
-        request.fail(why)
+        request.tell(why)
 
     def count(self, word: str) -> None:
         self.refused[word] = self.refused.get(word, 0) + 1
@@ -341,11 +448,11 @@ class Pool:
     async def tick(self) -> None:
         """Looks at what takes too long, and whether all upstreams answer."""
         while True:
-            await asyncio.sleep(TICK)
             try:
                 self.look()
             except Exception as error:
                 self.on_fault("looking at the replicas", error)
+            await asyncio.sleep(TICK)
 
     def look(self) -> None:
         now = time.monotonic()
@@ -354,7 +461,7 @@ class Pool:
                 self.hurry(one, one.exchange, now)
             elif not (one.is_registry and self.is_held):
                 if now - one.looked >= (upstreams.EVERY if one.is_up else upstreams.AGAIN):
-                    one.look(self.loop, self.looked(one), self.named)
+                    one.look(self.watch, self.looked(one), self.named)
         self.since_down = None if any(one.is_up for one in self.all()) else self.since_down or now
         is_down = self.since_down is not None and now - self.since_down >= DOWN
         for request in list(self.turns.all()):
@@ -420,6 +527,7 @@ class Pool:
                 else:
                     with contextlib.suppress(KeyError, TypeError, ValueError, Failure):
                         self.heard(told)
+            self.is_told = True
             await asyncio.sleep(upstreams.ASKING if self.told else upstreams.ASKING_AGAIN)
 
     def heard(self, told: dict[str, Any]) -> None:
@@ -436,6 +544,7 @@ class Pool:
                 one.is_up = False
                 self.replicas.append(one)
             one.is_draining = not entry["ready"]
-            one.state, one.seen = str(entry["state"]), float(entry["seen"])
+            one.state = str(entry["state"])
+            one.see(float(entry["seen"]))
         if {one.state for one in self.replicas} != states:
             self.cache.renew()

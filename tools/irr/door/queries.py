@@ -4,21 +4,25 @@ that a dialect can turn into its own."""
 import asyncio
 import re
 import time
-from typing import AsyncIterator, Iterator, Optional
+from typing import AsyncIterator, Iterable, Iterator, Optional, Sequence, TypeVar
 
 from irr.door.budget import Client
 from irr.door.cache import DEAR, Answer, Full
-from irr.door.pool import BEHIND, FULL, TOO_MUCH, Pool, Refused
+from irr.door.pool import BEHIND, FULL, TOO_MUCH, Pending, Pool, Refused, Told, awaited
 from irr.registry import queries
 from irr.rpsl import keys
 
+One = TypeVar("One")
 VERBS = (b"OBJECT", b"EXACT", b"CLOSEST", b"LESS", b"MORE", b"INVERSE", b"EXPAND", b"PREFIXES")
 NOTHING, EMPTY = b"% no entries\n", b"% empty\n"
 # The bytes of a kept answer that cost nothing, and the seconds that each byte of a longer one is
 # taken to cost.
 FREE, HANDING = 1 << 18, 0.02 / (1 << 20)
-# Bytes of an answer that are turned at once, while others wait: some milliseconds.
-PIECE = 1 << 17
+# Bytes of an answer that are turned at once, while others wait: some milliseconds; and those of one
+# that is turned as it comes.
+PIECE, SHORT = 1 << 14, 1 << 12
+# The items of a list that are turned at once.
+SOME = 250
 
 
 def normal(query: bytes) -> bytes:
@@ -45,7 +49,8 @@ def is_native(line: bytes) -> bool:
         return True
     if len(words) > 1:
         return words[0].upper() in VERBS
-    return queries.one_word(words[0]).fits is not None
+    # The word that is asked most is told by itself.
+    return keys.read_as(words[0]) is not None or queries.one_word(words[0]).fits is not None
 
 
 class Asker:
@@ -60,36 +65,41 @@ class Asker:
         """An answer that is kept, which costs nothing."""
         return self.pool.cache.get(key, time.monotonic())
 
-    async def ask(self, query: bytes) -> Answer:
-        """The answer to a query; Refused if there is none."""
+    def begin(self, query: bytes, told: Told) -> "Answer | Pending":
+        """The answer to a query where it is known, else what is waited for until it is told;
+        Refused if it is not asked."""
         if queries.BAD_BYTE.search(query) or len(query) > queries.LONGEST:
             # The registry would answer the same, but a line with such a byte may be two.
-            text = b"% error 2\n" if len(query) > queries.LONGEST else b"% error 1\n"
-            return self.own(text)
+            return self.own(b"% error 2\n" if len(query) > queries.LONGEST else b"% error 1\n")
         key = normal(query)
-        found = self.kept(key)
-        if found is not None:
-            await self.pay(len(found.text))
-            return found
-        future = self.pool.ask(self.client, key, query + b"\r\n", kind_of(key))
-        try:
-            answer: Answer = await future
-            return answer
-        except asyncio.CancelledError:
-            self.pool.forget(future)
-            raise
+        kept = self.kept(key)
+        if kept is None:
+            return self.pool.ask(self.client, key, query + b"\r\n", kind_of(key), told)
+        wait = self.charge(len(kept.text))
+        return self.pool.loop.call_later(wait, told, kept) if wait > 0 else kept
 
-    async def pay(self, size: int) -> None:
-        """Has the client pay for a kept answer of this size, if that is long; it waits while it has
-        nothing left."""
+    async def ask(self, query: bytes) -> Answer:
+        """The answer to a query; Refused if there is none."""
+        answer = await awaited(lambda told: self.begin(query, told))
+        assert isinstance(answer, Answer)
+        return answer
+
+    def charge(self, size: int) -> float:
+        """Has the client pay for a kept answer of this size, if that is long; the seconds that it
+        has to wait, while it has nothing left."""
         if size <= FREE:
-            return
+            return 0.0
         clients, now = self.pool.clients, time.monotonic()
         wait = clients.wait(self.client, now)
         if wait > BEHIND:
             self.pool.count("budget")
             raise Refused("budget", TOO_MUCH, int(wait) + 1)
         clients.charge(self.client, size * HANDING, now)
+        return wait
+
+    async def pay(self, size: int) -> None:
+        """The same, and waits so long."""
+        wait = self.charge(size)
         if wait > 0:
             await asyncio.sleep(wait)
 
@@ -106,16 +116,38 @@ class Asker:
             self.pool.cache.put(key, answer, state, time.monotonic())
 
     async def pieces(self, text: bytes, end: bytes) -> AsyncIterator[bytes]:
-        """A long answer in pieces that end with `end`; others have their turn between them, and the
-        client pays for the time."""
-        begun = time.perf_counter()
-        for piece in cut(text, end):
+        """A long answer in pieces that end with `end`, each in a turn of its own."""
+        if len(text) <= SHORT:
+            yield text
+            return
+        # What is made of a piece takes about as much memory as the piece.
+        room = self.own(b"")
+        async for piece in self.paced(cut(text, end)):
+            try:
+                self.pool.ledger.take(len(piece), room.counted)
+            except Full:
+                raise Refused("full", FULL) from None
+            room.counted += len(piece)
             yield piece
-            if len(piece) < len(text):
-                now = time.perf_counter()
-                self.pool.clients.charge(self.client, now - begun, time.monotonic())
-                await asyncio.sleep(0)
-                begun = time.perf_counter()
+
+    async def some(self, items: Sequence[One]) -> AsyncIterator[Sequence[One]]:
+        """The items of a list, some in a turn."""
+        if len(items) <= SOME // 4:
+            yield items
+            return
+        async for part in self.paced(
+            items[place : place + SOME] for place in range(0, len(items), SOME)
+        ):
+            yield part
+
+    async def paced(self, pieces: Iterable[One]) -> AsyncIterator[One]:
+        """Pieces of work, each in a turn of its own; the client pays for the time."""
+        for number, piece in enumerate(pieces):
+            await self.pool.paces.turn(self.client, number > 0)
+            begun = time.perf_counter()
+            yield piece
+            seconds = time.perf_counter() - begun
+            self.pool.clients.charge(self.client, seconds, time.monotonic())
 
 
 def cut(text: bytes, end: bytes) -> Iterator[bytes]:

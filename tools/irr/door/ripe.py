@@ -225,7 +225,7 @@ async def placed(
             115, "invalid search key", "The range is made of too many prefixes; ask for a prefix."
         )
     query = "more" if which in ("m", "M") else "less"
-    seen: dict[bytes, Span] = {}
+    chosen = {kind: Chosen(span, which) for kind in wanted}
     cost = 0.0
     # What covers a range covers each of its prefixes; what is inside one of these, or is a part of
     # the range made of several, is inside a prefix round it.
@@ -233,50 +233,52 @@ async def placed(
     for piece in asked if query == "more" else asked[:1]:
         async for block, seconds in objects(asker, f"{query} {piece.text()}"):
             cost = max(cost, seconds)
-            own = own_span(block)
-            if own is not None and queries.class_of(block).decode() in wanted:
-                seen[block] = own
+            own, kind = own_span(block), queries.class_of(block).decode()
+            if own is not None and kind in chosen:
+                chosen[kind].take(block, own)
     for kind in wanted:
-        ours = {block: own for block, own in seen.items() if block.startswith(kind.encode() + b":")}
-        for block in chosen(ours, span, which):
-            yield block, cost
+        async for part in asker.some(chosen[kind].blocks):
+            for block in part:
+                yield block, cost
 
 
-def chosen(ours: dict[bytes, Span], span: Span, which: Optional[str]) -> list[bytes]:
-    """Of the objects of a class those that a flag asks for."""
-    if which in ("m", "M"):
-        inside = {block: own for block, own in ours.items() if span.covers(own) and own != span}
-        if which == "M":
-            return list(inside)
-        return (
-            [
-                block
-                for block, own in inside.items()
-                if not any(other.covers(own) and other != own for other in inside.values())
-            ]
-            if len(inside) <= 2_000
-            else one_level(inside)
-        )
-    covering = {block: own for block, own in ours.items() if own.covers(span)}
-    if which == "x":
-        return [block for block, own in covering.items() if own == span]
-    if which == "L":
-        return list(covering)
-    if which == "l":
-        covering = {block: own for block, own in covering.items() if own != span}
-    least = min((own.size for own in covering.values()), default=0)
-    return [block for block, own in covering.items() if own.size == least]
+class Chosen:
+    """Of the objects of a class, as they come in order, those that a flag asks for round a
+    place."""
 
+    def __init__(self, span: Span, which: Optional[str]) -> None:
+        self.span, self.which = span, which
+        self.blocks: list[bytes] = []
+        # The spans of these.
+        self.spans: list[Span] = []
 
-def one_level(inside: dict[bytes, Span]) -> list[bytes]:
-    """Those that are in none of the others, of spans none of which cross."""
-    found: list[bytes] = []
-    last: Optional[Span] = None
-    for block, own in sorted(inside.items(), key=lambda item: (item[1].first, -item[1].last)):
-        if last is None or not last.covers(own) or last == own:
-            found.append(block)
-            last = own
-    return found
+    def take(self, block: bytes, own: Span) -> None:
+        if not self.fits(own):
+            return
+        if self.which == "m":
+            # Of what begins at one address the larger may come later; none of them cross.
+            while self.spans and own != self.spans[-1] and own.covers(self.spans[-1]):
+                self.drop()
+            if self.spans and own != self.spans[-1] and self.spans[-1].covers(own):
+                return
+        elif self.which in (None, "l") and self.spans:
+            if own.size > self.spans[-1].size:
+                return
+            while self.spans and own.size < self.spans[-1].size:
+                self.drop()
+        self.blocks.append(block)
+        self.spans.append(own)
+
+    def fits(self, own: Span) -> bool:
+        if self.which in ("m", "M"):
+            return self.span.covers(own) and own != self.span
+        if self.which == "x":
+            return own == self.span
+        return own.covers(self.span) and (self.which != "l" or own != self.span)
+
+    def drop(self) -> None:
+        self.blocks.pop()
+        self.spans.pop()
 
 
 def around(span: Span) -> Prefix:
@@ -303,7 +305,7 @@ async def inverse(asker: Asker, flags: Flags) -> AsyncIterator[tuple[bytes, floa
                 f"'{name}' is not an inverse searchable attribute.",
             )
     seen: set[bytes] = set()
-    for name in wanted:
+    for name in dict.fromkeys(wanted):
         async for block, seconds in inversely(asker, name, flags.key):
             if block not in seen:
                 seen.add(block)

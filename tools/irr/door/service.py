@@ -4,21 +4,24 @@ together."""
 import time
 import asyncio
 import gc
-import importlib
 import os
 import resource
 import signal
 import socket
-from typing import Callable, Optional
+from typing import Any, Callable
 
-from irr.door.http import Http, StatusHttp
+from irr.door.dumps import Dumps
+from irr.door.http import Http, StatusHttp, drop_slow
 from irr.door.journal import Journal
-from irr.door.listener import Connection, Door, Whois
+from irr.door.listener import Door, Whois
+from irr.door.page import Page
 from irr.door.pool import Pool
 from irr.door.settings import Place, Settings, place
 from irr.door.status import Counters, Status
 from irr.door.submissions import Submissions
 from irr.door.views import Views
+from irr.door.watching import Watch
+from irr.door.wire import Peer, Port
 from irr.errors import Failure
 from irr.system.units import notify
 from irr.terminal import texts
@@ -26,10 +29,9 @@ from irr.terminal import texts
 # The first descriptor that systemd hands on.
 FIRST = 3
 BACKLOG = 1_024
-# Bytes that the kernel holds of an answer; it takes twice as many for them.
-SENDING = 1 << 17
-# Seconds for what is on its way when the door ends.
-ENDING = 10.0
+# Seconds for upstreams to tell what they are before the door opens, and for what is on its way when
+# it ends.
+KNOWING, ENDING = 3.0, 10.0
 
 
 def handed(settings: Settings) -> dict[str, list[socket.socket]]:
@@ -79,16 +81,18 @@ def bound(at: Place) -> socket.socket:
 class Service:
     """A door that is open."""
 
-    def __init__(self, loop: asyncio.AbstractEventLoop, settings: Settings) -> None:
-        self.loop, self.settings = loop, settings
+    def __init__(self, watch: Watch, settings: Settings) -> None:
+        self.watch, self.loop, self.settings = watch, watch.loop, settings
         self.counters = Counters()
-        self.pool = Pool(loop, settings)
+        self.pool = Pool(watch, settings)
         self.views = Views(self.pool, settings)
         for one in (self.pool, *self.views.all):
             one.on_fault = self.counters.fault
         self.journal = Journal(settings)
-        self.door = Door(loop, settings, self.pool, self.counters)
-        self.submissions = Submissions(loop, settings, self.pool, self.counters, self.journal)
+        self.door = Door(self.loop, settings, self.pool, self.counters)
+        self.page = Page(settings, self.pool)
+        self.dumps = Dumps(self.door, lambda: drop_slow(self.door))
+        self.submissions = Submissions(self.loop, settings, self.pool, self.counters, self.journal)
         self.status = Status(
             settings,
             self.pool,
@@ -96,42 +100,47 @@ class Service:
             lambda: len(self.door.connections),
             lambda: self.submissions.turns.count,
         )
-        self.listening: list[str] = []
-        self.servers: list[asyncio.Server] = []
+        self.ports: list[Port] = []
         self.ended = asyncio.Event()
 
     async def run(self, said: Callable[[str], None]) -> None:
-        """Serves until a signal ends it, and then what is on its way."""
-        given = handed(self.settings)
-        await self.listen("whois", self.settings.whois, given, lambda: Whois(self.door))
-        await self.listen(
-            "http", self.settings.http, given, lambda: Http(self.door, self.submissions)
-        )
-        if self.settings.status:
-            await self.listen(
-                "status",
-                (self.settings.status,),
-                given,
-                lambda: StatusHttp(self.door, self.submissions, self.status),
-            )
+        """Serves until a signal ends it, and then who was let in before."""
+        self.loop.set_exception_handler(self.failed)
         for number in signal.SIGTERM, signal.SIGINT:
             self.loop.add_signal_handler(number, self.ended.set)
-        for one in (self.pool, *self.views.all):
+        listening = self.listening()
+        pools = [self.pool, *self.views.all]
+        for one in pools:
             one.start()
         sweep = self.loop.create_task(self.sweep())
-        said(self.places())
+        await self.know(pools)
+        self.ports = [Port(self.watch, opened, make) for opened, make in listening]
+        said(f"irr door: open at {', '.join(port.place().text() for port in self.ports)}")
         notify("READY=1")
         gc.freeze()
         await self.ended.wait()
         notify("STOPPING=1")
-        for server in self.servers:
-            server.close()
-        self.door.is_closing = True
+        for port in self.ports:
+            port.close()
         await self.drain()
         sweep.cancel()
         await asyncio.wait([sweep])
-        for one in (self.pool, *self.views.all):
+        for one in pools:
             await one.close()
+
+    async def know(self, pools: list[Pool]) -> None:
+        """Waits until all upstreams have told what they are, or do not answer: who comes first asks
+        by the names of sources too."""
+        end = time.monotonic() + KNOWING
+        while time.monotonic() < end and not all(one.is_known() for one in pools):
+            await asyncio.sleep(0.01)
+
+    def failed(self, _: asyncio.AbstractEventLoop, told: dict[str, Any]) -> None:
+        """A fault that nobody else has seen, which the journal would have as a traceback."""
+        error = told.get("exception")
+        self.counters.fault(
+            str(told.get("message", "")), error if isinstance(error, Exception) else Exception()
+        )
 
     async def sweep(self) -> None:
         work = asyncio.create_task(self.door.sweep())
@@ -145,66 +154,53 @@ class Service:
             await asyncio.wait([work])
 
     async def drain(self) -> None:
-        """Waits until those have their answers who have asked."""
+        """Waits until all who were let in have the answers that they asked for, or have been
+        silent for so long that they may as well ask the next door."""
+        self.door.is_closing = True
         end = time.monotonic() + ENDING
-        for connection in list(self.door.connections):
-            if connection.task is None and connection.held is None:
-                connection.is_ending = True
-                connection.transport.close()
-        while time.monotonic() < end and self.door.connections:
-            await asyncio.sleep(0.05)
-            for connection in list(self.door.connections):
-                if (
-                    connection.task is None
-                    and connection.held is None
-                    and not connection.transport.is_closing()
-                ):
-                    connection.transport.close()
+        while self.door.connections and time.monotonic() < end:
+            now = time.monotonic()
+            for connection in [one for one in self.door.connections if one.is_done(now)]:
+                connection.leave()
+            await asyncio.sleep(0.02)
 
-    async def listen(
-        self,
-        name: str,
-        wanted: tuple[str, ...],
-        given: dict[str, list[socket.socket]],
-        make: Callable[[], Connection],
-    ) -> None:
-        for opened in given.get(name) or [bound(place(text)) for text in wanted]:
-            opened.setblocking(False)
-            # Those that it accepts have the same.
-            opened.setsockopt(socket.SOL_SOCKET, socket.SO_SNDBUF, SENDING)
-            self.servers.append(await self.loop.create_server(make, sock=opened, backlog=BACKLOG))
-            self.listening.append(Place(*opened.getsockname()[:2]).text())
-
-    def places(self) -> str:
-        return f"irr door: open at {', '.join(self.listening)}"
+    def listening(self) -> "list[tuple[socket.socket, Callable[[], Peer]]]":
+        """The sockets that listen, each with what has the connections of those who come."""
+        door, submissions, page, dumps = self.door, self.submissions, self.page, self.dumps
+        given = handed(self.settings)
+        wanted: list[tuple[str, tuple[str, ...], Callable[[], Peer]]] = [
+            ("whois", self.settings.whois, lambda: Whois(door)),
+            ("http", self.settings.http, lambda: Http(door, submissions, page, dumps)),
+        ]
+        if self.settings.status:
+            at, status = self.settings.status, self.status
+            wanted.append(
+                ("status", (at,), lambda: StatusHttp(door, submissions, page, dumps, status))
+            )
+        return [
+            (opened, make)
+            for name, places, make in wanted
+            for opened in given.get(name) or [bound(place(text)) for text in places]
+        ]
 
 
-def new_loop() -> asyncio.AbstractEventLoop:
-    """The event loop: uvloop's where it is installed."""
-    try:
-        made: asyncio.AbstractEventLoop = importlib.import_module("uvloop").new_event_loop()
-        return made
-    except ImportError:
-        return asyncio.new_event_loop()
-
-
-def run(settings: Settings, loop: Optional[asyncio.AbstractEventLoop] = None) -> None:
+def run(settings: Settings) -> None:
     """Opens the door, and returns when a signal has closed it."""
     soft, hard = resource.getrlimit(resource.RLIMIT_NOFILE)
     wanted = settings.connections + 256
     if soft < wanted:
         resource.setrlimit(resource.RLIMIT_NOFILE, (min(wanted, hard), hard))
-    used = loop or new_loop()
-    asyncio.set_event_loop(used)
+    watch = Watch()
+    asyncio.set_event_loop(watch.loop)
 
     async def main() -> None:
-        service = Service(used, settings)
+        service = Service(watch, settings)
         await service.run(said)
 
     try:
-        used.run_until_complete(main())
+        watch.loop.run_until_complete(main())
     finally:
-        used.close()
+        watch.loop.close()
 
 
 def said(line: str) -> None:

@@ -110,7 +110,7 @@ def read(path: str | None, given: dict[str, Any]) -> Settings:
     fields = {field.name: field for field in dataclasses.fields(Settings)}
     for name, value in values.items():
         if name not in fields:
-            raise Failure(f"{path}: {name}", "there is no such setting; see irr(1)", SETTINGS)
+            raise Failure(f"{path}: {name}", "there is no such setting; see irr-door(1)", SETTINGS)
         values[name] = checked(f"{path}: {name}", name, value, fields[name].default, SETTINGS)
     for name, value in given.items():
         if value not in (None, []):

@@ -22,7 +22,7 @@ class Counters:
         self.connections: Counter[str] = Counter()
         self.submissions: Counter[str] = Counter()
         self.faults = 0
-        self.begun = time.time()
+        self.begun = time.monotonic()
 
     def query(self, dialect: str, outcome: str) -> None:
         self.queries[dialect, outcome] += 1
@@ -31,11 +31,12 @@ class Counters:
         self.connections[what] += 1
 
     def fault(self, what: str, error: Exception) -> None:
-        """A fault of the door itself, which the journal has with where it happened."""
+        """A fault of the door itself, which the journal has with where it happened, and without
+        what was sent."""
         self.faults += 1
-        frame = traceback.extract_tb(error.__traceback__)[-1]
-        where = f"{frame.filename.rpartition('/')[2]}:{frame.lineno}"
-        texts.note(f"irr door: {what}: {type(error).__name__}: {error} ({where}); report this")
+        frames = traceback.extract_tb(error.__traceback__)
+        where = f"{frames[-1].filename.rpartition('/')[2]}:{frames[-1].lineno}" if frames else "?"
+        texts.note(f"irr door: {what}: {type(error).__name__} ({where}); report this")
 
 
 class Status:
@@ -87,7 +88,7 @@ class Status:
             "well": not self.faults() and pool.answers,
             "serves": pool.answers,
             "faults": self.faults(),
-            "running": round(time.time() - counters.begun, 1),
+            "running": round(time.monotonic() - counters.begun, 1),
             "connections": self.connections(),
             "waiting": pool.turns.count,
             "submissions_waiting": self.waiting(),

@@ -10,18 +10,21 @@ import asyncio
 import re
 from typing import Any, Callable, Optional
 
-from irr.door.budget import Clients, Turn, Turns
+from irr.door.budget import Client, Clients, Turn, Turns
 from irr.door.exchange import Exchange
 from irr.door.journal import Journal, Who
 from irr.door.pool import ANSWERING, DOWN, NOBODY, Pool, Refused
+from irr.door.queries import PIECE
 from irr.door.settings import Settings
 from irr.door.status import Counters
 from irr.errors import Failure
 from irr.registry import answers
 from irr.registry.submissions import Item, Part, given
-from irr.rpsl import syntax
+from irr.rpsl import keys, syntax
 
 PASSWORD = re.compile(rb"^password[ \t\r]*:", re.I | re.M)
+# An attribute `mnt-by`, with the lines that go on with it.
+MNT_BY = re.compile(rb"^mnt-by[ \t\r]*:[^\n]*(?:\n[ \t\r+#%][^\n]*)*", re.I | re.M)
 # The items that the registry gets at once.
 AT_ONCE = 50
 # Seconds that a submission may wait for its turn, and for the registry to answer at all.
@@ -110,23 +113,36 @@ class Submissions:
         self.journal.refused(who, outcome, items, self.untold)
         self.untold = 0
 
-    def check(self, who: Who, body: bytes) -> tuple[list[Item], list[bytes]]:
+    async def check(self, who: Who, sender: Client, body: bytes) -> tuple[list[Item], list[bytes]]:
         """The items of a submission, and the parts in which it is sent; TooMuch if it is over a
         bound."""
         settings = self.settings
         self.bound(who, "size", len(body), settings.size)
         self.bound(who, "passwords", len(PASSWORD.findall(body)), settings.passwords)
-        blocks = [Item("", block) for block in syntax.blocks([body], syntax.LARGEST + 1)]
-        items = [item for item in blocks if item.is_item]
+        blocks: list[Item] = []
+        items: list[Item] = []
+        looked = 0
+        for block in syntax.blocks([body], syntax.LARGEST + 1):
+            item = Item("", block)
+            blocks.append(item)
+            if item.is_item:
+                items.append(item)
+            # An item has the weight of some lines, however short it is.
+            looked += block.size + 100
+            if looked >= PIECE:
+                looked = 0
+                await self.pool.paces.turn(sender)
         self.bound(who, "items", len(items), settings.items)
+        # Without the end of its last line an object could be a byte longer than replicas take.
+        body = body if body.endswith(b"\n") else body + b"\n"
         return items, [body] if len(items) <= AT_ONCE else parts(blocks)
 
     async def submit(self, who: Who, body: bytes, told: Callable[[bytes], None]) -> None:
         """Hands a submission on once its turn has come; `told` gets its report as it comes. Refused
         if that does not come whole."""
-        items, sent = self.check(who, body)
+        sender = self.senders.of(who.name, time.monotonic())
+        items, sent = await self.check(who, sender, body)
         now = time.monotonic()
-        sender = self.senders.of(who.name, now)
         if self.turns.waiting(sender) >= QUEUED:
             self.refused(who, "429", len(items))
             raise Refused(
@@ -247,7 +263,8 @@ class Submissions:
             self.turn()
 
         registry.asked += 1
-        exchange = Exchange(self.loop, registry.place, head.encode() + body, report.take, ended)
+        watch, sent = self.pool.watch, head.encode() + body
+        exchange = Exchange(watch, registry.place, sent, report.take, ended)
         registry.exchange = exchange
 
     def finish(self, submission: Submission, report: "Handed") -> None:
@@ -328,13 +345,20 @@ class Handed:
         self.submissions.counters.submissions[outcome] += 1
         items = self.submission.items
         item = items[line.number - 1] if line.number <= len(items) else None
-        paragraph = item.paragraph if item else None
-        named = (
-            [one.decode("ascii", "replace").upper() for one in paragraph.items(b"mnt-by")]
-            if paragraph
-            else []
+        self.submissions.journal.item(
+            self.submission.who, line, maintainers(item.block.text) if item else []
         )
-        self.submissions.journal.item(self.submission.who, line, named)
+
+
+def maintainers(text: bytes) -> list[str]:
+    """The names in the `mnt-by` of an item; none where anything there is no name, which may be a
+    password that stands in an odd place."""
+    try:
+        items = syntax.read_any(b"\n".join(MNT_BY.findall(text))).items(b"mnt-by")
+    except syntax.TextFault:
+        return []
+    names = [keys.read_maintainer(one) for one in items]
+    return [] if None in names or "PASSWORD" in names else [name for name in names if name]
 
 
 def parts(blocks: list[Item]) -> list[bytes]:

@@ -7,6 +7,7 @@ from typing import Any, Callable, Optional
 
 from irr.door.exchange import Exchange
 from irr.door.settings import Place
+from irr.door.watching import Watch
 from irr.registry import answers
 from irr.rpsl import keys, syntax
 
@@ -35,9 +36,9 @@ class Upstream:
         self.is_dear = False
         self.is_up, self.is_draining, self.why = True, False, "not asked yet"
         self.looked = 0.0
-        # The state that it serves, and when the registry was last seen to have that state, by the
-        # clock.
-        self.state, self.seen = "", 0.0
+        # The state that it serves, and when the registry was last seen to have that state: by the
+        # clock, and by one that nobody sets.
+        self.state, self.seen, self.since = "", 0.0, 0.0
         self.asked, self.failed, self.seconds = 0, 0, 0.0
         # What a look at it takes, which nobody pays for: a machine that is busy makes all of it
         # slower.
@@ -46,7 +47,13 @@ class Upstream:
     def age(self) -> Optional[float]:
         """The seconds since the registry was seen in the state that is served; None if nobody
         tells."""
-        return max(0.0, time.time() - self.seen) if self.seen else None
+        return time.monotonic() - self.since if self.seen else None
+
+    def see(self, at: float) -> None:
+        """Takes in when the registry was seen in that state, by the clock. One that is set later
+        makes no state older or newer."""
+        if at != self.seen:
+            self.seen, self.since = at, time.monotonic() - max(0.0, time.time() - at)
 
     @property
     def answers(self) -> bool:
@@ -54,8 +61,7 @@ class Upstream:
 
     def serves(self, oldest: float) -> bool:
         """Whether it answers, and its state is not too old."""
-        age = self.age()
-        return self.answers and (age is None or age <= oldest)
+        return self.answers and (not self.seen or time.monotonic() - self.since <= oldest)
 
     def fall(self, why: str, now: float) -> None:
         """Leaves it out until it answers again."""
@@ -63,7 +69,7 @@ class Upstream:
 
     def look(
         self,
-        loop: asyncio.AbstractEventLoop,
+        watch: Watch,
         done: Callable[[], None],
         found: Callable[[bytes], None],
     ) -> None:
@@ -84,7 +90,7 @@ class Upstream:
                 self.fall(why_of(fault), time.monotonic())
             done()
 
-        exchange = Exchange(loop, self.place, PROBE, parts.append, ended)
+        exchange = Exchange(watch, self.place, PROBE, parts.append, ended)
         if not exchange.is_over:
             self.exchange = exchange
 

@@ -12,8 +12,9 @@ class ViewPool(Pool):
     """The replicas of a view, of which its agent tells. Clients and memory are those of all."""
 
     def __init__(self, main: Pool, agent: str) -> None:
-        super().__init__(main.loop, dataclasses.replace(main.settings, replica=(), agent=agent))
+        super().__init__(main.watch, dataclasses.replace(main.settings, replica=(), agent=agent))
         self.clients, self.turns.clients = main.clients, main.clients
+        self.paces = main.paces
         self.ledger = main.ledger
         self.ledger.makers.append(self.cache.shrink)
         self.registry.is_up = False
@@ -84,7 +85,8 @@ class Views:
     def chosen(self, sources: str) -> Optional[Pool]:
         """What serves these sources in their order, or is the view of this name; None if nothing
         does."""
-        names = ",".join(one.strip() for one in sources.upper().split(",") if one.strip())
+        words = [one.strip() for one in sources.upper().split(",")]
+        names = ",".join(dict.fromkeys(filter(None, words)))
         if names and names == self.main.source:
             return self.main
         return next((one for one in self.pools if names and names in (one.name, one.sources)), None)

@@ -148,14 +148,8 @@ def make(one: Filter, shrink: float) -> str:
     text = printed(one.make)
     if not lists.meaning(one.router, text.decode("latin-1")):
         raise Failure(one.make[0], "it printed nothing but comments; look at `make`")
-    with tempfile.TemporaryDirectory(prefix="irr-") as folder:
-        new = Path(folder) / "new"
-        new.write_bytes(text)
-        look(one.router, new)
-    try:
-        was = Path(one.file).read_bytes()
-    except OSError:
-        was = b""
+    read_by(one.router, text, "new")
+    was = before(one, shrink)
     if was != text:
         need_kept(one, was, text, shrink)
     # It is written also if nothing changed: its time is that of the last good answer.
@@ -163,8 +157,35 @@ def make(one: Filter, shrink: float) -> str:
     return f"{one.file}: " + ("as it was" if text == was else "made anew" if was else "made")
 
 
+def before(one: Filter, shrink: float) -> bytes:
+    """The old list; nothing where there is none, or where it may lose everything and can't be
+    read."""
+    try:
+        return Path(one.file).read_bytes()
+    except FileNotFoundError:
+        return b""
+    except OSError as error:
+        if shrink < 100:
+            raise unknown(one, system_words(error)) from None
+        return b""
+
+
+def unknown(one: Filter, why: str) -> Shrunk:
+    """That nobody knows what a new list lacks of the old one."""
+    return Shrunk(
+        one.make[0],
+        f"what it lacks of the old list is not known, which can't be read: {why}; look at that, "
+        "or take the new one by --accept",
+    )
+
+
 def need_kept(one: Filter, old: bytes, new: bytes, shrink: float) -> None:
-    """That each new list keeps enough of the old one of its name."""
+    """That each new list keeps enough of the old one of its name, and that this can be read."""
+    if shrink < 100 and lists.meaning(one.router, old.decode("latin-1")):
+        try:
+            read_by(one.router, old, "old")
+        except Failure as failure:
+            raise unknown(one, failure.what) from None
     losses = lists.losses(one.router, old.decode("latin-1"), new.decode("latin-1"))
     bad = [loss for loss in losses if loss.lost * 100 > loss.size * shrink]
     if bad:
@@ -230,6 +251,14 @@ def fault_line(stream: IO[bytes], pattern: re.Pattern[bytes]) -> bytes:
         line, _, after = text[found.start() : end].partition(b"\n")
         reply = b"\n" + after.partition(b"\n")[0] if after.startswith(b"F ") else b""
         return text[begin : found.start()].rpartition(b"\n")[2] + line + reply
+
+
+def read_by(router: str, text: bytes, name: str) -> None:
+    """Has the router's own parser read a filter, which that calls by this name."""
+    with tempfile.TemporaryDirectory(prefix="irr-") as folder:
+        path = Path(folder) / name
+        path.write_bytes(text)
+        look(router, path)
 
 
 def look(router: str, new: Path) -> None:

@@ -23,6 +23,8 @@ from irr.rpsl import keys, syntax
 from irr.system import files
 
 DEFAULT = "/etc/irrdesk/irr.toml"
+# The name of a backup, by its time.
+STAMP = "%Y%m%dT%H%M%SZ"
 # The bytes of a database, and of its log, that a program which has it open locks (SQLite).
 LOCKED, LOCKED_LENGTH = 0x4000_0000, 512
 FLOCK = "hhqqi4x"

@@ -59,7 +59,7 @@ def run(
         scratch.load(
             scratch.put("dump.rpsl", loadable(pieces, auths, place.url)), f"the dump of {place.url}"
         )
-        printer = printer_of(Served(scratch, stack))
+        printer = printer_of(Served(scratch, stack, excerpt is not None))
         size = sum(len(item.text()) + 1 for item in items) + syntax.LARGEST * (len(asked) + 1)
         sender = Sender(lambda text: [scratch.submit(text)], size, size)
         unknown = show(sender, [*(item for _, item in asked), *items], hidden, printer)
@@ -169,8 +169,10 @@ class Served:
 
     url = "the scratch registry"
 
-    def __init__(self, scratch: TemporaryRegistry, stack: contextlib.ExitStack) -> None:
-        self.scratch, self.stack = scratch, stack
+    def __init__(
+        self, scratch: TemporaryRegistry, stack: contextlib.ExitStack, is_excerpt: bool = False
+    ) -> None:
+        self.scratch, self.stack, self.is_excerpt = scratch, stack, is_excerpt
         self.server: Server | None = None
 
     def served(self) -> Server:

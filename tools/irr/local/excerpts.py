@@ -3,13 +3,15 @@ the registry object by object: a registry of it judges them as the whole one doe
 
 What a verdict asks: the object of the item's key, and each maintainer that the item names; of what
 is new also the objects that cover it, cross it, or are its parent or its origin; of a maintainer
-that is deleted all that name it. Earlier items may have deleted the closest cover, so that all are
-taken. Maintainers that are named by what was found, and nowhere else, are there by their names
-alone.
+that is deleted whether another object names it. Earlier items may have deleted the closest cover,
+so that all are taken. Maintainers that are named by what was found, and nowhere else, are there by
+their names alone.
 """
-from typing import Iterator
+import functools
+from typing import Callable, Iterator
 
 from irr.registry import answers
+from irr.registry.refusals import MOST_LISTED
 from irr.registry.server import Server
 from irr.registry.submissions import Item
 from irr.rpsl import holders, keys, syntax
@@ -35,10 +37,17 @@ class Excerpt:
 
     def ask(self, query: str) -> list[Paragraph]:
         """The objects of an answer, which are taken."""
+        return self.answered(query, self.place.query)
+
+    def ask_first(self, query: str, most: int) -> None:
+        """Takes the first objects of an answer."""
+        self.answered(query, functools.partial(self.place.query_first, most))
+
+    def answered(self, query: str, asked: Callable[[str], answers.Answer]) -> list[Paragraph]:
         if query not in self.known:
             if len(self.known) >= MOST_QUERIES:
                 raise TooMuch
-            answer = self.place.query(query)
+            answer = asked(query)
             if answer.error:
                 raise TooMuch
             self.known[query] = answer.objects()
@@ -70,7 +79,9 @@ class Excerpt:
             if item.paragraph and item.paragraph.has(b"delete"):
                 deleted.add(key)
                 if key.kind == "mntner":
-                    self.ask(f"inverse mnt {key.text}")
+                    # An item takes one of them away at most: of so many there is one left, and as
+                    # many as a reason lists, where there is of all.
+                    self.ask_first(f"inverse mnt {key.text}", len(items) + 1 + MOST_LISTED)
                 continue
             for name in holders.named(paragraph):
                 if keys.read_maintainer(name):

@@ -6,7 +6,7 @@ import re
 import subprocess
 from datetime import datetime, timezone
 from pathlib import Path
-from typing import Callable, Iterable, Iterator, NamedTuple
+from typing import Callable, Collection, Iterable, Iterator, NamedTuple
 
 from irr.errors import ARGUMENTS, Failure, reading
 from irr.registry import answers
@@ -16,10 +16,22 @@ from irr.terminal import texts
 
 BRANCH = "refs/heads/main"
 CHANGE = re.compile(rb":[0-7]{6} [0-7]{6} ([0-9a-f]{40}) ([0-9a-f]{40}) ([AMD])\t")
-WORDS = {"A": "added", "M": "changed", "D": "deleted"}
+DELETED = "deleted"
+WORDS = {"A": "added", "M": "changed", "D": DELETED}
 WHO = "irr <irr@localhost>"
 # How many files are asked for at once.
 TOGETHER = 10_000
+# What a git that was killed may leave, which keeps others out, or takes room.
+LEFT = (
+    "*.lock",
+    "refs/**/*.lock",
+    "objects/info/**/*.lock",
+    "objects/pack/*.lock",
+    "packed-refs.new",
+    "gc.pid",
+    "objects/pack/tmp_*",
+    "fast_import_crash_*",
+)
 
 
 class State(NamedTuple):
@@ -67,37 +79,44 @@ def blob_of(text: bytes) -> str:
     return hashlib.sha1(b"blob %d\0" % len(text) + text).hexdigest()
 
 
-class Repository:
-    """The repository of a folder."""
+class Seen(NamedTuple):
+    """The same without the text: the commit that has it, and the name that git has for it."""
 
-    def __init__(self, folder: Path) -> None:
-        self.folder, self.looked = folder, folder / "looked"
+    commit: str
+    time: int
+    word: str
+    blob: str
+
+
+class Repository:
+    """The repository of a folder. What holds the folder is handed to git, which may live longer
+    than who started it."""
+
+    def __init__(self, folder: Path, locks: Collection[int] = ()) -> None:
+        self.folder, self.looked, self.locks = folder, folder / "looked", locks
+
+    def command(self, *words: str) -> list[str]:
+        """A command of git in the repository."""
+        set_here = (
+            "safe.directory=*",
+            "core.hooksPath=/dev/null",
+            "core.fsync=committed,loose-object",
+            "gc.autoDetach=false",
+            "init.defaultBranch=main",
+        )
+        settings = [word for each in set_here for word in ("-c", each)]
+        return ["git", *settings, f"--git-dir={self.folder}", *words]
 
     def git(self, *words: str, given: bytes | None = None) -> bytes:
-        """What a command of git prints. Settings of the user or the machine have no part in it."""
-        environment = {
-            name: value for name, value in os.environ.items() if not name.startswith("GIT_")
-        }
-        environment |= {
-            "GIT_CONFIG_NOSYSTEM": "1",
-            "GIT_CONFIG_GLOBAL": os.devnull,
-            "LC_ALL": "C",
-            "TZ": "UTC",
-        }
-        set_here = ("safe.directory=*", "core.hooksPath=/dev/null", "gc.autoDetach=false")
-        command = [
-            "git",
-            *(word for each in set_here for word in ("-c", each)),
-            f"--git-dir={self.folder}",
-            *words,
-        ]
+        """What a command of git prints."""
         try:
             done = subprocess.run(
-                command,
+                self.command(*words),
                 input=given if given is not None else b"",
                 capture_output=True,
-                env=environment,
+                env=environment(),
                 check=False,
+                pass_fds=self.locks,
             )
         except FileNotFoundError:
             raise Failure("git", "it is not installed; install it") from None
@@ -114,12 +133,16 @@ class Repository:
         return (self.folder / "HEAD").exists()
 
     def begin(self) -> None:
-        """Makes the repository where there is none."""
-        if not self.is_there:
-            self.git("init", "--quiet", "--bare", "--object-format=sha1", "--initial-branch=main")
-        for left in f"{BRANCH}.lock", "packed-refs.lock":
-            # Of a run that was stopped by force: this one alone works here.
-            (self.folder / left).unlink(missing_ok=True)
+        """Makes the repository where there is none, or where git was killed while it made it."""
+        for pattern in LEFT:
+            for left in self.folder.glob(pattern):
+                # Of a git that was killed: who holds the folder alone works here.
+                if left.name != ".lock":
+                    left.unlink()
+        head = self.folder / "HEAD"
+        if head.exists() and not head.stat().st_size:
+            head.unlink()
+        self.git("init", "--quiet", "--bare", "--object-format=sha1")
 
     @reading("the history")
     def states(self) -> list[State]:
@@ -229,27 +252,10 @@ class Repository:
         """What happened to an object, the oldest first."""
         if not self.state():
             return
-        out = self.git(
-            "log",
-            "--reverse",
-            "--no-renames",
-            "--no-abbrev",
-            "--raw",
-            "--format=commit %ct",
-            BRANCH,
-            "--",
-            path_of(key),
-        )
-        found, time = [], 0
-        for line in out.split(b"\n"):
-            change = CHANGE.match(line)
-            if line.startswith(b"commit "):
-                time = int(line.split()[1])
-            elif change:
-                found.append((time, change[3].decode(), change[2].decode()))
-        bodies = self.texts(name for _, kind, name in found if kind != "D")
-        for time, kind, _ in found:
-            yield Version(time, WORDS[kind], next(bodies) if kind != "D" else b"")
+        found = list(read_log(self.git(*log_of(key, "--reverse"))))
+        bodies = self.texts(one.blob for one in found if one.word != DELETED)
+        for one in found:
+            yield Version(one.time, one.word, next(bodies) if one.word != DELETED else b"")
 
     @reading("the history")
     def objects(self, state: State) -> Iterator[bytes]:
@@ -260,19 +266,77 @@ class Repository:
             for text in self.texts(blobs[path] for path in order[place : place + TOGETHER]):
                 yield text + b"\n"
 
+    def files(self, before: State, state: State) -> list[tuple[bytes, bytes, bytes]]:
+        """The files in which a commit differs from one before it: the names of both, and the letter
+        of what happened."""
+        out = self.git(
+            "diff-tree", "-r", "--no-renames", "--no-abbrev", "--raw", before.commit, state.commit
+        )
+        changes = map(CHANGE.match, out.split(b"\n"))
+        return [(found[1], found[2], found[3]) for found in changes if found]
+
     @reading("the history")
     def between(self, before: State, state: State) -> tuple[list[bytes], list[bytes], list[bytes]]:
         """The objects that a commit added to those of the one before it, those that it changed, as
         they became, and those that it deleted, as they were."""
-        out = self.git(
-            "diff-tree", "-r", "--no-renames", "--no-abbrev", "--raw", before.commit, state.commit
-        )
-        seen = [found.groups() for found in map(CHANGE.match, out.split(b"\n")) if found]
+        seen = self.files(before, state)
         bodies = self.texts((old if kind == b"D" else new).decode() for old, new, kind in seen)
         found: dict[bytes, list[bytes]] = {b"A": [], b"M": [], b"D": []}
         for (_, _, kind), text in zip(seen, bodies):
             found[kind].append(text)
         return found[b"A"], found[b"M"], found[b"D"]
+
+    @reading("the history")
+    def pairs(self, before: State, state: State) -> Iterator[tuple[bytes, bytes]]:
+        """The objects in which two commits differ, as they were and became; nothing where there was
+        none, or is none."""
+        seen = self.files(before, state)
+        was = self.texts(old.decode() for old, _, kind in seen if kind != b"A")
+        became = self.texts(new.decode() for _, new, kind in seen if kind != b"D")
+        for _, _, kind in seen:
+            yield b"" if kind == b"A" else next(was), b"" if kind == b"D" else next(became)
+
+    def texts_of(self, state: State, wanted: Iterable[Key]) -> dict[Key, bytes]:
+        """The objects of some keys that a commit has."""
+        wanted = list(wanted)
+        names = "".join(f"{state.commit}:{path_of(key)}\n" for key in wanted)
+        lines = self.git("cat-file", "--batch-check=%(objectname)", given=names.encode())
+        found = [
+            (key, line.decode())
+            for key, line in zip(wanted, lines.split(b"\n"))
+            if not line.endswith(b" missing")
+        ]
+        texts = self.texts(name for _, name in found)
+        return {key: text for (key, _), text in zip(found, texts)}
+
+
+def environment() -> dict[str, str]:
+    """What git is run with. Settings of the user or the machine have no part in it."""
+    kept = {name: value for name, value in os.environ.items() if not name.startswith("GIT_")}
+    return kept | {
+        "GIT_CONFIG_NOSYSTEM": "1",
+        "GIT_CONFIG_GLOBAL": os.devnull,
+        "LC_ALL": "C",
+        "TZ": "UTC",
+    }
+
+
+def log_of(key: Key, *options: str) -> list[str]:
+    """The command of git that tells what happened to an object."""
+    form = ("--no-renames", "--no-abbrev", "--raw", "--format=commit %H %ct")
+    return ["log", *options, *form, BRANCH, "--", path_of(key)]
+
+
+def read_log(out: bytes) -> Iterator[Seen]:
+    """What that command prints."""
+    commit, time = "", 0
+    for line in out.split(b"\n"):
+        change = CHANGE.match(line)
+        if line.startswith(b"commit "):
+            _, commit, seconds = line.decode().split()
+            time = int(seconds)
+        elif change:
+            yield Seen(commit, time, WORDS[change[3].decode()], change[2].decode())
 
 
 def order_of(path: str) -> tuple[int, list[int], str]:

@@ -292,13 +292,18 @@ class Keeper:
         stamp = time.strftime("%Y-%m-%dT%H:%M:%SZ", time.gmtime(seen))
         return f" since {stamp}" if seen else ", and there are none"
 
-    def start(self, limit: int) -> None:
-        """Serves what was made before, if anything was, so that replicas answer while there is no
-        primary."""
+    def settle(self) -> None:
+        """Lets what was made before stand where it is looked for, also after a stop within a
+        renewal."""
         if self.old.exists() and not self.made.folder.exists():
             os.rename(self.old, self.made.folder)
         for left in self.folder.glob("*.next"):
             shutil.rmtree(left)
+
+    def start(self, limit: int) -> None:
+        """Serves what was made before, if anything was, so that replicas answer while there is no
+        primary."""
+        self.settle()
         if not self.made.store.exists():
             return
         settings = self.made.folder / "irr.toml"

@@ -28,6 +28,10 @@ SETTINGS = (
 HIDDEN, NOBODY = re.compile(rb"^auth:           # filtered$", re.M), b"auth:           FILTERED"
 UNKNOWN = Attribute(b"auth", [b"FILTERED"])
 TEMPORARY, ROOM = "the temporary folder", "make room, or give another folder by TMPDIR"
+TOO_LONG = (
+    "{} and {} are a byte too long for a copy: each was sent as the last of its text, without"
+    " the end of its line; make one of them shorter"
+)
 OPENING = 600
 # Of ports that were free, and then taken by another program.
 TRIES = 5
@@ -177,9 +181,26 @@ def loadable(
     """A dump that `irrdesk load` takes, made of a public one in pieces. The registry of it answers
     each query as the one that was dumped does. The maintainers of `auths` have these values of
     `auth`; the others have one that lets nobody in."""
+    last = b""
     for block in syntax.blocks(pieces):
         text = with_auths(block.text, auths or {}, place) if b"auth:" in block.text else block.text
-        yield (text if len(text) <= syntax.LARGEST else short_text(text, place)) + b"\n"
+        if len(text) > syntax.LARGEST:
+            text = short_text(text, place)
+        if len(text) <= syntax.LARGEST:
+            yield text + b"\n"
+        elif last:
+            raise Failure(place, TOO_LONG.format(*map(name_of, (last, text))))
+        else:
+            # It was sent without the end of its last line, as the last of a text alone can be.
+            last = text.removesuffix(b"\n")
+    if last:
+        yield last
+
+
+def name_of(text: bytes) -> str:
+    """The class and key of an object, for people."""
+    key = keys.key_of(syntax.read_any(text))
+    return f"{key.kind} {key.text}" if key else "an object"
 
 
 def with_auths(text: bytes, auths: Mapping[str, list[bytes]], place: str) -> bytes:

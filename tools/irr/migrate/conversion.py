@@ -119,7 +119,7 @@ class Import:
             if len(found) > 1 and is_off:
                 found = [parting.Part(block, not_mended("part"), True)]
             for part in found:
-                if part.block.line > block.line or part.block.line == after:
+                if part is not found[0] or block.line == after:
                     self.tally.part(Place(path, part.block.line), part.block.text)
                 if waiting:
                     self.take(waiting, path)
@@ -167,7 +167,7 @@ class Import:
                 raise LeftOut(self.cause_beside(mended))
         except LeftOut as cause:
             further = part.further() if part.doubt else ()
-            self.tally.leave_out(str(cause), place, part.block.text, further)
+            self.tally.leave_out(str(cause), place, part.block.text, further, cause.item)
             return
         self.keep(mended, part)
 
@@ -255,14 +255,15 @@ class Import:
     def note_lists(self) -> None:
         """Notes the items that the lists of what is taken have lost, and what else is odd there."""
         for place, gone in self.dropped.items():
+            text = self.text_of(place)
             if "scope" in self.kinds[place]:
-                attributes = syntax.read_any(self.text_of(place)).attributes
+                attributes = syntax.read_any(text).attributes
                 _, scoped, had_host_bits = unscoped(attributes, self.refusal)
                 gone = (*gone, *scoped)
                 if had_host_bits:
                     self.kinds[place] |= {"host-bits"}
             for dropped in gone:
-                self.tally.drop(dropped, self.place_of(place), self.text_of(place))
+                self.tally.drop(dropped, self.place_of(place), text)
         for place, lines in self.odd.items():
             for number, line in lines:
                 own = Place(self.place_of(place).path, number)

@@ -1,25 +1,28 @@
 """Items of lists: which ones irrdesk reads, and an attribute with some of them changed or gone."""
 import functools
 import re
+import socket
 from typing import Callable
 
 from irr.rpsl import keys, syntax
 from irr.rpsl.syntax import Attribute
 
-IPV6 = re.compile(rb"[0-9A-Fa-f]{0,4}(?::[0-9A-Fa-f.]{0,15}){2,8}(?:/[0-9]{1,3})?(?:\^.*)?")
-# What is a prefix, an address, several of them, or an operator, however it is spelled.
-ADDRESSES = re.compile(
-    rb"[0-9]+(?:\.[0-9]*)*/.*|[0-9]+(?:\.[0-9]+){1,3}(?:-[0-9].*)?|.*\^.*|" + IPV6.pattern
+IPV6 = re.compile(rb"([0-9A-Fa-f]{0,4}(?::[0-9A-Fa-f.]{0,15}){2,8})(?:/[0-9]{1,3})?")
+OPERATOR = re.compile(rb"(?:\^(?:[+-]|[0-9]{1,3}(?:-[0-9]{1,3})?))?")
+# What has no part of an expression: letters, digits and marks between a letter or a digit at both
+# ends. A maintainer's name has a letter, no form of a prefix, and that of a set only with `-MNT`.
+WORD = re.compile(rb"[A-Za-z0-9](?:[A-Za-z0-9_.:/^-]*[A-Za-z0-9])?")
+NAME = re.compile(
+    rb"(?!(?:AS|RS|FLTR|RTRS|PRNG)-(?!(?:.*-)?MNT\Z))(?=[0-9_-]*[A-Z])"
+    rb"[A-Z0-9](?:[A-Z0-9_-]*[A-Z0-9])?",
+    re.I,
 )
 SCOPED = re.compile(rb"([A-Za-z][A-Za-z0-9_-]*)::(.+)")
 # Items, and braces by themselves.
 TOKEN = re.compile(rb"[{}]|[^, \t\r\n{}]+")
-EMPTY_PLACES = [
-    (re.compile(rb"[ \t\r]*,(?:[ \t\r]*,)+[ \t\r]*"), b", "),
-    (re.compile(rb"\{[ \t\r,]+"), b"{"),
-    (re.compile(rb"[ \t\r,]+\}"), b"}"),
-    (re.compile(rb"[ \t\r]{2,}"), b" "),
-]
+# What stands between two items, with a brace before or after it.
+BETWEEN = re.compile(rb"(\{?)([ \t\r,]+)(\}?)")
+SEVERAL_BLANKS = re.compile(rb"[ \t\r]{2,}")
 
 
 @functools.lru_cache(1 << 16)
@@ -30,10 +33,31 @@ def name_of(item: bytes) -> tuple[str, bool]:
 
 
 @functools.lru_cache(1 << 16)
-def is_no_name(item: bytes) -> bool:
-    """Whether an item has the form of addresses, or a brace: in place of a maintainer it is no
-    name, whatever its spelling."""
-    return b"{" in item or b"}" in item or ADDRESSES.fullmatch(item) is not None
+def is_ipv6(item: bytes) -> bool:
+    """Whether an item is an address or a prefix of IPv6, with an operator or none."""
+    front, hat, rest = item.partition(b"^")
+    found = IPV6.fullmatch(front)
+    if not found or not OPERATOR.fullmatch(hat + rest):
+        return False
+    try:
+        socket.inet_pton(socket.AF_INET6, found[1].decode())
+    except OSError:
+        return False
+    return True
+
+
+@functools.lru_cache(1 << 16)
+def is_alone(item: bytes) -> bool:
+    """Whether an item that can't be read says nothing of the others of its list: it is a word, and
+    none of the expressions of RPSL (RFC 2622, 5)."""
+    return WORD.fullmatch(item) is not None and item.decode().lower() not in keys.RESERVED
+
+
+@functools.lru_cache(1 << 16)
+def is_name(item: bytes) -> bool:
+    """Whether an item can only be a maintainer's name, also one that the rules refuse."""
+    is_read = keys.read_maintainer(item) is not None
+    return is_read or (NAME.fullmatch(item) is not None and is_alone(item))
 
 
 @functools.lru_cache(1 << 10)
@@ -53,18 +77,6 @@ def is_member(number: int, item: bytes) -> bool:
     return keys.is_member(keys.CLASSES[number - 1], item)
 
 
-def braced(items: list[bytes]) -> list[bool] | None:
-    """Which items stand in braces or have one; None where a brace has no other one."""
-    found, depth = [], 0
-    for item in items:
-        opened, closed = item.count(b"{"), item.count(b"}")
-        found.append(depth > 0 or opened > 0)
-        depth += opened - closed
-        if depth < 0:
-            return None
-    return None if depth else found
-
-
 @functools.lru_cache(1 << 16)
 def without_host_bits(item: bytes) -> bytes:
     """An item in which the bits of a prefix after its length are zero."""
@@ -73,6 +85,14 @@ def without_host_bits(item: bytes) -> bytes:
     if prefix is None or keys.read_address(front.partition(b"/")[0]) == prefix.first:
         return item
     return prefix.text().encode() + hat + rest
+
+
+def tidied(between: re.Match[bytes]) -> bytes:
+    """What stands between two items once others there are gone."""
+    opened, marks, closed = between.groups()
+    if opened or closed:
+        return opened + closed
+    return b", " if marks.count(b",") > 1 else SEVERAL_BLANKS.sub(b" ", marks)
 
 
 def with_items(
@@ -92,9 +112,8 @@ def with_items(
             end = token.end()
         text = b"".join([*parts, front[end:]])
         if lost:
-            for place, spelled in EMPTY_PLACES:
-                text = place.sub(spelled, text)
-            text, has_lost = text.strip(b", \t\r") + b" " * bool(mark), True
+            text = BETWEEN.sub(tidied, text).strip(b", \t\r") + b" " * bool(mark)
+            has_lost = True
         if text or mark or not lost:
             lines.append((text + mark + comment).strip(syntax.BLANKS))
     kept = Attribute(attribute.name, lines)

@@ -18,7 +18,7 @@ KINDS = {
         Kind("member-of", "names of as-sets are dropped from `member-of` of routes"),
         Kind("ipv6", "IPv6 items are dropped from lists of IPv4"),
         Kind("scope", "`RIPE::AS-X` becomes `AS-X`, or is dropped if RIPE is not imported"),
-        Kind("item", "other items that can't be read are dropped from lists"),
+        Kind("item", "words that can't be read are dropped from lists"),
         Kind("prefix", "a prefix such as 10.1/16 is written out"),
         Kind("host-bits", "the bits of a prefix after its length become zero"),
         Kind("rename", "maintainers whose names the rules refuse get another name"),

@@ -8,9 +8,10 @@ from irr.migrate.items import (
     IPV6,
     SCOPED,
     TOKEN,
-    braced,
+    is_alone,
+    is_ipv6,
     is_member,
-    is_no_name,
+    is_name,
     is_range,
     name_of,
     source_of,
@@ -40,17 +41,17 @@ NOBODY = b"FILTERED"
 LONGEST_NAME = 80
 # Why an item is taken out of a list.
 OTHER_KIND = "a set of the other kind"
-OPERATOR_AFTER = "an operator after it is apart from it"
-IN_BRACES = "it is in braces, whose operator may be its own"
 NO_SOURCE = "no `source`"
-# Why an object is left out: a list of maintainers without the item would say something else.
-NO_NAME = "a prefix or a brace among maintainers"
-ALONE = "a brace without the other one"
-BRACES = "braces of `mnt-routes` that are not a pair after a name"
+# Why an object is left out: an item may change what others of its list mean.
+UNREAD = "a list that can't be read"
 
 
 class LeftOut(Exception):
-    """Why a paragraph is not taken."""
+    """Why a paragraph is not taken; where a list is the cause also its attribute and the item."""
+
+    def __init__(self, cause: str, *item: bytes) -> None:
+        super().__init__(cause)
+        self.item = item
 
 
 class Dropped(NamedTuple):
@@ -108,11 +109,30 @@ class Mender:
         if number is None:
             raise LeftOut("a class that RPSL does not know")
         self.kinds, self.drops = set(), []
-        key, attributes = self.keyed(number, attributes)
-        names, attributes = self.listed(number, attributes)
-        source, attributes = self.sourced(attributes)
-        text = self.written(names, attributes)
+        key, mended = self.keyed(number, attributes)
+        names, mended = self.listed(number, mended)
+        source, mended = self.sourced(mended)
+        self.need_one(number, attributes)
+        text = self.written(names, mended)
         return Mended(number, key, source, names, text, frozenset(self.kinds), tuple(self.drops))
+
+    def need_one(self, number: int, attributes: list[Attribute]) -> None:
+        """That nothing shows that the line is lost which began another object: the lists of two
+        would be one, and so who may change it."""
+        seen: set[bytes] = set()
+        before: set[bytes] = set()
+        for attribute in attributes:
+            name = attribute.name
+            if name == b"source":
+                before |= seen
+            elif name in READ[number] or name == b"mp-members" and number == ROUTE_SET:
+                if name in before:
+                    raise LeftOut(parting.GOES_ON, name, attribute.meaning())
+                seen.add(name)
+            if name == b"auth" and number == MNTNER:
+                for line in attribute.lines:
+                    if parting.JOINED_LINE.search(PASSWORD.sub(b"", line)):
+                        raise LeftOut(parting.JOINED_AUTH, name, line)
 
     def use(self, kind: str) -> None:
         """Notes that something of this kind is mended."""
@@ -129,7 +149,7 @@ class Mender:
             else []
         )
         if number == MNTNER:
-            if ITEM.fullmatch(value) is None or is_no_name(value) or b":" in value:
+            if not is_name(value):
                 raise LeftOut("a key that can't be read")
             return self.maintainer(value), attributes
         full, key = value, ordered(number, value, origins)
@@ -166,6 +186,7 @@ class Mender:
             if name not in READ[number] and name not in OTHERS:
                 kept.append(attribute)
                 continue
+            self.listing = name
             if name in (b"mnt-by", b"mnt-lower"):
                 listed = ITEM.findall(attribute.meaning())
                 has_mnt_by |= name == b"mnt-by" and bool(listed)
@@ -191,7 +212,7 @@ class Mender:
             if changed is not None:
                 kept.append(changed)
         if grants and grants.state == "ranges":
-            raise LeftOut(BRACES)
+            raise LeftOut(UNREAD, b"mnt-routes", b"{")
         if not has_mnt_by:
             self.use("mnt-by")
             kept.insert(source_place(kept), Attribute(b"mnt-by", [self.root]))
@@ -209,39 +230,26 @@ class Mender:
     ) -> Attribute | None:
         """The attribute with each item as `change` has it; the same one where none changes."""
         items = pattern.findall(attribute.meaning())
-        self.listing = attribute.name
-        in_braces = braced(items) if pattern is ITEM else [False] * len(items)
-        if in_braces is None:
-            raise LeftOut(f"{ALONE} in `{attribute.name.decode()}`")
-        new: list[bytes | None] = []
-        for item, after, is_braced in zip(items, [*items[1:], b""], in_braces):
-            if is_braced:
-                self.drop(item, "item", IN_BRACES)
-                new.append(None)
-            elif is_apart(item, after, pattern):
-                # Without its operator it would mean something else.
-                self.drop(item, "item", OPERATOR_AFTER)
-                new.append(None)
-            else:
-                new.append(change(item))
+        new = [change(item) for item in items]
         if new == items:
             return attribute
         rest = iter(new)
         return with_items(attribute, pattern, lambda _: next(rest))
 
     def of_both_families(self, attribute: Attribute) -> Attribute | None:
-        """`members` of what `mp-members` of a route-set has of IPv4 (RFC 4012, 4)."""
+        """`members` of what `mp-members` of a route-set has of IPv4 (RFC 4012, 4). While it has
+        scoped items it keeps its name, by which they are told; `unscoped` changes it."""
         if not ITEM.search(attribute.meaning()):
             return attribute
         self.use("mp-members")
         changed = self.changed(attribute, lambda item: self.member(ROUTE_SET, item))
-        return changed and changed._replace(name=b"members")
+        if changed is None or b"::" in changed.meaning():
+            return changed
+        return changed._replace(name=b"members")
 
     def maintainer(self, item: bytes) -> str:
-        if is_no_name(item):
-            raise LeftOut(NO_NAME)
-        if b":" in item:
-            raise LeftOut(parting.JOINED)
+        if not is_name(item):
+            raise self.unread(item)
         name, is_good = name_of(item)
         if not is_good:
             self.use("rename")
@@ -259,12 +267,18 @@ class Mender:
         self.drops.append(Dropped(self.listing, item, cause))
 
     def drop_unread(self, item: bytes) -> None:
-        if IPV6.fullmatch(item):
+        """Drops an item that can't be read if the others mean the same without it."""
+        if is_ipv6(item):
             self.drop(item, "ipv6", "IPv6")
-        elif parting.JOINED_ITEM.fullmatch(item):
-            raise LeftOut(parting.JOINED)
-        else:
+        elif is_alone(item) and not parting.JOINED_ITEM.fullmatch(item):
             self.drop(item, "item", "an item that can't be read")
+        else:
+            raise self.unread(item)
+
+    def unread(self, item: bytes) -> LeftOut:
+        """Why an object is left out that has this item in a list."""
+        is_joined = parting.JOINED_ITEM.fullmatch(item)
+        return LeftOut(parting.JOINED if is_joined else UNREAD, self.listing, item)
 
     def set_item(self, number: int, item: bytes) -> bytes | None:
         """An item of `member-of`, which names as-sets in an aut-num and route-sets in a route (RFC
@@ -351,7 +365,7 @@ class Grants:
         """What a token becomes."""
         if token in (b"{", b"}"):
             if self.state != ("named" if token == b"{" else "ranges"):
-                raise LeftOut(BRACES)
+                raise self.mender.unread(token)
             self.state = "ranges" if token == b"{" else "start"
         elif self.state == "ranges":
             if not is_range(token):
@@ -360,9 +374,11 @@ class Grants:
             return self.mender.zeroed(token)
         elif token.upper() == b"ANY":
             if self.state != "named":
-                self.mender.drop_unread(token)
-                return None
+                raise self.mender.unread(token)
             self.state = "start"
+        elif token[:1].isdigit():
+            # It may be a range in another spelling, without which the entry before it grants more.
+            raise self.mender.unread(token)
         else:
             self.names[self.mender.maintainer(token)] = None
             self.state = "named"
@@ -391,12 +407,6 @@ def ordered(number: int, value: bytes, origins: list[bytes]) -> int | str | None
     return key.text if key else None
 
 
-def is_apart(item: bytes, after: bytes, pattern: re.Pattern[bytes]) -> bool:
-    """Whether an item has lost its operator to the next one. In `mnt-routes` ranges alone have
-    some."""
-    return after.startswith(b"^") and (pattern is ITEM or is_range(item))
-
-
 def not_mended(kind: str) -> str:
     """The cause where a way to mend is turned off."""
     return f"not mended because of --no-{kind}"
@@ -423,7 +433,10 @@ def unscoped(
     """The attributes of an object whose scoped items are what is `named` there without the registry
     and host bits, or are gone where `refusal` has a cause for the registry and the item; what is
     gone; and whether any that stays had host bits."""
-    scoped = READ[NUMBERS[attributes[0].name]] & {b"members", b"member-of"}
+    number = NUMBERS[attributes[0].name]
+    scoped = READ[number] & {b"members", b"member-of"}
+    if number == ROUTE_SET:
+        scoped |= {b"mp-members"}
     kept: list[Attribute] = []
     gone: list[Dropped] = []
     had_host_bits = False
@@ -449,7 +462,7 @@ def unscoped(
 
         changed = with_items(attribute, ITEM, bare)
         if changed is not None:
-            kept.append(changed)
+            kept.append(changed._replace(name=name.removeprefix(b"mp-")))
     return kept, gone, had_host_bits
 
 

@@ -29,16 +29,25 @@ LATER_CLASS = re.compile(rb"\n" + CLASS_LINE)
 LATER_SOURCE = re.compile(SOURCE_LINE)
 LATER = re.compile(rb"\n" + CLASS_LINE + rb"|" + SOURCE_LINE)
 # A `source` after the first line, with the lines that continue it and those that are skipped,
-# directly before a class.
-SEAM = re.compile(rb"%s[^\n]*\n(?:[ \t\r+#%%][^\n]*\n)*(?=%s)" % (SOURCE_LINE, CLASS_LINE))
+# directly before a class, or before a file that begins with comments and one.
+SEAM = re.compile(
+    rb"%s[^\n]*\n(?:[ \t\r+#%%][^\n]*\n)*(?=(?:%s(?:[#%%][^\n]*\n)+)?%s)"
+    % (SOURCE_LINE, MARK, CLASS_LINE)
+)
+# The beginning of a file that was joined to another one, before its first object.
+HEAD = re.compile(rb"%s(?:[ \t\r]*\n)?(?:[#%%][^\n]*\n)*" % MARK)
 # An item with the first word of another line: a class, or any name, before a colon.
 JOINED_ITEM = re.compile(rb".*(?:%s):(?!:).*|:(?!:).*|.*(?<!:):" % b"|".join(CLASSES), re.I)
+# What a line has, such as one of an `auth`, that was joined to one which begins with a class.
+JOINED_LINE = re.compile(rb"(?:%s)[ \t\r]*:(?!:)" % b"|".join(CLASSES), re.I)
 # A CR that ends no line.
 CR_BEFORE = re.compile(rb"\r[ \t\r]*[^ \t\r\n]")
 CUT_OFF = "cut off at the end of the file"
 CLASS_AGAIN = "a class again after the first line"
 SOURCE_AGAIN = "`source` twice"
 JOINED = "an item with a colon, as of two lines that were joined"
+JOINED_AUTH = "a class inside an `auth`, as of two lines that were joined"
+GOES_ON = "a list before `source` that goes on after it"
 
 
 class Part(NamedTuple):
@@ -73,8 +82,10 @@ class Part(NamedTuple):
 
 def parts(block: Block) -> list[Part]:
     """What a paragraph consists of: it is parted where a `source` line stands directly before a
-    class line."""
+    class line. Nothing where it is comments after a byte order mark."""
     block = unmarked(block)
+    if not block.text:
+        return []
     small = block.text.lower()
     if not LATER_CLASS.search(small):
         has_more = any(not is_source(line) for _, line in block.beyond)
@@ -85,19 +96,22 @@ def parts(block: Block) -> list[Part]:
         size, beyond = end - start, block.beyond[:0]
         if end == len(small):
             size, beyond = block.size - start, block.beyond
-        own = small[start:end]
-        doubt = CLASS_AGAIN if LATER_CLASS.search(own) else ""
         own_block = unmarked(Block(line, size, block.text[start:end], beyond))
+        own = own_block.text.lower()
+        doubt = CLASS_AGAIN if LATER_CLASS.search(own) else ""
         found.append(part_of(own_block, own, doubt))
-        line += own.count(b"\n")
+        line += small.count(b"\n", start, end)
         start = end
     return found
 
 
 def unmarked(block: Block) -> Block:
-    """A block without a byte order mark at its beginning."""
-    text = block.text.removeprefix(MARK)
-    return block._replace(size=block.size - len(block.text) + len(text), text=text)
+    """A block without a byte order mark at its beginning, and comments after it."""
+    head = HEAD.match(block.text)
+    if not head:
+        return block
+    size, line = block.size - head.end(), block.line + head[0].count(b"\n")
+    return block._replace(line=line, size=size, text=block.text[head.end() :])
 
 
 def part_of(block: Block, small: bytes, doubt: str) -> Part:

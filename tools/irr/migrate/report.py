@@ -68,11 +68,17 @@ class Tally:
         return self.left_out.causes
 
     def leave_out(
-        self, cause: str, place: Place, text: bytes, further: Iterable[tuple[int, bytes]] = ()
+        self,
+        cause: str,
+        place: Place,
+        text: bytes,
+        further: Iterable[tuple[int, bytes]] = (),
+        item: Iterable[bytes] = (),
     ) -> None:
-        """Notes a paragraph that is not taken, and the lines at which further objects may begin in
-        it, each with its number in the file."""
-        self.note(self.left_out, cause, entry(place, text))
+        """Notes a paragraph that is not taken, the lines at which further objects may begin in it,
+        each with its number in the file, and the attribute and the item that are the cause."""
+        words = map(texts.shown_line, item)
+        self.note(self.left_out, cause, "\t".join([entry(place, text), *words]))
         for number, line in further:
             self.left_out.more[cause] += 1
             self.write("left out with it", cause, entry(place._replace(line=number), line))

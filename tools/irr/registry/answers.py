@@ -134,6 +134,20 @@ def kind_of(text: bytes) -> str:
     return "expansion" if good else "strange"
 
 
+def first_objects(pieces: Iterable[bytes], most: int) -> bytes:
+    """An answer up to the end of so many of its objects, each of which is followed by an empty
+    line, and the only one that it has; the rest is not read."""
+    text, count, place = bytearray(), 0, 0
+    for piece in pieces:
+        text += piece
+        while (end := text.find(b"\n\n", place)) >= 0:
+            count, place = count + 1, end + 2
+            if count == most:
+                return bytes(text[:place])
+        place = max(place, len(text) - 1)
+    return bytes(text)
+
+
 @functools.lru_cache(1)
 def checked(text: bytes, kind: str, query: bytes, place: str) -> list[Key]:
     """The keys of an answer's objects; a Failure unless the query can have it. One that is asked

@@ -16,9 +16,8 @@ TABLE = (
     Code(
         "E01",
         "The text of the paragraph has a fault.",
-        "A line without a colon; a name with a blank in it; a paragraph that begins with a blank; "
-        "a control character; text in UTF-16 or "
-        "with a byte order mark.",
+        "A line without a colon; a name with a blank in it; a paragraph that begins with a blank. "
+        "A control character; text in UTF-16 or with a byte order mark.",
         "Look for the first line that is neither `name: value` nor a continuation, which begins "
         "with a blank or `+`. Save the file as plain "
         "text.",
@@ -33,9 +32,9 @@ TABLE = (
     Code(
         "E03",
         "The key is bad; for a route also an `origin` that is missing, repeated or bad.",
-        "`10/8` for `10.0.0.0/8`; a length above 32; a first number above the last; a reserved "
-        "word, such as `ANY` or `AS-ANY`, as a name; "
-        "two routes without a blank line between them.",
+        "`10/8` for `10.0.0.0/8`; a length above 32; a first number above the last. A reserved "
+        "word, such as `ANY` or `AS-ANY`, as a name; two routes without a blank line between "
+        "them.",
         "Write four numbers and a length, and name one `origin`.",
     ),
     Code(
@@ -51,8 +50,8 @@ TABLE = (
         "E05",
         "An attribute that is read has a bad value.",
         "A bad name in a list; `64496` for `AS64496`; a set of another registry, as "
-        "`RIPE::AS-FOO`; an `auth` that is empty, or `# filtered` as answers show it, or whose "
-        "hash does not have 64 digits; two operators on a range; a no-break space; a colon too "
+        "`RIPE::AS-FOO`. An `auth` that is empty, or `# filtered` as answers show it, or whose "
+        "hash does not have 64 digits. Two operators on a range; a no-break space; a colon too "
         "many.",
         "Look at `mnt-by`, `mnt-lower`, `mnt-routes`, `members`, `mbrs-by-ref`, `member-of`, "
         "`auth` and `source`.",
@@ -80,9 +79,8 @@ TABLE = (
         "E11",
         "No password given so far fits a maintainer in the `mnt-by` that applies: that of the "
         "registered object, or of the new one.",
-        "A password that is missing, mistyped, or after the item; an object of somebody else; for "
-        "a new mntner an `auth` made of other text, "
-        "such as one with the line feed of `echo`.",
+        "A password that is missing, mistyped, or after the item; an object of somebody else. "
+        "For a new mntner an `auth` made of other text, such as one with the line feed of `echo`.",
         "Give the password before the item. Make the `auth` line by `irr auth`.",
     ),
     Code(

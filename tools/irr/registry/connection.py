@@ -1,8 +1,8 @@
 """Connections to a registry: to one that may be starting just now, and over TLS."""
-import http.client
+import socket
 import ssl
 import time
-from typing import Callable, TypeVar
+from typing import Any, Callable, TypeVar
 
 # Seconds until the other side takes the connection: others may be served first.
 CONNECTING = 10
@@ -24,18 +24,20 @@ def persistently(connect: Callable[[], T], seconds: float) -> T:
             time.sleep(0.2)
 
 
-class Secure(http.client.HTTPSConnection):
-    """A connection over TLS on which an end without close_notify is a fault (RFC 8446, 6.1): by
-    default Python takes it for the end of the answer, which anybody on the way can make."""
+class Whole(ssl.SSLContext):
+    """TLS with servers on which an end without close_notify is a fault (RFC 8446, 6.1): by default
+    Python takes it for the end of the answer, which anybody on the way can make."""
 
-    def __init__(self, host: str, port: int) -> None:
-        super().__init__(host, port, timeout=CONNECTING)
-        self.context = ssl.create_default_context()
+    def __init__(self, *_: Any) -> None:
+        super().__init__()
+        self.load_default_certs()
         # Python has OpenSSL 3 take such an end for a good one, unless it is told otherwise.
-        self.context.options &= ~getattr(ssl, "OP_IGNORE_UNEXPECTED_EOF", 0)
+        self.options &= ~getattr(ssl, "OP_IGNORE_UNEXPECTED_EOF", 0)
 
-    def connect(self) -> None:
-        http.client.HTTPConnection.connect(self)
-        self.sock = self.context.wrap_socket(
-            self.sock, server_hostname=self.host, suppress_ragged_eofs=False
-        )
+    def wrap_socket(self, sock: socket.socket, *words: Any, **more: Any) -> ssl.SSLSocket:
+        more["suppress_ragged_eofs"] = False
+        return super().wrap_socket(sock, *words, **more)
+
+
+def whole() -> Whole:
+    return Whole(ssl.PROTOCOL_TLS_CLIENT)

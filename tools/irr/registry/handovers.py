@@ -65,7 +65,7 @@ class Handover:
         none, or where another one crosses it."""
         if key.kind == "aut-num":
             number = keys.read_as(key.text) or 0
-            covers = closest(self.reasons.as_blocks(), "as-block", Span(number, number))
+            covers = closest(self.reasons.as_blocks(), "as-block", Span(number, number), key)
         else:
             span = keys.read_span(key.text) or Span(0, 0)
             near = [
@@ -81,7 +81,7 @@ class Handover:
                     f"{name_of(crossing[0])} overlaps it; take another range",
                     ARGUMENTS,
                 )
-            covers = closest(near, "inetnum", span)
+            covers = closest(near, "inetnum", span, key)
         if not covers:
             raise Failure(
                 name_of(key),

@@ -1,8 +1,23 @@
 """How a set reaches a prefix: the chains of references from the set to a route around the prefix,
-or to a range that a route-set lists (RFC 2622, 5)."""
+or to a range that a route-set lists (RFC 2622, 5).
+
+It is found in steps: each is a query, whose objects are sent back, or a pause, so that who serves
+others can let them go first, and end what takes too long.
+"""
 import heapq
 from collections import deque
-from typing import Iterator, NamedTuple, Protocol, Union
+from typing import (
+    Any,
+    Callable,
+    Collection,
+    Generator,
+    Iterator,
+    NamedTuple,
+    Optional,
+    Protocol,
+    TypeVar,
+    Union,
+)
 
 from irr.errors import REFUSED, Failure
 from irr.registry import answers
@@ -10,11 +25,26 @@ from irr.rpsl import holders, keys
 from irr.rpsl.keys import Prefix, Range
 from irr.rpsl.syntax import Paragraph
 
-# The most objects that are asked for, and the most parts of chains that are looked at.
-MOST_ASKED, MOST_PARTS = 5_000, 20_000
+# The most objects that are asked for, references of these, and parts of chains that are looked at.
+MOST_ASKED, MOST_LINKS, MOST_PARTS = 5_000, 200_000, 20_000
+# So many chains are told, and so much of what is near.
+MOST_CHAINS, MOST_NEAR = 10, 10
 ANY = ("AS-ANY", "RS-ANY")
+# How many items of a set are looked at between two pauses.
+BETWEEN = 200
 # What is reached: a set by its name, or an AS by its number.
 Node = Union[str, int]
+Found = TypeVar("Found")
+# What is found in steps.
+Steps = Generator[Optional[str], list[Paragraph], Found]
+
+
+class NotRegistered(Failure):
+    """The set that is asked about is not registered."""
+
+    def __init__(self, name: str) -> None:
+        words = "the set is not registered; correct the name, or register it"
+        super().__init__(name, words, REFUSED)
 
 
 class Registry(Protocol):
@@ -123,91 +153,109 @@ def applied(operator: str, low: int, high: int) -> tuple[int, int] | None:
     return (low, high) if low <= high else None
 
 
-class References:
+def finished(steps: Steps[Found], ask: Callable[[str], list[Paragraph]]) -> Found:
+    """What steps come to, one after the other."""
+    try:
+        query = next(steps)
+        while True:
+            query = steps.send(ask(query) if query else [])
+    except StopIteration as end:
+        found: Found = end.value
+        return found
+
+
+class Reached:
     """The objects that a set, or an AS, reaches on the way to a prefix, each asked for once."""
 
-    def __init__(self, registry: Registry, prefix: Prefix, start: Node) -> None:
-        self.registry, self.prefix, self.start, self.asked = registry, prefix, start, 0
+    def __init__(self, prefix: Prefix, start: Node, sources: Collection[str] = ()) -> None:
+        self.prefix, self.start, self.asked = prefix, start, 0
+        # Those of a view.
+        self.sources = sources
         self.known: dict[str, Paragraph | None] = {}
-        around = registry.query_surely(f"less {prefix.text()}").or_failure(prefix.text())
-        self.routes = [one for one in around.objects() if one.name == b"route"]
-        self.origins = {origin_of(route) for route in self.routes}
+        self.routes: list[Paragraph] = []
+        # The routes by their origins.
+        self.origins: dict[int, list[Paragraph]] = {}
         self.links: dict[Node, list[Link]] = {}
         # Each set that is not registered, and who lists it first.
         self.missing: dict[str, Node] = {}
         self.refused: list[Near] = []
-        self.walk()
 
-    def walk(self) -> None:
+    @property
+    def around(self) -> str:
+        """The query for what is around the prefix."""
+        return f"less {self.prefix.text()}"
+
+    def gather(self) -> Steps[None]:
         """Asks for all that is reached."""
+        for one in (yield self.around):
+            if one.name == b"route":
+                self.routes.append(one)
+                self.origins.setdefault(origin_of(one), []).append(one)
         waiting: deque[Node] = deque([self.start])
-        self.links[self.start] = []
-        if isinstance(self.start, str) and not self.is_registered(self.start):
-            raise Failure(
-                self.start,
-                "the set is not registered; correct the name, or register it",
-                REFUSED,
-            )
+        self.links[self.start], count = [], 0
+        if isinstance(self.start, str) and not (yield from self.is_registered(self.start)):
+            raise NotRegistered(self.start)
         while waiting:
             node = waiting.popleft()
-            self.links[node] = list(dict.fromkeys(self.links_of(node)))
+            links = yield from self.links_of(node)
+            self.links[node] = list(dict.fromkeys(links))
+            count += len(self.links[node])
+            if count > MOST_LINKS:
+                raise self.too_much(f"{MOST_LINKS:,} references")
             for link in self.links[node]:
                 target = link.target
                 if isinstance(target, Leaf) or target in self.links or target in self.missing:
                     continue
-                if isinstance(target, str) and not self.is_registered(target):
+                if isinstance(target, str) and not (yield from self.is_registered(target)):
                     self.missing[target] = node
                     continue
                 self.links[target] = []
                 waiting.append(target)
+            yield None
 
     # Objects.
 
-    def is_registered(self, name: str) -> bool:
-        return name in ANY or self.set_of(name) is not None
+    def is_registered(self, name: str) -> Steps[bool]:
+        return name in ANY or (yield from self.object(query_of(name))) is not None
 
-    def set_of(self, name: str) -> Paragraph | None:
-        return self.object(f"object {keys.set_class(name)} {name}")
-
-    def number_of(self, number: int) -> Paragraph | None:
-        return self.object(f"object aut-num AS{number}")
-
-    def object(self, query: str) -> Paragraph | None:
+    def object(self, query: str) -> Steps[Paragraph | None]:
         """The one object that a query asks for."""
         if query not in self.known:
             self.asked += 1
             if self.asked > MOST_ASKED:
-                raise Failure(
-                    name_of(self.start),
-                    f"over {MOST_ASKED:,} objects are on the way; ask of a set that it lists",
-                    REFUSED,
-                )
-            found = self.registry.query(query).or_failure(query).objects()
+                raise self.too_much(f"{MOST_ASKED:,} objects")
+            found = yield query
             self.known[query] = found[0] if found else None
         return self.known[query]
 
+    def too_much(self, what: str) -> Failure:
+        words = f"over {what} are on the way; ask of a set that it lists"
+        return Failure(name_of(self.start), words, REFUSED)
+
     # References.
 
-    def links_of(self, node: Node) -> Iterator[Link]:
+    def links_of(self, node: Node) -> Steps[list[Link]]:
         """What an object refers to, of all that may lead to the prefix."""
         if isinstance(node, int):
-            for route in self.routes:
-                if origin_of(route) == node:
-                    yield Link(leaf_of(route), "", "origin")
-        elif node == "RS-ANY":
-            for route in self.routes:
-                yield Link(leaf_of(route), "", "every route")
-        elif node == "AS-ANY":
+            yield from self.object(query_of(node))
+            return [Link(leaf_of(route), "", "origin") for route in self.origins.get(node, [])]
+        if node == "RS-ANY":
+            return [Link(leaf_of(route), "", "every route") for route in self.routes]
+        links: list[Link] = []
+        if node == "AS-ANY":
             for number in sorted(self.origins):
-                if self.number_of(number):
-                    yield Link(number, "", "every aut-num")
-        elif found := self.set_of(node):
-            yield from self.listed(found)
-            yield from self.by_reference(node, found)
+                if (yield from self.object(query_of(number))):
+                    links.append(Link(number, "", "every aut-num"))
+        elif found := self.known[query_of(node)]:
+            yield from self.add_listed(links, found)
+            yield from self.add_by_reference(links, node, found)
+        return links
 
-    def listed(self, found: Paragraph) -> Iterator[Link]:
-        """The members that a set lists."""
-        for item in map(keys.as_text, found.items(b"members")):
+    def add_listed(self, links: list[Link], found: Paragraph) -> Steps[None]:
+        """Adds the members that a set lists."""
+        for count, item in enumerate(map(keys.as_text, found.items(b"members")), 1):
+            if count % BETWEEN == 0:
+                yield None
             front, hat, rest = item.partition("^")
             number, name, own = keys.read_as(front), keys.read_set(front), keys.read_range(item)
             says = f"members: {item}"
@@ -215,33 +263,34 @@ class References:
                 if not own.prefix.span().covers(self.prefix.span()):
                     continue
                 if own.low <= own.high:
-                    yield Link(Leaf(own, None), "", says)
+                    links.append(Link(Leaf(own, None), "", says))
                 else:
                     by, why = holders.by(found), f"its `{says}` stands for nothing"
                     self.refused.append(Near(object_name(found), by, why))
             elif number is not None:
                 if number in self.origins:
-                    yield Link(number, hat + rest, says)
+                    links.append(Link(number, hat + rest, says))
             elif name:
-                yield Link(name, hat + rest, says)
+                links.append(Link(name, hat + rest, says))
 
-    def by_reference(self, name: str, found: Paragraph) -> Iterator[Link]:
-        """The routes, and for an as-set the AS numbers, that are in a set by reference."""
+    def add_by_reference(self, links: list[Link], name: str, found: Paragraph) -> Steps[None]:
+        """Adds the routes, and for an as-set the AS numbers, that are in a set by reference."""
         takers = holders.names(found, "mbrs-by-ref")
         if not takers:
             return
         members: list[tuple[Paragraph, Node | Leaf]] = []
         if keys.set_class(name) == "as-set":
             for number in sorted(self.origins):
-                if one := self.number_of(number):
+                if one := (yield from self.object(query_of(number))):
                     members.append((one, number))
         members += [(route, leaf_of(route)) for route in self.routes]
         for one, target in members:
+            yield None
             if name not in map(keys.read_set, one.items(b"member-of")):
                 continue
             fitting = [taker for taker in takers if taker in ("ANY", *holders.by(one))]
             if fitting:
-                yield Link(target, "", f"mbrs-by-ref: {fitting[0]}, and member-of names it")
+                links.append(Link(target, "", f"mbrs-by-ref: {fitting[0]}, and member-of names it"))
             else:
                 self.refused.append(
                     Near(
@@ -253,11 +302,11 @@ class References:
 
     # Chains.
 
-    def chains(self, most: int) -> Chains:
+    def chaining(self, most: int) -> Steps[Chains]:
         """The first chains by which the prefix is reached, the shortest first. There is one exactly
         where the prefix is in the set."""
         start: State = self.start, Wanted(self.prefix.length, True)
-        left = self.distances(start)
+        left = yield from self.distances(start)
         found: list[list[Step]] = []
         more = parts = 0
         # By the length of the shortest whole chain that a part begins, longer parts first.
@@ -267,6 +316,7 @@ class References:
         while waiting and parts < MOST_PARTS:
             _, _, _, states, links = heapq.heappop(waiting)
             for link, wanted in self.onward(states[-1]):
+                yield None
                 parts += 1
                 new = [*links, link]
                 if isinstance(link.target, Leaf):
@@ -274,7 +324,7 @@ class References:
                     if not self.is_needed(nodes, new):
                         continue
                     if len(found) < most:
-                        found.append(self.steps(nodes, new, link.target))
+                        found.append((yield from self.steps(nodes, new, link.target)))
                     else:
                         more += 1
                     continue
@@ -297,7 +347,7 @@ class References:
             elif link.target in self.links:
                 yield link, beyond
 
-    def distances(self, start: State) -> dict[State, int]:
+    def distances(self, start: State) -> Steps[dict[State, int]]:
         """What leads to the prefix, of all that is reached with what is wanted there, and by how
         many references at least."""
         back: dict[State, list[State]] = {start: []}
@@ -305,6 +355,7 @@ class References:
         waiting = [start]
         while waiting:
             state = waiting.pop()
+            yield None
             for link, wanted in self.onward(state):
                 if isinstance(link.target, Leaf):
                     ends[state] = 1
@@ -317,6 +368,7 @@ class References:
         near = deque(ends)
         while near:
             state = near.popleft()
+            yield None
             for before in back[state]:
                 if before not in ends:
                     ends[before] = ends[state] + 1
@@ -326,11 +378,13 @@ class References:
     def is_needed(self, nodes: list[Node], links: list[Link]) -> bool:
         """Whether a chain reaches nothing twice, but where it would not lead to the prefix
         without."""
-        return not any(
-            node == other and self.leads(links[:first] + links[first + 1 + place :])
-            for first, node in enumerate(nodes)
-            for place, other in enumerate(nodes[first + 1 :])
-        )
+        places: dict[Node, list[int]] = {}
+        for place, node in enumerate(nodes):
+            for first in places.setdefault(node, []):
+                if self.leads(links[:first] + links[place:]):
+                    return False
+            places[node].append(place)
+        return True
 
     def leads(self, links: list[Link]) -> bool:
         """Whether references lead to the prefix through their operators."""
@@ -344,27 +398,35 @@ class References:
             and wanted.takes(leaf.range.low, leaf.range.high)
         )
 
-    def steps(self, nodes: list[Node], links: list[Link], leaf: Leaf) -> list[Step]:
+    def steps(self, nodes: list[Node], links: list[Link], leaf: Leaf) -> Steps[list[Step]]:
         """A chain as its objects, with the range that each has of what follows."""
         found: list[Step] = []
         if leaf.route:
             by = holders.by(leaf.route)
-            source = source_in_view(leaf.route)
+            source = self.source_of(leaf.route)
             found.append(Step(object_name(leaf.route), by, "", leaf.range, source))
         held: tuple[int, int] | None = leaf.range.low, leaf.range.high
         for node, link in zip(reversed(nodes), reversed(links)):
             held = applied(link.operator, *held) if held else None
             own = Range(leaf.range.prefix, *held) if held else None
             there = self.there(node)
-            source = source_in_view(there) if there else ""
+            source = self.source_of(there) if there else ""
             found.append(Step(name_of(node), self.maintainers(node), link.says, own, source))
+            yield None
         return found[::-1]
+
+    def source_of(self, found: Paragraph) -> str:
+        """The source that an object of a view is of, which is the comment on its `source`; nothing
+        elsewhere, where anybody may write one."""
+        for one in found.attributes:
+            if one.name == b"source":
+                name = keys.read_source(one.lines[0].partition(b"#")[2].strip()) or ""
+                return name if name in self.sources else ""
+        return ""
 
     def there(self, node: Node) -> Paragraph | None:
         """The object that is reached; None where it is not registered, or never is."""
-        if node in ANY:
-            return None
-        return self.number_of(node) if isinstance(node, int) else self.set_of(node)
+        return None if node in ANY else self.known[query_of(node)]
 
     def maintainers(self, node: Node) -> list[str] | None:
         """Who may change what is reached; nobody the sets that are never registered."""
@@ -373,13 +435,13 @@ class References:
 
     # What is near.
 
-    def nearest(self) -> list[Step]:
+    def nearing(self) -> Steps[list[Step]]:
         """The shortest chain to the longest prefix around the prefix that is in the set by another
         length, or where there is none, to one of which operators leave nothing; nothing where there
         is none of these either."""
-        return self.around(True) or self.around(False)
+        return (yield from self.way(True)) or (yield from self.way(False))
 
-    def around(self, stands: bool) -> list[Step]:
+    def way(self, stands: bool) -> Steps[list[Step]]:
         """The shortest chain to the longest prefix around the prefix of all, or of those of which
         something is left."""
         # Any range that is left has some least length.
@@ -389,6 +451,7 @@ class References:
         best: tuple[Leaf, State, Link] | None = None
         while waiting:
             state = waiting.popleft()
+            yield None
             for link, wanted in self.onward(state) if stands else self.all_onward(state):
                 target = link.target
                 if isinstance(target, Leaf):
@@ -405,7 +468,7 @@ class References:
             state, link = before
             nodes.insert(0, state[0])
             links.insert(0, link)
-        return self.steps(nodes, links, leaf)
+        return (yield from self.steps(nodes, links, leaf))
 
     def all_onward(self, state: State) -> Iterator[tuple[Link, Wanted]]:
         """The references of what is reached, whatever their operators leave."""
@@ -414,22 +477,53 @@ class References:
             if isinstance(link.target, Leaf) or link.target in self.links:
                 yield link, wanted
 
-    def near(self) -> list[Near]:
+    def nearly(self) -> Steps[list[Near]]:
         """What is not in the set and nearly is: routes around the prefix whose origin is not
         reached, the longest first, members by reference that are not taken, ranges that stand for
         nothing, and sets that are not registered."""
         reached = {link.target for links in self.links.values() for link in links}
-        found = [
-            Near(object_name(route), holders.by(route), "its origin is not in the set")
-            for route in sorted(self.routes, key=lambda one: -leaf_of(one).range.prefix.length)
-            if leaf_of(route) not in reached
-        ]
+        found: list[Near] = []
+        for route in sorted(self.routes, key=lambda one: -leaf_of(one).range.prefix.length):
+            yield None
+            if leaf_of(route) not in reached:
+                by, why = holders.by(route), "its origin is not in the set"
+                found.append(Near(object_name(route), by, why))
         found += self.refused
         found += [
             Near(name_of(name), None, f"{name_of(lister)} lists it")
             for name, lister in sorted(self.missing.items())
         ]
         return found
+
+
+class References(Reached):
+    """The same of a registry, without pauses."""
+
+    def __init__(
+        self, registry: Registry, prefix: Prefix, start: Node, sources: Collection[str] = ()
+    ) -> None:
+        super().__init__(prefix, start, sources)
+        self.registry = registry
+        finished(self.gather(), self.objects)
+
+    def objects(self, query: str) -> list[Paragraph]:
+        """The objects that the registry answers; all around the prefix surely."""
+        ask = self.registry.query_surely if query == self.around else self.registry.query
+        return ask(query).or_failure(query).objects()
+
+    def chains(self, most: int) -> Chains:
+        return finished(self.chaining(most), self.objects)
+
+    def nearest(self) -> list[Step]:
+        return finished(self.nearing(), self.objects)
+
+    def near(self) -> list[Near]:
+        return finished(self.nearly(), self.objects)
+
+
+def query_of(node: Node) -> str:
+    """The query for the object of what is reached."""
+    return f"object {name_of(node)}"
 
 
 def origin_of(route: Paragraph) -> int:
@@ -442,19 +536,20 @@ def leaf_of(route: Paragraph) -> Leaf:
     return Leaf(Range(prefix, prefix.length, prefix.length), route)
 
 
-def source_in_view(found: Paragraph) -> str:
-    """The source that an object of a view is of, which is the comment on its `source`; nothing
-    elsewhere."""
-    for one in found.attributes:
-        if one.name == b"source":
-            return keys.read_source(one.lines[0].partition(b"#")[2].strip()) or ""
-    return ""
-
-
 def object_name(found: Paragraph) -> str:
     """The class and key of an object."""
     key = keys.key_of(found)
     return f"{key.kind} {key.text}" if key else keys.as_text(found.name)
+
+
+def read_start(text: str) -> Node | None:
+    """The set or AS that a text names."""
+    number = keys.read_as(text)
+    return keys.read_set(text) if number is None else number
+
+
+def shown(start: Node) -> str:
+    return f"AS{start}" if isinstance(start, int) else start
 
 
 def name_of(node: Node) -> str:
@@ -462,3 +557,35 @@ def name_of(node: Node) -> str:
     if isinstance(node, int):
         return f"aut-num AS{node}"
     return node if node in ANY else f"{keys.set_class(node)} {node}"
+
+
+def told(
+    prefix: Prefix, start: Node, chains: Chains, nearest: list[Step], near: list[Near]
+) -> dict[str, Any]:
+    """What is found, as JSON has it."""
+
+    def steps(chain: list[Step]) -> list[dict[str, Any]]:
+        return [
+            {
+                "object": step.name,
+                "mnt-by": step.maintainers,
+                "says": step.says,
+                "range": step.range.text() if step.range else None,
+                **({"source": step.source} if step.source else {}),
+            }
+            for step in chain
+        ]
+
+    return {
+        "prefix": prefix.text(),
+        "set": shown(start),
+        "found": bool(chains.first),
+        "chains": [steps(chain) for chain in chains.first],
+        "more": chains.more,
+        "all": not chains.is_cut,
+        "nearest": steps(nearest),
+        "near": [
+            {"object": one.name, "mnt-by": one.maintainers, "why": one.why}
+            for one in near[:MOST_NEAR]
+        ],
+    }

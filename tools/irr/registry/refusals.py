@@ -13,9 +13,11 @@ MOST_LISTED = 5
 
 
 class Registry(Protocol):
-    """What is asked: a served registry."""
+    """What is asked: a served registry, or an excerpt of one, which has as many objects that name a
+    maintainer as are listed, and not all."""
 
     url: str
+    is_excerpt: bool
 
     def query(self, *words: str) -> answers.Answer:
         ...
@@ -113,8 +115,9 @@ class Reasons:
     def of_e17(self, paragraph: Paragraph, _: bool) -> list[str]:
         key = keys.key_of(paragraph)
         found = [keys.key_of(other) for other in self.ask(f"inverse mnt {key.text}")] if key else []
-        others = [other for other in found if other and other != key]
-        return [f"It is named by {listed([name_of(other) for other in others])}."] if others else []
+        others = [name_of(other) for other in found if other and other != key]
+        rest = "others" if self.registry.is_excerpt else ""
+        return [f"It is named by {listed(others, rest)}."] if others else []
 
     # What covers it.
 
@@ -139,13 +142,11 @@ class Reasons:
             parent = parent_of(paragraph)
             covers = self.ask(parent.query()) if parent else []
         elif kind == "inetnum":
-            covers = closest(
-                self.ask(f"less {keys.address_text(span_of(paragraph).first)}"),
-                "inetnum",
-                span_of(paragraph),
-            )
+            near = self.ask(f"less {keys.address_text(span_of(paragraph).first)}")
+            covers = closest(near, "inetnum", span_of(paragraph), keys.key_of(paragraph))
         else:
-            covers = closest(self.as_blocks(), "as-block", span_of(paragraph))
+            blocks, key = self.as_blocks(), keys.key_of(paragraph)
+            covers = closest(blocks, "as-block", span_of(paragraph), key)
         return [decides(cover, holders.lower(cover), "below it") for cover in covers]
 
     def of_route(self, paragraph: Paragraph) -> list[str]:
@@ -214,12 +215,13 @@ def parent_of(paragraph: Paragraph) -> Key | None:
     return keys.set_parent(key.text) if key else None
 
 
-def closest(objects: list[Paragraph], kind: str, span: Span) -> list[Paragraph]:
-    """The one of the class with the smallest span that covers this one and is not the same."""
+def closest(objects: list[Paragraph], kind: str, span: Span, own: Key | None) -> list[Paragraph]:
+    """The one of the class with the smallest span that covers this one, and is not the object of
+    this key. A block of one AS number covers its aut-num."""
     covers = [
         other
         for other in objects
-        if holders.kind(other) == kind and span_of(other).covers(span) and span_of(other) != span
+        if holders.kind(other) == kind and span_of(other).covers(span) and keys.key_of(other) != own
     ]
     return sorted(covers, key=lambda other: span_of(other).size)[:1]
 
@@ -240,10 +242,10 @@ def name_of(key: Key) -> str:
     return f"{key.kind} {key.text}"
 
 
-def listed(names: list[str]) -> str:
-    """Some names, and how many more there are."""
+def listed(names: list[str], rest: str = "") -> str:
+    """Some names, and how many more there are, or another word for these."""
     more = len(names) - MOST_LISTED
-    return ", ".join(names[:MOST_LISTED]) + (f" and {more} more" if more > 0 else "")
+    return ", ".join(names[:MOST_LISTED]) + (f" and {rest or f'{more} more'}" if more > 0 else "")
 
 
 def source_of(objects: list[Paragraph]) -> str:

@@ -13,7 +13,7 @@ from urllib.parse import quote, urlsplit
 
 from irr.errors import ARGUMENTS, Failure, reading, system_words
 from irr.registry import answers, queries, replies
-from irr.registry.connection import CONNECTING, Secure, persistently
+from irr.registry.connection import CONNECTING, persistently, whole
 from irr.registry.replies import Beyond, Bounds, Reply
 from irr.rpsl import keys
 from irr.terminal import texts
@@ -80,7 +80,7 @@ def add_options(parser: argparse.ArgumentParser) -> None:
         "-s",
         "--server",
         metavar="URL",
-        help=f"the registry's address, otherwise that of IRR_SERVER, otherwise {DEFAULT}",
+        help=f"ask the registry at this address, otherwise that of IRR_SERVER, otherwise {DEFAULT}",
     )
     parser.add_argument(
         "--plain", action="store_true", help="allow http to another machine, which encrypts nothing"
@@ -95,6 +95,7 @@ class Server:
     # have.
     patience: float = 0
     most: int | None = None
+    is_excerpt = False
 
     def __init__(self, url: str, plain: bool = False) -> None:
         try:
@@ -147,6 +148,17 @@ class Server:
     @reading("the server's answer")
     def query(self, *words: str | bytes) -> answers.Answer:
         """The answer to a query, whose words are joined by one space."""
+        text, pieces = self.answering(*words)
+        return answers.Answer(b"".join(pieces), text, self.url)
+
+    @reading("the server's answer")
+    def query_first(self, most: int, *words: str | bytes) -> answers.Answer:
+        """The same of a query for objects, of which no more than the first ones are read."""
+        text, pieces = self.answering(*words)
+        return answers.Answer(answers.first_objects(pieces, most), text, self.url)
+
+    def answering(self, *words: str | bytes) -> tuple[bytes, Iterator[bytes]]:
+        """A query, and its answer in pieces as it comes."""
         text = b" ".join(os.fsencode(word) if isinstance(word, str) else word for word in words)
         if not text:
             raise Failure("", "the query is empty; see `irr query --help`", ARGUMENTS)
@@ -154,7 +166,7 @@ class Server:
         # into a head.
         bounds = replies.ANSWER._replace(most=self.most or replies.ANSWER.most)
         reply = self.ask("GET", "/query/" + quote(text[: queries.LONGEST + 1], safe=""), bounds)
-        return answers.Answer(b"".join(self.body_of(reply)), text, self.url)
+        return text, self.body_of(reply)
 
     @reading("the server's answer")
     def query_surely(self, *words: str | bytes) -> answers.Answer:
@@ -258,7 +270,9 @@ class Server:
         """A connection that stands, whose reply has these bounds."""
         connection: http.client.HTTPConnection
         if self.scheme == "https":
-            connection = Secure(self.host, self.port)
+            connection = http.client.HTTPSConnection(
+                self.host, self.port, timeout=CONNECTING, context=whole()
+            )
         else:
             connection = http.client.HTTPConnection(self.host, self.port, timeout=CONNECTING)
         persistently(connection.connect, self.patience)

@@ -193,9 +193,10 @@ def blocks(
     memory that grows with one block.
 
     Lines that are skipped (`#` or `%` first) stay in the block that they stand in, but for those
-    before its first other line. Of a block of more than `most` bytes the first `most` are kept,
-    unless `seam` has a place in them at which the block may be cut in two. Of the lines that are
-    not kept whole the block has what `marked` finds."""
+    before its first other line. A block of more than `most` bytes is cut in two where `seam` has a
+    place for that in its first `most` + CHUNK bytes; otherwise the first `most` are kept, and of
+    the lines that are not kept whole the block has what `marked` finds. The blocks of a text are
+    the same whatever its pieces."""
     # What is held begins with the LF before its first line, of which `line` were before it.
     held, line, lost = bytearray(b"\n"), 0, Lost()
     for chunk in source:
@@ -208,22 +209,24 @@ def blocks(
             line += held.count(b"\n", start + 1, found.end()) + lost.lines
             start, lost = found.end() - 1, Lost()
         del held[:start]
-        if most is not None and len(held) > most + CHUNK:
+        while most is not None and len(held) > most + CHUNK + 1:
             skipped = SKIPPED.match(held, 1)
-            if skipped:
-                line += held.count(b"\n", 1, skipped.end())
-                del held[1 : skipped.end()]
-            end = 0 if lost.size else seam(bytes(held[1:]))
+            end = skipped.end() - 1 if skipped else 0
+            if not skipped and not lost.size:
+                end = seam(bytes(held[1 : most + CHUNK + 1]))
+                if end:
+                    yield Block(line + 1, end, bytes(held[1 : end + 1]))
             if end:
-                yield Block(line + 1, end, bytes(held[1 : end + 1]))
                 line += held.count(b"\n", 1, end + 1)
                 del held[1 : end + 1]
+                continue
             tail = held.rfind(b"\n")
             if tail > most + 1:
                 lost.note(bytes(held[1 : tail + 1]), line + 1, most, marked)
                 lost.size += tail - most - 1
                 lost.lines += held.count(b"\n", most + 1, tail)
                 del held[most + 1 : tail]
+            break
     last = bytes(held[1:])
     if not last[last.rfind(b"\n") + 1 :].strip(BLANKS):
         last = last[: last.rfind(b"\n") + 1]
@@ -253,9 +256,8 @@ def block_of(
     if skipped:
         line += text.count(b"\n", 0, skipped.end())
         text = text[skipped.end() :]
-    if most is not None and len(text) > most and not lost.size:
-        end = seam(text)
-        if end:
+    if most is not None and not lost.size:
+        while len(text) > most and (end := seam(text[: most + CHUNK])):
             yield Block(line, end, text[:end])
             line += text.count(b"\n", 0, end)
             text = text[end:]

@@ -210,8 +210,9 @@ def folder(path: str | os.PathLike[str], mode: int = 0o755) -> Path:
 
 
 @contextlib.contextmanager
-def locked(path: str | os.PathLike[str]) -> Iterator[None]:
-    """Holds a folder for one process at a time, by the file `.lock` in it."""
+def locked(path: str | os.PathLike[str]) -> Iterator[int]:
+    """Holds a folder for one process at a time, by the file `.lock` in it. Whom the open file is
+    handed to holds it too."""
     number = os.open(Path(path) / ".lock", os.O_RDWR | os.O_CREAT | os.O_CLOEXEC, PRIVATE)
     try:
         try:
@@ -220,7 +221,7 @@ def locked(path: str | os.PathLike[str]) -> Iterator[None]:
             raise Failure(
                 str(path), "another irr works in this folder; wait until it ends", FAILED
             ) from None
-        yield
+        yield number
     finally:
         os.close(number)
 

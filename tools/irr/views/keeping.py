@@ -16,6 +16,9 @@ from irr.views.merging import Merge, Told
 from irr.views.settings import Settings, Source
 from irr.views.sources import State
 
+# The file that says what a registry is made of.
+LABEL = "view.json"
+
 
 class View:
     """The sources of a view, each with the state that it is in, and those that are tried."""
@@ -28,10 +31,10 @@ class View:
         self.shrunk: dict[str, tuple[State, str]] = {}
         self.faults: dict[str, str] = {}
         self.told: dict[str, Told] = {}
-        # The ROAs, and the state of those of what is served, which is known over a restart.
         self.roas: roas.Read | None = None
-        self.kept = self.folder / "roas"
-        self.served = self.kept.read_text(encoding="ascii") if self.kept.exists() else ""
+        # What a registry is made of stands beside it: of that which is served, and of the next one.
+        self.label = label_in(self.folder / "made")
+        self.next: dict[str, Any] | None = None
         self.marks = ""
         for one in settings.sources:
             now, before = self.place(one, "now"), self.place(one, "before")
@@ -65,10 +68,12 @@ class View:
             finally:
                 merge.spool.close()
             break
-        self.told = told
+        self.told, self.next = told, self.label_of()
         if made.digest() == known:
+            put_label(self.folder / "made", self.next)
             self.commit()
             return None
+        put_label(work, self.next)
         copy = Copy(
             work,
             temporary.SETTINGS.format(
@@ -153,10 +158,16 @@ class View:
                     self.states[one.name].put()
         files.sync_folder(self.folder)
         self.marks = self.mark()
-        served = self.roas.state() if self.roas else ""
-        if served != self.served:
-            files.put(self.kept, served.encode(), files.PRIVATE)
-            self.served = served
+        self.label, self.next = self.next or self.label, None
+
+    def label_of(self) -> dict[str, Any]:
+        """What is merged: the states of the sources in their order, and the ROAs."""
+        sources = [
+            {"name": name, "serial": state.serial, "state": state.digest()}
+            for name, state in self.wanted().items()
+        ]
+        made_by = self.roas.state() if self.roas else ""
+        return {"name": self.settings.name, "sources": sources, "roas": made_by}
 
     def mark(self) -> str:
         """What a merge is made of."""
@@ -168,22 +179,34 @@ class View:
         return roas.read(files.read(path), path) if path else None
 
     def status(self) -> dict[str, Any]:
-        """What a door is told of the sources: since when each stands still, and why."""
+        """What a door is told of what is served: its sources, since when each stands still, and
+        why."""
+        label = self.label or self.unknown()
+        if self.next:
+            label = between(label, self.next)
         return {
             "view": {
-                "name": self.settings.name,
-                "roas": self.served,
+                **label,
                 "doubts": self.roas.doubts if self.roas else [],
                 "lines": self.lines(),
-                "sources": [self.status_of(one) for one in self.settings.sources],
+                "sources": [one | self.status_of(one) for one in label["sources"]],
             }
         }
 
-    def status_of(self, source: Source) -> dict[str, Any]:
-        name, state = source.name, self.states.get(source.name)
-        found: dict[str, Any] = {"name": name, "fault": self.faults.get(name, "")}
-        if state:
-            found |= {"seen": state.seen(), "serial": state.serial, "state": state.digest()}
+    def unknown(self) -> dict[str, Any]:
+        """What is told of what does not say what it is made of, as that of version 2.0.0, and
+        before there is anything."""
+        names = (one.name for one in self.settings.sources)
+        sources = [{"name": name, "serial": None, "state": "unknown"} for name in names]
+        return {"name": self.settings.name, "sources": sources, "roas": ""}
+
+    def status_of(self, source: dict[str, Any]) -> dict[str, Any]:
+        """What else is told of a source of what is served, which has one state of it."""
+        name = source["name"]
+        found: dict[str, Any] = {"fault": self.faults.get(name, "")}
+        state = self.states.get(name)
+        if state and state.digest() == source["state"]:
+            found["seen"] = state.seen()
         if name in self.told:
             found |= self.told[name]._asdict()
         return found
@@ -194,6 +217,35 @@ class View:
             f"{name} is not renewed{since(self.states.get(name))}: {texts.shown_line(fault)}"
             for name, fault in self.faults.items()
         ]
+
+
+def label_in(made: Path) -> dict[str, Any]:
+    """What a registry in a folder is made of; nothing where it does not say so."""
+    try:
+        found: dict[str, Any] = json.loads((made / LABEL).read_bytes())
+    except FileNotFoundError:
+        return {}
+    return found
+
+
+def between(old: dict[str, Any], new: dict[str, Any]) -> dict[str, Any]:
+    """What is told while one replica after the other is started on what was made: an answer is of
+    one of the two."""
+    others = {one["name"]: one["state"] for one in new["sources"]}
+
+    def either(one: str, other: str) -> str:
+        return one if one == other else f"{one or 'none'} or {other or 'none'}"
+
+    sources = []
+    for one in old["sources"]:
+        state = either(one["state"], others.get(one["name"], ""))
+        serial = one["serial"] if state == one["state"] else None
+        sources.append({"name": one["name"], "serial": serial, "state": state})
+    return {**old, "sources": sources, "roas": either(old["roas"], new["roas"])}
+
+
+def put_label(made: Path, label: dict[str, Any]) -> None:
+    files.put(made / LABEL, json.dumps(label).encode(), files.PRIVATE)
 
 
 def since(state: State | None) -> str:

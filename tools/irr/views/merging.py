@@ -5,6 +5,7 @@ from typing import Collection, Iterable, NamedTuple
 
 from irr.errors import Failure, reading, system_words
 from irr.migrate import conversion
+from irr.migrate.items import with_items
 from irr.migrate.normalisation import (
     AUT_NUM,
     NOBODY,
@@ -21,7 +22,7 @@ from irr.migrate.normalisation import (
 from irr.migrate.parting import Part, parts
 from irr.migrate.report import Place, Tally
 from irr.rpsl import keys, syntax
-from irr.rpsl.syntax import Attribute
+from irr.rpsl.syntax import ITEM, Attribute
 from irr.views import roas
 from irr.views.settings import Settings
 from irr.views.sources import State
@@ -49,10 +50,15 @@ class Counts(Tally):
         self.left[source], self.lost[source] = Counter(), Counter()
 
     def leave_out(
-        self, cause: str, place: Place, text: bytes, further: Iterable[tuple[int, bytes]] = ()
+        self,
+        cause: str,
+        place: Place,
+        text: bytes,
+        further: Iterable[tuple[int, bytes]] = (),
+        item: Iterable[bytes] = (),
     ) -> None:
         self.left[self.source_of[place.path]][cause] += 1
-        super().leave_out(cause, place, text, further)
+        super().leave_out(cause, place, text, further, item)
 
     def drop(self, dropped: Dropped, place: Place, text: bytes) -> None:
         self.lost[self.source_of[place.path]][dropped.cause] += 1
@@ -92,6 +98,11 @@ class ViewMender(Mender):
             if not self.keeps_invalid:
                 raise LeftOut(INVALID)
         return mended
+
+    def need_one(self, number: int, attributes: list[Attribute]) -> None:
+        # An irrdesk tells each object by itself, in whatever order its lines are.
+        if not self.is_irrdesk:
+            super().need_one(number, attributes)
 
     def is_invalid(self, key: int) -> bool:
         prefix = keys.Prefix(key >> 38, key >> 32 & 63)
@@ -171,6 +182,8 @@ class Merge(conversion.Import):
         self.at: tuple[Part, str]
         self.beaten: dict[tuple[str, str], tuple[Mended, Part, str]] = {}
         self.apart: dict[tuple[str, str], str] = {}
+        # The aut-nums and routes that have `member-of`, each with its source.
+        self.referrers: dict[int, str] = {}
 
     @reading("a file")
     def read_states(self, states: dict[str, State]) -> None:
@@ -222,6 +235,11 @@ class Merge(conversion.Import):
         self.at = part, path
         super().take(part, path, is_cut)
 
+    def keep(self, mended: Mended, part: Part) -> None:
+        if mended.number in (AUT_NUM, ROUTE) and b"member-of" in mended.text:
+            self.referrers[len(self.starts)] = mended.source
+        super().keep(mended, part)
+
     def cause_beside(self, mended: Mended) -> str:
         first = self.source_numbers[self.taken[mended.number][mended.key]]
         if self.sources[mended.source] == first:
@@ -252,6 +270,40 @@ class Merge(conversion.Import):
             added = [self.take_apart(*key) for key in wanted]
             waiting = [place for place in added if place is not None]
             self.spool.flush()
+        if self.apart:
+            for place, source in self.referrers.items():
+                self.join(place, source)
+            self.spool.flush()
+
+    def join(self, place: int, source: str) -> None:
+        """Names in `member-of` also the sets of its source that are taken under a name of their
+        own."""
+
+        named: list[bytes] = []
+
+        def both(item: bytes) -> bytes:
+            own = self.own_name(source, item)
+            named.extend([own.encode()] if own else [])
+            return item + b", " + own.encode() if own else item
+
+        old = self.text_of(place)
+        new = [
+            with_items(one, ITEM, both) or one if one.name == b"member-of" else one
+            for one in syntax.read_any(old).attributes
+        ]
+        if not named:
+            return
+        self.own.kinds = set(self.kinds[place])
+        try:
+            text = self.own.written(self.names[place], new)
+        except LeftOut as cause:
+            for item in named:
+                dropped = Dropped(b"member-of", item, str(cause))
+                self.tally.drop(dropped, self.place_of(place), old)
+            return
+        self.spool.write(text)
+        self.starts[place], self.sizes[place] = self.end, len(text)
+        self.end += len(text)
 
     def take_apart(self, source: str, name: str) -> int | None:
         """Takes a set under its name and that of its source; where it is, if its items name

@@ -74,7 +74,7 @@ def read(text: bytes, place: str) -> Read:
     """The ROAs of IPv4 in a file, JSON or CSV of rpki-client or Routinator, but for those that have
     expired."""
     if text.startswith(CSV_HEAD):
-        return kept(list(csv_entries(text)), None, place)
+        return kept(list(csv_entries(text, place)), None, place)
     try:
         found = json.loads(text, object_pairs_hook=once)
     except Unreadable as fault:
@@ -89,16 +89,30 @@ def read(text: bytes, place: str) -> Read:
     return kept(listed, doubts(made_at(found.get("metadata"))), place)
 
 
-def csv_entries(text: bytes) -> Iterator[dict[str, object]]:
-    """The lines of CSV as the entries of JSON are."""
-    lines = text.decode("latin-1").splitlines()[1:]
-    for row in csv.reader(line for line in lines if line.strip()):
-        number, prefix, most, *more = [*row, "", "", ""]
+def csv_entries(text: bytes, place: str) -> Iterator[dict[str, object]]:
+    """The lines of CSV as the entries of JSON are. Each ends, and has the columns of the first one:
+    otherwise it was cut off, and a prefix or a number may be another one."""
+    if not text.endswith(b"\n"):
+        raise Failure(place, f"it ends within a line, so it was cut off; {MADE}")
+    head, *lines = text.decode("latin-1").splitlines()
+    columns = head.count(",") + 1
+    rows = csv.reader(line for line in lines if line.strip())
+    while row := next_row(rows, place):
+        if len(row) != columns:
+            raise Failure(place, f"a line has {len(row)} columns in place of {columns}; {MADE}")
+        number, prefix, most, *more = row
         entry: dict[str, object] = {"asn": number, "prefix": prefix}
         entry["maxLength"] = int(most) if keys.read_number(most, 0, 128) is not None else most
         if len(more) > 1 and keys.read_number(more[1], 0, 1 << 62) is not None:
             entry["expires"] = int(more[1])
         yield entry
+
+
+def next_row(rows: Iterator[list[str]], place: str) -> list[str] | None:
+    try:
+        return next(rows, None)
+    except csv.Error as error:
+        raise Failure(place, f"this is not CSV: {error}; {MADE}") from None
 
 
 def kept(listed: list[Any], doubt: str | None, place: str) -> Read:

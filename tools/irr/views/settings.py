@@ -1,4 +1,5 @@
 """The settings of a view, VIEW.toml: its sources in their order, and how it is served."""
+import json
 import tomllib
 from typing import Any, NamedTuple
 from urllib.parse import urlsplit
@@ -31,6 +32,10 @@ class Source(NamedTuple):
         if not mark or self.nrtm.endswith("]"):
             host, port = self.nrtm, str(NRTM_PORT)
         return host.strip("[]"), int(port)
+
+    def origin(self) -> str:
+        """Where its objects are taken from: what is taken elsewhere is another state."""
+        return json.dumps([self.registry, self.dump, self.serial, self.nrtm])
 
 
 class Settings(NamedTuple):

@@ -13,6 +13,7 @@ from typing import Any, BinaryIO, Iterator, NamedTuple
 
 from irr.errors import Failure, system_words
 from irr.migrate import dumps
+from irr.registry.connection import whole
 from irr.registry.server import Server
 from irr.rpsl import keys, syntax
 from irr.rpsl.syntax import Block
@@ -28,11 +29,12 @@ CHUNK = 1 << 20
 
 
 class State(NamedTuple):
-    """What was taken of a source, in a folder: what told its dumps from earlier ones, their
-    digests, the serial of the last change that is in it, and how many objects of each class it
-    had once it was merged."""
+    """What was taken of a source, in a folder: where it was taken from, what told its dumps from
+    earlier ones, their digests, the serial of the last change that is in it, and how many objects
+    of each class it had once it was merged."""
 
     folder: Path
+    origin: str
     stamps: list[str]
     digests: list[str]
     serial: int | None
@@ -88,7 +90,8 @@ def state_in(folder: Path) -> State | None:
     if not (folder / "state.json").exists():
         return None
     found: dict[str, Any] = json.loads((folder / "state.json").read_bytes())
-    found["folder"] = folder
+    # Version 2.0.0 did not note where it was taken from.
+    found = {"origin": "", **found, "folder": folder}
     return State(**found)
 
 
@@ -97,8 +100,11 @@ class Unchanged(Exception):
 
 
 def renewed(source: Source, old: State | None, work: Path) -> State | None:
-    """What a source has now, in a new folder; None where that is what was taken of it before."""
+    """What a source has now, in a new folder; None where that is what was taken of it before.
+    Nothing is left of what was taken elsewhere."""
     empty(work)
+    if old and old.origin != source.origin():
+        old = None
     if old and source.nrtm and old.serial is not None:
         if not old.changes.exists() or old.changes.stat().st_size < MOST_CHANGES:
             with contextlib.suppress(nrtm.Behind):
@@ -168,7 +174,8 @@ def taken(source: Source, old: State | None, work: Path) -> State | None:
             need_whole(part, place)
         stamps.append(stamp)
         digests.append(digest(part))
-    state = State(work, stamps, digests, serial, old.counts if old else [])
+    counts = old.counts if old else []
+    state = State(work, source.origin(), stamps, digests, serial, counts)
     if old and old.digests == digests:
         if old.serial == serial:
             old._replace(stamps=stamps).put()
@@ -214,9 +221,9 @@ def opened(url: str, is_plain: bool, fields: dict[str, str] | None = None) -> It
     """The reply of an address; a Failure in words."""
     request = urllib.request.Request(url, headers={"User-Agent": "irr", **(fields or {})})
     try:
-        with urllib.request.build_opener(Redirects(is_plain)).open(
-            request, timeout=WAITING
-        ) as reply:
+        secure = urllib.request.HTTPSHandler(context=whole())
+        opener = urllib.request.build_opener(Redirects(is_plain), secure)
+        with opener.open(request, timeout=WAITING) as reply:
             yield reply
     except urllib.error.HTTPError as error:
         if error.code == 304:
@@ -250,6 +257,9 @@ def written(source: BinaryIO, out: BinaryIO, name: str) -> int:
         if size > MOST:
             raise Failure(name, f"it has over {MOST >> 30} GiB; give another file")
         out.write(piece)
+    out.flush()
+    # What its state says of it is on the disk later.
+    os.fsync(out.fileno())
     return size
 
 

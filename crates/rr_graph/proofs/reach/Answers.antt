@@ -16,7 +16,7 @@ loop-done-init g c =
 pub loop-done-preserved : goal.loop-done-preserved
 loop-done-preserved g c =
     IsSearching-more g.G.Node.Ord.cmp (g.G.Graph.edge c.args.graph.now) c.args.starts.items c.args.limit c.loop-done.done c.loop-done.found.list.items c.add_all-in-loop-done.new.self.list.items c.loop-done.found.index c.add_all-in-loop-done.new.self.index c.in_ok-nodes.nodes.items c.index.result.now
-    c.loop-done.invariant (omega arith) c.index.ensures c.in_ok-nodes.ensures c.in_ok-add_all-2.ensures.listing c.in_ok-add_all-2.ensures.added
+    c.loop-done.invariant (omega arith) c.index.ensures (λ next. (c.in_ok-nodes.ensures next).0) (λ next step. c.in_ok-add_all-2.ensures.added.all next ((c.in_ok-nodes.ensures next).1 step)) c.in_ok-add_all-2.ensures.listing c.in_ok-add_all-2.ensures.added
 
 pub returns-in_err-add_all-clause-many : goal.returns-in_err-add_all-clause-many
 returns-in_err-add_all-clause-many g c = λ is.

@@ -18,7 +18,7 @@ loop-turn-init g c = (
 
 pub loop-turn-preserved : goal.loop-turn-preserved
 loop-turn-preserved g c =
-    let Kept : Settled g.row.G.Denot g.row.G-Node.Denot g.row.G-Label.Denot g.row.G-Value.Denot g.row.G-Kind.Denot → Type 0 =
+    let Kept : Settled g.row.G.Denot g.row.G-Node.Denot g.row.G-Label.Denot g.row.G-Value.Denot g.row.G-Kind.Denot g.row.G-Group.Denot → Type 0 =
     λ settled. HoldsAllValues (g.G.Labelled.edge c.args.graph.now) (g.G.Labelled.own c.args.graph.now) g.G.Labelled.passed g.G.Value.Ord.cmp (values_at g.G.Node.Ord.cmp settled.values)
     × IsAmong c.args.nodes.now (values_at g.G.Node.Ord.cmp settled.values)
     × IsTallied (values_at g.G.Node.Ord.cmp settled.values) c.args.limit settled.pairs in

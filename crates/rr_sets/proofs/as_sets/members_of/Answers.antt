@@ -2,7 +2,7 @@ use Rattle.std.proofs.Common.{◌≡◌, ℕ, List, Contains, Bool, true, false,
 use Rattle.std.specs.Prelude.{not}
 use Rattle.std.proofs.lemmas.Map.Lookups.{exact_bytes, exact_unsigned}
 use Rattle.rr_sets.specs.AsSets.{has_as_set}
-use Rattle.rr_sets.proofs.Numbers.{Contains-filter}
+use Rattle.rr_graph.proofs.Lists.{Contains-filter}
 use Rattle.rr_sets.proofs.as_sets.members_of.Goals as goal
 
 pub returns-clause-found : goal.returns-clause-found

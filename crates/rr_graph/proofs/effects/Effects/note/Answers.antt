@@ -1,21 +1,18 @@
 use Rattle.std.proofs.Common.{◌≡◌, List, Some, cond, sym, subst}
-use Rattle.std.specs.BTreeMap.{is_at}
+use Rattle.std.specs.BTreeMap.{get, is_at}
 use Rattle.std.specs.Ordering.{ordering_then}
 use Rattle.std.specs.declared.cmp.Ordering.{Ordering}
 use Rattle.std.proofs.lemmas.Map.Lookups.{exact_pairs}
-use Rattle.rr_graph.specs.EffectParts.{IsEnough}
-use Rattle.rr_graph.specs.SettledParts.{values_at}
+use Rattle.rr_graph.specs.EffectParts.{IsChoice}
 use Rattle.rr_graph.specs.declared.labels.Edge.{Edge}
-use Rattle.rr_graph.proofs.Enough.{IsKnown-entered, items_entered}
+use Rattle.rr_graph.proofs.Enough.{IsKnown-entered}
 use Rattle.rr_graph.proofs.effects.Effects.note.Goals as goal
 
-pub returns : goal.returns
-returns g c = λ all same known.
+pub returns-clause-known : goal.returns-clause-known
+returns-clause-known g c = λ all same known.
     let Key : Type 0 = g.row.G-Node.Denot × g.row.G-Kind.Denot in
     let cmp : Key → Key → Ordering = λ x y. ordering_then (g.G.Node.Ord.cmp x.0 y.0) (g.G.Kind.Ord.cmp x.1 y.1) in
-    let step : (key : Key) → values_at cmp c.insert.new.self key ≡ cond (is_at (cmp (c.in_ok-copy.field-0, c.kind.result)) key) (Some c.in_ok-distinct.field-0.items) (values_at cmp c.args.self.now.map key) =
-    items_entered cmp c.args.self.now.map c.insert.new.self (c.in_ok-copy.field-0, c.kind.result) c.in_ok-distinct.field-0 c.in_ok-insert.ensures.updates.0 in
-    IsKnown-entered g.G.Labelled.passed g.G.Labelled.kind_of g.met.G.Labelled.alike g.met.G.Labelled.dropped (exact_pairs g.G.Node.Ord.cmp g.G.Kind.Ord.cmp g.met.G.Labelled.exact_nodes g.met.G.Labelled.exact_kinds) all
-    (values_at cmp c.args.self.now.map) (values_at cmp c.insert.new.self) c.args.node.now c.args.value c.in_ok-distinct.field-0.items known
-    (subst (λ (l : List (Edge g.row.G-Node.Denot g.row.G-Label.Denot)). IsEnough g.G.Labelled.passed l c.args.value c.in_ok-distinct.field-0.items) (sym same) c.in_ok-distinct.ensures)
-    (subst (λ (new : Key). (key : Key) → values_at cmp c.insert.new.self key ≡ cond (is_at (cmp new) key) (Some c.in_ok-distinct.field-0.items) (values_at cmp c.args.self.now.map key)) (λ j. (c.in_ok-copy.ensures j, c.kind.ensures j)) step)
+    IsKnown-entered g.G.Labelled.keeps g.G.Labelled.passed g.G.Labelled.kind_of g.met.G.Labelled.alike g.met.G.Labelled.dropped (exact_pairs g.G.Node.Ord.cmp g.G.Kind.Ord.cmp g.met.G.Labelled.exact_nodes g.met.G.Labelled.exact_kinds) all
+    (get cmp c.args.self.now.map) (get cmp c.insert.new.self) c.args.node.now c.args.value c.in_ok-choose.field-0 known
+    (subst (λ (l : List (Edge g.row.G-Node.Denot g.row.G-Label.Denot)). IsChoice g.G.Labelled.keeps g.G.Labelled.passed l c.args.value c.in_ok-choose.field-0) (sym same) c.in_ok-choose.ensures)
+    (subst (λ (new : Key). (key : Key) → get cmp c.insert.new.self key ≡ cond (is_at (cmp new) key) (Some c.in_ok-choose.field-0) (get cmp c.args.self.now.map key)) (λ j. (c.in_ok-copy.ensures j, c.kind.ensures j)) c.in_ok-insert.ensures.updates.0)

@@ -1,0 +1,115 @@
+"""A door in this process, over an upstream that answers as it is told: for what is counted between
+the turns of its loop."""
+
+import asyncio
+import contextlib
+import socket
+from collections.abc import AsyncIterator, Awaitable, Callable
+from contextvars import ContextVar
+from typing import Any
+
+from checks.door import worlds
+from checks.running import expect
+from checks.serving import free_port
+from irr.door import service, settings
+from irr.door.watching import Watch
+
+
+# What watches the sockets of the door that runs.
+WATCH: ContextVar[Watch] = ContextVar("WATCH")
+
+
+class Upstream:
+    """A registry that answers each line by `answers`, and remembers the lines."""
+
+    def __init__(self, answers: Callable[[bytes], bytes]) -> None:
+        self.answers, self.lines = answers, list[bytes]()
+        # Nobody gets an answer before this is set.
+        self.may_answer = asyncio.Event()
+        self.may_answer.set()
+
+    async def serve(self, reader: asyncio.StreamReader, writer: asyncio.StreamWriter) -> None:
+        with contextlib.suppress(ConnectionError):
+            line = await reader.readline()
+            if not line:
+                # A look whether anybody listens.
+                pass
+            elif line.startswith(b"less 0.0.0.0/0\r"):
+                writer.write(worlds.ALL + b"\n")
+            else:
+                self.lines.append(line.strip())
+                await self.may_answer.wait()
+                writer.write(self.answers(line.strip()))
+            await writer.drain()
+        writer.close()
+
+
+@contextlib.asynccontextmanager
+async def opened(
+    answers: Callable[[bytes], bytes], /, **given: Any
+) -> AsyncIterator[tuple[service.Service, Upstream]]:
+    """A door that is open over such an upstream, and its settings."""
+    upstream, port = Upstream(answers), free_port()
+    server = await asyncio.start_server(upstream.serve, "127.0.0.1", port)
+    ports = [f"127.0.0.1:{free_port()}" for _ in range(4)]
+    words = {
+        "registry": f"http://127.0.0.1:{port}",
+        "whois": [ports[0]],
+        "http": [ports[1]],
+        "status": ports[2],
+        "agent": ports[3],
+        "burst": 1_000.0,
+        "refill": 1_000.0,
+    }
+    door = service.Service(WATCH.get(), settings.read(None, {**words, **given}))
+    troubles: list[dict[str, Any]] = []
+    said: list[str] = []
+    running = asyncio.create_task(door.run(said.append))
+    await until(lambda: said and door.pool.source or running.done())
+    asyncio.get_running_loop().set_exception_handler(lambda _, told: troubles.append(told))
+    try:
+        yield door, upstream
+    finally:
+        door.ended.set()
+        server.close()
+        await running
+    expect((troubles, door.counters.faults), ([], 0), "faults of the door")
+
+
+async def until(is_so: Callable[[], object]) -> None:
+    """Waits for a condition."""
+    async with asyncio.timeout(60):
+        while not is_so():
+            await asyncio.sleep(0.001)
+
+
+async def connected(text: str) -> socket.socket:
+    """A client of a place, with little room for what it is sent."""
+    host, _, port = text.rpartition(":")
+    peer = socket.socket()
+    peer.setsockopt(socket.SOL_SOCKET, socket.SO_RCVBUF, 1 << 14)
+    peer.setblocking(False)
+    await asyncio.get_running_loop().sock_connect(peer, (host, int(port)))
+    return peer
+
+
+async def asked(text: str, line: bytes) -> bytes:
+    """The whole answer to a line of whois."""
+    host, _, port = text.rpartition(":")
+    reader, writer = await asyncio.open_connection(host, int(port))
+    writer.write(line + b"\r\n")
+    answer = await reader.read()
+    writer.close()
+    return answer
+
+
+def run(work: Awaitable[Any]) -> Any:
+    """Does something in a loop of its own."""
+    watch = Watch()
+
+    async def main() -> Any:
+        WATCH.set(watch)
+        return await work
+
+    with asyncio.Runner(loop_factory=lambda: watch.loop) as runner:
+        return runner.run(main())

@@ -1,0 +1,4 @@
+mod CommandLines
+mod Flags
+mod Named
+mod Stops

@@ -1,0 +1,199 @@
+-- What the words of a command line ask for (profile).
+use Rattle.std.specs.Prelude.{◌≡◌, ◌⊎◌, ◌&&◌, ℕ, Bool, true, false, not, List, [], ◌∷◌}
+use Rattle.std.specs.Prelude.{Option, Some, None, Result, Ok, Err, IsTrue, if◌then◌else◌, codes}
+use Rattle.std.specs.Prelude.{string_bytes, unwrap_or, ⊤}
+use Rattle.std.specs.Prelude.{MatchResult, ◌==◌}
+use Rattle.std.specs.List.{join_by, list_any}
+use Rattle.std.specs.Option.{option_map_or}
+use Rattle.std.specs.Str.{bytes_eq}
+use Rattle.clap.specs.Walk.{Row, Text, all_of, first_of, one_of, stop_after}
+use Rattle.clap.specs.Simple.{argument_words, built, names_of, subcommand_of}
+use Rattle.clap.specs.Kinds.{Kinds}
+use Rattle.clap.specs.Faults.{fault_of}
+use Rattle.clap.specs.declared.error.kind.ErrorKind.{ErrorKind}
+use Rattle.clap.specs.declared.error.kind.ErrorKind.TheVariants.{DisplayHelp, DisplayVersion}
+use Rattle.clap.specs.declared.error.kind.ErrorKind.TheVariants.{OutOfMemory}
+use Rattle.rr_arguments.specs.Grammar.{program_app}
+use Rattle.rr_arguments.specs.Numbers.{number_within}
+use Rattle.rr_arguments.specs.declared.command.Command.{Command}
+use Rattle.rr_arguments.specs.declared.command.Command.TheVariants as command
+use Rattle.rr_arguments.specs.declared.fault.ArgumentsFault.{ArgumentsFault}
+use Rattle.rr_arguments.specs.declared.fault.ArgumentsFault.TheVariants as fault
+
+-- what a command line asks for: a command, with its arguments as text; or it names what is no port
+-- or no count; or it is answered with help, the version or a refusal, of one of these kinds; or it
+-- asks for nothing (profile)
+pub data Invocation : Type 0 where
+  plain : Invocation
+  init : Text → Invocation
+  submit : Text → Text → Invocation
+  query : Text → Text → Invocation
+  dump : Text → Bool → Invocation
+  load : Text → Text → Invocation
+  migrate : Text → Invocation
+  serve : Text → ℕ → ℕ → Invocation
+  probe : Text → Invocation
+  bad_port : Text → Invocation
+  bad_count : Text → Invocation
+  told : Kinds → Invocation
+  nothing : Invocation
+
+-- words with one blank between each two (profile)
+abbrev pub joined : List Text → Text
+joined words = join_by (λ word. word) (codes " ") words
+
+-- ---- the arguments that a command got
+
+-- what is made of the argument of this place (profile)
+abbrev pub given : Text → (Text → Invocation) → List Row → Invocation
+given place made rows = option_map_or made (first_of place rows) nothing
+
+-- what is made of the number that an argument spells, from 1 to the greatest (profile)
+abbrev pub spelled : ℕ → (Text → Invocation) → (ℕ → Invocation) → Text → Invocation
+spelled greatest bad made text = option_map_or made (number_within text greatest) (bad text)
+
+abbrev pub invoked_port : (ℕ → Invocation) → List Row → Invocation
+invoked_port made rows = given (codes "PORT") (spelled 65535 bad_port made) rows
+
+abbrev pub invoked_count : (ℕ → Invocation) → List Row → Invocation
+invoked_count made rows = given (codes "N") (spelled 1000000 bad_count made) rows
+
+-- a flag stands among the arguments (profile)
+abbrev pub flag_of : Text → List Row → Bool
+flag_of id rows = option_map_or (bytes_eq (codes "true")) (one_of id rows) false
+
+-- such a flag was read as true or false, or is no argument of the command (profile)
+abbrev pub IsFlag : Option Text → Type 0
+IsFlag text =
+    (text ≡ None) ⊎ ((text ≡ Some (codes "true")) ⊎ (text ≡ Some (codes "false")))
+
+-- what the command of this name asks for over these settings (profile)
+abbrev pub invoked_over : Text → List Row → Text → Invocation
+invoked_over name rows settings =
+    if bytes_eq name (codes "init") then init settings
+    else (if bytes_eq name (codes "submit") then given (codes "FILE") (submit settings) rows
+    else (if bytes_eq name (codes "query")
+    then query settings (joined (unwrap_or (all_of (codes "WORD") rows) []))
+    else (if bytes_eq name (codes "dump") then dump settings (flag_of (codes "full") rows)
+    else (if bytes_eq name (codes "load") then given (codes "FILE") (load settings) rows
+    else (if bytes_eq name (codes "migrate") then migrate settings
+    else (if bytes_eq name (codes "serve")
+    then invoked_port (λ port. invoked_count (serve settings port) rows) rows
+    else (if bytes_eq name (codes "probe") then probe settings else nothing)))))))
+
+abbrev pub invoked_by : Text → List Row → Invocation
+invoked_by name rows = given (codes "SETTINGS") (invoked_over name rows) rows
+
+-- ---- what is read of it
+
+abbrev pub is_shown : ErrorKind → Bool
+is_shown DisplayHelp = true
+is_shown DisplayVersion = true
+is_shown _ = false
+
+abbrev pub is_refusal : ErrorKind → Bool
+is_refusal DisplayHelp = false
+is_refusal DisplayVersion = false
+is_refusal OutOfMemory = false
+is_refusal _ = true
+
+abbrev pub TellsKind : (ErrorKind → Bool) → Invocation → Type 0
+TellsKind is_so invocation =
+    (kinds : Kinds) × (invocation ≡ told kinds) × IsTrue (list_any is_so kinds)
+
+-- the command that is asked for; help and the version are text (profile)
+abbrev pub IsInvoked : Command → Invocation → Type 0
+IsInvoked command.Plain invocation = invocation ≡ plain
+IsInvoked (command.Init settings) invocation = invocation ≡ init settings.now
+IsInvoked (command.Submit settings file) invocation = invocation ≡ submit settings.now file.now
+IsInvoked (command.Query settings words) invocation =
+    invocation ≡ query settings.now (string_bytes words)
+IsInvoked (command.Dump settings full) invocation = invocation ≡ dump settings.now full
+IsInvoked (command.Load settings file) invocation = invocation ≡ load settings.now file.now
+IsInvoked (command.Migrate settings) invocation = invocation ≡ migrate settings.now
+IsInvoked (command.Serve settings port count) invocation =
+    invocation ≡ serve settings.now port count
+IsInvoked (command.Probe settings) invocation = invocation ≡ probe settings.now
+IsInvoked (command.Print text) invocation = TellsKind is_shown invocation
+
+-- why nothing is asked for; memory may always run out (profile)
+abbrev pub FailsToInvoke : ArgumentsFault → Invocation → Type 0
+FailsToInvoke (fault.Refused line) invocation = TellsKind is_refusal invocation
+FailsToInvoke fault.Unexplained invocation = invocation ≡ nothing
+FailsToInvoke (fault.Port word) invocation = invocation ≡ bad_port word.now
+FailsToInvoke (fault.Count word) invocation = invocation ≡ bad_count word.now
+FailsToInvoke fault.Memory invocation = ⊤
+
+-- what was read is what is asked for (profile)
+abbrev pub GivesInvoked : Invocation → Result Command ArgumentsFault → Type 0
+GivesInvoked invocation result = MatchResult result (λ command. IsInvoked command invocation)
+    (λ fault. FailsToInvoke fault invocation)
+
+-- the same of a part: with it the line asks for what is made of it (profile)
+abbrev pub GivesPart : {T : Type 0} → ((T → Invocation) → Invocation) → Result T ArgumentsFault
+    → Type 0
+GivesPart {T} invocation result = (made : T → Invocation)
+    → MatchResult result (λ part. invocation made ≡ made part)
+    (λ fault. FailsToInvoke fault (invocation made))
+
+-- what a request for help or the version, and a refusal, is read as (profile)
+abbrev pub IsToldAs : ErrorKind → Result Command ArgumentsFault → Type 0
+IsToldAs kind (Ok (command.Print text)) = IsTrue (is_shown kind)
+IsToldAs kind (Err (fault.Refused line)) = IsTrue (is_refusal kind)
+IsToldAs kind (Err fault.Memory) = ⊤
+IsToldAs kind _ = ⊥
+
+-- ---- the whole line
+
+abbrev pub invoked_at : Option (Text × List Row) → Invocation
+invoked_at stop = option_map_or (λ p. invoked_by p.0 p.1) stop nothing
+
+abbrev pub invoked_unless : Kinds → Option (Text × List Row) → Invocation
+invoked_unless [] stop = invoked_at stop
+invoked_unless (kind ∷ kinds) stop = told (kind ∷ kinds)
+
+-- the kinds of refusal, of help or of version text that a parse of the words gives, none if it
+-- finds a command; and the command, with its arguments (profile)
+unfoldable pub line_kinds : List Text → Kinds
+line_kinds words = fault_of program_app words
+
+unfoldable pub line_command : List Text → Option (Text × List Row)
+line_command words = subcommand_of program_app words
+
+-- the command that the words name, and the words after it (profile)
+unfoldable pub line_stop : List Text → Option (Text × List Text)
+line_stop words = stop_after (built program_app).top.rules (names_of (built program_app))
+    (argument_words program_app words)
+
+-- what the words ask for by the rules of command lines (profile)
+abbrev pub parsed : List Text → Invocation
+parsed words = invoked_unless (line_kinds words) (line_command words)
+
+-- the help on a command (profile)
+abbrev pub helped : Text → Text → Invocation
+helped first name = invoked_unless (line_kinds (first ∷ name ∷ codes "--help" ∷ [])) None
+
+abbrev pub asks_help : Text → Text → Bool
+asks_help word name = bytes_eq word (codes "help") && not (bytes_eq name (codes "help"))
+
+abbrev pub parsed_or_helped : List Text → Invocation
+parsed_or_helped (first ∷ word ∷ name ∷ []) =
+    if asks_help word name then helped first name else parsed (first ∷ word ∷ name ∷ [])
+parsed_or_helped words = parsed words
+
+abbrev pub begins_with_dash : Text → Bool
+begins_with_dash [] = false
+begins_with_dash (byte ∷ bytes) = byte == 45
+
+abbrev pub asks_query : Text → Text → Bool
+asks_query name settings = bytes_eq name (codes "query") && not (begins_with_dash settings)
+
+-- what a command line asks for, of which the first word is the program's name: nothing after it is
+-- the plain command; after the settings of a query all are its words (profile)
+abbrev pub invoked : List Text → Invocation
+invoked [] = plain
+invoked (first ∷ []) = plain
+invoked (first ∷ name ∷ settings ∷ word ∷ words) =
+    if asks_query name settings then query settings (joined (word ∷ words))
+    else parsed_or_helped (first ∷ name ∷ settings ∷ word ∷ words)
+invoked words = parsed_or_helped words

@@ -1,0 +1,30 @@
+-- What is remembered of the objects of a registry, and when it holds.
+use Rattle.std.specs.Prelude.{◌≡◌, ℕ, Bool, false, List, Some, IfSome}
+use Rattle.std.specs.BTreeMap.{BTreeMap, get as answer_at}
+use Rattle.std.specs.FinMap.{get}
+use Rattle.std.specs.Ordering.{eq_by_cmp}
+use Rattle.rr_object.specs.declared.key.Key.{Key}
+use Rattle.rr_object.specs.KeyOrders.{key_cmp}
+use Rattle.rr_object.specs.Objects.{Obj}
+use Rattle.rr_auth.specs.declared.known.Known.{Known}
+use Rattle.rr_auth.specs.Passing.{names_pass}
+use Rattle.rr_auth.specs.Registries.{Reg}
+
+-- It says whether the mnt-by of the object of the key passes with these secrets, if there is one.
+abbrev pub IsSeen : Reg → List (List ℕ) → Key → Bool → Type 0
+IsSeen r secrets k passes =
+    (o : Obj) → get r k ≡ Some o → passes ≡ names_pass r secrets o.maintainers
+
+-- Each answer is that of its object to these secrets.
+abbrev pub AreSeen : Reg → List (List ℕ) → BTreeMap Key Bool → Type 0
+AreSeen r secrets answers =
+    (k : Key) → IfSome (answer_at key_cmp answers k) (IsSeen r secrets k)
+
+-- Each answer holds in the registry, for the secrets that are kept with it: none is stale.
+abbrev pub IsKnown : Reg → Known → Type 0
+IsKnown r known = AreSeen r known.secrets.items known.answers
+
+-- Nothing changed but what stands under the key.
+abbrev pub IsSameBut : Key → Reg → Reg → Type 0
+IsSameBut k before after =
+    (l : Key) → eq_by_cmp key_cmp l k ≡ false → get after l ≡ get before l

@@ -1,0 +1,101 @@
+-- What a run of the program does, by its words (profile).
+use Rattle.std.specs.Prelude.{◌≡◌, ◌⊎◌, ℕ, List, Ok, Err}
+use Rattle.sqlite_trees.specs.declared.store.Store.{Ghosts}
+use Rattle.rr_io.specs.Sending.{TakesSome}
+use Rattle.rr_io.specs.Told.{Told}
+use Rattle.rr_desk.specs.Turns.{Serving}
+use Rattle.rr_arguments.specs.CommandLine.{Invocation, IsInvoked, FailsToInvoke, invoked}
+use Rattle.rr_arguments.specs.declared.command.Command.{Command}
+use Rattle.rr_arguments.specs.declared.fault.ArgumentsFault.{ArgumentsFault}
+use Rattle.rr_arguments.specs.declared.fault.ArgumentsFault.TheVariants as fault
+use Rattle.rr_commands.specs.Commands.{DatabaseCalls, ProgramEnd, Reads}
+use Rattle.rr_commands.specs.Faults.{IsLegible, fault_line}
+use Rattle.rr_commands.specs.Troubles.{trouble_status}
+use Rattle.rr_commands.specs.declared.cause.Cause.{Cause}
+use Rattle.rr_commands.specs.declared.fault.About.{About}
+use Rattle.rr_commands.specs.declared.fault.About.TheVariants as about
+use Rattle.rr_commands.specs.declared.fault.ProgramFault.{ProgramFault}
+use Rattle.rr_commands.specs.declared.trouble.Trouble.{Trouble}
+use Rattle.rr_commands.specs.declared.trouble.Trouble.TheVariants as trouble
+use Rattle.rr_cli.specs.Probing.{Asking}
+use Rattle.rr_cli.specs.Running.{CarriesOut}
+use Rattle.rr_cli.specs.Serving.{Listens}
+
+-- what goes wrong where a line asks for nothing (profile)
+abbrev pub arguments_trouble : ArgumentsFault → Trouble
+arguments_trouble (fault.Refused line) = trouble.BadArguments
+arguments_trouble fault.Unexplained = trouble.BadArguments
+arguments_trouble (fault.Port word) = trouble.BadPort
+arguments_trouble (fault.Count word) = trouble.BadCount
+arguments_trouble fault.Memory = trouble.Memory
+
+-- and what that is about: a port or a count is the word, and a refusal says why (profile)
+abbrev pub IsAboutArguments : ArgumentsFault → About → Type 0
+IsAboutArguments (fault.Port word) (about.Word told) = told ≡ word
+IsAboutArguments (fault.Count word) (about.Word told) = told ≡ word
+IsAboutArguments (fault.Refused line) (about.Named told) = Unit {0}
+IsAboutArguments fault.Unexplained about.Nothing = Unit {0}
+IsAboutArguments fault.Memory about.Nothing = Unit {0}
+IsAboutArguments _ _ = ⊥
+
+-- a fault of a line that asks for nothing (profile)
+pub record IsOfArguments (fault : ArgumentsFault) (ended : ProgramFault) : Type 0 where
+  pub trouble : ended.trouble ≡ arguments_trouble fault
+  pub about : IsAboutArguments fault ended.about
+
+-- nothing was asked for, which is the fault, and nothing was used (profile)
+pub record InvokesNothing {D : Type 0} (invocation : Invocation) (start end : D)
+    (reader_old reader_new writer_old writer_new : Told) (result : ProgramEnd) : Type 0 where
+  pub fault : ArgumentsFault
+  pub refused : FailsToInvoke fault invocation
+  pub ended : ProgramFault
+  pub told : result ≡ Err ended
+  pub of_arguments : IsOfArguments fault ended
+  pub unused : end ≡ start
+  pub unread : reader_new ≡ reader_old
+  pub unwritten : writer_new ≡ writer_old
+
+-- a command that was asked for was carried out (profile)
+pub record InvokesCommand {D S : Type 0} (g : Ghosts S) (calls : DatabaseCalls D S) (reads : Reads)
+    (listens : Listens) (asks : Asking) (serves : Serving) (invocation : Invocation) (start end : D)
+    (reader_old reader_new writer_old writer_new : Told) (result : ProgramEnd) : Type 0 where
+  pub command : Command
+  pub is_invoked : IsInvoked command invocation
+  pub carried_out : CarriesOut g calls reads listens asks serves command start end
+      reader_old reader_new writer_old writer_new result
+
+-- what was asked for was done, or nothing was (profile)
+abbrev pub DoesAsInvoked : {D S : Type 0} → Ghosts S → DatabaseCalls D S → Reads → Listens → Asking
+    → Serving → Invocation → D → D → Told → Told → Told → Told → ProgramEnd → Type 0
+DoesAsInvoked g calls reads listens asks serves invocation start end reader_old reader_new
+    writer_old writer_new result =
+    InvokesCommand g calls reads listens asks serves invocation start end reader_old reader_new
+    writer_old writer_new result
+    ⊎ InvokesNothing invocation start end reader_old reader_new writer_old writer_new result
+
+-- the status of such an end: a fault has its status, and its one line on standard error, of which
+-- a failed write may leave the end out (profile)
+abbrev pub EndsRun : ProgramEnd → Told → Told → ℕ → Type 0
+EndsRun (Ok given) errors_old errors_new status = (status ≡ given) × (errors_new ≡ errors_old)
+EndsRun (Err fault) errors_old errors_new status = (status ≡ trouble_status fault.trouble)
+    × ((about : About) × IsLegible fault.about about
+    × TakesSome errors_old errors_new (fault_line about fault.trouble fault.stream))
+
+-- why the arguments were not read: one is not text, or memory ran out (profile)
+abbrev pub IsUnread : Trouble → Type 0
+IsUnread cause = (cause ≡ trouble.ArgumentsNotText) ⊎ (cause ≡ trouble.Memory)
+
+-- the status of that, and its line (profile)
+abbrev pub EndsUnread : Trouble → Told → Told → ℕ → Type 0
+EndsUnread cause errors_old errors_new status = (status ≡ trouble_status cause)
+    × ((stream : Cause) × TakesSome errors_old errors_new (fault_line about.Nothing cause stream))
+
+-- a run over these words (profile)
+pub record Runs {D S : Type 0} (g : Ghosts S) (calls : DatabaseCalls D S) (reads : Reads)
+    (listens : Listens) (asks : Asking) (serves : Serving) (words : List (List ℕ)) (start end : D)
+    (reader_old reader_new writer_old writer_new errors_old errors_new : Told) (status : ℕ)
+    : Type 0 where
+  pub result : ProgramEnd
+  pub does : DoesAsInvoked g calls reads listens asks serves (invoked words) start end
+      reader_old reader_new writer_old writer_new result
+  pub ends : EndsRun result errors_old errors_new status

@@ -1,0 +1,493 @@
+"""How a registry of this machine is, and what stands round it: what is wrong, each with a word and
+its remedy. docs/WATCHING.md has a row for each word."""
+
+import calendar
+import contextlib
+import dataclasses
+import http.client
+import json
+import os
+import socket
+import time
+from collections import Counter
+from pathlib import Path
+from typing import Any, Iterator, NamedTuple
+from urllib.parse import urlsplit
+
+from irr.errors import SETTINGS, Failure, system_words
+from irr.local import databases
+from irr.local.history import shown_time
+from irr.rpsl import keys
+from irr.system import services, tomls
+from irr.terminal import texts
+
+# What is to be done about each fault.
+REMEDIES = {
+    "registry-down": "wait while the database is opened, or see `systemctl status irrdesk`",
+    "registry-failed": "the check starts it again; `journalctl --unit irrdesk` says why",
+    "registry-slow": "the check starts it again; look who submits so much",
+    "registry-other": "look at what listens there",
+    "mirror-down": "see `systemctl status irrdesk-mirror`",
+    "replicas-not-renewed": "mend that; the replicas answer meanwhile",
+    "replica-old": "see `systemctl status irrdesk-mirror`",
+    "door-down": "the check starts it again; `journalctl --unit irrdesk-door` says why",
+    "door-in-part": "see http://127.0.0.1:4381/status",
+    "unit-failed": "mend what its journal says, and start it",
+    "unit-stopped": "start it, or disable it",
+    "backup-old": "`journalctl --unit irrdesk-backup` says why; make one by hand",
+    "history-old": "`journalctl --unit irrdesk-history` says why",
+    "mirror-behind": "tell its operator: it may have to begin from a dump",
+    "certificate-ends": "renew it, and reload the proxy",
+    "certificate-bad": "correct the proxy's certificate, or the name",
+    "disk-full": "make room: a full disk stops the registry",
+    "clock-ahead": "correct the clock, and remove or rename what is of the future",
+    "memory-full": "remove junk, or give it more: see OPEN.md",
+}
+# What a start of a unit mends, by the fault.
+RESTARTED = {
+    "registry-failed": "irrdesk.service",
+    "registry-slow": "irrdesk.service",
+    "door-down": "irrdesk-door.service",
+}
+UNITS = (
+    *("irrdesk.service", "irrdesk-check.timer", "irrdesk-mirror.service"),
+    *("irrdesk-door.socket", "irrdesk-door.service"),
+    *("irrdesk-backup.timer", "irrdesk-backup.service"),
+    *("irrdesk-history.timer", "irrdesk-history.service"),
+    *("irrdesk-export.timer", "irrdesk-export.service"),
+    *("irrdesk-dump.timer", "irrdesk-dump.service"),
+    *("irrdesk-filter.timer", "irrdesk-filter.service"),
+    *("irrdesk-notify.timer", "irrdesk-notify.service"),
+    "irrdesk-view@*.service",
+)
+PROPERTIES = "Id,ActiveState,UnitFileState,Result,ControlGroup,MemoryCurrent,MemoryMax"
+WANTED = "/etc/systemd/system"
+GROUPS = "/sys/fs/cgroup"
+HOUR, DAY, MEBIBYTE = 3_600, 86_400, 1 << 20
+# Seconds for a proxy's certificate.
+SHOWING = 10
+MOST = 1 << 22
+
+
+class Fault(NamedTuple):
+    """What is wrong: its word, the thing, and what of it."""
+
+    word: str
+    thing: str
+    what: str
+
+    def line(self) -> str:
+        return texts.shown_line(f"{self.word}: {self.thing}: {self.what}; {REMEDIES[self.word]}")
+
+    def told(self) -> dict[str, str]:
+        return {
+            "check": self.word,
+            "thing": self.thing,
+            "what": self.what,
+            "remedy": REMEDIES[self.word],
+        }
+
+
+@dataclasses.dataclass(frozen=True)
+class Bounds:
+    """From when on something is a fault: options of `irr check`, and keys of `[check]` in
+    irr.toml."""
+
+    seconds: float = 300
+    replica_age: float = 600
+    backup_age: float = 26
+    history_age: float = 1
+    behind: float = 10_000
+    certificate: tuple[str, ...] = ()
+    certificate_days: float = 14
+    disk: float = 512
+    clock: float = 300
+    memory: float = 90
+
+
+@dataclasses.dataclass(frozen=True)
+class Places:
+    """Where it is looked."""
+
+    url: str = "http://127.0.0.1:4343/query/ROOT-MNT"
+    door: str = ""
+    agent: str = ""
+    settings: str = databases.DEFAULT
+    backups: str = "/var/lib/irrdesk-backup"
+    history: str = "/var/lib/irrdesk-history"
+
+
+def bounds(path: str, given: dict[str, Any]) -> tuple[Bounds, dict[str, Any], list[str]]:
+    """The bounds of the settings' table `check`, with what is given over them; the settings; and
+    that this user may not read them."""
+    unseen: list[str] = []
+    found: dict[str, Any] = {}
+    try:
+        with contextlib.suppress(FileNotFoundError), open(path, "rb"):
+            found = tomls.parsed(path, tomls.text_of(path))
+    except PermissionError:
+        unseen.append(f"{path}: this user may not read the settings")
+    table = found.get("check", {})
+    fields = {field.name: field.default for field in dataclasses.fields(Bounds)}
+    if not isinstance(table, dict):
+        raise Failure(f"{path}: check", "this is not a table; write [check]", SETTINGS)
+    values: dict[str, Any] = {}
+    for name, value in table.items():
+        if name not in fields:
+            raise Failure(
+                f"{path}: check.{name}", "there is no such key; see irr.toml(5)", SETTINGS
+            )
+        values[name] = checked(f"{path}: check.{name}", value, fields[name])
+    values |= {name: value for name, value in given.items() if value is not None}
+    return Bounds(**values), found, unseen
+
+
+def checked(thing: str, value: Any, default: Any) -> Any:
+    """A value of the kind that the default has."""
+    if isinstance(default, tuple):
+        if not isinstance(value, list) or not all(isinstance(one, str) for one in value):
+            raise Failure(thing, 'it takes a list of names, such as ["irr.example.net"]', SETTINGS)
+        return tuple(value)
+    if isinstance(value, bool) or not isinstance(value, (int, float)) or not 0 <= value <= 1e9:
+        raise Failure(thing, "it takes a number from 0; correct it", SETTINGS)
+    return float(value)
+
+
+class Unasked(Exception):
+    """Why something did not answer."""
+
+
+class Health:
+    """What is looked at, one after the other."""
+
+    def __init__(self, places: Places, bounds: Bounds, settings: dict[str, Any]) -> None:
+        self.places, self.bounds, self.settings = places, bounds, settings
+        self.faults: list[Fault] = []
+        # What could not be looked at, and why.
+        self.unseen: list[str] = []
+        # Times that things are dated.
+        self.dated: list[tuple[str, float]] = []
+        self.states: dict[str, dict[str, str]] = {}
+        self.enabled: set[str] = set()
+        self.now = time.time()
+
+    def look(self) -> None:
+        """All of it."""
+        self.ask_systemd()
+        self.ask_registry()
+        self.ask_agent()
+        self.ask_door()
+        self.look_at_backups()
+        self.look_at_history()
+        for name in self.bounds.certificate:
+            self.look_at_certificate(name)
+        self.look_at_disk()
+        self.look_at_memory()
+        self.look_at_clock()
+
+    def fault(self, word: str, thing: str, what: str) -> None:
+        self.faults.append(Fault(word, thing, what))
+
+    @contextlib.contextmanager
+    def seeing(self, thing: str | Path) -> Iterator[None]:
+        """What this user may not see is no fault."""
+        try:
+            yield
+        except OSError as error:
+            self.unseen.append(f"{thing}: it cannot be read: {system_words(error)}")
+
+    def metrics(self) -> str:
+        """How many faults there are of each word, and when that was, for Prometheus."""
+        count = Counter(fault.word for fault in self.faults)
+        lines = [
+            "# HELP irrdesk_check_faults Faults that irr check found, by their word.",
+            "# TYPE irrdesk_check_faults gauge",
+            *(f'irrdesk_check_faults{{check="{word}"}} {count[word]}' for word in REMEDIES),
+            "# HELP irrdesk_check_time_seconds When irr check looked.",
+            "# TYPE irrdesk_check_time_seconds gauge",
+            f"irrdesk_check_time_seconds {self.now:.0f}",
+        ]
+        return "".join(f"{line}\n" for line in lines)
+
+    # Units.
+
+    def ask_systemd(self) -> None:
+        """The states of the units."""
+        with self.seeing(WANTED):
+            links = Path(WANTED).glob("*.wants/irrdesk*")
+            self.enabled = {path.name for path in links if os.path.lexists(path)}
+        try:
+            done = services.systemctl(
+                "show", f"--property={PROPERTIES}", *UNITS, *sorted(self.enabled)
+            )
+        except Failure as failure:
+            self.unseen.append(str(failure))
+            return
+        if done.returncode or not done.stdout.strip():
+            why = " ".join(done.stderr.split()) or "it says nothing"
+            self.unseen.append(f"systemd: it cannot be asked: {why}")
+            return
+        for block in done.stdout.strip().split("\n\n"):
+            state = dict(line.partition("=")[::2] for line in block.splitlines())
+            if state.get("Id"):
+                self.states[state["Id"]] = state
+        self.enabled |= {
+            name for name, state in self.states.items() if state.get("UnitFileState") == "enabled"
+        }
+        for name, state in self.states.items():
+            if state.get("ActiveState") == "failed":
+                self.fault("unit-failed", name, f"it has failed ({state.get('Result')})")
+            elif name in self.enabled and state.get("ActiveState") == "inactive":
+                self.fault("unit-stopped", name, "it is enabled, and does not run")
+
+    # Who answers.
+
+    def ask_registry(self) -> None:
+        """One query over HTTP. An operator's own submission may hold the server for minutes."""
+        url, name = self.places.url, "irrdesk.service"
+        state = self.states.get(name, {}).get("ActiveState")
+        if state == "inactive" and name not in self.enabled and url == Places.url:
+            return
+        try:
+            status, _ = fetched(url, self.bounds.seconds)
+        except ConnectionRefusedError:
+            self.fault("registry-down", url, "nothing listens")
+        except Unasked as why:
+            self.fault("registry-slow", url, f"no whole answer within {self.seconds} s ({why})")
+        except (OSError, ValueError) as error:
+            self.fault("registry-other", url, f"it cannot be asked ({error})")
+        else:
+            if status == 503:
+                self.fault("registry-failed", url, "status 503, the database has failed")
+            elif status != 200:
+                self.fault("registry-other", url, f"status {status} and not 200")
+
+    @property
+    def seconds(self) -> str:
+        return f"{self.bounds.seconds:g}"
+
+    def ask_agent(self) -> None:
+        """What the agent of the mirror says of its replicas."""
+        place = self.places.agent
+        if not place and "irrdesk-mirror.service" in self.enabled:
+            place = str(self.door_settings().get("agent", "127.0.0.1:4340"))
+        if not place:
+            return
+        try:
+            text = exchanged(place, b"state\n", self.bounds.seconds)
+            told = json.loads(text)
+            fault, replicas = str(told["fault"]), list(told["replicas"])
+            found = [(str(one["port"]), bool(one["ready"]), float(one["seen"])) for one in replicas]
+        except (OSError, ValueError, KeyError, TypeError, Unasked) as why:
+            self.fault("mirror-down", place, f"the agent does not answer ({why})")
+            return
+        if fault:
+            self.fault("replicas-not-renewed", place, fault)
+        for port, is_ready, seen in found:
+            thing, age = f"replica 127.0.0.1:{port}", self.now - seen
+            self.dated += [(thing, seen)] * bool(seen)
+            if seen and age > self.bounds.replica_age:
+                self.fault("replica-old", thing, f"its state is {age:.0f} s old")
+            elif not is_ready and not fault:
+                self.unseen.append(f"{thing}: it is about to be renewed")
+
+    def door_settings(self) -> dict[str, Any]:
+        """The settings of the door, if they are to be read."""
+        path = str(Path(self.places.settings).parent / "door.toml")
+        try:
+            return tomls.parsed(path, tomls.text_of(path))
+        except Failure as failure:
+            self.unseen.append(str(failure))
+            return {}
+
+    def ask_door(self) -> None:
+        """How the door is, and how far those are who mirror the registry."""
+        place = self.places.door
+        if not place and "irrdesk-door.service" in self.enabled:
+            place = str(self.door_settings().get("status", "127.0.0.1:4381"))
+        if not place:
+            return
+        try:
+            _, text = fetched(f"http://{place}/status", self.bounds.seconds)
+        except (OSError, ValueError, Unasked) as why:
+            self.fault("door-down", place, f"the door does not answer ({why})")
+            return
+        lines = text.decode("utf-8", "replace").splitlines()
+        if not lines:
+            self.fault("door-down", place, "the door answers nothing")
+        elif not lines[0].startswith("well"):
+            self.fault("door-in-part", place, "; ".join(lines))
+        with contextlib.suppress(OSError, ValueError, KeyError, TypeError, Unasked):
+            _, text = fetched(f"http://{place}/status?json", self.bounds.seconds)
+            self.look_at_mirrors(json.loads(text)["serials"] or {})
+
+    def look_at_mirrors(self, serials: dict[str, Any]) -> None:
+        """How many serials each mirror is behind, and whether it can still follow."""
+        last, first = int(serials.get("last", 0)), int(serials.get("first", 0))
+        for address, one in serials.get("mirrors", {}).items():
+            behind = last - int(one["serial"])
+            if int(one["serial"]) + 1 < first:
+                self.fault("mirror-behind", address, "what it lacks is no longer kept")
+            elif behind > self.bounds.behind:
+                self.fault("mirror-behind", address, f"it is {behind:,} serials behind")
+
+    # What is kept.
+
+    def look_at_backups(self) -> None:
+        """How old the newest backup is."""
+        place = Path(self.places.backups)
+        if "irrdesk-backup.timer" not in self.enabled and place == Path(Places.backups):
+            return
+        with self.seeing(place):
+            if not place.exists():
+                return
+            times = sorted(filter(None, map(backup_time, os.listdir(place))))
+            self.dated += [(f"backup {place}", when) for when in times[-1:]]
+            past = [when for when in times if when <= self.now + self.bounds.clock]
+            if not past:
+                self.fault("backup-old", str(place), "there is no backup")
+            elif (age := self.now - past[-1]) > self.bounds.backup_age * HOUR:
+                self.fault("backup-old", str(place), f"the newest is {age / HOUR:.0f} hours old")
+
+    def look_at_history(self) -> None:
+        """When the public dump was last fetched."""
+        looked = Path(self.places.history) / "looked"
+        if "irrdesk-history.timer" not in self.enabled and str(looked.parent) == Places.history:
+            return
+        with self.seeing(looked):
+            if not looked.exists():
+                return
+            when = looked.stat().st_mtime
+            self.dated.append((str(looked), when))
+            if (age := self.now - when) > self.bounds.history_age * HOUR:
+                self.fault("history-old", str(looked.parent), f"it is {age / HOUR:.0f} hours old")
+
+    def look_at_certificate(self, name: str) -> None:
+        """When the certificate ends that the proxy of this machine shows for a name."""
+        import ssl
+
+        host, _, digits = name.partition(":")
+        context = ssl.create_default_context()
+        try:
+            port = int(digits or 443)
+            with socket.create_connection(("127.0.0.1", port), SHOWING) as plain:
+                with context.wrap_socket(plain, server_hostname=host) as secure:
+                    ends = ssl.cert_time_to_seconds(str((secure.getpeercert() or {})["notAfter"]))
+        except ssl.SSLCertVerificationError as error:
+            is_over = "expired" in error.verify_message
+            word = "certificate-ends" if is_over else "certificate-bad"
+            self.fault(word, name, error.verify_message)
+        except (OSError, ValueError, KeyError) as error:
+            self.fault("certificate-bad", name, f"there is none to be seen ({error})")
+        else:
+            days = (ends - self.now) / DAY
+            if days < self.bounds.certificate_days:
+                self.fault("certificate-ends", name, f"it ends at {shown_time(ends)}")
+
+    # The machine.
+
+    @property
+    def store(self) -> Path:
+        return Path(str(self.settings.get("store", "/var/lib/irrdesk/irr.db")))
+
+    def look_at_disk(self) -> None:
+        """The room where the database is."""
+        folder = self.store.parent
+        with self.seeing(folder):
+            if not folder.exists():
+                return
+            found = os.statvfs(folder)
+            free = found.f_bavail * found.f_frsize / MEBIBYTE
+            if free < self.bounds.disk:
+                self.fault("disk-full", str(folder), f"{free:.0f} MiB are free")
+            elif found.f_files and not found.f_favail:
+                self.fault("disk-full", str(folder), "there is no room for another file")
+
+    def look_at_memory(self) -> None:
+        """What the units hold of what they may, without what the system can take back."""
+        for name, state in self.states.items():
+            most = keys.read_number(state.get("MemoryMax", ""), 1, 10**18 - 1)
+            if state.get("ActiveState") != "active" or most is None:
+                continue
+            held = keys.read_number(state.get("MemoryCurrent", ""), 0, 10**18 - 1)
+            with contextlib.suppress(OSError, ValueError):
+                group = Path(f"{GROUPS}{state.get('ControlGroup', '')}")
+                rows = (group / "memory.stat").read_text(encoding="ascii").splitlines()
+                kept = dict(row.split() for row in rows)
+                held = max(0, (held or 0) - int(kept["file"]))
+            if held is not None and 100 * held > self.bounds.memory * most:
+                self.fault("memory-full", name, f"{held // MEBIBYTE} MiB of {most // MEBIBYTE}")
+
+    def look_at_clock(self) -> None:
+        """Whether anything is dated later than the clock says."""
+        for path in (self.store, databases.beside(self.store, databases.LOG)):
+            with contextlib.suppress(OSError):
+                self.dated.append((str(path), path.stat().st_mtime))
+        for thing, when in self.dated:
+            if when > time.time() + self.bounds.clock:
+                what = f"it is dated {shown_time(when)}, and the clock says {shown_time(self.now)}"
+                self.fault("clock-ahead", thing, what)
+
+
+def backup_time(name: str) -> float | None:
+    """The time of the backup of a name; None for what is no backup."""
+    try:
+        return calendar.timegm(time.strptime(name, databases.STAMP))
+    except ValueError:
+        return None
+
+
+# How a place is asked.
+
+
+def fetched(url: str, seconds: float) -> tuple[int, bytes]:
+    """The status and the body of an answer over HTTP, which has to be whole in these seconds."""
+    parts = urlsplit(url)
+    if parts.scheme != "http" or not parts.hostname:
+        raise ValueError("this is not an address such as http://127.0.0.1:4343/query/ROOT-MNT")
+    end = time.monotonic() + seconds
+    with contextlib.closing(
+        http.client.HTTPConnection(parts.hostname, parts.port, timeout=seconds)
+    ) as asked:
+        with telling():
+            asked.connect()
+        with telling():
+            words = {"Connection": "close"}
+            asked.request(
+                "GET", parts.path + (f"?{parts.query}" if parts.query else ""), headers=words
+            )
+            answer = asked.getresponse()
+            body = b""
+            while piece := answer.read1(65_536):
+                body += piece
+                if time.monotonic() > end or len(body) > MOST:
+                    raise Unasked("it goes on and on")
+            if answer.length:
+                raise Unasked("it was cut off")
+            return answer.status, body
+
+
+@contextlib.contextmanager
+def telling() -> Iterator[None]:
+    """Says why there was no whole answer; that nobody listens is told as it is."""
+    try:
+        yield
+    except ConnectionRefusedError:
+        raise
+    except TimeoutError:
+        raise Unasked("it is silent") from None
+    except (http.client.HTTPException, ConnectionError) as error:
+        raise Unasked(str(error) or type(error).__name__) from None
+
+
+def exchanged(place: str, asked: bytes, seconds: float) -> bytes:
+    """What a place answers to a line, until it ends."""
+    host, _, port = place.rpartition(":")
+    end, text = time.monotonic() + seconds, b""
+    with telling(), socket.create_connection((host.strip("[]"), int(port)), seconds) as peer:
+        peer.sendall(asked)
+        while piece := peer.recv(65_536):
+            text += piece
+            if time.monotonic() > end or len(text) > MOST:
+                raise Unasked("it goes on and on")
+    return text

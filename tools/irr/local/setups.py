@@ -1,0 +1,357 @@
+"""A first registry, made step by step of a plan that is kept until all is done: each step finds out
+what an earlier run did of it, so that what was interrupted is gone on with."""
+
+import contextlib
+import dataclasses
+import json
+import os
+import subprocess
+from pathlib import Path
+from typing import Any, Callable, Iterator
+
+from irr.errors import DATABASE, FAILED, SETTINGS, Failure
+from irr.local import temporary
+from irr.rpsl import hashes
+from irr.rpsl.syntax import Attribute, Paragraph
+from irr.system import files, services, tomls
+from irr.terminal import texts
+
+OF_GROUP = 0o640
+# What the package has in its files: what differs from it somebody has set.
+PACKAGED: dict[str, Any] = {
+    "source": "EXAMPLE",
+    "root": "ROOT-MNT",
+    "auth": "",
+    "limit": 10_000,
+    "store": "/var/lib/irrdesk/irr.db",
+}
+PACKAGED_DOOR: dict[str, Any] = {
+    "mirrors": [],
+    "log": "/var/log/irrdesk-door/items.log",
+}
+HEAD = "# Settings of a registry, made by irr setup. Each key has to be there; see irr.toml(5).\n"
+DOOR_HEAD = "# Settings of the door, made by irr setup. All of them are in irr-door(1).\n"
+USERS = "/etc/nginx/irrdesk.users"
+
+
+@dataclasses.dataclass
+class Plan:
+    """What a registry is to be. Nothing in it is secret."""
+
+    settings: str
+    source: str
+    root: str
+    limit: int
+    store: str
+    # Whether it is the service's, or one in a folder of its own.
+    is_service: bool
+    # The files of the root's password and of the first maintainer's; the terminal shows one that
+    # has none.
+    save: str = ""
+    maintainer: str = ""
+    maintainer_save: str = ""
+    door: bool = False
+    # Who may submit through the proxy: `nobody`, `users`, `anybody`, or addresses.
+    submit: list[str] = dataclasses.field(default_factory=lambda: ["nobody"])
+    replicas: bool = False
+    backups: bool = False
+    history: bool = False
+    mirrors: list[str] = dataclasses.field(default_factory=list)
+
+    @property
+    def folder(self) -> Path:
+        return Path(self.settings).parent
+
+    @property
+    def door_settings(self) -> str:
+        return str(self.folder / "door.toml")
+
+    @property
+    def submitters(self) -> str:
+        return str(self.folder / "submitters.conf")
+
+    @property
+    def values(self) -> dict[str, Any]:
+        """What irr.toml has to have, but for `auth`."""
+        return {name: getattr(self, name) for name in ("source", "root", "limit", "store")}
+
+    @property
+    def door_values(self) -> dict[str, Any]:
+        """What door.toml has to have."""
+        if self.is_service:
+            return {"mirrors": self.mirrors} if self.mirrors else {}
+        return {
+            "whois": ["127.0.0.1:4300"],
+            "log": str(self.folder / "items.log"),
+            "history": str(self.folder / "history"),
+            "mirrors": self.mirrors,
+        }
+
+    @property
+    def units(self) -> list[str]:
+        """The units that are enabled and started, in their order."""
+        if not self.is_service:
+            return []
+        found = ["irrdesk.service", "irrdesk-check.timer"]
+        found += ["irrdesk-mirror.service"] * self.replicas
+        found += ["irrdesk-door.socket", "irrdesk-door.service"] * self.door
+        found += ["irrdesk-backup.timer"] * self.backups
+        found += ["irrdesk-history.timer"] * self.history
+        return found + ["irrdesk-export.timer"] * bool(self.mirrors)
+
+
+def kept_at(settings: str) -> Path:
+    """Where the plan of the settings is kept until all is done."""
+    return Path(settings).parent / "setup.json"
+
+
+def kept(settings: str) -> Plan | None:
+    """The plan of a run that did not come to its end."""
+    path = kept_at(settings)
+    if not path.exists():
+        return None
+    try:
+        found: dict[str, Any] = json.loads(files.read(str(path)))
+        return Plan(**found)
+    except (ValueError, TypeError):
+        raise Failure(
+            str(path),
+            "this is not what irr setup leaves; remove it, and look what else is there",
+            SETTINGS,
+        ) from None
+
+
+def set_by_others(plan: Plan) -> Iterator[tuple[str, str, Any, Any]]:
+    """The settings that are neither what the package has nor what is to be: each with its file, its
+    name, what it is and what it is to be."""
+    for path, wanted, packaged in (
+        (plan.settings, plan.values, PACKAGED),
+        (plan.door_settings, plan.door_values if plan.door else {}, PACKAGED_DOOR),
+    ):
+        text = tomls.text_of(path)
+        found = tomls.parsed(path, text)
+        # That they can be put in, before anything is made.
+        tomls.changed(path, text, wanted)
+        for name, value in wanted.items():
+            if found.get(name, value) not in (value, packaged.get(name, value)):
+                yield path, name, found[name], value
+
+
+class Made:
+    """The steps. What each one has done is said, and is left where a later one fails."""
+
+    def __init__(self, plan: Plan, show: Callable[[str, str], None]) -> None:
+        self.plan, self.show = plan, show
+        self.program = temporary.find_program()
+        self.left: list[str] = []
+
+    def do(self) -> None:
+        """All of it."""
+        plan = self.plan
+        try:
+            self.keep()
+            self.put_settings()
+            self.put_door()
+            self.make_registry()
+            self.register()
+            self.enable()
+        except BaseException:
+            if self.left:
+                texts.note(
+                    f"irr setup: left behind: {', '.join(self.left)}; run irr setup again, and it"
+                    " goes on from there"
+                )
+            raise
+        kept_at(plan.settings).unlink()
+
+    def done(self, what: str, thing: str) -> None:
+        """Says what was done."""
+        self.left.append(thing)
+        print(texts.shown_line(f"{thing}: {what}"), flush=True)
+
+    def keep(self) -> None:
+        """Keeps the plan, for a run that goes on."""
+        path = kept_at(self.plan.settings)
+        if not path.exists():
+            if not self.plan.is_service:
+                files.folder(self.plan.folder, 0o700)
+            files.put_new(str(path), json.dumps(dataclasses.asdict(self.plan)).encode() + b"\n")
+        self.left.append(str(path))
+
+    # Settings.
+
+    def put_settings(self) -> None:
+        """irr.toml, with the `auth` of a new password where there is none yet."""
+        plan = self.plan
+        text = tomls.text_of(plan.settings)
+        found, values = tomls.parsed(plan.settings, text), plan.values
+        if not found.get("auth"):
+            password = self.password(plan.save, f"the password of {plan.root}")
+            values["auth"] = hashes.auth_of(password.encode(), hashes.new_salt())
+        self.put(plan.settings, text or HEAD, values, files.PRIVATE)
+        if plan.is_service:
+            os.chown(plan.settings, -1, os.stat(plan.folder).st_gid)
+            os.chmod(plan.settings, OF_GROUP)
+
+    def password(self, path: str, name: str) -> str:
+        """A new password, shown once or written into a file of its own; that of the file where an
+        earlier run wrote it."""
+        if path and os.path.exists(path):
+            found = [
+                line.removeprefix(b"password: ").decode("ascii", "replace")
+                for line in files.read(path).splitlines()
+                if line.startswith(b"password: ")
+            ]
+            if len(found) != 1:
+                raise Failure(path, "it has no password of irr setup; move it away")
+            return found[0]
+        password = hashes.new_password()
+        if path:
+            files.put_new(path, b"password: " + password.encode() + b"\n")
+            self.done(f"{name}, for you alone", path)
+        else:
+            self.show(name, password)
+        return password
+
+    def put(self, path: str, text: str, values: dict[str, Any], mode: int) -> None:
+        """A file with these values, if it differs from what is there."""
+        made = tomls.changed(path, text, values)
+        if made != tomls.text_of(path):
+            files.put(path, made.encode(), mode)
+            self.done("written", path)
+
+    def put_door(self) -> None:
+        """door.toml, and who may submit through nginx."""
+        plan = self.plan
+        if not plan.door:
+            return
+        text = tomls.text_of(plan.door_settings)
+        self.put(plan.door_settings, text or DOOR_HEAD, plan.door_values, files.PUBLIC)
+        if plan.is_service:
+            os.chmod(plan.door_settings, files.PUBLIC)
+            lines = submitters(plan.submit)
+            if lines != tomls.text_of(plan.submitters):
+                files.put(plan.submitters, lines.encode(), files.PUBLIC)
+                self.done("who may submit through nginx", plan.submitters)
+
+    # The registry.
+
+    def run(self, *words: str, given: bytes = b"") -> "subprocess.CompletedProcess[bytes]":
+        """Runs `irrdesk` with the settings, as the owner of the database's folder."""
+        owner = os.stat(Path(self.plan.store).parent)
+        as_owner: dict[str, Any] = (
+            {"user": owner.st_uid, "group": owner.st_gid, "extra_groups": []}
+            if self.plan.is_service
+            else {}
+        )
+        # Another user may open it by its name, as it may no pipe of root's.
+        with open(os.memfd_create("submission"), "w+b") as stdin:
+            stdin.write(given)
+            stdin.seek(0)
+            return subprocess.run(
+                [self.program, words[0], self.plan.settings, *words[1:]],
+                stdin=stdin,
+                capture_output=True,
+                check=False,
+                cwd="/",
+                umask=0o077,
+                **as_owner,
+            )
+
+    def make_registry(self) -> None:
+        """The database with its initial objects."""
+        store = self.plan.store
+        if not os.path.lexists(store):
+            done = self.run("init")
+            if done.returncode:
+                raise Failure(
+                    self.plan.settings, f"irrdesk init: {temporary.said(done)}", done.returncode
+                )
+            self.done(done.stdout.decode("ascii", "replace").strip(), store)
+            return
+        done = self.run("probe")
+        if done.returncode:
+            raise Failure(
+                store,
+                f"what an earlier run left can't be opened: {temporary.said(done)}; remove it",
+                DATABASE,
+            )
+        self.left.append(store)
+
+    def register(self) -> None:
+        """The first maintainer, who needs nobody's password but its own."""
+        plan = self.plan
+        if not plan.maintainer or self.is_registered(plan.maintainer):
+            return
+        password = self.password(plan.maintainer_save, f"the password of {plan.maintainer}")
+        auth = hashes.auth_of(password.encode(), hashes.new_salt())
+        attributes = [
+            (b"mntner", plan.maintainer),
+            (b"auth", auth),
+            (b"mnt-by", plan.maintainer),
+            (b"source", plan.source),
+        ]
+        text = Paragraph([Attribute(name, [value.encode()]) for name, value in attributes]).text()
+        given = b"password: " + password.encode() + b"\n\n" + text
+        done = self.run("submit", "/dev/stdin", given=given)
+        if done.returncode:
+            said = (done.stdout or done.stderr).decode("utf-8", "replace").splitlines()
+            why = said[0] if said else f"irrdesk ended with status {done.returncode}"
+            raise Failure(f"mntner {plan.maintainer}", f"it can't be registered: {why}", DATABASE)
+        self.done("registered", f"mntner {plan.maintainer}")
+
+    def is_registered(self, maintainer: str) -> bool:
+        return self.run("query", "object", "mntner", maintainer).stdout.startswith(b"mntner:")
+
+    def enable(self) -> None:
+        """The units, now and at each start of the machine."""
+        for unit in self.plan.units:
+            done = services.systemctl("enable", "--now", unit)
+            if done.returncode:
+                raise Failure(
+                    unit,
+                    f"it does not start: {' '.join(done.stderr.split()) or 'nothing is said'}; mend"
+                    f" what `journalctl --unit {unit.partition('.')[0]}` says",
+                    FAILED,
+                )
+            self.done("enabled and started", unit)
+
+
+def submitters(who: list[str]) -> str:
+    """Who may submit, in nginx's words for `location = /submissions`."""
+    lines = ["# Who may submit, made by irr setup: for `location = /submissions` of nginx.conf."]
+    if who != ["anybody"]:
+        is_for_users = "users" in who
+        allowed = [one for one in who if one not in ("nobody", "users")]
+        lines += ["satisfy any;"] * is_for_users
+        lines += [f"allow {one};" for one in ["127.0.0.1", *allowed]]
+        lines += ["deny all;"]
+        if is_for_users:
+            lines += ["auth_basic registry;", f"auth_basic_user_file {USERS};"]
+    return "\n".join([*lines, ""])
+
+
+def need_new(plan: Plan) -> None:
+    """That no registry is here, and that its folder is that of a user who may have one."""
+    if os.path.lexists(plan.store):
+        raise Failure(
+            plan.store,
+            "a registry is here; irr setup makes a first one alone: see OPERATING.md, or name"
+            " another folder",
+            DATABASE,
+        )
+    if plan.is_service:
+        need_owner(plan)
+
+
+def need_owner(plan: Plan) -> None:
+    folder = Path(plan.store).parent
+    with contextlib.suppress(FileNotFoundError):
+        if os.stat(folder).st_uid == 0:
+            raise Failure(
+                str(folder),
+                "it belongs to root, and the service runs as another user; chown it",
+                SETTINGS,
+            )
+        return
+    raise Failure(str(folder), "there is no such folder; install the package, or make it", SETTINGS)

@@ -8,9 +8,12 @@ A strategy draws bytes once, and `Choices` makes choices of them: thousands of s
 slow. Fewer and lower bytes make smaller and plainer things, so what fails still shrinks."""
 import functools
 import hashlib
-from typing import Callable, NamedTuple, Sequence, TypeVar
+from typing import Any, Callable, Mapping, NamedTuple, Sequence, TypeVar
 
+import hypothesis
 from hypothesis import strategies as st
+
+from checks.running import Failure
 
 CLASSES = ("mntner", "as-block", "aut-num", "inetnum", "route", "as-set", "route-set")
 SETS, ROUTES_IN = ("as-set", "route-set"), ("aut-num", "inetnum", "route")
@@ -226,6 +229,18 @@ class Choices:
 def drawn(make: Callable[[Choices], Made], size: int) -> st.SearchStrategy[Made]:
     """What is made of so many bytes."""
     return st.binary(min_size=size, max_size=size).map(lambda data: make(Choices(data)))
+
+
+def until_seen(
+    holds: Callable[[], None], seen: Mapping[Any, int], least: int, seed: int, turns: int = 20
+) -> None:
+    """Tries a property, and again with other examples until there were so many cases of each kind:
+    how many one turn has hangs on the seed. What makes no case of a kind is refused."""
+    for turn in range(turns):
+        hypothesis.seed(f"{seed} {turn}")(holds)()
+        if min(seen.values()) >= least:
+            return
+    raise Failure(f"{turns} turns have less than {least} cases of a kind: {seen}")
 
 
 # Parts of objects.

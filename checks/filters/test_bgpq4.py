@@ -236,8 +236,9 @@ def test_lists_of_registries_by_chance_are_what_the_registry_answers(
     if not program("bgpq4"):
         raise Skipped("bgpq4 is not here (Debian's package of this name)")
     chance, counts, most = trial.chance("by chance"), {"whole": 0, "refused": 0}, trial.pick(1, 3)
-    registries = trial.count or trial.pick(4, 500)
-    for number in range(registries):
+    registries, number = trial.count or trial.pick(4, 500), 0
+    # Some more where chance gives sets of one kind alone.
+    while number < registries or number < registries + 40 and not min(counts.values()):
         registry = Registry(auth=AUTH.encode())
         names = sets_of_chance(chance, registry)
         folder = trial.place(f"chance-{number}")
@@ -277,9 +278,10 @@ def test_lists_of_registries_by_chance_are_what_the_registry_answers(
                         number,
                     )
         shutil.rmtree(folder)
+        number += 1
     expect(min(counts.values()) > 0, True, f"whether there are sets of both kinds: {counts}")
     tell(
-        f"{registries} registries of seed {trial.seed}: {counts['whole']} lists alike,"
+        f"{number} registries of seed {trial.seed}: {counts['whole']} lists alike,"
         f" {counts['refused']} refused as the registry does"
     )
 

@@ -8,15 +8,17 @@ import itertools
 import os
 import shutil
 
-from hypothesis import given, settings
+import pytest
+from hypothesis import Phase, given, settings
 from hypothesis import strategies as st
 
 from checks import models
 from checks.filters import registries
 from checks.filters.registries import taken
 from checks.models import Expansion
-from checks.rpsl import Registry
-from checks.running import needs
+from checks.rpsl import Registry, until_seen
+from checks.running import Failure as Few
+from checks.running import Trial, needs
 from irr.commands import filter as filters
 from irr.errors import DONE, REFUSED, Failure
 from irr.filters import lists
@@ -56,7 +58,7 @@ def names_of(model: Expansion) -> list[str]:
     return [*model.sets, "AS-ANY", "RS-ANY"]
 
 
-def test_irr_filter_is_the_expansion(program: str) -> None:
+def test_irr_filter_is_the_expansion(program: str, trial: Trial) -> None:
     seen = {"whole": 0, "missing": 0, "empty": 0}
 
     @settings(max_examples=1_000 if LONG else 20, deadline=None)
@@ -81,8 +83,7 @@ def test_irr_filter_is_the_expansion(program: str) -> None:
         if shutil.which("bird") and judged:
             assert not registries.judged_by_bird(judged if LONG else judged[:2])
 
-    holds()
-    assert min(seen.values()) > 0, seen
+    until_seen(holds, seen, 1, trial.seed)
 
 
 def need_read(router: str, text: str, wanted: int) -> None:
@@ -92,7 +93,7 @@ def need_read(router: str, text: str, wanted: int) -> None:
 
 
 @needs("bgpq4")
-def test_bgpq4_is_the_expansion(program: str) -> None:
+def test_bgpq4_is_the_expansion(program: str, trial: Trial) -> None:
     seen = {"whole": 0, "refused": 0}
     turns = itertools.cycle((router, options) for options in OPTIONS for router in ROUTERS)
 
@@ -114,12 +115,11 @@ def test_bgpq4_is_the_expansion(program: str) -> None:
                     need_taken(router, done.stdout, wanted)
                     seen["whole"] += 1
 
-    holds()
-    assert min(seen.values()) > 3, seen
+    until_seen(holds, seen, 4, trial.seed)
 
 
 @needs("bgpq4")
-def test_bgpq4_by_steps_is_the_expansion_of_numbers(program: str) -> None:
+def test_bgpq4_by_steps_is_the_expansion_of_numbers(program: str, trial: Trial) -> None:
     """With -L bgpq4 asks for the members of each as-set, and for the routes of each AS: a route
     that names an as-set by `member-of` is not in it then."""
     seen = {"whole": 0, "refused": 0}
@@ -143,12 +143,11 @@ def test_bgpq4_by_steps_is_the_expansion_of_numbers(program: str) -> None:
                     need_taken("frr", done.stdout, wanted)
                     seen["whole"] += 1
 
-    holds()
-    assert min(seen.values()) > 3, seen
+    until_seen(holds, seen, 4, trial.seed)
 
 
 @needs("bgpq4")
-def test_bgpq4_leaves_out_what_is_excepted(program: str) -> None:
+def test_bgpq4_leaves_out_what_is_excepted(program: str, trial: Trial) -> None:
     """With EXCEPT bgpq4 asks step by step too, and takes out texts: members that are spelled with
     leading zeros or in small letters have to be answered as everybody writes them."""
     seen = {"whole": 0, "refused": 0, "less": 0}
@@ -176,8 +175,23 @@ def test_bgpq4_leaves_out_what_is_excepted(program: str) -> None:
                     need_taken("frr", done.stdout, wanted)
                     seen["less" if numbers != model.expanded(held.key) else "whole"] += 1
 
-    holds()
-    assert min(seen.values()) > 3, seen
+    until_seen(holds, seen, 4, trial.seed)
+
+
+def test_a_trial_without_cases_of_a_kind_is_refused() -> None:
+    """It is tried with other examples before that, as often as is said."""
+    tried: list[bytes] = []
+
+    @settings(max_examples=5, phases=[Phase.generate])
+    @given(st.binary(min_size=8, max_size=8))
+    def holds(data: bytes) -> None:
+        tried.append(data)
+
+    with pytest.raises(Few, match="3 turns have less than 2 cases of a kind"):
+        until_seen(holds, {"whole": 9, "less": 1}, 2, 1, turns=3)
+    assert len(tried) == 15 and len(set(tried)) > 10
+    until_seen(holds, {"whole": 9, "less": 2}, 2, 1)
+    assert len(tried) == 20
 
 
 def refined(bits: int, options: list[str]) -> int:

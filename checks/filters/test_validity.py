@@ -10,6 +10,7 @@ from hypothesis import given, settings
 
 from checks import models, rpsl
 from checks.rpsl import Choices, Prefix
+from checks.running import Trial
 from irr.errors import Failure
 from irr.rpsl import keys
 from irr.views import roas
@@ -127,7 +128,7 @@ def test_roas_that_are_cut_are_not_taken() -> None:
             roas.read(CSV + line + b"\n", "x")
 
 
-def test_states() -> None:
+def test_states(trial: Trial) -> None:
     seen = {"valid": 0, "invalid": 0, "not found": 0}
 
     @settings(max_examples=5_000 if LONG else 200, deadline=None)
@@ -146,5 +147,4 @@ def test_states() -> None:
             assert bool(why) == (state == "invalid")
             seen[state] += 1
 
-    holds()
-    assert min(seen.values()) > 20, seen
+    rpsl.until_seen(holds, seen, 21, trial.seed)

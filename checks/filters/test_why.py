@@ -10,7 +10,8 @@ from hypothesis import strategies as st
 from checks import models, rpsl
 from checks.filters import registries
 from checks.models import Expansion
-from checks.rpsl import Object, Registry
+from checks.rpsl import Object, Registry, until_seen
+from checks.running import Trial
 from irr.errors import Failure
 from irr.registry.answers import Answer
 from irr.registry.references import References, Step
@@ -123,7 +124,7 @@ def probes(bits_in: int, chance: random.Random, extra: list[int]) -> list[int]:
     return [chance.choice(list_) for list_ in found] + chance.sample(extra, min(2, len(extra)))
 
 
-def test_yes_exactly_for_what_a_set_has(program: str) -> None:
+def test_yes_exactly_for_what_a_set_has(program: str, trial: Trial) -> None:
     seen = {True: 0, False: 0}
 
     @settings(max_examples=500 if LONG else 20, deadline=None)
@@ -149,8 +150,7 @@ def test_yes_exactly_for_what_a_set_has(program: str) -> None:
                     )
                     assert set(references.missing) <= judge.model.missing(name)
 
-    holds()
-    assert min(seen.values()) > 20, seen
+    until_seen(holds, seen, 21, trial.seed)
 
 
 def test_an_as_has_its_routes(program: str) -> None:

@@ -12,6 +12,8 @@ from hypothesis import Phase, given, settings
 
 from checks import models, rpsl
 from checks.models import Expansion
+from checks.rpsl import until_seen
+from checks.running import Trial
 from checks.views import merged
 from checks.views.merged import SOURCES, Roas, Several
 from irr.views.keeping import View
@@ -79,7 +81,9 @@ def objects_in(text: str) -> dict[tuple[str, str], rpsl.Object]:
     return found
 
 
-def test_a_view_is_the_merge_of_its_sources(program: str, monkeypatch: pytest.MonkeyPatch) -> None:
+def test_a_view_is_the_merge_of_its_sources(
+    program: str, trial: Trial, monkeypatch: pytest.MonkeyPatch
+) -> None:
     """Its objects, with the source of each, and what each set stands for."""
     monkeypatch.setenv("IRRDESK", program)
     seen = {"sets": 0, "missing": 0, "scoped": 0, "apart": 0, "joined": 0, "invalid": 0}
@@ -115,8 +119,7 @@ def test_a_view_is_the_merge_of_its_sources(program: str, monkeypatch: pytest.Mo
         seen["scoped"] += "::" in "".join(one.text() for one in several.registries.values())
         seen["invalid"] += sum(told.invalid for told in view.told.values())
 
-    holds()
-    assert min(seen.values()) > 10, seen
+    until_seen(holds, seen, 11, trial.seed)
 
 
 def test_a_set_taken_apart_has_its_members_by_reference(

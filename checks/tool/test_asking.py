@@ -1,17 +1,20 @@
 """What `irr query`, `irr dump` and the files that they write say of nothing, of `-`, and of the
-umask."""
+umask; what a netrc gives which address."""
 
 import argparse
+import base64
 import os
+import re
 import stat
-from collections.abc import Iterator
+from collections.abc import Callable, Iterator
 from pathlib import Path
 from types import ModuleType
 
 import pytest
 
+from checks.running import Trial, write
 from irr.commands import dump, query
-from irr.errors import DONE, REFUSED
+from irr.errors import DONE, REFUSED, Failure
 from irr.registry.server import Server
 from irr.system import files
 
@@ -109,3 +112,88 @@ def test_default_of_netrc_is_for_https(
     path.chmod(0o600)
     monkeypatch.setenv("NETRC", str(path))
     assert bool(Server(url, plain=True).credentials()) == has_field
+
+
+NETRC = """machine Irr.EXAMPLE.net login me password one
+machine other.example login me password two
+machine half.example login me
+machine NAMELESS.example password three
+machine empty.example login me password ""
+machine [::1] login me password four
+machine ::1 login me password five
+machine port.example:8443 login me password six
+machine Twice.example login me password seven
+machine twice.EXAMPLE login me password eight
+"""
+
+
+@pytest.mark.parametrize(
+    ("url", "wanted"),
+    [
+        ("https://irr.example.net", "one"),
+        ("https://IRR.example.NET/views/all", "one"),
+        ("https://irr.example.net:8443", "one"),
+        ("http://iRR.example.net:4343", "one"),
+        ("https://Other.Example", "two"),
+        ("https://irr.example", None),
+        ("https://x.irr.example.net", None),
+        ("https://half.example", "lacks"),
+        ("https://nameless.example", "lacks"),
+        ("https://Empty.example", "lacks"),
+        ("https://[::1]:4343", "five"),
+        ("https://port.example:8443", None),
+        ("https://twice.example", "eight"),
+    ],
+)
+def test_a_host_of_netrc_is_found_in_any_letter_case(
+    tmp_path: Path, monkeypatch: pytest.MonkeyPatch, url: str, wanted: str | None
+) -> None:
+    """At each port, by its whole name; an entry that lacks a user or a password is told."""
+    path = tmp_path / "netrc"
+    path.write_text(NETRC)
+    path.chmod(0o600)
+    monkeypatch.setenv("NETRC", str(path))
+    place = Server(url, plain=True)
+    if wanted == "lacks":
+        words = f"{path}: what it has for {place.host} lacks a user or a password; write lines `m"
+        with pytest.raises(Failure, match=re.escape(words)):
+            place.credentials()
+        return
+    sent = base64.b64encode(f"me:{wanted}".encode()).decode()
+    assert place.credentials() == ({"Authorization": f"Basic {sent}"} if wanted else {})
+
+
+@pytest.mark.skipif(os.geteuid() != 0, reason="it takes root")
+@pytest.mark.parametrize("is_given", [True, False])
+def test_a_netrc_that_cannot_be_read_is_told(
+    trial: Trial, monkeypatch: pytest.MonkeyPatch, is_given: bool
+) -> None:
+    """One of another user, who alone may read it: not as if there were none."""
+    folder = trial.place(f"netrc-{is_given}")
+    path = write(folder, ".netrc", NETRC.encode())
+    os.chmod(path, 0o600)
+    monkeypatch.setenv("NETRC", path if is_given else "")
+    monkeypatch.setenv("HOME", folder)
+    remedy = "correct NETRC" if is_given else "look at it"
+    wanted = f"{path}: it cannot be opened: permission denied; {remedy}"
+    assert said_as_nobody(Server("https://other.example").credentials) == wanted
+
+
+def said_as_nobody(do: Callable[[], object]) -> str:
+    """The failure of a call in a fork that has no rights."""
+    reader, writer = os.pipe()
+    number = os.fork()
+    if not number:
+        try:
+            os.setgroups([])
+            os.setgid(65_534)
+            os.setuid(65_534)
+            do()
+        except Failure as failure:
+            os.write(writer, str(failure).encode())
+        finally:
+            os._exit(0)
+    os.close(writer)
+    os.waitpid(number, 0)
+    with open(reader, encoding="utf-8") as said:
+        return said.read()

@@ -37,6 +37,7 @@ UNSURE = (500, 502, 504)
 CUT = "the connection was cut off; ask again"
 BAD_LENGTH = "the answer is not as long as the server says"
 NO_ADDRESS = "this is not an address; write it as https://HOST or http://HOST:PORT"
+NETRC = "write lines `machine HOST login USER password PASSWORD`"
 REMEDIES = {
     400: "the server does not take the request; is it https that it wants?",
     401: "the server asks for a user and a password; "
@@ -292,8 +293,8 @@ class Server:
 
     def credentials(self) -> dict[str, str]:
         """The field for the user and password that ~/.netrc (or the file of NETRC) has for the
-        host. Those of `default` are for https alone: over http anybody could take the host's
-        place."""
+        host, whatever its port. Letter case does not tell hosts apart (RFC 4343, 3). Those of
+        `default` are for https alone: over http anybody could take the host's place."""
         given = os.environ.get("NETRC")
         path = given or os.path.expanduser("~/.netrc")
         if not given and not os.path.exists(path):
@@ -309,21 +310,24 @@ class Server:
                 raise OSError("not a file")
             if mode & 0o077:
                 raise Failure(path, "others can read it; chmod 600 it")
-            read = netrc.netrc(path)
-            is_named = self.host in read.hosts and self.host != "default"
-            is_open = self.scheme == "http" and not is_named
-            found = None if is_open else read.authenticators(self.host)
+            hosts = netrc.netrc(path).hosts
         except (netrc.NetrcParseError, UnicodeDecodeError):
-            raise Failure(
-                path, "it cannot be read; write lines `machine HOST login USER password PASSWORD`"
-            ) from None
+            raise Failure(path, f"it cannot be read; {NETRC}") from None
         except OSError as error:
             remedy = "correct NETRC" if given else "look at it"
             raise Failure(path, f"it cannot be opened: {system_words(error)}; {remedy}") from None
+        of_others = hosts.pop("default", None)
+        found = {name.lower(): entry for name, entry in hosts.items()}.get(
+            self.host, of_others if self.scheme == "https" else None
+        )
         if not found:
             return {}
-        both = f"{found[0]}:{found[2]}".encode()
-        return {"Authorization": "Basic " + base64.b64encode(both).decode()}
+        user, _, password = found
+        if not user or not password:
+            raise Failure(path, f"what it has for {self.host} lacks a user or a password; {NETRC}")
+        return {
+            "Authorization": "Basic " + base64.b64encode(f"{user}:{password}".encode()).decode()
+        }
 
     @reading("the server's answer")
     def body_of(self, reply: Reply) -> Iterator[bytes]:

@@ -7,15 +7,21 @@ import socket
 import sys
 import tempfile
 import traceback
+from collections.abc import Callable
 
 from checks.running import Ran
 from checks.worlds import Tool
 from irr.main import main
 
 
-def begun(words: list[str], environment: dict[str, str], streams: list[int]) -> int:
+def begun(
+    words: list[str],
+    environment: dict[str, str],
+    streams: list[int],
+    first: Callable[[], object] = lambda: None,
+) -> int:
     """The number of a fork that does what `irr` does with these words, with these files as its
-    standard streams."""
+    standard streams, once it has done what comes first."""
     number = os.fork()
     if number:
         return number
@@ -30,6 +36,7 @@ def begun(words: list[str], environment: dict[str, str], streams: list[int]) -> 
         os.environ.clear()
         os.environ.update(environment)
         tempfile.tempdir = None
+        first()
         status = main(words)
     except SystemExit as ended:
         status = ended.code if isinstance(ended.code, int) else int(ended.code is not None)

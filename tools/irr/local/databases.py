@@ -152,7 +152,7 @@ class Copy:
                 stdout=out,
                 stderr=subprocess.PIPE,
                 check=False,
-                preexec_fn=temporary.own_files,
+                preexec_fn=temporary.bound(),
             )
         if done.returncode:
             kind = TooLong if TOO_LONG.search(done.stderr) else Failure

@@ -134,7 +134,7 @@ class Replica:
             stdin=subprocess.DEVNULL,
             stdout=subprocess.PIPE,
             stderr=subprocess.PIPE,
-            preexec_fn=die_with_parent,
+            preexec_fn=temporary.bound(),
         )
         try:
             temporary.wait_for_line(self.process, OPENING)
@@ -172,14 +172,6 @@ class Replica:
             self.process.kill()
             self.process.communicate()
             self.process = None
-
-
-def die_with_parent() -> None:
-    """Lets no replica go on alone at its port, in whatever way this process ends."""
-    import ctypes
-
-    os.umask(0o077)
-    ctypes.CDLL(None).prctl(1, signal.SIGKILL)
 
 
 def is_connected(port: int) -> bool:
@@ -307,10 +299,8 @@ class Keeper:
         if not self.made.store.exists():
             return
         settings = self.made.folder / "irr.toml"
-        settings.write_text(
-            re.sub("limit = [0-9]+", f"limit = {limit}", settings.read_text(encoding="ascii")),
-            encoding="ascii",
-        )
+        text = re.sub("limit = [0-9]+", f"limit = {limit}", settings.read_text(encoding="ascii"))
+        files.put(settings, text.encode("ascii"), files.PRIVATE)
         for replica in self.replicas:
             replica.prepare(self.made)
             replica.start()

@@ -4,13 +4,14 @@ import contextlib
 import os
 import re
 import shutil
+import signal
 import socket
 import subprocess
 import sys
 import tempfile
 import time
 from pathlib import Path
-from typing import Any, Iterable, Iterator, Mapping
+from typing import Any, Callable, Iterable, Iterator, Mapping
 
 from irr.errors import DATABASE, Failure, system_words
 from irr.registry import answers
@@ -37,6 +38,8 @@ OPENING = 600
 TRIES = 5
 IN_USE = "the address is in use"
 MOST_CONNECTIONS = 1_000_000
+# What prctl sets: the signal that a process gets when its parent ends (Linux).
+PR_SET_PDEATHSIG = 1
 
 
 def find_program() -> str:
@@ -92,7 +95,7 @@ class TemporaryRegistry:
             cwd=self.folder,
             capture_output=True,
             check=False,
-            preexec_fn=own_files,
+            preexec_fn=bound(),
             **given,
         )
 
@@ -172,6 +175,7 @@ class TemporaryRegistry:
             stdin=subprocess.DEVNULL,
             stdout=subprocess.PIPE,
             stderr=subprocess.PIPE,
+            preexec_fn=bound(),
         )
 
 
@@ -224,9 +228,20 @@ def short_text(text: bytes, place: str) -> bytes:
     )
 
 
-def own_files() -> None:
-    """Lets nobody else read what a program makes."""
-    os.umask(0o077)
+def bound() -> Callable[[], None]:
+    """What a program does before it begins: nobody else reads what it makes, and it ends with this
+    process, in whatever way that ends."""
+    import ctypes
+
+    prctl, parent = ctypes.CDLL(None).prctl, os.getpid()
+
+    def begin() -> None:
+        os.umask(0o077)
+        prctl(PR_SET_PDEATHSIG, signal.SIGKILL)
+        if os.getppid() != parent:
+            os._exit(1)
+
+    return begin
 
 
 def said(done: "subprocess.CompletedProcess[bytes]") -> str:

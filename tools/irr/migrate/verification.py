@@ -5,7 +5,7 @@ from pathlib import Path
 from typing import BinaryIO, Iterator
 
 from irr.errors import Failure
-from irr.local.temporary import TemporaryRegistry, own_files, trouble
+from irr.local.temporary import TemporaryRegistry, bound, trouble
 from irr.rpsl import syntax
 from irr.rpsl.syntax import Attribute, Paragraph
 
@@ -35,7 +35,7 @@ def check(path: str | Path, source: str, root: str, auth: str, count: int) -> No
                 stdout=out,
                 stderr=subprocess.PIPE,
                 check=False,
-                preexec_fn=own_files,
+                preexec_fn=bound(),
             )
         if done.returncode:
             raise trouble(done, "the scratch registry")

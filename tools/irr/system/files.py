@@ -28,7 +28,7 @@ def written(path: str | os.PathLike[str], mode: int = PUBLIC) -> Iterator[Binary
         target = followed(path)
         if os.path.lexists(target) and not os.path.isfile(target):
             raise not_replaced(path)
-        number, name = tempfile.mkstemp(prefix=f".{target.name}.", dir=target.parent)
+        number, name = begun(target)
     except OSError as error:
         raise Failure(
             str(path), f"it cannot be written: {system_words(error)}; look at its folder"
@@ -39,7 +39,8 @@ def written(path: str | os.PathLike[str], mode: int = PUBLIC) -> Iterator[Binary
             out.flush()
             os.fchmod(out.fileno(), mode & mode_of(target))
             os.fsync(out.fileno())
-        os.replace(name, target)
+            # While it is held: nobody takes it for one that was left.
+            os.replace(name, target)
         sync_folder(target.parent)
     except BaseException as error:
         with contextlib.suppress(OSError):
@@ -50,6 +51,44 @@ def written(path: str | os.PathLike[str], mode: int = PUBLIC) -> Iterator[Binary
                 f"it cannot be written: {system_words(error)}; make room, or look at its folder",
             ) from None
         raise
+
+
+def begun(target: Path) -> tuple[int, str]:
+    """A new file beside another one, which this process holds, and its path. Those that runs have
+    left which were killed go: nobody holds them."""
+    prefix = f".{target.name}.irr-"
+    for name in names_in(target.parent):
+        if name.startswith(prefix):
+            with contextlib.suppress(OSError):
+                remove_left(target.with_name(name))
+    while True:
+        number, name = tempfile.mkstemp(prefix=prefix, dir=target.parent)
+        with contextlib.suppress(OSError):
+            fcntl.flock(number, fcntl.LOCK_EX)
+        # Another process may have found it before it was held.
+        if os.fstat(number).st_nlink:
+            return number, name
+        os.close(number)
+
+
+def names_in(folder: Path) -> list[str]:
+    """What is in a folder, if this user may see it."""
+    try:
+        return os.listdir(folder)
+    except OSError:
+        return []
+
+
+def remove_left(path: Path) -> None:
+    """Removes a file of this user that nobody holds."""
+    number = os.open(path, os.O_RDWR | os.O_NOFOLLOW | os.O_NONBLOCK | os.O_CLOEXEC)
+    try:
+        found = os.fstat(number)
+        if stat.S_ISREG(found.st_mode) and found.st_uid == os.geteuid():
+            fcntl.flock(number, fcntl.LOCK_EX | fcntl.LOCK_NB)
+            path.unlink()
+    finally:
+        os.close(number)
 
 
 def need_name(path: str | os.PathLike[str]) -> None:

@@ -26,12 +26,7 @@ UNFINISHED = ".new-"
 
 
 def arguments(parser: argparse.ArgumentParser) -> None:
-    parser.add_argument(
-        "--settings",
-        metavar="FILE",
-        default=databases.DEFAULT,
-        help=f"read the registry's settings here, otherwise from {databases.DEFAULT}",
-    )
+    databases.add_option(parser)
     parser.add_argument(
         "--keep",
         metavar="COUNT",

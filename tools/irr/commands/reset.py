@@ -29,12 +29,7 @@ maintainer holds.
 
 
 def arguments(parser: argparse.ArgumentParser) -> None:
-    parser.add_argument(
-        "--settings",
-        metavar="FILE",
-        default=databases.DEFAULT,
-        help=f"read the registry's settings here, otherwise from {databases.DEFAULT}",
-    )
+    databases.add_option(parser)
     parser.add_argument(
         "--service",
         action="store_true",

@@ -1,5 +1,6 @@
 """Registries of this machine by their settings: held alone or held still while their files are
 copied, and opened from copies."""
+import argparse
 import contextlib
 import errno
 import fcntl
@@ -42,6 +43,16 @@ END = re.compile(rb"% end [0-9]+\n")
 TOO_LONG = re.compile(
     rb": nothing is loaded, because paragraph [0-9]+ is not RPSL, or over 65536 bytes: mend it\n$"
 )
+
+
+def add_option(parser: argparse.ArgumentParser) -> None:
+    """The option of each command that works on a registry of this machine: `options.settings`."""
+    parser.add_argument(
+        "--settings",
+        metavar="FILE",
+        default=DEFAULT,
+        help=f"read the registry's settings here, otherwise from {DEFAULT}",
+    )
 
 
 class TooLong(Failure):

@@ -77,8 +77,7 @@ class Tally:
     ) -> None:
         """Notes a paragraph that is not taken, the lines at which further objects may begin in it,
         each with its number in the file, and the attribute and the item that are the cause."""
-        words = map(texts.shown_line, item)
-        self.note(self.left_out, cause, "\t".join([entry(place, text), *words]))
+        self.note(self.left_out, cause, place, text, map(texts.shown_line, item))
         for number, line in further:
             self.left_out.more[cause] += 1
             self.write("left out with it", cause, entry(place._replace(line=number), line))
@@ -86,16 +85,19 @@ class Tally:
     def drop(self, dropped: Dropped, place: Place, text: bytes) -> None:
         """Notes an item that is taken out of a list of an object."""
         words = [texts.shown_line(part) for part in (dropped.attribute, dropped.item)]
-        self.note(self.items, dropped.cause, "\t".join([entry(place, text), *words]))
+        self.note(self.items, dropped.cause, place, text, words)
 
     def tell(self, cause: str, place: Place, text: bytes, line: bytes = b"") -> None:
         """Notes what is odd about an object that is taken, and the line of it that is."""
         words = [texts.shown_line(line).replace("\t", "\\x09")] if line else []
-        self.note(self.told, cause, "\t".join([entry(place, text), *words]))
+        self.note(self.told, cause, place, text, words)
 
-    def note(self, listed: Listed, cause: str, words: str) -> None:
-        listed.add(cause, words)
-        self.write(listed.what, cause, words)
+    def note(
+        self, listed: Listed, cause: str, place: Place, text: bytes, words: Iterable[str]
+    ) -> None:
+        line = "\t".join([entry(place, text), *words])
+        listed.add(cause, line)
+        self.write(listed.what, cause, line)
 
     def write(self, what: str, cause: str, words: str) -> None:
         if self.file:

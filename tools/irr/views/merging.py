@@ -20,7 +20,7 @@ from irr.migrate.normalisation import (
     unscoped,
 )
 from irr.migrate.parting import Part, parts
-from irr.migrate.report import Place, Tally
+from irr.migrate.report import Listed, Place, Tally
 from irr.rpsl import keys, syntax
 from irr.rpsl.syntax import ITEM, Attribute
 from irr.views import roas
@@ -43,26 +43,18 @@ class Counts(Tally):
     def __init__(self) -> None:
         super().__init__()
         self.source_of: dict[str, str] = {}
-        self.left: dict[str, Counter[str]] = {}
-        self.lost: dict[str, Counter[str]] = {}
+        self.counts: Counter[tuple[str, str, str]] = Counter()
 
-    def begin(self, source: str) -> None:
-        self.left[source], self.lost[source] = Counter(), Counter()
-
-    def leave_out(
-        self,
-        cause: str,
-        place: Place,
-        text: bytes,
-        further: Iterable[tuple[int, bytes]] = (),
-        item: Iterable[bytes] = (),
+    def note(
+        self, listed: Listed, cause: str, place: Place, text: bytes, words: Iterable[str]
     ) -> None:
-        self.left[self.source_of[place.path]][cause] += 1
-        super().leave_out(cause, place, text, further, item)
+        self.counts[self.source_of[place.path], listed.what, cause] += 1
+        super().note(listed, cause, place, text, words)
 
-    def drop(self, dropped: Dropped, place: Place, text: bytes) -> None:
-        self.lost[self.source_of[place.path]][dropped.cause] += 1
-        super().drop(dropped, place, text)
+    def causes_of(self, source: str, listed: Listed) -> dict[str, int]:
+        """How many of a source are listed, by cause."""
+        pairs = (+self.counts).items()
+        return {key[2]: count for key, count in pairs if key[:2] == (source, listed.what)}
 
 
 class ViewMender(Mender):
@@ -201,7 +193,6 @@ class Merge(conversion.Import):
 
     def read_state(self, name: str, state: State) -> None:
         self.own.begin(name, name in self.irrdesks)
-        self.by_source.begin(name)
         self.sources.setdefault(name, len(self.sources))
         for path in (*state.parts, state.changes):
             self.by_source.source_of[str(path)] = name
@@ -321,7 +312,7 @@ class Merge(conversion.Import):
         self.paths.append(path)
         self.keep(mended._replace(key=new, text=text), part)
         self.tally.causes[EARLIER] -= 1
-        self.by_source.left[source][EARLIER] -= 1
+        self.by_source.counts[source, self.tally.left_out.what, EARLIER] -= 1
         place = len(self.starts) - 1
         return place if "scope" in mended.kinds else None
 
@@ -351,8 +342,8 @@ class Merge(conversion.Import):
                 counts,
                 taken[name],
                 invalid,
-                dict(+self.by_source.left[name]),
-                dict(self.by_source.lost[name]),
+                self.by_source.causes_of(name, self.tally.left_out),
+                self.by_source.causes_of(name, self.tally.items),
             )
             for name, (counts, invalid) in self.had.items()
         }

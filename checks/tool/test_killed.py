@@ -4,7 +4,7 @@ the next run goes on by itself."""
 import contextlib
 import gzip
 import os
-import random
+import re
 import shutil
 import signal
 import subprocess
@@ -40,6 +40,8 @@ STEPS = {
 WRITES = os.O_WRONLY | os.O_RDWR | os.O_CREAT
 # The public changes from the first state to the other one.
 CHANGES = 41
+# What a history has only while somebody works in it.
+LEFT = re.compile(r"(^|/)(\.|fetched|tmp_|fast_import)|\.lock$")
 ASKED = [b"10.0.0.1", b"more 10.0.0.0/8", b"inverse mnt ROOT-MNT"]
 
 
@@ -118,8 +120,14 @@ class Kills:
         counted = whole.with_name("counted")
         begun_at = time.monotonic()
         number = self.stepping(whole, words, 0, counted)
-        self.stops(number)
-        expect(self.ended(number) in (0, -9), True, f"{words}")
+        try:
+            self.stops(number)
+        except BaseException:
+            os.kill(number, signal.SIGKILL)
+            raise
+        finally:
+            status = self.ended(number)
+        expect(status in (0, -9), True, f"{words}")
         seconds, steps = time.monotonic() - begun_at, counted.stat().st_size
         shutil.rmtree(whole)
         taken = [*range(1, steps + 1)]
@@ -281,14 +289,9 @@ def test_a_history_has_each_change_once(trial: Trial, places: Places, tell: Tell
         )
         command = ["git", f"--git-dir={folder}", "fsck", "--strict", "--no-dangling"]
         said = subprocess.run(command, capture_output=True, check=True).stdout
-        left = [
-            str(path.relative_to(folder))
-            for path in folder.rglob("*")
-            if path.name.startswith((".", "fetched", "tmp_", "fast_import"))
-            and path.name != ".lock"
-            or path.suffix == ".lock"
-        ]
-        expect((said, left), (b"", [".lock"] if ".lock" in left else []), "what is left")
+        names = {str(path.relative_to(folder)) for path in folder.rglob("*")} - {".lock"}
+        left = sorted(filter(LEFT.search, names))
+        expect((said, left), (b"", []), "what is left")
     tell(f"{kills.killed} ended")
 
 

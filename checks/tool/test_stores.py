@@ -3,11 +3,13 @@
 import contextlib
 import errno
 import os
+import signal
 import sqlite3
 import subprocess
 import sys
 import tempfile
 import time
+from collections.abc import Callable
 from pathlib import Path
 from types import SimpleNamespace
 from typing import Any
@@ -386,6 +388,12 @@ class Stores(Folder):
             server.communicate()
 
     def test_goes_on_when_the_holder_is_killed(self) -> None:
+        """By itself, or with all of its group."""
+        for kill in os.kill, os.killpg:
+            with self.subTest(kill.__name__):
+                self.need_going_on(kill)
+
+    def need_going_on(self, kill: Callable[[int, int], None]) -> None:
         settings = self.settings()
         server = self.server(settings)
         words = (
@@ -399,11 +407,12 @@ class Stores(Folder):
             [sys.executable, "-c", words, settings.path, settings.store],
             stdout=subprocess.PIPE,
             env=os.environ | {"PYTHONPATH": str(top)},
+            start_new_session=True,
         )
         try:
             self.assertEqual(holder.stdout.readline(), b"still\n")
             self.assertTrue(databases.is_still(server.pid))
-            holder.kill()
+            kill(holder.pid, signal.SIGKILL)
             self.wait_until_it_goes_on(server)
         finally:
             for process in holder, server:

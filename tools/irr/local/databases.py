@@ -10,6 +10,7 @@ import os
 import re
 import select
 import signal
+import socket
 import stat
 import struct
 import subprocess
@@ -391,12 +392,16 @@ def stopped(number: int, seconds: float, settings: Settings) -> Iterator[None]:
         raise Failure(str(settings.store), "the server has just ended; try again") from None
     if not serves(number, settings):
         raise Failure(str(settings.store), "the server has just ended; try again")
-    reader, writer = os.pipe()
+    own, other = socket.socketpair()
     guard = os.fork()
     if guard == 0:
-        watch(process, reader, writer, seconds)
+        own.close()
+        watch(process, other, seconds)
+    other.close()
     end = time.monotonic() + seconds
     try:
+        if not own.recv(1):
+            raise Failure(str(settings.store), "who lets the server go on has ended; try again")
         signal.pidfd_send_signal(process, signal.SIGSTOP)
         while not is_still(number):
             if time.monotonic() > end:
@@ -421,20 +426,20 @@ def stopped(number: int, seconds: float, settings: Settings) -> Iterator[None]:
     finally:
         with contextlib.suppress(OSError):
             signal.pidfd_send_signal(process, signal.SIGCONT)
-        os.close(writer)
-        os.close(reader)
+        own.close()
         os.waitpid(guard, 0)
         os.close(process)
 
 
-def watch(process: int, reader: int, writer: int, seconds: float) -> None:
-    """What the guard does: it lets the process go on after these seconds, or once the writing end
-    is closed."""
+def watch(process: int, other: socket.socket, seconds: float) -> None:
+    """What the guard does: it lets the process go on after these seconds, or once the other end is
+    closed. What ends a group of processes does not end it."""
     try:
+        os.setsid()
         for kind in (signal.SIGTERM, signal.SIGINT, signal.SIGHUP):
             signal.signal(kind, signal.SIG_IGN)
-        os.close(writer)
-        select.select([reader], [], [], seconds)
+        other.send(b"!")
+        select.select([other], [], [], seconds)
         signal.pidfd_send_signal(process, signal.SIGCONT)
     finally:
         os._exit(0)

@@ -30,6 +30,7 @@ LEFT = (
     "packed-refs.new",
     "gc.pid",
     "objects/pack/tmp_*",
+    "objects/*/tmp_obj_*",
     "fast_import_crash_*",
 )
 

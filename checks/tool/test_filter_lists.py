@@ -46,6 +46,21 @@ def test_syntaxes_say_the_same() -> None:
     assert len({frozenset(entries(router, text)) for router, text in PREFIXES.items()}) == 1
 
 
+@pytest.mark.parametrize(
+    ("router", "text"),
+    [
+        ("bird", "define X = [ 10.0.0.0/24{26,25} ];"),
+        ("bird", "define X = [ 10.0.0.0/24{20,23} ];"),
+        ("frr", "ip prefix-list X permit 10.0.0.0/24 ge 28 le 26\n"),
+        ("openbgpd", "prefix-set X { 10.0.0.0/24 prefixlen 26 - 25 }"),
+        ("openbgpd", "prefix-set X { 10.0.0.0/24 prefixlen = 23 }"),
+    ],
+)
+def test_an_entry_of_no_length_is_none(router: str, text: str) -> None:
+    """It would be lost, and kept, by any list."""
+    assert list(entries(router, text)) == []
+
+
 def test_comments_and_refusals_take_nothing() -> None:
     bird = "# 10.0.0.0/8\n/* 10.1.0.0/16\n*/ define X = [ 10.2.0.0/16 ];"
     assert loss("bird", bird, "") == [("X", 1, 1)]

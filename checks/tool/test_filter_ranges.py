@@ -6,6 +6,7 @@ import pytest
 
 from irr.commands import filter as command
 from irr.errors import DONE, REFUSED, Failure
+from irr.filters.sets import listed
 from irr.registry.answers import Answer
 from irr.registry.server import Server
 
@@ -52,14 +53,17 @@ def test_the_prefix_of_a_range_is_no_wider(
 
 
 def test_lengths(monkeypatch: pytest.MonkeyPatch, capsys: pytest.CaptureFixture[str]) -> None:
-    place = Lines("10.0.0.0/16", "10.1.0.0/16^24", "10.2.0.0/16^16-24", "10.3.0.0/16^20-32")
+    ranges = ["10.0.0.0/16", "10.1.0.0/16^24", "10.2.0.0/16^16-24", "10.3.0.0/16^20-32"]
+    place = Lines(*ranges, "10.4.0.0/16^-", "10.5.0.0/16^+")
     assert made(place, monkeypatch, "frr") == DONE
     assert capsys.readouterr().out.split("\n")[1:-1] == [
         "ip prefix-list X seq 5 permit 10.0.0.0/16",
         "ip prefix-list X seq 10 permit 10.1.0.0/16 ge 24 le 24",
         "ip prefix-list X seq 15 permit 10.2.0.0/16 le 24",
         "ip prefix-list X seq 20 permit 10.3.0.0/16 ge 20 le 32",
-        "ip prefix-list X seq 25 deny any",
+        "ip prefix-list X seq 25 permit 10.4.0.0/16 ge 17 le 32",
+        "ip prefix-list X seq 30 permit 10.5.0.0/16 le 32",
+        "ip prefix-list X seq 35 deny any",
     ]
     assert made(place, monkeypatch, "bird") == DONE
     assert [line.strip(" ,") for line in capsys.readouterr().out.split("\n")[2:-2]] == [
@@ -67,6 +71,8 @@ def test_lengths(monkeypatch: pytest.MonkeyPatch, capsys: pytest.CaptureFixture[
         "10.1.0.0/16{24,24}",
         "10.2.0.0/16{16,24}",
         "10.3.0.0/16{20,32}",
+        "10.4.0.0/16{17,32}",
+        "10.5.0.0/16{16,32}",
     ]
 
 
@@ -97,3 +103,10 @@ def test_a_set_that_lacks_one_makes_no_filter(
     assert made(place, monkeypatch, "-m", "bird") == DONE
     told = capsys.readouterr()
     assert "AS1:AS-GONE" in told.err and "10.0.0.0/16{16,16}\n" in told.out
+
+
+def test_a_message_names_ten_and_counts_the_others() -> None:
+    names = [f"AS-{number}" for number in range(12)]
+    assert listed(names[:10]) == ", ".join(names[:10])
+    assert listed(names[:11]) == ", ".join(names[:10]) + " and 1 more"
+    assert listed(names).endswith(" and 2 more")

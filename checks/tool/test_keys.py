@@ -69,6 +69,9 @@ class Readers(unittest.TestCase):
         self.assertEqual(keys.read_set("as1:as-x"), "AS1:AS-X")
         for name in ["as-", "AS1", "AS1:AS2", "AS-X:RS-Y", "A" * 256, "AS-ANY:AS-X"]:
             self.assertIsNone(keys.read_set(name), name)
+        long = ":".join(["AS-" + "A" * 60] * 4)
+        self.assertEqual((len(long), keys.read_set(long)), (255, long))
+        self.assertIsNone(keys.read_set(long + "A"))
         self.assertIsNone(keys.read_maintainer("AS-X"))
         self.assertIsNone(keys.read_maintainer("any"))
         self.assertEqual(keys.set_parent("AS1:AS-X"), Key("aut-num", "AS1"))

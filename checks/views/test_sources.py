@@ -13,8 +13,12 @@ from checks.running import Trial, expect
 from checks.views.serving import Files, Nrtm
 from checks.views.test_merging import asked
 from irr.errors import Failure
-from irr.views import nrtm, settings
+from irr.migrate.normalisation import ROUTE, LeftOut
+from irr.migrate.parting import Part, parts
+from irr.rpsl import keys, syntax
+from irr.views import nrtm, roas, settings
 from irr.views.keeping import View
+from irr.views.merging import ViewMender, shrank
 
 OWN = "as-set: AS1:AS-OWN\nmembers: AS2, RIPE::AS-X\nmnt-by: A-MNT\nsource: TEST\n"
 
@@ -208,6 +212,49 @@ def test_roas_leave_out_what_is_invalid(world: World) -> None:
         path.write_text(spoilt)
         with pytest.raises(Failure, match="vrps.csv: "):
             world.view.make(world.folder, world.known)
+
+
+@pytest.mark.parametrize("length", range(33))
+def test_an_invalid_route_is_left_out_at_each_length(length: int) -> None:
+    prefix = keys.Prefix(10 << 24 >> 32 - length << 32 - length, length)
+    table = {prefix: [roas.Roa(prefix, length, 3)]}
+    mender = ViewMender("ALL", table, False)
+    mender.begin("RIPE", False)
+
+    def part(origin: int) -> Part:
+        text = f"route: {prefix.text()}\norigin: AS{origin}\nmnt-by: B-MNT\nsource: RIPE\n"
+        return parts(next(syntax.blocks([text.encode()])))[0]
+
+    expect(mender.mend(part(3)).source, "RIPE", "the route of the AS of the ROA")
+    with pytest.raises(LeftOut, match="invalid by ROAs"):
+        mender.mend(part(2))
+
+
+def test_a_class_that_is_gone_counts_from_ten_objects_on() -> None:
+    """Whatever the rest of the source is."""
+    for had, words in [(9, ""), (10, "it has no route, and had 10")]:
+        # No class has the number 0; the first one is mntner.
+        old, new = [0, 1_000] + [0] * 6, [0, 1_000] + [0] * 6
+        old[ROUTE] = had
+        expect(shrank(old, new, 20).partition(":")[0], words, f"{had} routes that are gone")
+        expect(shrank(old, new, 100), "", "where all may go")
+
+
+def test_a_dump_from_before_what_was_followed_takes_nothing_back(followed: World) -> None:
+    """Where the changes since are no longer told, what there is stays until a newer dump comes."""
+    world = followed
+    expect(world.renew(), True, "the first time")
+    world.nrtm.tell([("ADD", route(900))])
+    expect((world.renew(), world.routes_seen()), (True, 41), "a change")
+    words = f"it tells no changes after {world.nrtm.last}, and the dump has serial"
+    world.nrtm.forget()
+    world.nrtm.first += 1
+    expect(world.renew(), False, "an old dump")
+    expect((world.routes_seen(), words in fault(world)), (41, True), fault(world))
+    world.routes[900] = route(900)
+    world.publish()
+    world.renew()
+    expect((world.routes_seen(), fault(world)), (41, ""), "a newer dump")
 
 
 def test_a_stop_between_two_states_loses_neither(world: World) -> None:

@@ -10,7 +10,7 @@ from checks.submissions.running import items_of
 from irr.commands import held
 from irr.errors import Failure
 from irr.registry import answers
-from irr.registry.handovers import Handover, handed_over
+from irr.registry.handovers import Handover, Wanted, handed_over
 from irr.registry.refusals import Reasons, span_of
 from irr.rpsl import holders, keys, syntax
 from irr.rpsl.keys import Key
@@ -61,6 +61,19 @@ def test_each_route_of_a_prefix_decides() -> None:
         assert (decides.key.text, decides.names) == ("10.0.0.0/8 AS1", names)
     named = Handover(reasons, "D-MNT", "B-MNT").of_space(keys.Prefix(10 << 24, 16), [])
     assert named.key.text == "10.0.0.0/8 AS2"
+
+
+@pytest.mark.parametrize("order", [[0, 1, 2], [1, 2, 0], [2, 0, 1], [2, 1, 0]])
+def test_ranges_that_are_handed_over_together_do_not_cross(order: list[int]) -> None:
+    """Whichever two of them do, and wherever they stand."""
+    given = ["10.0.0.0 - 10.0.0.9", "10.0.0.9 - 10.0.0.20", "10.0.1.0 - 10.0.1.9"]
+    handover = Handover(cast(Reasons, SimpleNamespace()), "D-MNT", None)
+    for place in order:
+        handover.objects.append(Wanted(Key("inetnum", given[place]), None, "A-MNT"))
+    with pytest.raises(Failure, match="it overlaps inetnum 10.0.0."):
+        handover.check_overlaps()
+    handover.objects = [one for one in handover.objects if one.key.text != given[1]]
+    handover.check_overlaps()
 
 
 @pytest.mark.parametrize("own", ["10.0.0.5 - 10.0.0.12", "10.0.0.20 - 10.0.0.29"])

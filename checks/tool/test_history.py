@@ -189,6 +189,15 @@ def recorded(folder: Path, numbers: list[int]) -> None:
     Repository(folder).record(syntax.blocks([text]), lambda: digest, 1_700_000_000)
 
 
+def test_a_state_counts_from_its_second_on(tmp_path: Path) -> None:
+    recorded(tmp_path, [1])
+    repository = Repository(tmp_path)
+    last = repository.state()
+    assert last and last.time == 1_700_000_000
+    for moment, wanted in (last.time - 1, None), (last.time, last), (last.time + 1, last):
+        expect(repository.state(moment), wanted, f"the state at {moment}")
+
+
 def test_whom_a_killed_history_left_at_work_holds_its_folder(tmp_path: Path) -> None:
     """A git that lives on is waited for."""
     with files.locked(tmp_path) as lock:

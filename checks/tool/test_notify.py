@@ -202,6 +202,15 @@ def test_what_was_refused_goes_to_upd_to(mailed: Mailed) -> None:
     ):
         expect(words in found["up@example.net"], there, f"whether it tells {words!r}")
     expect(mailed.told("--log", str(log)), {}, "told once")
+    # Of the moment up to which all was told, and of the one after it.
+    last = int(time.time()) - 30
+    noted.write_text(json.dumps(json.loads(noted.read_text()) | {"since": float(last)}))
+    log.write_text(
+        entry(last - time.time(), "E13", **{"mnt-by": ["A-MNT"], "key": "told before"})
+        + entry(last + 1 - time.time(), "E13", **{"mnt-by": ["A-MNT"], "key": "not yet"})
+    )
+    (text,) = mailed.told("--log", str(log)).values()
+    expect(("told before" in text, "not yet" in text), (False, True), "what is told then")
 
 
 def test_another_history_begins_anew(mailed: Mailed) -> None:
@@ -261,6 +270,9 @@ def test_a_long_mail_names_what_it_has_no_room_for() -> None:
     text = notices.text_of(many)
     assert len(text) < notices.MOST_TEXT + 100_000
     assert "route 1001: changed\n" in text and text.endswith("and 498 more objects\n")
+    # Two are told whole, and a thousand by their lines.
+    assert notices.text_of(many[:1_003]).endswith("route 1001: changed\nand 1 more object\n")
+    assert notices.text_of(many[:1_002]).endswith("route 1001: changed\n")
 
 
 class Sink:

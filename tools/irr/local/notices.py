@@ -11,6 +11,7 @@ from irr.rpsl import holders, keys
 from irr.rpsl.keys import Key
 from irr.rpsl.syntax import Paragraph
 from irr.system import mail
+from irr.terminal.texts import counted
 
 # So many addresses of one attribute of an object are told: nobody has the registry write to many.
 MOST_ADDRESSES = 5
@@ -95,7 +96,8 @@ def text_of(notices: list[Notice]) -> str:
             rest = notices[place:]
             parts += [f"{other.line}\n" for other in rest[:MOST_LINES]]
             if len(rest) > MOST_LINES:
-                parts.append(f"and {len(rest) - MOST_LINES:,} more objects\n")
+                more = counted(len(rest) - MOST_LINES, "more object")
+                parts.append(f"and {more}\n")
             break
         parts.append(f"{one.line}\n\n{one.difference}\n")
     return "".join(parts)

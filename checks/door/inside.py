@@ -12,7 +12,7 @@ from checks.door import worlds
 from checks.running import expect
 from checks.serving import free_port
 from irr.door import service, settings
-from irr.door.watching import Watch
+from irr.door.sockets import Watch
 
 
 # What watches the sockets of the door that runs.

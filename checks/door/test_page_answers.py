@@ -16,9 +16,9 @@ from checks.door import worlds
 from checks.door.opened import Bridge, Opened, Registries, read_all, wait_until
 from checks.running import Each, Trial, expect, needs, write
 from checks.serving import free_port
-from irr.door import page, past
+from irr.door import history, page
 from irr.door.budget import Clients
-from irr.door.past import Hung, Long, Past
+from irr.door.history import History, Hung, Long
 from irr.door.pool import Refused
 from irr.door.queries import Asker
 from irr.local.history import Repository
@@ -256,7 +256,7 @@ def test_without_a_history_there_is_none(door: Opened) -> None:
 
 @needs("git")
 def test_a_history_of_1000_states_and_of_more(trial: Trial, each: Each) -> None:
-    kept = Past(long_history(Path(trial.place("long"), "history"), STATES + 5))
+    kept = History(long_history(Path(trial.place("long"), "history"), STATES + 5))
     with each("the last ones are told"):
         found = asyncio.run(kept.found(ROUTE))
         expect((len(found["states"]), found["more"]), (STATES, True), "how many are told")
@@ -269,7 +269,7 @@ def test_a_history_of_1000_states_and_of_more(trial: Trial, each: Each) -> None:
         expect(signs, [" ", "-", "+"], "what differs between the first and the last")
     with each("one that says too much"):
         with pytest.MonkeyPatch.context() as patch:
-            patch.setattr(past, "MOST_BYTES", 1_000)
+            patch.setattr(history, "MOST_BYTES", 1_000)
             with pytest.raises(Long):
                 asyncio.run(kept.found(ROUTE))
 
@@ -282,7 +282,7 @@ def test_states_have_the_serials_that_mirrors_know(trial: Trial) -> None:
         head = f"% TEST {last - 1}-{last} since 5 {commit} {'0' * 64}\n"
         write(str(folder / "serials"), f"{last:010}", head.encode())
     write(str(folder / "serials"), "0000000011", b"nothing\n")
-    kept = Past(folder)
+    kept = History(folder)
     for turn in 1, 2:
         found = asyncio.run(kept.found(ROUTE))
         expect([one["serial"] for one in found["states"]], [9, 7], f"the serials, turn {turn}")
@@ -299,19 +299,19 @@ exec sleep 600
 
 def test_a_git_that_hangs_is_ended(trial: Trial, monkeypatch: pytest.MonkeyPatch) -> None:
     folder = trial.place("hangs")
-    kept = Past(recorded(Path(folder, "history"), 1))
+    kept = History(recorded(Path(folder, "history"), 1))
     stand_in = Path(folder, "git")
     stand_in.write_text(GIT.format(folder=folder))
     stand_in.chmod(0o755)
     monkeypatch.setenv("PATH", f"{folder}:{os.environ['PATH']}")
-    monkeypatch.setattr(past, "LASTS", 0.3)
+    monkeypatch.setattr(history, "LASTS", 0.3)
     with pytest.raises(Hung):
         asyncio.run(kept.found(ROUTE))
     # It may have been ended before it had said who it is.
     if number := said_by(Path(folder, "pid")):
         wait_until("that it is gone", 60, lambda: not is_running(number))
     # Who does not wait for it has it ended too.
-    monkeypatch.setattr(past, "LASTS", 600)
+    monkeypatch.setattr(history, "LASTS", 600)
     Path(folder, "pid").unlink(missing_ok=True)
     number = asyncio.run(left_alone(kept, Path(folder, "pid")))
     wait_until("that the other one is gone", 60, lambda: not is_running(number))
@@ -323,7 +323,7 @@ def said_by(pid: Path) -> int:
     return int(text) if text.endswith("\n") else 0
 
 
-async def left_alone(kept: Past, pid: Path) -> int:
+async def left_alone(kept: History, pid: Path) -> int:
     """Asks, and goes away once git runs: the number of that."""
     task = asyncio.create_task(kept.found(ROUTE))
     async with asyncio.timeout(60):
@@ -345,7 +345,7 @@ def is_running(number: int) -> bool:
 
 
 def test_without_git_there_is_no_history(trial: Trial, monkeypatch: pytest.MonkeyPatch) -> None:
-    kept = Past(recorded(Path(trial.place("no-git"), "history"), 1))
+    kept = History(recorded(Path(trial.place("no-git"), "history"), 1))
     expect(kept.is_there, True, "with git")
     monkeypatch.setenv("PATH", trial.place("empty"))
     expect(kept.is_there, False, "without it")

@@ -12,7 +12,7 @@ from checks.door.opened import Opened, read_all, wait_until
 from checks.running import expect
 from irr.door.exchange import Exchange
 from irr.door.settings import Place
-from irr.door.watching import IN, Watch
+from irr.door.sockets import IN, Watch
 from irr.door.wire import Port, Wire
 
 ANSWERED = 'irrdesk_door_queries_total{dialect="help",outcome="answered"}'

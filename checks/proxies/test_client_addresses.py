@@ -15,7 +15,7 @@ from checks.door import worlds
 from checks.door.opened import Opened, Registries, read_all, wait_until
 from checks.running import Each, Trial, expect, write
 from checks.serving import free_port
-from irr.door import proxied
+from irr.door import proxy_protocol
 
 STREAM = "/usr/lib/nginx/modules/ngx_stream_module.so"
 HAPROXY = """defaults
@@ -45,7 +45,9 @@ FIRST = b"PROXY TCP4 192.0.2.7 192.0.2.1 4000 43\r\n"
 
 def second(address: str, command: int = 0x21, family: int = 0x11, more: bytes = b"") -> bytes:
     packed = ipv(address) * 2 + struct.pack(">HH", 4_000, 43) + more
-    return proxied.SECOND + bytes([command, family]) + struct.pack(">H", len(packed)) + packed
+    return (
+        proxy_protocol.SECOND + bytes([command, family]) + struct.pack(">H", len(packed)) + packed
+    )
 
 
 def ipv(address: str) -> bytes:
@@ -151,10 +153,12 @@ def test_a_header_is_taken_of_trusted_addresses_alone(door: Opened, each: Each) 
 def test_a_header_may_come_byte_by_byte() -> None:
     for text in FIRST, second("192.0.2.7", more=b"\4\0\1x"):
         for size in range(len(text)):
-            expect(proxied.read(text[:size]), None, f"{size} bytes of {text!r}")
-        header = proxied.read(text + b"AS1\r\n")
-        expect(header, proxied.Header("192.0.2.7", len(text)), f"{text!r}")
-    expect(proxied.read(second("2001:db8::7", family=0x21)).address, "2001:db8::7", "version 6")
+            expect(proxy_protocol.read(text[:size]), None, f"{size} bytes of {text!r}")
+        header = proxy_protocol.read(text + b"AS1\r\n")
+        expect(header, proxy_protocol.Header("192.0.2.7", len(text)), f"{text!r}")
+    expect(
+        proxy_protocol.read(second("2001:db8::7", family=0x21)).address, "2001:db8::7", "version 6"
+    )
 
 
 def test_no_client_takes_all_that_a_proxy_of_http_has(door: Opened) -> None:

@@ -1,6 +1,6 @@
 """The door: one process between the world and a registry with its replicas.
 
-- `watching` has all sockets in one set, beside those of the event loop; `wire` lets clients in, and
+- `sockets` has all of them in one set, beside those of the event loop; `wire` lets clients in, and
   sends what they take.
 - `listener` and `http` take connections and hold slow clients; nothing behind them waits for a
   client.
@@ -21,7 +21,7 @@
   loop.
 - `nrtm` tells mirrors what changed, from the serials of the history; nobody else waits for it.
 - `page` answers what the page asks: why a prefix is in a set, in slices between which others go
-  first, and by git (`past`) what an object was.
+  first, and by git (`history`) what an object was.
 - `submissions` go to the registry alone, one at a time; `journal` has a line an item; `status`
   tells all of it.
 """

@@ -5,9 +5,9 @@ from typing import Optional
 
 from irr.door import queries
 from irr.door.cache import Answer
-from irr.door.collecting import Source
 from irr.door.pool import Found, Pending, Refused, Told
 from irr.door.queries import Asker
+from irr.door.responses import Source
 
 NATIVE, IRRD, RIPE, HELP = "native", "irrd", "ripe", "help"
 HELP_WORDS = (b"help", b"?", b"-help", b"--help")

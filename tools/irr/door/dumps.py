@@ -12,9 +12,9 @@ from collections import deque
 from typing import Callable
 
 from irr.door.budget import Client
-from irr.door.collecting import Dump
 from irr.door.listener import Door
 from irr.door.pool import BUSY, DUMP, WAITING, Refused, awaited
+from irr.door.responses import Dump
 
 # The files that there are at most, while nobody asks for others.
 MOST = 4

@@ -7,7 +7,7 @@ import socket
 from typing import Callable, Optional
 
 from irr.door.settings import Place
-from irr.door.watching import END, FAULT, IN, OUT, Watch
+from irr.door.sockets import END, FAULT, IN, OUT, Watch
 
 # The first piece is mostly the whole answer; a long one comes in larger ones.
 FIRST, PIECE = 1 << 14, 1 << 18

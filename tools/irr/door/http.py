@@ -8,7 +8,6 @@ from urllib.parse import unquote_to_bytes, urlsplit
 
 from irr.door.budget import client_name
 from irr.door.cache import Answer
-from irr.door.collecting import Dump, InMemory
 from irr.door.dialects import outcome_of
 from irr.door.dumps import Dumps
 from irr.door.journal import Who
@@ -16,6 +15,7 @@ from irr.door.listener import AHEAD, SLOW, TOO_MANY, Connection, Door
 from irr.door.page import Page, is_asked
 from irr.door.pool import Refused
 from irr.door.queries import Asker
+from irr.door.responses import Dump, InMemory
 from irr.door.status import Status
 from irr.door.submissions import Submissions, TooMuch
 from irr.door.views import ViewPool

@@ -6,13 +6,13 @@ import asyncio
 from collections import Counter, OrderedDict
 from typing import Optional
 
-from irr.door import dialects, irrd, proxied, ripe
+from irr.door import dialects, irrd, proxy_protocol, ripe
 from irr.door.budget import Client, client_name
 from irr.door.cache import Answer
-from irr.door.collecting import Dump, InMemory, Source
 from irr.door.dialects import Reply
 from irr.door.pool import Found, Pending, Pool
 from irr.door.queries import Asker
+from irr.door.responses import Dump, InMemory, Source
 from irr.door.settings import Settings, is_in, networks
 from irr.door.status import Counters
 from irr.door.wire import Wire
@@ -355,8 +355,8 @@ class Whois(Connection):
     def name(self) -> None:
         """Takes the header in which a proxy says whose connection this is."""
         try:
-            header = proxied.read(self.buffer)
-        except proxied.Bad:
+            header = proxy_protocol.read(self.buffer)
+        except proxy_protocol.Bad:
             self.end(UNNAMED, "error")
             return
         if header is None:

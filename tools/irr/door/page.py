@@ -16,7 +16,7 @@ from urllib.parse import parse_qs, unquote
 from irr.door import queries
 from irr.door.budget import Client, Turn, Turns
 from irr.door.cache import Answer
-from irr.door.past import BadKey, Hung, Long, Past
+from irr.door.history import BadKey, History, Hung, Long
 from irr.door.pool import BEHIND, BUSY, TOO_MUCH, WAITING, Pool, Refused
 from irr.door.queries import Asker
 from irr.door.settings import Settings
@@ -179,7 +179,7 @@ class Page:
 
     def __init__(self, settings: Settings, pool: Pool) -> None:
         self.pool = pool
-        self.past = Past(Path(settings.history))
+        self.states = History(Path(settings.history))
         self.whys, self.pasts = Places(pool), Places(pool)
 
     async def answer(self, client: Client, path: str) -> Answer:
@@ -205,7 +205,7 @@ class Page:
         return {
             "name": self.pool.source or None,
             "why": True,
-            "history": self.past.is_there,
+            "history": self.states.is_there,
             "views": [view_told(one) for one in self.pool.views.pools if one.name],
         }
 
@@ -250,16 +250,16 @@ class Page:
     # What an object was.
 
     async def history(self, client: Client, rest: str, given: dict[str, str]) -> Answer:
-        if not self.past.is_there:
+        if not self.states.is_there:
             raise Refused("nothing", NO_HISTORY)
         try:
-            key, words = self.past.read(rest, given.get("from", ""), given.get("to", ""))
+            key, words = self.states.read(rest, given.get("from", ""), given.get("to", ""))
         except BadKey as bad:
             raise Refused("bad", str(bad)) from None
         async with self.pasts.one(client):
             begun = time.monotonic()
             try:
-                found = await self.past.found(key, *words)
+                found = await self.states.found(key, *words)
             except Hung:
                 raise Refused("busy", "the history does not answer; ask again later", 10) from None
             except Long:

@@ -9,13 +9,13 @@ from typing import TYPE_CHECKING, Any, Callable, Optional, Protocol, Union
 from irr.door import upstreams
 from irr.door.budget import Client, Clients, Turn, Turns
 from irr.door.cache import DEAR, Answer, Cache, Costs, Ledger
-from irr.door.collecting import Collected, Dump, Dumped
 from irr.door.exchange import Exchange, listens
 from irr.door.nrtm import Mirrors
 from irr.door.pacing import Paces
+from irr.door.responses import Collected, Dump, Dumped
 from irr.door.settings import Place, Settings, place, upstream
+from irr.door.sockets import Watch
 from irr.door.upstreams import Upstream
-from irr.door.watching import Watch
 from irr.errors import Failure
 
 if TYPE_CHECKING:

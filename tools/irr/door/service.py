@@ -17,10 +17,10 @@ from irr.door.listener import Door, Whois
 from irr.door.page import Page
 from irr.door.pool import Pool
 from irr.door.settings import Place, Settings, place
+from irr.door.sockets import Watch
 from irr.door.status import Counters, Status
 from irr.door.submissions import Submissions
 from irr.door.views import Views
-from irr.door.watching import Watch
 from irr.door.wire import Peer, Port
 from irr.errors import Failure
 from irr.system.units import notify

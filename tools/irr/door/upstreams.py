@@ -7,7 +7,7 @@ from typing import Any, Callable, Optional
 
 from irr.door.exchange import Exchange
 from irr.door.settings import Place
-from irr.door.watching import Watch
+from irr.door.sockets import Watch
 from irr.registry import answers
 from irr.rpsl import keys, syntax
 

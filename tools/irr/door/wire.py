@@ -7,7 +7,7 @@ import struct
 from typing import Callable, Protocol, Union
 
 from irr.door.settings import Place
-from irr.door.watching import IN, OUT, Watch
+from irr.door.sockets import IN, OUT, Watch
 
 # The most bytes that are read at once.
 PIECE = 1 << 15

@@ -37,7 +37,7 @@ class Long(Exception):
     """Git has more to say than it may."""
 
 
-class Past:
+class History:
     """The history in a folder."""
 
     def __init__(self, folder: Path) -> None:

@@ -3,12 +3,12 @@ them those of the command line."""
 
 import dataclasses
 import ipaddress
-import tomllib
 from typing import Any, NamedTuple, Union
 from urllib.parse import urlsplit
 
 from irr.errors import ARGUMENTS, SETTINGS, Failure
 from irr.rpsl import keys
+from irr.system import tomls
 
 Network = Union[ipaddress.IPv4Network, ipaddress.IPv6Network]
 MEBIBYTE = 1 << 20
@@ -98,15 +98,7 @@ BOUNDS: dict[str, tuple[float, float]] = {
 def read(path: str | None, given: dict[str, Any]) -> Settings:
     """The settings of a file, if one is named, with what is given beside it; a Failure for what is
     none."""
-    values: dict[str, Any] = {}
-    if path is not None:
-        try:
-            with open(path, "rb") as file:
-                values = tomllib.load(file)
-        except (tomllib.TOMLDecodeError, UnicodeDecodeError) as error:
-            raise Failure(path, f"this is not TOML: {error}; correct it", SETTINGS) from None
-        except OSError as error:
-            raise Failure(path, f"it cannot be read: {error.strerror}", SETTINGS) from None
+    values = {} if path is None else tomls.read(path)
     fields = {field.name: field for field in dataclasses.fields(Settings)}
     for name, value in values.items():
         if name not in fields:

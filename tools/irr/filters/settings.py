@@ -7,13 +7,12 @@ import shlex
 import subprocess
 import tempfile
 import time
-import tomllib
 from pathlib import Path
 from typing import IO, NamedTuple
 
 from irr.errors import DONE, REFUSED, SETTINGS, Failure, reading, system_words
 from irr.filters import lists
-from irr.system import files
+from irr.system import files, tomls
 from irr.terminal import texts
 
 KEYS = {"file", "router", "make"}
@@ -76,13 +75,9 @@ def make_all(path: str, accepts: bool = False) -> int:
     return status
 
 
-@reading("a file")
 def read(path: str) -> Settings:
     """What a settings file has."""
-    try:
-        found = tomllib.loads(files.read(path).decode())
-    except (ValueError, RecursionError) as error:
-        raise Failure(path, f"this is not TOML: {error}; correct it", SETTINGS) from None
+    found = tomls.read(path)
     listed = found.pop("filter", [])
     stale, shrink = found.pop("stale", STALE), found.pop("shrink", SHRINK)
     if found:

@@ -6,7 +6,14 @@ import re
 import tomllib
 from typing import Any, Mapping
 
-from irr.errors import SETTINGS, Failure, system_words
+from irr.errors import SETTINGS, Failure, reading, system_words
+from irr.system import files
+
+
+@reading("a file")
+def read(path: str) -> dict[str, Any]:
+    """What a file has; a Failure where it is none of TOML."""
+    return parsed(path, files.read(path))
 
 
 def text_of(path: str) -> str:
@@ -62,8 +69,8 @@ def plain(value: Any) -> Any:
     return list(value) if isinstance(value, tuple) else value
 
 
-def parsed(path: str, text: str) -> dict[str, Any]:
+def parsed(path: str, text: str | bytes) -> dict[str, Any]:
     try:
-        return tomllib.loads(text)
+        return tomllib.loads(text.decode() if isinstance(text, bytes) else text)
     except (ValueError, RecursionError) as error:
         raise Failure(path, f"this is not TOML: {error}; correct it", SETTINGS) from None

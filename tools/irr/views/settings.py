@@ -1,13 +1,12 @@
 """The settings of a view, VIEW.toml: its sources in their order, and how it is served."""
 import json
-import tomllib
 from typing import Any, NamedTuple
 from urllib.parse import urlsplit
 
-from irr.errors import SETTINGS, Failure, reading
+from irr.errors import SETTINGS, Failure
 from irr.registry.server import Server
 from irr.rpsl import keys
-from irr.system import files
+from irr.system import tomls
 
 SCHEMES = ("https", "http", "ftp")
 NRTM_PORT = 43
@@ -85,13 +84,9 @@ BOUNDS = {
 }
 
 
-@reading("a file")
 def read(path: str) -> Settings:
     """The settings of a file; a Failure for what is none."""
-    try:
-        found = tomllib.loads(files.read(path).decode())
-    except (ValueError, RecursionError) as error:
-        raise Failure(path, f"this is not TOML: {error}; correct it", SETTINGS) from None
+    found = tomls.read(path)
     listed = found.pop("source", None)
     if (
         not isinstance(listed, list)

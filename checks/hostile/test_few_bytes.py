@@ -35,6 +35,17 @@ def cost_of(
     return least(most, once)
 
 
+def cost_of_refused(registry: Registry, most: float, items: int, text: str) -> float:
+    """The processor's seconds of a submission, each of whose items is refused with E11."""
+
+    def once() -> float:
+        report, seconds = registry.cost(registry.post, text)
+        expect(report.count(b"refused E11"), items, "how many items were refused")
+        return seconds
+
+    return least(most, once)
+
+
 def is_answered(reply: bytes) -> None:
     expect(reply[:1] not in (b"", b"%"), True, f"whether {reply[:40]!r} is an answer")
 
@@ -102,13 +113,7 @@ def test_items_of_an_object_that_names_many_maintainers(
     names, bodies = maintainers(count)
     with Registry(trial, made(trial, f"named{count}")) as registry:
         registry.register(*bodies, PASSWORD + owned("as-set:AS-T", maintainer=",".join(names)))
-
-        def once() -> float:
-            report, seconds = registry.cost(registry.post, attacks.refused_items(items))
-            expect(report.count(b"refused E11"), items, "how many items were refused")
-            return seconds
-
-        seconds = least(most, once)
+        seconds = cost_of_refused(registry, most, items, attacks.refused_items(items))
     at_most(seconds, most, f"{items} items of an object with {count} maintainers")
     tell(f"{seconds:.2f} s")
 
@@ -118,13 +123,7 @@ def test_an_object_that_repeats_one_maintainer(trial: Trial, tell: Tell) -> None
     with Registry(trial, made(trial, "repeated")) as registry:
         repeated = ",".join(["E-MNT"] * (attacks.MOST_PARAGRAPH // 6 - 20))
         registry.register(attacks.stranger(), PASSWORD + owned("as-set:AS-T", maintainer=repeated))
-
-        def once() -> float:
-            report, seconds = registry.cost(registry.post, attacks.refused_items(count))
-            expect(report.count(b"refused E11"), count, "how many items were refused")
-            return seconds
-
-        seconds = least(most, once)
+        seconds = cost_of_refused(registry, most, count, attacks.refused_items(count))
     at_most(seconds, most, f"{count} items of an object that names one maintainer many times")
     tell(f"{seconds:.2f} s")
 
@@ -143,16 +142,11 @@ def test_passwords_and_salts_at_the_bound_of_the_door(trial: Trial, tell: Tell) 
     with Registry(trial, made(trial, "salts")) as registry:
         registry.register(*(PASSWORD + text for text in mntners))
 
-        def cost(items: int) -> float:
-            def once() -> float:
-                item = f"as-set:AS-T\nmnt-by:{names}\nsource:TEST\n\n"
-                report, seconds = registry.cost(registry.post, f"{passwords}\n{item * items}")
-                expect(report.count(b"refused E11"), items, "how many items were refused")
-                return seconds
-
-            return least(most, once)
-
-        one, many = cost(1), cost(100)
+        item = f"as-set:AS-T\nmnt-by:{names}\nsource:TEST\n\n"
+        one, many = (
+            cost_of_refused(registry, most, items, f"{passwords}\n{item * items}")
+            for items in (1, 100)
+        )
     at_most(one, most, f"32 passwords with {count} maintainers of 770 salts")
     at_most(many, most, "the same for 100 items")
     tell(f"{one:.2f} s, for 100 items {many:.2f} s")

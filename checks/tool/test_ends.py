@@ -67,6 +67,19 @@ def heard() -> None:
         signal.signal(number, signal.SIG_DFL)
 
 
+def interrupted(*words: str) -> subprocess.CompletedProcess[str]:
+    """A command that hears signals, whoever began it, once it has ended."""
+    return subprocess.run(
+        words,
+        cwd=TOOLS,
+        capture_output=True,
+        text=True,
+        timeout=PATIENCE,
+        check=False,
+        preexec_fn=heard,
+    )
+
+
 class Ends(unittest.TestCase):
     """One line on standard error, a status, and nothing of Python's."""
 
@@ -178,15 +191,7 @@ class Ends(unittest.TestCase):
         ):
             for trap, wanted in ("", status), (f"trap '' {name};", 0):
                 line = f"{trap} {sys.executable} -B -c '{code}' {int(number)} 2>&1; exit $?"
-                made = subprocess.run(
-                    ["sh", "-c", line],
-                    cwd=TOOLS,
-                    capture_output=True,
-                    text=True,
-                    timeout=PATIENCE,
-                    check=False,
-                    preexec_fn=heard,
-                )
+                made = interrupted("sh", "-c", line)
                 self.assertEqual((made.returncode, made.stdout), (wanted, ""), line)
 
     def test_early_interrupt(self) -> None:
@@ -195,15 +200,7 @@ class Ends(unittest.TestCase):
             "import os, signal, sys; sys.meta_path.insert(0, type('', (), {'find_spec': lambda *_:"
             " os.kill(os.getpid(), signal.SIGINT)})); exec(open('irr/__main__.py').read())"
         )
-        made = subprocess.run(
-            [sys.executable, "-B", "-c", code],
-            cwd=TOOLS,
-            capture_output=True,
-            text=True,
-            timeout=PATIENCE,
-            check=False,
-            preexec_fn=heard,
-        )
+        made = interrupted(sys.executable, "-B", "-c", code)
         self.assertEqual((made.returncode, made.stderr), (-2, ""))
 
     def test_empty_output(self) -> None:

@@ -6,7 +6,21 @@ from collections.abc import Sequence
 from typing import Any, Self
 
 
-class Files:
+class Served:
+    """A server that answers while a `with` block runs."""
+
+    server: socketserver.BaseServer
+
+    def __enter__(self) -> Self:
+        threading.Thread(target=self.server.serve_forever, daemon=True).start()
+        return self
+
+    def __exit__(self, *_: object) -> None:
+        self.server.shutdown()
+        self.server.server_close()
+
+
+class Files(Served):
     """Files at a port while a `with` block runs, each known by its path, with what tells it from a
     later one. A status in place of a text is what is answered."""
 
@@ -37,16 +51,8 @@ class Files:
         self.server = http.server.ThreadingHTTPServer(("127.0.0.1", 0), Handler)
         self.url = f"http://127.0.0.1:{self.server.server_address[1]}"
 
-    def __enter__(self) -> Self:
-        threading.Thread(target=self.server.serve_forever, daemon=True).start()
-        return self
 
-    def __exit__(self, *_: object) -> None:
-        self.server.shutdown()
-        self.server.server_close()
-
-
-class Nrtm:
+class Nrtm(Served):
     """The changes of a registry at a port while a `with` block runs, from a first serial on."""
 
     def __init__(self, name: str, first: int) -> None:
@@ -65,14 +71,6 @@ class Nrtm:
 
         self.server = socketserver.ThreadingTCPServer(("127.0.0.1", 0), Handler)
         self.place = f"127.0.0.1:{self.server.server_address[1]}"
-
-    def __enter__(self) -> Self:
-        threading.Thread(target=self.server.serve_forever, daemon=True).start()
-        return self
-
-    def __exit__(self, *_: object) -> None:
-        self.server.shutdown()
-        self.server.server_close()
 
     @property
     def last(self) -> int:

@@ -161,24 +161,112 @@ def test_each_file_of_definitions_is_named_below_the_heading_of_its_crate() -> N
     assert not sorted(missing)
 
 
-def test_what_the_tables_of_the_architecture_name_is_there() -> None:
-    """Each room of the tool and of the page, with its files and the checks that try it."""
-    rows = [line for line in text_of("docs/ARCHITECTURE.md").splitlines() if line.startswith("| ")]
-    missing, rooms = [], set()
-    for row in rows:
-        cells = [re.findall(r"`([\w./]+)`", cell) for cell in row.split("|")[1:-1]]
-        room = cells[0][0] if cells[0] else ""
-        rooms.add(room)
+# Where what a table of ARCHITECTURE names may be, by the head of its first column.
+ROOMS = {
+    "crate": ("crates/{room}/src/{name}.rt", "crates/{room}/{name}.antt", "crates/{name}"),
+    "package of `tools/irr`": (
+        "tools/irr/{room}/{name}.py",
+        "tools/irr/{name}.py",
+        "tools/irr/{name}",
+    ),
+    "module of `web`": ("web/{name}.js", "web/{name}"),
+    "what": ("{name}",),
+    "folder of `checks`": (
+        "checks/{room}/{name}.py",
+        "checks/{room}/{name}",
+        "checks/{name}.py",
+        "checks/{name}",
+    ),
+}
+# What has to be named there, and what of it has its name by a rule that the page says.
+NAMED = (
+    "crates/*/src/**/*.rt",
+    "tools/irr/**/*.py",
+    "web/**/*.*",
+    "checks/**/*.py",
+    "checks/**/*.[cj]*",
+    "scripts/*",
+    "examples/*",
+)
+BY_RULE = re.compile(
+    r"crates/\w+/src/(.*/)?(lib|laws)\.rt|.*/__(init|main)__\.py|tools/irr/commands/.*"
+    r"|checks/\w+/conftest\.py"
+)
+
+
+def named_in_the_architecture() -> tuple[set[str], list[str]]:
+    """The files and folders that its tables name, and what they name that is not there."""
+    named, missing, kind = set[str](), [], ""
+    for line in text_of("docs/ARCHITECTURE.md").splitlines():
+        columns = [column.strip() for column in line.split("|")[1:-1]]
+        if not columns or not kind:
+            kind = columns[0] if columns else ""
+            continue
+        cells = [re.findall(r"`([\w./]+)`", column) for column in columns]
         for name in [*cells[0], *cells[1]]:
-            places = f"tools/irr/{room}/{name}.py", f"tools/irr/{name}.py", f"web/{name}.js"
-            others = name, f"tools/irr/{name}", f"web/{name}"
-            if not any((TOP / place).exists() for place in [*places, *others]):
-                missing.append(f"{room}: {name}")
-        missing += [
-            name
-            for name in cells[2]
-            if not ((TOP / f"checks/{name}.py").exists() and "/test_" in name)
-        ]
-    assert not missing
-    packages = {path.parent.name for path in (TOP / "tools/irr").glob("*/__init__.py")}
-    assert not sorted(packages - rooms)
+            places = {
+                place.format(room=room, name=name)
+                for place in ROOMS[kind]
+                for room in cells[0] or [""]
+            }
+            there = {place for place in places if (TOP / place).exists()}
+            named |= there
+            missing += [] if there else [f"{columns[0]}: {name}"]
+        for name in (name for cell in cells[2:] for name in cell):
+            named.add(f"checks/{name}.py")
+            if not ((TOP / f"checks/{name}.py").exists() and "/test_" in name):
+                missing.append(f"{columns[0]}: {name}")
+    return named, missing
+
+
+def test_what_the_tables_of_the_architecture_name_is_there() -> None:
+    assert not named_in_the_architecture()[1]
+
+
+def test_the_tables_of_the_architecture_name_each_file_and_package() -> None:
+    named, _ = named_in_the_architecture()
+    files = {
+        str(path.relative_to(TOP))
+        for pattern in NAMED
+        for path in TOP.glob(pattern)
+        if path.is_file()
+    }
+    assert not sorted(name for name in files - named if not BY_RULE.fullmatch(name))
+    packages = {f"tools/irr/{path.parent.name}" for path in TOP.glob("tools/irr/*/__init__.py")}
+    assert not sorted(packages - named)
+
+
+def order_in_the_architecture(first: str) -> dict[str, int]:
+    """The places of packages or modules, in the line of the page that begins with one of them."""
+    line = re.search(rf"^{first} < .*$", text_of("docs/ARCHITECTURE.md"), re.M)
+    assert line is not None
+    parts = enumerate(line[0].split(" < "))
+    return {name: place for place, names in parts for name in names.split(", ")}
+
+
+def test_a_package_of_the_tool_imports_from_those_to_its_left() -> None:
+    order, bad, seen = order_in_the_architecture("errors"), [], 0
+    for path in sorted(TOP.glob("tools/irr/**/*.py")):
+        own, *rest = path.relative_to(TOP / "tools/irr").with_suffix("").parts
+        if own not in order or rest == ["completion"]:
+            continue
+        for node in ast.walk(ast.parse(path.read_text(encoding="utf-8"))):
+            if not isinstance(node, ast.ImportFrom) or not f"{node.module}.".startswith("irr."):
+                continue
+            names = f"{node.module}".split(".")[1:2] or [name.name for name in node.names]
+            others = [name for name in names if name in order and name != own]
+            bad += [f"{path.relative_to(TOP)}: {one}" for one in others if order[one] >= order[own]]
+            seen += len(others)
+    assert seen > 100 and not bad
+
+
+def test_a_module_of_the_page_imports_from_those_to_its_left() -> None:
+    order, bad, seen = order_in_the_architecture("tables"), [], 0
+    for path in [*TOP.glob("web/*.js"), *TOP.glob("web/lib/*.js")]:
+        others = re.findall(
+            r"""^[^/]*from ['"][./]+(?:lib/)?(\w+)\.js""", path.read_text("utf-8"), re.M
+        )
+        own = order.get(path.stem, 0)
+        bad += [f"{path.name}: {name}" for name in others if order.get(name, own) >= own]
+        seen += len(others)
+    assert seen > 20 and not bad

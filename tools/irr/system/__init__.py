@@ -1,1 +1,1 @@
-"""Files and connections of this machine."""
+"""Files, settings, services and mail of this machine."""

@@ -12,7 +12,7 @@ OBJECT = b"aut-num:        AS1\nmnt-by:         A-MNT\nsource:         TEST\n\n"
 
 
 class Answers(unittest.TestCase):
-    def test_kinds(self) -> None:
+    def test_answers_are_told_apart_by_kind(self) -> None:
         self.assertEqual(len(Answer(OBJECT, "AS1").objects()), 1)
         self.assertTrue(Answer(b"% no entries\n", "as1").has_none)
         self.assertTrue(Answer(b"% empty\n", "expand AS-X").is_empty)
@@ -26,7 +26,7 @@ class Answers(unittest.TestCase):
             (["10.0.0.0/8^9-24", "10.0.0.0/8^-"], ["AS1:AS-X", "RS-Y"]),
         )
 
-    def test_cut_or_strange(self) -> None:
+    def test_a_cut_or_strange_answer_is_none(self) -> None:
         for text in [
             b"",
             OBJECT[:-1],
@@ -42,7 +42,7 @@ class Answers(unittest.TestCase):
             for query in "AS1", "expand AS-Y", "prefixes RS-Y", "inverse origin AS1":
                 self.assertRaises(Failure, Answer, text, query)
 
-    def test_json(self) -> None:
+    def test_an_object_in_json_has_its_attributes_in_order(self) -> None:
         line = answers.json_text(
             syntax.read(b"route: 10.0.0.0/8\norigin: AS1\ndescr: \xe9\n+\n+ x\ndescr: y")
         )
@@ -73,7 +73,7 @@ def read(text: bytes, size: int = 1_000, before: int = 0) -> tuple[Report, list[
 
 
 class Reports(unittest.TestCase):
-    def test_whole(self) -> None:
+    def test_a_whole_report_is_read_in_pieces_of_any_size(self) -> None:
         text = b"1 aut-num AS1: added\n2 -: refused E03\n3 as-set AS1:AS-X: unchanged\n% items 3\n"
         for size in 1, 7, 1_000:
             report, lines = read(text, size)
@@ -81,7 +81,7 @@ class Reports(unittest.TestCase):
             self.assertEqual((report.end, report.count, report.is_whole), ("items", 3, True))
         self.assertEqual(read(text, before=5)[1][-1], "8 as-set AS1:AS-X: unchanged")
 
-    def test_not_whole(self) -> None:
+    def test_a_report_without_its_end_is_not_whole(self) -> None:
         for text, end, count in [
             (b"1 aut-num AS1: added\n", "", 0),
             (b"% read fault after 2 items\n", "read fault", 2),
@@ -96,7 +96,7 @@ class Reports(unittest.TestCase):
             report, _ = read(text)
             self.assertEqual((report.end, report.count, report.is_whole), (end, count, False), text)
 
-    def test_strange(self) -> None:
+    def test_a_strange_report_is_none(self) -> None:
         for text in [
             b"<html>\n",
             b"% items 0\n% items 0\n",
@@ -105,7 +105,7 @@ class Reports(unittest.TestCase):
         ]:
             self.assertRaises(Failure, read, text)
 
-    def test_long_numbers(self) -> None:
+    def test_a_number_of_many_digits_is_strange(self) -> None:
         """Python reads no number of so many digits."""
         for line in b"9" * 5_000 + b" mntner A-MNT: added\n", b"% items " + b"9" * 5_000 + b"\n":
             with self.assertRaisesRegex(
@@ -115,13 +115,13 @@ class Reports(unittest.TestCase):
 
 
 class Dumps(unittest.TestCase):
-    def test_whole(self) -> None:
+    def test_a_whole_dump_passes_in_pieces_of_any_size(self) -> None:
         text = OBJECT * 3 + b"% end 3\n"
         for size in (1, 5, 1_000):
             pieces = [text[place : place + size] for place in range(0, len(text), size)]
             self.assertEqual(b"".join(answers.whole_dump(pieces, "x")), text)
 
-    def test_no_objects(self) -> None:
+    def test_a_dump_without_objects_is_none(self) -> None:
         for text in b"% end 0\n", b"#x\n\n% end 1\n", b"hello\n":
             for pieces in (
                 [text],
@@ -135,7 +135,7 @@ class Dumps(unittest.TestCase):
                     answers.whole_dump(pieces, "x"),
                 )
 
-    def test_cut(self) -> None:
+    def test_a_cut_dump_is_none(self) -> None:
         for text in [
             b"",
             OBJECT,
@@ -146,7 +146,7 @@ class Dumps(unittest.TestCase):
         ]:
             self.assertRaises(Failure, list, answers.whole_dump([text], "x"))
 
-    def test_endless_object(self) -> None:
+    def test_an_endless_object_is_given_up(self) -> None:
         """An object that does not end is not kept for ever; one is as long as the longest that a
         registry prints."""
         longest = b"a:x\n" + b"".join(b" " * 16 + b"x\n" for _ in range(65_536 // 3 - 2)) + b"\n"

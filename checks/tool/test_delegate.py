@@ -143,7 +143,7 @@ class Delegations(unittest.TestCase):
         yield
         self.registry.close()
 
-    def test_texts_are_taken(self) -> None:
+    def test_texts_are_taken_and_their_notes_lead_on(self) -> None:
         """Of random nests what is written is refused nothing, with the passwords that it takes
         alone; and once what it tells is done, the new maintainer registers the routes that lack."""
         chance, written, granted = random.Random(1), 0, 0
@@ -185,7 +185,7 @@ class Delegations(unittest.TestCase):
             self.registry.take(given(name) + text("route", key, name))
         return len(routes)
 
-    def test_less_specific_route(self) -> None:
+    def test_the_holder_of_a_route_above_is_told_what_to_do(self) -> None:
         """Where a route above decides, its holder is told what lets the new maintainer go on."""
         self.registry.take(
             given("ROOT-MNT", "A-MNT", "B-MNT")
@@ -210,7 +210,7 @@ class Delegations(unittest.TestCase):
         self.registry.take(given("A-MNT") + body)
         self.assertEqual(self.go_on("B-MNT", notes), 1)
 
-    def test_one_of_several_holders(self) -> None:
+    def test_the_maintainer_that_was_asked_for_speaks(self) -> None:
         """The maintainer that was asked for speaks, where an object names several."""
         self.registry.take(
             given("ROOT-MNT")
@@ -247,7 +247,7 @@ class Delegations(unittest.TestCase):
         self.assertEqual(body.count("inetnum:"), 1)
         self.registry.take(given("B-MNT") + body)
 
-    def test_bits_after_the_length(self) -> None:
+    def test_bits_after_the_length_are_told(self) -> None:
         status, body, notes = self.registry.delegate("A-MNT", "192.0.2.1/24")
         self.assertEqual((status, body), (2, ""))
         self.assertIn("it has bits after its length; write 192.0.2.0/24", notes)

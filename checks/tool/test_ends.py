@@ -19,7 +19,7 @@ FULL = "standard output: no space left on device; look where it goes to"
 
 
 class Unforeseen(unittest.TestCase):
-    def test_named(self) -> None:
+    def test_what_was_not_foreseen_is_named(self) -> None:
         for fails, words in [
             (
                 lambda: history.shown_time(float("nan")),
@@ -40,7 +40,7 @@ class Unforeseen(unittest.TestCase):
 
 
 class Asked(unittest.TestCase):
-    def test_other_encoding(self) -> None:
+    def test_a_password_in_another_encoding_is_refused(self) -> None:
         """A password typed in another encoding than that of the locale, as getpass meets it."""
         fault = UnicodeDecodeError("utf-8", b"\xff", 0, 1, "invalid start byte")
         with mock.patch("getpass.getpass", side_effect=fault), mock.patch(
@@ -52,7 +52,7 @@ class Asked(unittest.TestCase):
                 prompts.ask("new password: ")
         self.assertEqual(raised.exception.status, 2)
 
-    def test_escaped(self) -> None:
+    def test_a_prompt_is_escaped(self) -> None:
         """A prompt goes to the terminal past the stream that escapes what is printed."""
         with mock.patch("getpass.getpass", return_value="x") as asked, mock.patch(
             "os.open", return_value=os.dup(1)
@@ -98,10 +98,10 @@ class Ends(unittest.TestCase):
         )
         self.assertRegex(made.stderr, f"^irr[ a-z]*: {words}\n$", line)
 
-    def test_closed_output(self) -> None:
+    def test_a_closed_output_is_told(self) -> None:
         self.ended("irr --version >&-", "standard output: it is closed; .*")
 
-    def test_full_output(self) -> None:
+    def test_a_full_output_is_told(self) -> None:
         for words in [
             "--version",
             "help",
@@ -114,7 +114,7 @@ class Ends(unittest.TestCase):
         ]:
             self.ended(f"irr {words} >/dev/full", FULL)
 
-    def test_failure_after_output(self) -> None:
+    def test_a_failure_after_lost_output_has_one_line(self) -> None:
         """What was printed before, and can't be written, adds no line of its own."""
         environment = {key: value for key, value in os.environ.items() if key != "PYTHONUNBUFFERED"}
         for raised in "errors.Failure('x', 'failed; mend it')", "ValueError()":
@@ -135,7 +135,7 @@ class Ends(unittest.TestCase):
                 )
             self.assertEqual((made.returncode, made.stderr.count("\n")), (5, 1), made.stderr)
 
-    def test_input(self) -> None:
+    def test_a_closed_input_is_told(self) -> None:
         for words in [
             "submit -",
             "submit -n -",
@@ -148,7 +148,7 @@ class Ends(unittest.TestCase):
         for words in "diff -", "rov -", "filter --settings -", "submit --raw -":
             self.ended(f"irr {words} 0>/dev/null", "standard input: .*bad file descriptor; .*")
 
-    def test_address(self) -> None:
+    def test_a_bad_address_is_told(self) -> None:
         for address in (
             "https://a..b",
             "http://127.0.0.1/\u00e4",
@@ -157,7 +157,7 @@ class Ends(unittest.TestCase):
         ):
             self.ended(f"irr query -s {address} x", ".*: this is not an address; .*", 2)
 
-    def test_number(self) -> None:
+    def test_a_bad_number_is_told(self) -> None:
         self.ended(
             f"irr filter --widest {'9' * 5_000} bird X AS1 -", "9*: this is not a length; .*", 2
         )
@@ -177,7 +177,7 @@ class Ends(unittest.TestCase):
                     2,
                 )
 
-    def test_signals(self) -> None:
+    def test_a_signal_ends_it_without_words_unless_it_is_ignored(self) -> None:
         """A command goes on where a signal is ignored, as nohup has it, and has no words of
         Python's where it ends by one."""
         code = (
@@ -194,7 +194,7 @@ class Ends(unittest.TestCase):
                 made = interrupted("sh", "-c", line)
                 self.assertEqual((made.returncode, made.stdout), (wanted, ""), line)
 
-    def test_early_interrupt(self) -> None:
+    def test_an_early_interrupt_has_no_words(self) -> None:
         """The same where the tool is not there yet."""
         code = (
             "import os, signal, sys; sys.meta_path.insert(0, type('', (), {'find_spec': lambda *_:"
@@ -203,7 +203,7 @@ class Ends(unittest.TestCase):
         made = interrupted(sys.executable, "-B", "-c", code)
         self.assertEqual((made.returncode, made.stderr), (-2, ""))
 
-    def test_empty_output(self) -> None:
+    def test_an_empty_name_of_a_file_is_no_terminal(self) -> None:
         """What was to go to a file is not printed in its place."""
         self.ended(
             "irr auth --save '' --source TEST A-MNT",
@@ -211,14 +211,14 @@ class Ends(unittest.TestCase):
             2,
         )
 
-    def test_help(self) -> None:
+    def test_help_takes_one_command(self) -> None:
         self.ended(
             "irr help query dump", "help: it takes one command at most; write `irr help COMMAND`", 2
         )
         self.ended("irr --version x", "--version: nothing goes with it; .*", 2)
         self.ended("irr help nothing", "nothing: there is no such command; .*", 2)
 
-    def test_source(self) -> None:
+    def test_a_bad_source_is_told(self) -> None:
         for name in "'TEST\nmnt-by: X'", "T\u00c9ST", "T\u0660", "1X", "X-", "''", "X" * 81, "'X '":
             self.ended(
                 f"irr auth --save /nonexistent/x --source {name} A-MNT",
@@ -226,7 +226,7 @@ class Ends(unittest.TestCase):
                 2,
             )
 
-    def test_maintainers(self) -> None:
+    def test_a_bad_maintainer_is_told(self) -> None:
         for words in [
             "submit --as {} -",
             "submit -n --as {} -",
@@ -246,7 +246,7 @@ class Ends(unittest.TestCase):
                     2,
                 )
 
-    def test_netrc(self) -> None:
+    def test_a_netrc_that_cannot_be_read_is_told(self) -> None:
         self.ended(
             "irr query x",
             "/nonexistent: it cannot be opened: no such file or directory; correct NETRC",

@@ -27,7 +27,7 @@ class Files(unittest.TestCase):
     def tearDown(self) -> None:
         self.temporary.cleanup()
 
-    def test_put(self) -> None:
+    def test_a_file_is_put_in_place_with_its_mode(self) -> None:
         path = self.folder / "file"
         files.put(path, [b"a", b"b"], files.PRIVATE)
         self.assertEqual((path.read_bytes(), path.stat().st_mode & 0o777), (b"ab", 0o600))
@@ -37,7 +37,7 @@ class Files(unittest.TestCase):
         files.put(self.folder / "other", b"d")
         self.assertEqual((self.folder / "other").stat().st_mode & 0o777, 0o644)
 
-    def test_put_fails(self) -> None:
+    def test_what_fails_leaves_the_file_as_it_was(self) -> None:
         path = self.folder / "file"
         path.write_bytes(b"kept")
 
@@ -51,7 +51,7 @@ class Files(unittest.TestCase):
         (self.folder / "taken").mkdir()
         self.assertRaises(Failure, files.put, self.folder / "taken", b"x")
 
-    def test_put_in_place_of_no_file(self) -> None:
+    def test_what_is_no_file_is_not_replaced(self) -> None:
         pipe, link = self.folder / "pipe", self.folder / "link"
         os.mkfifo(pipe)
         link.symlink_to(pipe)
@@ -63,7 +63,7 @@ class Files(unittest.TestCase):
         self.assertEqual(sorted(os.listdir(self.folder)), ["link", "pipe"])
         self.assertTrue(pipe.is_fifo() and link.is_symlink())
 
-    def test_put_through_links(self) -> None:
+    def test_a_link_stays_and_its_file_is_replaced(self) -> None:
         """A link stays, and what it leads to is replaced in one step, also where that is not there
         yet."""
         there, here = self.folder / "there", self.folder / "here"
@@ -88,7 +88,7 @@ class Files(unittest.TestCase):
             files.put(here / "loop", b"x")
         self.assertTrue((here / "loop").is_symlink())
 
-    def test_need_own(self) -> None:
+    def test_a_planted_link_is_not_followed(self) -> None:
         """A link is followed where the kernel follows it too: of the user or the folder's owner, if
         it is in a sticky folder of all."""
         me = os.geteuid()
@@ -116,7 +116,7 @@ class Files(unittest.TestCase):
                     ):
                         files.need_own(Path("/x/link"), "/y")
 
-    def test_put_through_planted_links(self) -> None:
+    def test_nothing_is_put_through_a_planted_link(self) -> None:
         """Wherever on the way the link of another user is, what it leads to stays as it was."""
         folder, real = self.folder / "of-all", self.folder / "file"
         folder.mkdir()
@@ -135,7 +135,7 @@ class Files(unittest.TestCase):
             (real.read_bytes(), sorted(os.listdir(self.folder))), (b"kept", ["file", "of-all"])
         )
 
-    def test_put_in_place_of_what_is_open(self) -> None:
+    def test_a_name_of_what_is_open_is_not_replaced(self) -> None:
         """A name of what is open is not the name of the file that it was opened as."""
         log, link, gone = self.folder / "log", self.folder / "so", self.folder / "gone"
         link.symlink_to("//dev/stdout")
@@ -156,7 +156,7 @@ class Files(unittest.TestCase):
             self.assertRaises(Failure, files.put, path, b"x")
             self.assertRaises(Failure, files.put_new, path, b"x")
 
-    def test_followed(self) -> None:
+    def test_links_lead_where_the_system_takes_them(self) -> None:
         """Links lead where the system takes them."""
         there, here = self.folder / "there", self.folder / "here"
         for folder in there, there / "deep", here:
@@ -183,7 +183,7 @@ class Files(unittest.TestCase):
             )
         self.assertEqual(str(files.followed("x/../y")), os.path.realpath("x/../y"))
 
-    def test_put_new(self) -> None:
+    def test_a_new_file_replaces_nothing(self) -> None:
         """Nothing is replaced or followed, and what fails leaves nothing."""
         path, link = self.folder / "file", self.folder / "link"
         files.put_new(str(path), b"a")
@@ -210,7 +210,7 @@ class Files(unittest.TestCase):
             (path.read_bytes(), sorted(os.listdir(self.folder))), (b"a", ["file", "link"])
         )
 
-    def test_remove(self) -> None:
+    def test_a_link_is_removed_and_not_its_file(self) -> None:
         """A link is removed, and what it leads to is not."""
         (self.folder / "real").mkdir()
         (self.folder / "real" / "file").write_bytes(b"x")
@@ -221,27 +221,27 @@ class Files(unittest.TestCase):
         files.remove(self.folder / "real")
         self.assertEqual(os.listdir(self.folder), [])
 
-    def test_named(self) -> None:
+    def test_a_fault_without_a_name_gets_one(self) -> None:
         for given, wanted in (None, "/x"), ("/y", "/y"):
             with self.assertRaises(OSError) as raised, files.named("/x"):
                 raise OSError(28, "No space left on device", given)
             self.assertEqual(raised.exception.filename, wanted)
 
-    def test_put_nowhere(self) -> None:
+    def test_an_empty_name_is_refused(self) -> None:
         with self.assertRaisesRegex(
             Failure, "^the name of the file to write is empty; give its path$"
         ) as raised:
             files.put("", b"x")
         self.assertEqual(raised.exception.status, 2)
 
-    def test_locked(self) -> None:
+    def test_a_locked_folder_is_held_alone(self) -> None:
         with files.locked(self.folder):
             with self.assertRaises(Failure), files.locked(self.folder):
                 pass
         with files.locked(self.folder):
             pass
 
-    def test_keep_last(self) -> None:
+    def test_the_last_few_are_kept(self) -> None:
         for name in "a", "b", "c":
             (self.folder / name).write_bytes(b"")
         self.assertEqual([path.name for path in files.keep_last(self.folder.iterdir(), 2)], ["a"])
@@ -254,7 +254,7 @@ class Loadable(unittest.TestCase):
         b" filtered\nmnt-by:         A-MNT\nsource:         T\n\n"
     )
 
-    def test_auths(self) -> None:
+    def test_a_loadable_dump_has_auths_that_load_takes(self) -> None:
         other = (
             b"mntner:         B-MNT\nauth:           # filtered\nremarks:        auth: #"
             b" filtered\n\n"
@@ -271,7 +271,7 @@ class Loadable(unittest.TestCase):
             + other.replace(b"auth:           # filtered", b"auth:           FILTERED"),
         )
 
-    def test_long_objects(self) -> None:
+    def test_a_long_object_stays_loadable(self) -> None:
         lines = b"".join(
             b"a%d:" % number + b" " * (14 - len(str(number))) + b"x\n" for number in range(5_000)
         )
@@ -285,7 +285,7 @@ class Loadable(unittest.TestCase):
 
 
 class Programs(unittest.TestCase):
-    def test_folder(self) -> None:
+    def test_a_folder_is_not_the_program(self) -> None:
         with mock.patch.dict(os.environ, {"IRRDESK": "/usr"}):
             self.assertRaisesRegex(
                 Failure,
@@ -293,7 +293,7 @@ class Programs(unittest.TestCase):
                 temporary.find_program,
             )
 
-    def test_no_report(self) -> None:
+    def test_another_program_answers_no_report(self) -> None:
         """Of a program that is not irrdesk, which says nothing or something else."""
         for name in "true", "echo":
             program = shutil.which(name)
@@ -310,7 +310,7 @@ class Programs(unittest.TestCase):
 
 
 class Hashes(unittest.TestCase):
-    def test_auth(self) -> None:
+    def test_an_auth_line_has_the_digest_of_salt_and_password(self) -> None:
         self.assertEqual(
             hashes.auth_of(b"one good secret", "k3"),
             "SHA256-PW k3:ccda736dc82df011aa4a1a69307e8691d784c89481923035847c51743d3da2ca",
@@ -321,7 +321,7 @@ class Hashes(unittest.TestCase):
 
 
 class Maps(unittest.TestCase):
-    def test_boxes(self) -> None:
+    def test_boxes_of_a_map_have_equal_areas_and_do_not_overlap(self) -> None:
         top = Prefix(10 << 24, 8)
         for length in range(8, 17):
             inside = [
@@ -345,7 +345,7 @@ class Maps(unittest.TestCase):
 
 
 class Addresses(unittest.TestCase):
-    def test_urls(self) -> None:
+    def test_addresses_are_read_and_private_ones_known(self) -> None:
         for url in [
             "http://127.0.0.1:4343",
             "http://localhost/irr/",
@@ -372,7 +372,7 @@ class Addresses(unittest.TestCase):
             self.assertRaises(Failure, Server, url)
         self.assertFalse(Server("http://irr.example.net", plain=True).is_private)
 
-    def test_empty(self) -> None:
+    def test_an_empty_address_is_told(self) -> None:
         """An empty address is not one that was not given."""
         environment = {name: value for name, value in os.environ.items() if name != "IRR_SERVER"}
         for given, variable, wanted in [
@@ -394,7 +394,7 @@ class Addresses(unittest.TestCase):
                         Server.from_options(given)
                     self.assertEqual(raised.exception.status, 2)
 
-    def test_shown(self) -> None:
+    def test_an_address_is_shown_without_its_password(self) -> None:
         self.assertEqual(shown_url("https://u:p@irr.example.net/x?y"), "https://irr.example.net/x")
         self.assertEqual(shown_url("https://u:p/q@irr.example.net/x"), "https://irr.example.net/x")
 

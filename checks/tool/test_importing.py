@@ -24,7 +24,7 @@ class Mending(unittest.TestCase):
         )
         self.assertEqual(mended(text), (syntax.read(text[:-1]).text(), set()))
 
-    def test_source(self) -> None:
+    def test_each_object_gets_the_source_of_the_registry_once(self) -> None:
         written: list[list[str]] = [["source: RIPE # Filtered"], [], ["source:"]]
         for sources in written:
             text, kinds = mended(obj("aut-num: AS1", "mnt-by: A-MNT", *sources))
@@ -38,7 +38,7 @@ class Mending(unittest.TestCase):
             "not mended because of --no-source",
         )
 
-    def test_lists(self) -> None:
+    def test_items_of_lists_are_mended_or_left_out(self) -> None:
         for number, (kind, name, value, new, kinds) in enumerate(
             [
                 (
@@ -92,7 +92,7 @@ class Mending(unittest.TestCase):
             text, found = mended(obj(kind, f"{name}: {value}", "mnt-by: A-MNT", "source: TEST"))
             self.assertEqual((syntax.read(text).attributes[1].lines, found), ([new], kinds), number)
 
-    def test_a_list_of_several_lines(self) -> None:
+    def test_a_list_of_several_lines_keeps_its_good_items(self) -> None:
         text, _ = mended(
             obj(
                 "as-set: AS-X",
@@ -107,7 +107,7 @@ class Mending(unittest.TestCase):
         self.assertEqual(syntax.read(text).attributes[1].lines, [b"AS1, # one"])
         self.assertEqual(text.count(b"members"), 1)
 
-    def test_what_is_missing(self) -> None:
+    def test_what_an_object_lacks_is_put_in(self) -> None:
         text, kinds = mended(obj("mntner: A-MNT", "mnt-by:", "source: TEST"))
         self.assertEqual(
             text,
@@ -116,7 +116,7 @@ class Mending(unittest.TestCase):
         )
         self.assertEqual(kinds, {"auth", "mnt-by"})
 
-    def test_auth(self) -> None:
+    def test_an_auth_that_is_not_read_is_replaced(self) -> None:
         for value, is_kept in [
             ("MD5-PW $1$x # Filtered", True),
             ("SSO # Filtered", True),
@@ -141,7 +141,7 @@ class Mending(unittest.TestCase):
                 value,
             )
 
-    def test_short_prefixes(self) -> None:
+    def test_short_prefixes_are_written_out(self) -> None:
         for value, full in [
             ("10/8", "10.0.0.0/8"),
             ("192.0.2/24", "192.0.2.0/24"),
@@ -152,7 +152,7 @@ class Mending(unittest.TestCase):
                 (text.partition(b"\n")[0].split()[1].decode(), kinds), (full, {"prefix"})
             )
 
-    def test_what_is_left_out(self) -> None:
+    def test_what_is_left_out_has_its_cause(self) -> None:
         for lines, cause in [
             (["person: Jo", "nic-hdl: J1"], "class person"),
             (["route6: ::/0"], "class route6"),
@@ -197,7 +197,7 @@ class Mending(unittest.TestCase):
             self.assertEqual(mended(text)[1], {kind})
             self.assertEqual(mended(text, [kind]), f"not mended because of --no-{kind}")
 
-    def test_names(self) -> None:
+    def test_bad_names_are_made_good_ones(self) -> None:
         for old, new in [
             ("1AND1-MNT", "MNT-1AND1-MNT"),
             ("AS-MNT", "MNT-AS-MNT"),
@@ -211,7 +211,7 @@ class Mending(unittest.TestCase):
 
 
 class Importing(unittest.TestCase):
-    def test_nothing(self) -> None:
+    def test_nothing_makes_the_opening_objects_alone(self) -> None:
         dump, tally = made(b"")
         self.assertEqual(
             keys_of(dump),
@@ -232,7 +232,7 @@ class Importing(unittest.TestCase):
         self.assertEqual(again, first)
         self.assertEqual((tally.made, +tally.mended), (0, {}))
 
-    def test_order_and_duplicates(self) -> None:
+    def test_objects_are_in_order_and_the_first_of_a_key_stays(self) -> None:
         one = obj(
             "route: 192.0.2.0/24", "origin: AS1", "descr: first", "mnt-by: ROOT-MNT", "source: TEST"
         )
@@ -248,7 +248,7 @@ class Importing(unittest.TestCase):
         with self.assertRaisesRegex(Failure, ":7: its key"):
             made(one + one, off=["duplicate"])
 
-    def test_crossing(self) -> None:
+    def test_a_range_that_crosses_an_earlier_one_is_left_out(self) -> None:
         text = b"".join(
             obj(f"inetnum: 10.0.0.{first} - 10.0.0.{last}", "mnt-by: ROOT-MNT")
             for first, last in [(0, 9), (5, 12), (10, 14), (5, 9)]
@@ -265,7 +265,7 @@ class Importing(unittest.TestCase):
         with self.assertRaisesRegex(Failure, ":4: it overlaps"):
             made(text, off=["crossing"])
 
-    def test_what_covers_everything(self) -> None:
+    def test_all_as_numbers_and_addresses_are_covered(self) -> None:
         cases: list[tuple[list[str], list[str]]] = [
             (["AS0 - AS4294967295"], []),
             (["AS0 - AS65535"], ["AS65536 - AS4294967295"]),
@@ -281,7 +281,7 @@ class Importing(unittest.TestCase):
                 sorted(["ROOT-MNT", *blocks, *wanted, "0.0.0.0 - 255.255.255.255"]),
             )
 
-    def test_maintainers(self) -> None:
+    def test_renamed_maintainers_are_renamed_wherever_they_are_named(self) -> None:
         old, cut = "A" * 81, "A" * 68
         text = (
             obj(f"mntner: {old.lower()}", "auth: X", f"mnt-by: {old} # own", "source: TEST")
@@ -339,7 +339,7 @@ class Importing(unittest.TestCase):
             self.assertIn(f"mntner:         {new}\n{own}".encode(), dump)
             self.assertIn(f"aut-num:        AS{place}\nmnt-by:         {new}\n".encode(), dump)
 
-    def test_without_mntners(self) -> None:
+    def test_objects_of_a_maintainer_without_a_mntner_are_left_out(self) -> None:
         text = obj("mntner: A-MNT", "auth: X", "mnt-by: B-MNT") + obj(
             "aut-num: AS1", "mnt-by: A-MNT"
         )
@@ -364,7 +364,7 @@ class Importing(unittest.TestCase):
             (tally.taken, dict(tally.causes)), (2, {"a maintainer without a mntner": 4})
         )
 
-    def test_real_files(self) -> None:
+    def test_bom_comments_and_eof_of_real_files_are_no_objects(self) -> None:
         text = (
             b"\xef\xbb\xbf% The RIPE Database\r\n\r\n# a header\r\naut-num:\tAS1  \r\n"
             b"descr: caf\xe9 \x85 \xc3\xa9\r\n  more\r\n+\r\n"
@@ -409,7 +409,7 @@ class Importing(unittest.TestCase):
             (report[-1], sum("person: Jo" in line for line in report)), ("  and 5 more", 10)
         )
 
-    def test_off(self) -> None:
+    def test_what_is_turned_off_is_not_mended(self) -> None:
         """Every kind has an effect that ends when it is turned off."""
         text = obj("mntner: B-MNT", "mnt-by: " + "A" * 81, "source: RIPE") + obj(
             "as-set: AS-X", "members: ::/0, x, RIPE::AS-Y"
@@ -429,7 +429,7 @@ class Importing(unittest.TestCase):
 
 
 class Crossing(unittest.TestCase):
-    def test_as_one_by_one(self) -> None:
+    def test_ranges_stay_as_if_taken_one_by_one(self) -> None:
         chance = random.Random(1)
         for _ in range(300):
             size = chance.choice([5, 12, 60])

@@ -306,7 +306,7 @@ class Questions(unittest.TestCase):
         reply = asyncio.run(irrd.Session(table).answer(b"!" + question.encode()))
         return reply.text
 
-    def test_true_answers(self) -> None:
+    def test_true_answers_are_passed_on(self) -> None:
         for question, asked in ASKS.items():
             for query_ in asked:
                 for text in TRUE[query_]:
@@ -316,7 +316,7 @@ class Questions(unittest.TestCase):
         self.assertEqual(self.asked("iAS1:AS-X", {}), irrd.data(b"AS1"))
         self.assertEqual(self.asked("gAS1", {}), irrd.data(b"10.0.0.0/8 10.1.0.0/16"))
 
-    def test_wrong_answers(self) -> None:
+    def test_wrong_answers_are_refused(self) -> None:
         count = 0
         for question, asked in ASKS.items():
             for query_ in asked:
@@ -326,7 +326,7 @@ class Questions(unittest.TestCase):
                     count += 1
         self.assertGreater(count, 500)
 
-    def test_one_that_lacks_the_set(self) -> None:
+    def test_two_answers_that_differ_are_refused(self) -> None:
         for text in b"% no entries\n", NUMBER:
             reply = self.asked("iAS1:AS-X", {"inverse mnt A-MNT": text})
             self.assertRegex(reply, b"\\AF two answers differ")
@@ -358,7 +358,7 @@ class Commands(unittest.TestCase):
         printed.flush()
         return status, bool(held.getvalue())
 
-    def test_filters(self) -> None:
+    def test_no_filter_is_made_of_a_wrong_answer(self) -> None:
         for query_, name in (
             ("inverse origin AS1", "AS1"),
             ("prefixes AS1:RS-X", "AS1:RS-X"),
@@ -374,7 +374,7 @@ class Commands(unittest.TestCase):
                     text,
                 )
 
-    def test_queries(self) -> None:
+    def test_no_wrong_answer_is_printed(self) -> None:
         for query_ in (
             "inverse origin AS1",
             "prefixes AS1:RS-X",
@@ -396,7 +396,7 @@ class Commands(unittest.TestCase):
             self.server.answers = {" ".join(words): text}
             self.assertEqual(self.ends(query, "--json", *words)[0], status, words)
 
-    def test_dumps(self) -> None:
+    def test_no_wrong_dump_is_used(self) -> None:
         good = [ALL, WIDE, NARROW, SET]
         for dump, is_good in (
             (good, True),

@@ -72,7 +72,7 @@ class Replies(unittest.TestCase):
         self.assertGreaterEqual(replies.DUMP.most, 10_000_000 * 1_000)
         self.assertLess(replies.DUMP.rate, 128 * 1_024)
 
-    def test_slow(self) -> None:
+    def test_a_slow_reply_is_given_up(self) -> None:
         slow = Bounds(0.2, 1 << 20)
         with mock.patch.multiple(replies, ANSWER=slow, DUMP=slow, REPORT=slow):
             for call in (lambda place: place.query("AS1"), lambda place: list(place.dump())):
@@ -94,7 +94,7 @@ class Replies(unittest.TestCase):
             with answering([b"x"], pause=0.02) as place:
                 self.fails(lambda: list(place.submit(b"x")), "irr diff FILE.*`unchanged`$", Lost)
 
-    def test_rate(self) -> None:
+    def test_a_reply_may_take_long_while_it_is_fast(self) -> None:
         """What comes fast enough may take longer, and is ended once it does not."""
         fast, slow = Bounds(0.3, 1 << 30, 1_000), Bounds(0.3, 1 << 30)
         pieces = [HEAD + b"\r\n", *([OBJECT * 10] * 20), b"% end 200\n"]
@@ -108,7 +108,7 @@ class Replies(unittest.TestCase):
         ):
             self.fails(lambda: list(place.dump()), "was not whole after")
 
-    def test_slow_reader(self) -> None:
+    def test_a_slow_reader_is_no_slow_reply(self) -> None:
         """Who takes the answer may take longer than who gives it."""
         pieces = [HEAD + b"\r\n", *([OBJECT * 10] * 20), b"% end 200\n"]
         with mock.patch.multiple(replies, DUMP=Bounds(2, 1 << 30)), answering(*pieces) as place:
@@ -117,7 +117,7 @@ class Replies(unittest.TestCase):
             time.sleep(2.2)
             self.assertEqual(first + b"".join(dump), OBJECT * 200 + b"% end 200\n")
 
-    def test_endless(self) -> None:
+    def test_an_endless_reply_is_given_up(self) -> None:
         small = Bounds(60, 100_000)
         with mock.patch.multiple(replies, ANSWER=small, DUMP=small):
             for front in b"", HEAD + b"\r\n":
@@ -131,7 +131,7 @@ class Replies(unittest.TestCase):
                 self.fails(lambda: place.query("AS1"), "has over 5,000 bytes; ask for less.*")
 
     @mock.patch.object(replies, "LINGERING", 0.3)
-    def test_lengths(self) -> None:
+    def test_a_length_is_one_decimal_number(self) -> None:
         good = b"%d" % len(OBJECT)
         spelled: list[list[bytes]] = [[good], [good, good], [b" " + good + b" "], []]
         for lengths in spelled:
@@ -186,7 +186,7 @@ class Submissions(unittest.TestCase):
     """Where the text was sent and no report came, that is said; where it was not taken, it is
     not."""
 
-    def test_lost(self) -> None:
+    def test_what_was_lost_may_be_registered(self) -> None:
         for pieces, is_reset in [
             ((), True),
             ((), False),
@@ -210,7 +210,7 @@ class Submissions(unittest.TestCase):
                 place.query("AS1")
             self.assertNotIn("irr diff", str(failed.exception))
 
-    def test_unread(self) -> None:
+    def test_a_report_that_nobody_reads_may_be_registered(self) -> None:
         """The same where nobody reads the report, or it finds no room."""
         unread, pipe = os.pipe()
         os.close(unread)
@@ -235,7 +235,7 @@ class Submissions(unittest.TestCase):
                     (status, f"irr submit: standard output: {words}; {SENT}\n"),
                 )
 
-    def test_refused(self) -> None:
+    def test_a_refusal_says_what_to_do(self) -> None:
         refusals: list[tuple[bytes, type[Failure]]] = [
             (b"413 Too Large", TooLarge),
             (b"401 Unauthorized", Failure),
@@ -251,7 +251,7 @@ class Submissions(unittest.TestCase):
 
 
 class Later(unittest.TestCase):
-    def test_seconds(self) -> None:
+    def test_a_wait_is_read_in_seconds_or_is_later(self) -> None:
         """A wait of over a day, or of no number, is just later."""
         for asked, seconds in [
             ("0", 1),
@@ -285,7 +285,7 @@ class Netrc(unittest.TestCase):
                     self.assertNotIn("sesame", str(failure))
                     return failure.what
 
-    def test_files(self) -> None:
+    def test_netrc_gives_the_password_of_its_host_alone(self) -> None:
         line = b"machine 127.0.0.1 login me password sesame\n"
         self.assertEqual(self.found(line), {"Authorization": "Basic bWU6c2VzYW1l"})
         self.assertEqual(self.found(line.replace(b"127", b"128")), {})
@@ -300,7 +300,7 @@ class Netrc(unittest.TestCase):
         for mode in 0o640, 0o604, 0o620, 0o601:
             self.assertEqual(self.found(line, mode), "others can read it; chmod 600 it")
 
-    def test_no_file(self) -> None:
+    def test_a_netrc_that_is_not_there_gives_none(self) -> None:
         with tempfile.TemporaryDirectory() as folder:
             for path in (
                 folder,

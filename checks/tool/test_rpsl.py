@@ -33,7 +33,7 @@ def plain_blocks(text: bytes) -> list[tuple[int, list[bytes]]]:
 
 
 class Blocks(unittest.TestCase):
-    def test_chance(self) -> None:
+    def test_blocks_of_chance_are_those_of_a_plain_reading(self) -> None:
         chance = random.Random(1)
         lines = [b"", b" ", b"\t\r", b"# x", b"%", b"a: b", b" c", b"+", b"\r", b"x" * 30]
         for _ in range(3_000):
@@ -49,7 +49,7 @@ class Blocks(unittest.TestCase):
         sizes = [block.size for block in syntax.blocks([b"% no\na: b\n# yes\n\nc: d"])]
         self.assertEqual(sizes, [11, 4])
 
-    def test_most(self) -> None:
+    def test_of_a_long_block_its_front_is_kept(self) -> None:
         long = b"descr: x\n" * 500_000
         text = b"# " + b"y" * 5_000_000 + b"\na: b\n\n" + long + b"\nc: d\n"
         pieces = [text[place : place + 100_000] for place in range(0, len(text), 100_000)]
@@ -61,7 +61,7 @@ class Blocks(unittest.TestCase):
 
 
 class Paragraphs(unittest.TestCase):
-    def test_canonical(self) -> None:
+    def test_canonical_text_is_read_as_itself(self) -> None:
         text = (
             b"Mntner: A-MNT\r\ndescr:  first # note\r\n\tsecond\r\n+\r\n% skipped\r\n+third\r\n"
             b"a-very-long-name-of-one: x\r\nempty:\r\nsource: test"
@@ -75,7 +75,7 @@ class Paragraphs(unittest.TestCase):
         self.assertEqual(read.value(b"descr"), b"first second  third")
         self.assertEqual(syntax.read(read.text()).text(), read.text())
 
-    def test_items(self) -> None:
+    def test_items_come_from_all_lines_of_a_name(self) -> None:
         read = syntax.read(b"a: 1\nmnt-by: A, B # C\nmnt-by: D")
         self.assertEqual(read.items(b"mnt-by"), [b"A", b"B", b"D"])
 
@@ -84,7 +84,7 @@ class Paragraphs(unittest.TestCase):
         read = syntax.read(b"a: 1\nmnt-by: A, # x\n B # y\n\tC,\n\rD\n+E\n#no\n%no\n+\n F")
         self.assertEqual(read.items(b"mnt-by"), [b"A", b"B", b"C", b"D", b"E", b"F"])
 
-    def test_faults(self) -> None:
+    def test_faults_have_their_codes(self) -> None:
         for text, code in [
             (b"x" * 65_537, "E07"),
             (b"a\x0b: b", "E01"),

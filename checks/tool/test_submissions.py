@@ -81,7 +81,7 @@ class Parts(unittest.TestCase):
         lines = [reported.line.text() for reported in sender.send(items_of(text))]
         return registry, lines + [sender.last_line()]
 
-    def test_same_report(self) -> None:
+    def test_parts_of_any_size_have_the_same_report(self) -> None:
         whole = self.report(TEXT, 1 << 20)
         self.assertEqual(len(whole[0].parts), 1)
         self.assertEqual(
@@ -100,7 +100,7 @@ class Parts(unittest.TestCase):
             self.assertEqual(lines, whole[1], part)
         self.assertGreater(len(self.report(TEXT, 1)[0].parts), 4)
 
-    def test_refused_length(self) -> None:
+    def test_a_part_that_is_too_long_is_halved(self) -> None:
         text = b"password: x\n\n" + b"\n".join(b"mntner: N%d\n" % number for number in range(100))
         registry, lines = self.report(text, 1 << 20, most=200)
         self.assertEqual((len(lines), lines[-1]), (101, "% items 100"))
@@ -122,7 +122,7 @@ class Parts(unittest.TestCase):
             self.assertGreater(len(registry.parts), 2)
             self.assertEqual(lines, whole, most)
 
-    def test_passwords_go_on(self) -> None:
+    def test_passwords_go_on_into_later_parts(self) -> None:
         text = (
             b"".join(b"password: %d %s\n\n" % (number, b"y" * 30_000) for number in range(9))
             + b"mntner: A\n\nmntner: B\n"
@@ -130,7 +130,7 @@ class Parts(unittest.TestCase):
         _, lines = self.report(text, 1)
         self.assertEqual(lines, ["1 mntner N9-X: added", "2 mntner N9-X: added", "% items 2"])
 
-    def test_ends(self) -> None:
+    def test_how_a_report_ends_is_kept(self) -> None:
         for text, end, count, last in [
             (b"1 -: refused E01\n", "", 1, ""),
             (b"% stopped after 0 items\n", "stopped", 0, "% stopped after 0 items"),
@@ -142,7 +142,7 @@ class Parts(unittest.TestCase):
         with self.assertRaises(Failure):
             list(Sender(lambda _: [b"% items 0\n"]).send(items_of(b"a\n")))
 
-    def test_told_as_it_comes(self) -> None:
+    def test_items_are_told_as_they_come(self) -> None:
         """An item is told when its line has come, and a part goes out when the report of the last
         one is whole."""
         seen: list[bytes | str] = []
@@ -171,7 +171,7 @@ class Parts(unittest.TestCase):
         )
         self.assertEqual((sender.end, sender.count), ("", 4))
 
-    def test_lost_in_the_middle(self) -> None:
+    def test_what_was_decided_before_a_loss_is_told(self) -> None:
         """What was decided before is told, and that the rest may be registered."""
         registry = Registry()
 
@@ -189,7 +189,7 @@ class Parts(unittest.TestCase):
                 submit.send(Sender(post, part), items_of(b"mntner: A\n\nmntner: B\n"), printer)
             self.assertEqual(str(raised.exception), words)
 
-    def test_unprinted(self) -> None:
+    def test_a_report_that_cannot_be_printed_was_sent(self) -> None:
         """A report that can't be printed is of a text that was sent."""
 
         def full(_: Reported | Sender) -> None:
@@ -207,7 +207,7 @@ class Parts(unittest.TestCase):
             submit.send(Sender(Registry().post), [], printer)
         self.assertFalse(hasattr(raised.exception, "__notes__"))
 
-    def test_read_fault(self) -> None:
+    def test_a_read_fault_ends_the_text_there(self) -> None:
         def broken() -> Iterator[Item]:
             yield from items_of(b"mntner: A\n")
             raise OSError(5, "Input/output error")
@@ -220,7 +220,7 @@ class Parts(unittest.TestCase):
             self.assertEqual(sender.last_line(), "% read fault after 1 items")
             self.assertEqual(sender.read_fault.errno, 5)
 
-    def test_passwords_that_are_typed(self) -> None:
+    def test_typed_passwords_are_those_of_one_line(self) -> None:
         for typed in "a\nb", "\x01", " a", "a\t":
             self.assertRaises(Failure, submissions.password_item, typed, "A-MNT")
         found = submissions.password_item("one # two é", "A-MNT").passwords()
@@ -230,7 +230,7 @@ class Parts(unittest.TestCase):
 
 
 class Sources(unittest.TestCase):
-    def test_no_text(self) -> None:
+    def test_what_is_no_text_is_refused(self) -> None:
         with tempfile.TemporaryDirectory() as folder:
             path = os.path.join(folder, "file")
             for text in (
@@ -248,7 +248,7 @@ class Sources(unittest.TestCase):
 
 
 class Chunks(unittest.TestCase):
-    def test_pieces(self) -> None:
+    def test_chunks_are_the_text(self) -> None:
         self.assertEqual(b"".join(syntax.chunks(io.BytesIO(TEXT))), TEXT)
 
 

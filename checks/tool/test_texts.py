@@ -7,7 +7,7 @@ from irr.terminal import texts
 
 
 class Texts(unittest.TestCase):
-    def test_control_characters(self) -> None:
+    def test_control_characters_are_escaped(self) -> None:
         self.assertEqual(
             texts.shown(b"a\x1b[31m\r\x9b\x85\xff\tb\n\x7f"),
             "a\\x1b[31m\\x0d\\x9b\\x85\xff\tb\n\\x7f",
@@ -18,12 +18,12 @@ class Texts(unittest.TestCase):
             self.assertNotIn(chr(number), texts.shown(chr(number)))
             self.assertNotIn(chr(number), texts.shown(bytes([number])))
 
-    def test_columns(self) -> None:
+    def test_columns_are_aligned(self) -> None:
         self.assertEqual(texts.columns([["a", "bb", "c"], ["aaa", "b"]]), ["a    bb  c", "aaa  b"])
 
 
 class Codes(unittest.TestCase):
-    def test_table(self) -> None:
+    def test_each_code_has_a_sentence_and_a_remedy(self) -> None:
         self.assertEqual(
             [code.code for code in codes.TABLE],
             [f"E{n:02}" for n in [*range(1, 8), *range(10, 19), 90, 91]],

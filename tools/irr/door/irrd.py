@@ -37,7 +37,7 @@ LOOKED_AT = 1 << 15
 EXPANDED = re.compile(rb"(?:(?:" + answers.EXPANSION.pattern + rb")\n)*(?:% missing [^\n]*\n)*")
 # How many members by reference of a set that takes those of anybody are looked up one by one.
 MOST_LOOKED_UP = 2_000
-ROUTE_LINE = re.compile(rb"^route:[ ]*([^\n#]*?)[ ]*(?:#[^\n]*)?$", re.M)
+ROUTE = re.compile(rb"^route" + queries.VALUE, re.M)
 CLASSES = frozenset(
     "as-block as-set aut-num domain filter-set inet-rtr inet6num inetnum key-cert mntner "
     "peering-set person poem role route route-set route6 rtr-set".split()
@@ -210,7 +210,7 @@ class Session:
             return NOT_FOUND
         parts: list[bytes] = []
         async for piece in self.asker.pieces(answer.text, b"\n\n"):
-            parts.append(b" ".join(map(plain_prefix, ROUTE_LINE.findall(piece))))
+            parts.append(b" ".join(map(plain_prefix, ROUTE.findall(piece))))
         return self.asker.own(found(b" ".join(parts)), answer.cost)
 
     async def members(self, words: str) -> "bytes | Answer":
@@ -502,9 +502,11 @@ def ranged(line: bytes) -> bytes:
 
 
 def plain_prefix(value: bytes) -> bytes:
-    """A prefix of a route without what stands after its length."""
-    one = keys.read_prefix(value)
-    return one.text().encode() if one else value
+    """The prefix of a route, of which these lines say it."""
+    one = keys.read_prefix(queries.meaning_of(value))
+    if one is None:
+        raise Fault(f"the registry {answers.NO_REGISTRY}; tell its operator")
+    return one.text().encode()
 
 
 def listed(names: list[str]) -> str:

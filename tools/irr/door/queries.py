@@ -10,11 +10,14 @@ from irr.door.budget import Client
 from irr.door.cache import DEAR, Answer, Full
 from irr.door.pool import BEHIND, FULL, TOO_MUCH, Pending, Pool, Refused, Told, awaited
 from irr.registry import queries
-from irr.rpsl import keys
+from irr.rpsl import keys, syntax
 
 One = TypeVar("One")
 VERBS = (b"OBJECT", b"EXACT", b"CLOSEST", b"LESS", b"MORE", b"INVERSE", b"EXPAND", b"PREFIXES")
 NOTHING, EMPTY = b"% no entries\n", b"% empty\n"
+ERROR = re.compile(rb"% error ([0-9]+)\n")
+# What stands after the name of an attribute in canonical text, with the lines that go on with it.
+VALUE = rb":([^\n]*(?:\n[ +][^\n]*)*)"
 # The bytes of a kept answer that cost nothing, and the seconds that each byte of a longer one is
 # taken to cost.
 FREE, HANDING = 1 << 18, 0.02 / (1 << 20)
@@ -185,14 +188,16 @@ def error_of(text: bytes) -> int:
     return int(found[1]) if found else 0
 
 
-ERROR = re.compile(rb"% error ([0-9]+)\n")
-ATTRIBUTE = re.compile(rb"^([a-z][a-z0-9_-]*):[ \t]*([^\n]*(?:\n(?:[ ]|\+)[^\n]*)*)\n", re.M)
-
-
 def value_of(block: bytes, name: bytes) -> bytes:
-    """The first value of an attribute, as it stands on its line."""
-    found = re.search(rb"^" + name + rb":[ ]*([^\n#]*)", block, re.M)
-    return found[1].strip() if found else b""
+    """What the first attribute of a name says."""
+    found = re.search(rb"^" + name + VALUE, block, re.M)
+    return meaning_of(found[1]) if found else b""
+
+
+def meaning_of(value: bytes) -> bytes:
+    """What a value says that stands on these lines."""
+    first, *more = value.split(b"\n")
+    return syntax.Attribute(b"", [first, *(line[1:] for line in more)]).meaning()
 
 
 def prefix_of(block: bytes) -> Optional[keys.Prefix]:

@@ -29,10 +29,10 @@ irr import radb.db --source EXAMPLE --root ROOT-MNT --auth @holders.auth --check
 RULE = """What is written is, object by object, the paragraph that was read, but for what is mended
 and reported. A paragraph is not an object if the name of a class comes again after its
 first line, or `source` comes twice. It is parted where a class line follows directly on
-`source`; otherwise it is left out. An object is left out too if one of its lists can't be
-read, if two of its lines were joined, or if its file ends within it. An item that can't be
-read is dropped alone only if it is a word: letters, digits and _ . : / - ^ inside, and no
-word of expressions, such as EXCEPT."""
+`source`, and a part without a `source` is left out; otherwise all of it is. An object is
+left out too if one of its lists can't be read, if two of its lines were joined, or if its
+file ends within it. An item that can't be read is dropped alone only if it is a word:
+letters, digits and _ . : / - ^ inside, and no word of expressions, such as EXCEPT."""
 
 
 def arguments(parser: argparse.ArgumentParser) -> None:

@@ -112,15 +112,12 @@ class Import:
         # The line after the last block: one that begins there was cut off from it.
         after = count = with_source = 0
         waiting: parting.Part | None = None
-        is_off = "part" in self.off
-        seam = parting.no_seam if is_off else parting.last_seam
+        seam = parting.no_seam if "part" in self.off else parting.last_seam
         for block in syntax.blocks(self.sized(pieces_of(path)), MOST, seam, parting.later):
-            found = parting.parts(block)
-            if len(found) > 1 and is_off:
-                found = [parting.Part(block, not_mended("part"), True)]
-            for part in found:
-                if part is not found[0] or block.line == after:
+            for place, part in enumerate(self.parts(block)):
+                if place or block.line == after:
                     self.tally.part(Place(path, part.block.line), part.block.text)
+                    part = parting.joined(part)
                 if waiting:
                     self.take(waiting, path)
                 waiting = part
@@ -130,6 +127,13 @@ class Import:
         if waiting:
             is_usual = 2 * with_source > count - 1
             self.take(waiting, path, self.is_cut(waiting, is_usual))
+
+    def parts(self, block: syntax.Block) -> list[parting.Part]:
+        """What a paragraph consists of."""
+        found = parting.parts(block)
+        if len(found) > 1 and "part" in self.off:
+            return [parting.Part(block, not_mended("part"), True)]
+        return found
 
     def is_cut(self, last: parting.Part, is_usual: bool) -> bool:
         """Whether the last object of a file may have lost its end: the file ends within a line, or

@@ -91,7 +91,7 @@ class Mender:
     def mend(self, part: parting.Part, is_cut: bool = False) -> Mended:
         """The object that the lines of a part become; LeftOut with the cause where they become
         none, as where the file was cut off there. Scoped items stay in its text."""
-        if part.doubt:
+        if part.doubt and not (is_cut and part.doubt == parting.INSIDE):
             raise LeftOut(part.doubt)
         block = part.block
         name = block.text.partition(b":")[0].strip(syntax.BLANKS).lower()
@@ -115,6 +115,21 @@ class Mender:
         self.need_one(number, attributes)
         text = self.written(names, mended)
         return Mended(number, key, source, names, text, frozenset(self.kinds), tuple(self.drops))
+
+    def key_in(self, block: syntax.Block) -> tuple[int, int | str] | None:
+        """The class and the key of what may be no object, by the lines that can be read; None where
+        they tell none."""
+        lines = readable(block.text)
+        attributes = syntax.read_any(lines).attributes if lines else []
+        number = NUMBERS.get(attributes[0].name) if attributes else None
+        for place, attribute in enumerate(attributes):
+            if place and (attribute.name in NUMBERS or attribute.name in parting.FOREIGN):
+                attributes = attributes[:place]
+                break
+        try:
+            return (number, self.keyed(number, attributes)[0]) if number else None
+        except LeftOut:
+            return None
 
     def need_one(self, number: int, attributes: list[Attribute]) -> None:
         """That nothing shows that the line is lost which began another object: the lists of two
@@ -405,6 +420,22 @@ def ordered(number: int, value: bytes, origins: list[bytes]) -> int | str | None
         return span.first << 32 | span.last if span else None
     key = keys.read_key(keys.CLASSES[number - 1], value)
     return key.text if key else None
+
+
+def readable(text: bytes) -> bytes:
+    """The lines of a block without those that have a fault, and what goes on with them."""
+    kept: list[bytes] = []
+    goes_on = False
+    for line in text.split(b"\n"):
+        is_good = syntax.BAD_BYTE.search(line) is None
+        if line[:1] in syntax.CONTINUED:
+            is_good = is_good and goes_on
+        elif line[:1] not in syntax.PASSED_OVER:
+            front, colon, _ = line.partition(b":")
+            is_good = is_good and bool(colon) and syntax.name_of(front) is not None
+            goes_on = is_good
+        kept += [line] if is_good else []
+    return b"\n".join(kept)
 
 
 def not_mended(kind: str) -> str:

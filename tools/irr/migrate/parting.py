@@ -45,6 +45,7 @@ CR_BEFORE = re.compile(rb"\r[ \t\r]*[^ \t\r\n]")
 CUT_OFF = "cut off at the end of the file"
 CLASS_AGAIN = "a class again after the first line"
 SOURCE_AGAIN = "`source` twice"
+INSIDE = "no `source`, and no blank line before it"
 JOINED = "an item with a colon, as of two lines that were joined"
 JOINED_AUTH = "a class inside an `auth`, as of two lines that were joined"
 GOES_ON = "a list before `source` that goes on after it"
@@ -117,6 +118,12 @@ def unmarked(block: Block) -> Block:
 def part_of(block: Block, small: bytes, doubt: str) -> Part:
     count = len(LATER_SOURCE.findall(small))
     return Part(block, doubt or (SOURCE_AGAIN if count > 1 else ""), count > 0)
+
+
+def joined(part: Part) -> Part:
+    """A part with no blank line before it. If it has no `source` it may be text of the object
+    before, which nobody authorised as another one."""
+    return part if part.doubt or part.has_source else part._replace(doubt=INSIDE)
 
 
 def later(text: bytes, line: int) -> list[tuple[int, bytes]]:

@@ -68,6 +68,8 @@ class ViewMender(Mender):
         # What is of before the changes of the source; how many objects it has of each class; how
         # many of its routes are invalid.
         self.superseded: Collection[tuple[int, int | str]] = ()
+        # The sets that can't be read, each with the first source that has it.
+        self.withheld: dict[tuple[int, int | str], str] = {}
         self.counts = [0] * (len(NUMBERS) + 1)
         self.invalid = 0
 
@@ -75,16 +77,32 @@ class ViewMender(Mender):
         self.own, self.is_irrdesk = source, is_irrdesk
         self.counts, self.invalid = [0] * (len(NUMBERS) + 1), 0
 
-    def read(self, part: Part) -> Mended:
-        """The object that the lines of a change become."""
-        return super().mend(part)
+    def key_of(self, part: Part, cause: LeftOut) -> tuple[int, int | str] | None:
+        """Which object of the source it is that was left out; None where it is none of it."""
+        return None if str(cause) == OTHER_SOURCE else self.key_in(part.block)
+
+    def key_changed(self, part: Part) -> tuple[int, int | str] | None:
+        """Which object of the source a change is of."""
+        try:
+            mended = super().mend(part)
+        except LeftOut as cause:
+            return self.key_of(part, cause)
+        return mended.number, mended.key
 
     def mend(self, part: Part, is_cut: bool = False) -> Mended:
         """The object, if the source has it still, and ROAs do not say that it is in error."""
-        mended = super().mend(part, is_cut)
+        try:
+            mended = super().mend(part, is_cut)
+        except LeftOut as cause:
+            key = self.key_of(part, cause)
+            if key and key[0] in SETS and key not in self.superseded:
+                self.withheld.setdefault(key, self.own)
+            raise
         if (mended.number, mended.key) in self.superseded:
             raise LeftOut(CHANGED)
         self.counts[mended.number] += 1
+        if self.withheld.get((mended.number, mended.key), self.own) != self.own:
+            raise LeftOut(EARLIER)
         if mended.number == ROUTE and self.table is not None and self.is_invalid(int(mended.key)):
             self.invalid += 1
             if not self.keeps_invalid:
@@ -95,6 +113,10 @@ class ViewMender(Mender):
         # An irrdesk tells each object by itself, in whatever order its lines are.
         if not self.is_irrdesk:
             super().need_one(number, attributes)
+
+    def of_both_families(self, attribute: Attribute) -> Attribute | None:
+        # To an irrdesk it is text.
+        return attribute if self.is_irrdesk else super().of_both_families(attribute)
 
     def is_invalid(self, key: int) -> bool:
         prefix = keys.Prefix(key >> 38, key >> 32 & 63)
@@ -191,6 +213,10 @@ class Merge(conversion.Import):
             ) from None
         self.settle()
 
+    def parts(self, block: syntax.Block) -> list[Part]:
+        # An irrdesk tells each object by itself, whose text may have any names.
+        return [Part(block, "", True)] if self.own.is_irrdesk else super().parts(block)
+
     def read_state(self, name: str, state: State) -> None:
         self.own.begin(name, name in self.irrdesks)
         self.sources.setdefault(name, len(self.sources))
@@ -211,13 +237,13 @@ class Merge(conversion.Import):
         last: dict[tuple[int, int | str], Part | None] = {}
         unread: list[Part] = []
         for is_there, block in state.told():
-            for part in parts(block):
-                try:
-                    mended = self.own.read(part)
-                except LeftOut:
-                    unread += [part] if is_there else []
-                else:
-                    last[mended.number, mended.key] = part if is_there else None
+            # A change is of one object, whatever stands in its text.
+            for part in parts(block)[:1]:
+                key = self.own.key_changed(part)
+                if key:
+                    last[key] = part if is_there else None
+                elif is_there:
+                    unread.append(part)
         self.own.superseded = last.keys()
         # What can't be taken is counted once it is tried.
         return [*(part for part in last.values() if part), *unread]

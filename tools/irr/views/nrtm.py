@@ -7,11 +7,15 @@ import time
 from typing import BinaryIO, Iterator
 
 from irr.errors import Failure, system_words
+from irr.rpsl import syntax
 
 # Seconds for a piece of an answer, and for all of it; the longest line, and the most bytes.
 WAITING, ANSWERING = 60, 600
 LONGEST, MOST = 1 << 20, 1 << 28
-START = re.compile(rb"%START Version: 3 ([A-Za-z][A-Za-z0-9_-]*) ([0-9]{1,18})-([0-9]{1,18})", re.I)
+START = re.compile(
+    rb"%START Version: 3 ([A-Za-z][A-Za-z0-9_-]*) ([0-9]{1,18})-([0-9]{1,18})" rb"(?: FILTERED)?",
+    re.I,
+)
 CHANGE = re.compile(rb"(ADD|DEL) ([0-9]{1,18})")
 NONE_NEWER = re.compile(rb"% ?Warning:.*no newer", re.I)
 ERROR = re.compile(rb"%ERROR:([0-9]+):.*")
@@ -69,10 +73,15 @@ def taken(answer: Iterator[bytes], thing: str, name: str, serial: int, out: Bina
         for part in answer:
             if CHANGE.fullmatch(part):
                 raise Failure(thing, f"serial {before} has no whole object")
-            if part:
+            if part.strip(syntax.BLANKS):
                 text += part + b"\n"
+            elif part and text:
+                # A line of blanks would end the object in a file, and does not here.
+                text += b"+\n"
             elif text:
                 break
+        if not next(syntax.blocks([text]), None):
+            raise Failure(thing, f"serial {before} has no whole object")
         out.write(text + b"\n")
     raise Failure(thing, "its answer is cut off; it is asked again")
 

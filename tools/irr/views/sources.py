@@ -81,8 +81,14 @@ class State(NamedTuple):
                 if word:
                     yield word == b"ADD", block
                     word = b""
-                else:
-                    word = block.text.strip()
+                    continue
+                word = block.text.strip()
+                if word not in (b"ADD", b"DEL"):
+                    raise Failure(
+                        str(self.changes),
+                        f"it has no change in line {block.line}; remove {self.folder}, so that all "
+                        "of the source is taken anew",
+                    )
 
 
 def state_in(folder: Path) -> State | None:

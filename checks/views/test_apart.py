@@ -1,0 +1,188 @@
+"""What somebody writes into an object of theirs makes no other one, whichever way a view takes it;
+and what a source has changed, deleted, or has in a form that can't be read, is of no other."""
+
+import io
+import os
+import subprocess
+from pathlib import Path
+
+import pytest
+
+from checks.door.opened import HEAD, SPACE
+from checks.running import Trial, expect, write, write_settings
+from checks.serving import Serving, free_port
+from checks.views import test_sources
+from checks.views.test_merging import asked, made, several_of, written
+from checks.views.test_sources import World, dump, fault, route
+from checks.worlds import COUNT
+from irr.errors import Failure
+from irr.views import nrtm, settings
+from irr.views.keeping import View
+
+followed = test_sources.followed
+# Attributes that the rules take as text in an object of a stranger, who may register it.
+INSIDE = {
+    "route": "route: 192.0.2.0/24\norigin: AS666\n",
+    "route of its own": "route: 192.0.2.0/24\norigin: AS666\nmnt-by: EVIL-MNT\n",
+    "set": "as-set: AS1:AS-CUSTOMERS\nmembers: AS666\nmnt-by: EVIL-MNT\n",
+    "number": "aut-num: AS1\nmember-of: AS1:AS-CUSTOMERS\nmnt-by: EVIL-MNT\n",
+}
+EVIL = "mntner: EVIL-MNT\nauth: x\nmnt-by: EVIL-MNT\nsource: TEST\n"
+GOOD = """mntner: A-MNT
+auth: x
+mnt-by: A-MNT
+source: TEST
+
+aut-num: AS1
+mnt-by: A-MNT
+source: TEST
+
+as-set: AS1:AS-CUSTOMERS
+members: AS2
+person: Jo Doe
+mnt-by: A-MNT
+source: TEST
+domain: example.net
+
+route-set: RS-OUT
+members: 10.0.0.0/24
+mp-members: 10.1.0.0/24 { of text }
+mnt-by: A-MNT
+source: TEST
+
+"""
+
+
+def queried(folder: Path, *words: str) -> str:
+    return asked(os.environ["IRRDESK"], folder, *words)
+
+
+@pytest.mark.parametrize("what", INSIDE)
+@pytest.mark.parametrize("way", ["registry", "dump", "nrtm"])
+def test_a_stranger_adds_no_object_by_the_text_of_another(
+    trial: Trial, tmp_path: Path, monkeypatch: pytest.MonkeyPatch, what: str, way: str
+) -> None:
+    """A maintainer's class is the first of a dump, so that its text would win."""
+    monkeypatch.setenv("IRRDESK", trial.program)
+    evil = EVIL + INSIDE[what]
+    text = f"{HEAD}{GOOD if way == 'nrtm' else evil + chr(10) + GOOD}{SPACE}"
+    write_settings(str(tmp_path))
+    write(str(tmp_path), "dump.rpsl", text.encode())
+    load = [trial.program, "load", "s.toml", "dump.rpsl"]
+    subprocess.run(load, cwd=tmp_path, capture_output=True, check=True)
+    words = [trial.program, "dump", "s.toml"]
+    public = subprocess.run(words, cwd=tmp_path, capture_output=True, check=True).stdout
+    write(str(tmp_path), "public.rpsl", public)
+    with Serving([trial.program], str(tmp_path), COUNT, free_port()) as server:
+        here = f'registry = "http://127.0.0.1:{server.port}"'
+        there = f'dump = "{tmp_path}/public.rpsl"'
+        (tmp_path / "view.toml").write_text(
+            f'name = "ALL"\nfolder = "{tmp_path}/view"\n'
+            f'[[source]]\nname = "TEST"\n{here if way == "registry" else there}\n'
+        )
+        view = View(settings.read(str(tmp_path / "view.toml")))
+        folder = made(view)
+        if way == "nrtm":
+            view.commit()
+            state = view.states["TEST"]
+            state.changes.write_text(f"ADD\n\n{evil}\n")
+            view.states["TEST"] = state._replace(serial=1)
+            folder = tmp_path / "view" / "again"
+            folder.mkdir()
+            assert view.make(folder, "") is not None
+    expect(queried(folder, "exact", "192.0.2.0/24"), "% no entries\n", "a route")
+    found = queried(folder, "object", "aut-num", "AS1")
+    expect("mnt-by:         A-MNT" in found, True, found)
+    if way == "registry":
+        # It tells each object by itself.
+        expect(queried(folder, "expand", "AS1:AS-CUSTOMERS"), "AS2\n", "a set")
+        expect(queried(folder, "prefixes", "RS-OUT"), "10.0.0.0/24\n", "another")
+        found = queried(folder, "object", "mntner", "EVIL-MNT")
+        expect(INSIDE[what].split(":")[0] + ":" in found, True, found)
+    else:
+        expect("AS666" in queried(folder, "expand", "AS1:AS-CUSTOMERS"), False, "a set")
+
+
+# Objects that the source has, and that can't be read.
+UNREAD = [
+    route(1).replace("B-MNT", "B-MNT (x)"),
+    route(1).replace("descr: x", "descr: \x01"),
+    route(1).replace("descr: x", "no colon\n goes on"),
+    route(1) + "source: RIPE\n",
+    route(1).replace("descr: x", "person: Jo"),
+    route(1).replace("descr: x", "descr: " + "x" * 66_000),
+]
+
+
+@pytest.mark.parametrize("number", range(len(UNREAD)))
+def test_a_change_that_cannot_be_taken_takes_what_was_there_away(
+    followed: World, number: int
+) -> None:
+    world, text = followed, UNREAD[number]
+    expect(world.renew(), True, "the first time")
+    expect(b"10.0.1.0/24" in dump(world), True, "what was there")
+    world.nrtm.tell([("ADD", text)])
+    expect((world.renew(), fault(world)), (True, ""), "the change")
+    expect(b"10.0.1.0/24" in dump(world), False, "what is there")
+    expect(sum(world.view.told["RIPE"].left.values()), 1 + 1, "what is counted, with the old one")
+    world.nrtm.tell([("DEL", text), ("ADD", route(1)), ("ADD", text), ("ADD", route(2, 3))])
+    world.renew()
+    expect((b"10.0.1.0/24" in dump(world), b"AS3" in dump(world)), (False, True), "later ones")
+    world.nrtm.tell([("ADD", route(1))])
+    world.renew()
+    expect(b"10.0.1.0/24" in dump(world), True, "once it can be read again")
+    world.nrtm.tell([("DEL", text)])
+    world.renew()
+    expect(b"10.0.1.0/24" in dump(world), False, "once it is deleted")
+
+
+def test_a_line_of_blanks_in_a_change_moves_no_other(followed: World) -> None:
+    """A registry may keep one in a value. What comes after it are changes all the same."""
+    world = followed
+    expect(world.renew(), True, "the first time")
+    odd = route(900).replace("descr: x", "descr: x\n  \n\t\n more")
+    world.nrtm.tell([("ADD", odd), ("ADD", route(901)), ("DEL", world.routes.pop(1))])
+    expect((world.renew(), fault(world)), (True, ""), "the changes")
+    found = [number in dump(world) for number in (b"10.3.132.0/24", b"10.3.133.0/24", b"10.0.1.0")]
+    expect(found, [True, True, False], "what is there")
+
+
+@pytest.mark.parametrize("text", ["% a remark\n", "# a\n% b\n", "  \n\t\n"])
+def test_a_change_without_an_object_is_none(text: str) -> None:
+    answer = f"%START Version: 3 RIPE 2-3\n\nADD 2\n\n{text}\nADD 3\n\n{route(1)}\n%END RIPE\n"
+    with pytest.raises(Failure, match="serial 2 has no whole object"):
+        nrtm.taken(iter(answer.encode().splitlines()), "x", "RIPE", 1, io.BytesIO())
+
+
+def test_what_a_registry_filters_is_followed() -> None:
+    """RIPE and IRRd say so in the first line."""
+    answer = f"%START Version: 3 RIPE 2-2 FILTERED\n\nADD 2\n\n{route(1)}\n%END RIPE\n"
+    out = io.BytesIO()
+    expect(nrtm.taken(iter(answer.encode().splitlines()), "x", "RIPE", 1, out), 2, "the serial")
+    expect(out.getvalue().decode(), f"ADD\n\n{route(1)}\n", "the changes")
+
+
+def test_a_set_of_an_earlier_source_is_no_other_one_where_it_cannot_be_read(
+    program: str, tmp_path: Path, monkeypatch: pytest.MonkeyPatch
+) -> None:
+    """Its name means that one, and strangers may register it at a later source."""
+    monkeypatch.setenv("IRRDESK", program)
+    sources = {
+        "TEST": """
+            as-set: AS-X|members: AS1 EXCEPT AS2|mnt-by: T-MNT
+            as-set: AS-ALL|members: AS-X, RADB::AS-X|mnt-by: T-MNT
+            route-set: RS-X|members: 10.5.0.0/16, (x)|mnt-by: T-MNT
+        """,
+        "RIPE": "route: 10.5.0.0/16|origin: AS5|mnt-by: X-MNT",
+        "RADB": """
+            route: 10.6.0.0/16|origin: AS6|mnt-by: X-MNT
+            as-set: AS-X|members: AS6|mnt-by: X-MNT
+            route-set: RS-X|members: AS6|mnt-by: X-MNT
+        """,
+    }
+    view = written(tmp_path, several_of(sources))
+    folder = made(view)
+    for name in "AS-X", "RS-X":
+        expect(asked(program, folder, "prefixes", name), "% no entries\n", name)
+    expect(asked(program, folder, "prefixes", "AS-ALL"), "% missing AS-X\n", "AS-ALL")
+    expect(view.told["RADB"].left, {"an earlier source has it": 2}, "what is told")

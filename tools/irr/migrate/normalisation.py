@@ -93,8 +93,7 @@ class Mender:
         none, as where the file was cut off there. Scoped items stay in its text."""
         if part.doubt and not (is_cut and part.doubt == parting.INSIDE):
             raise LeftOut(part.doubt)
-        block = part.block
-        name = block.text.partition(b":")[0].strip(syntax.BLANKS).lower()
+        block, name = part.block, class_of(part.block)
         if is_cut and (name in NUMBERS or name in parting.FOREIGN):
             raise LeftOut(parting.CUT_OFF)
         if name in parting.FOREIGN:
@@ -119,15 +118,17 @@ class Mender:
     def key_in(self, block: syntax.Block) -> tuple[int, int | str] | None:
         """The class and the key of what may be no object, by the lines that can be read; None where
         they tell none."""
-        lines = readable(block.text)
-        attributes = syntax.read_any(lines).attributes if lines else []
-        number = NUMBERS.get(attributes[0].name) if attributes else None
-        for place, attribute in enumerate(attributes):
-            if place and (attribute.name in NUMBERS or attribute.name in parting.FOREIGN):
-                attributes = attributes[:place]
-                break
+        kind = class_of(block)
+        lines = readable(block.text) if kind in NUMBERS else b""
+        found = syntax.read_any(lines).attributes if lines else []
+        if not found or found[0].name != kind:
+            return None
+        # From another class on it is of no object, or of another one.
+        names = [attribute.name for attribute in found[1:]]
+        ends = [one in NUMBERS or one in parting.FOREIGN for one in names] + [True]
+        own = found[: ends.index(True) + 1]
         try:
-            return (number, self.keyed(number, attributes)[0]) if number else None
+            return NUMBERS[kind], self.keyed(NUMBERS[kind], own)[0]
         except LeftOut:
             return None
 
@@ -420,6 +421,11 @@ def ordered(number: int, value: bytes, origins: list[bytes]) -> int | str | None
         return span.first << 32 | span.last if span else None
     key = keys.read_key(keys.CLASSES[number - 1], value)
     return key.text if key else None
+
+
+def class_of(block: syntax.Block) -> bytes:
+    """What stands before the first colon of a block, which is the class of an object."""
+    return block.text.partition(b":")[0].strip(syntax.BLANKS).lower()
 
 
 def readable(text: bytes) -> bytes:

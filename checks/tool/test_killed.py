@@ -68,8 +68,9 @@ def places_fixture(trial: Trial, tool: Tool) -> Iterator[Places]:
         settings = os.path.join(world.folder, "whole.toml")
         done(own, "backup", "--settings", settings, str(first / "backup"))
         port = free_port()
-        with mirroring(own, ["-s", world.url], first / "mirror", port):
-            wait_until("a replica", PATIENCE, lambda: is_served(port))
+        with mirroring(own, ["-s", world.url], first / "mirror", port) as said:
+            # It is kept only once it is served.
+            wait_until("what is made", PATIENCE, lambda: "the replicas have" in said_by(said))
         answers = [answered(world.server.port)]
         added = items(299 + CHANGES)[300:]
         text = b"\n".join([b"password: bc\n", *added, b"inetnum: 10.0.0.0/27\ndelete: x\n"])
@@ -373,7 +374,9 @@ def test_a_mirror_serves_one_of_two_states(trial: Trial, places: Places, tell: T
                 try:
                     wait_until("a replica", PATIENCE, lambda: answered(port) in wanted)
                 except Failure as failure:
-                    raise Failure(f"{failure}: {place} {said_by(said)}") from None
+                    there = sorted(str(path.relative_to(folder)) for path in folder.rglob("*"))
+                    words = f"{folder.parent.name} {place}: {there} {said_by(said)[:2_000]}"
+                    raise Failure(f"{failure}: {words}") from None
             expect(sorted(os.listdir(folder)), [".lock", str(port), "made"], "what is left")
             names = set(os.listdir(folder / "made")) - {"irr.db-wal"}
             expect(names, {"dump.rpsl", "irr.db", "irr.toml"}, "what is left of what was made")

@@ -21,6 +21,8 @@ from checks.worlds import Tool  # noqa: E402
 BUILT = Path(TOP, "crates/rr_cli/out/rr_cli")
 # How many examples a property tries, in the short form and in the long one.
 EXAMPLES, LONG_EXAMPLES = 60, 3_000
+# How long a check may take in the long form.
+LONG_SECONDS = 6 * 3_600
 
 
 def pytest_addoption(parser: pytest.Parser) -> None:
@@ -58,6 +60,9 @@ def pytest_configure(config: pytest.Config) -> None:
     options.long = options.long or bool(os.environ.get("CHECKS_LONG"))
     if options.long:
         os.environ["CHECKS_LONG"] = "1"
+        # Those of the gate would end a check of a thousand registries on a machine that is busy.
+        if getattr(options, "timeout", 0) is None:
+            options.timeout = LONG_SECONDS
     if "/usr/sbin" not in os.environ["PATH"].split(":"):
         os.environ["PATH"] += ":/usr/sbin"
     if getattr(options, "hypothesis_seed", None) is None:

@@ -398,12 +398,21 @@ def test_a_registry_of_its_own_ends_with_it(program: str, monkeypatch: pytest.Mo
     os.close(writer)
     with open(reader, encoding="utf-8") as told:
         folder, url = told.readline().split()
-        port = int(url.rpartition(":")[2])
-        expect(is_served(port), True, "whether it is served")
+        expect(is_served(int(url.rpartition(":")[2])), True, "whether it is served")
+        expect(is_worked_in(folder), True, "whether its process is seen")
         os.kill(number, signal.SIGKILL)
         os.waitpid(number, 0)
-    wait_until("a registry that goes on alone", PATIENCE, lambda: not is_served(port))
+    wait_until("a registry that goes on alone", PATIENCE, lambda: not is_worked_in(folder))
     shutil.rmtree(folder)
+
+
+def is_worked_in(folder: str) -> bool:
+    """Whether a process has this folder as its own."""
+    for name in filter(str.isdigit, os.listdir("/proc")):
+        with contextlib.suppress(OSError):
+            if os.readlink(f"/proc/{name}/cwd") == folder:
+                return True
+    return False
 
 
 def test_what_is_started_too_late_ends_at_once() -> None:

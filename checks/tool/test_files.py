@@ -1,5 +1,6 @@
 """Files put in place, folders held, dumps made loadable, and maps drawn."""
 
+import fcntl
 import os
 import shutil
 import tempfile
@@ -50,6 +51,48 @@ class Files(unittest.TestCase):
         self.assertRaises(Failure, files.put, self.folder / "none" / "file", b"x")
         (self.folder / "taken").mkdir()
         self.assertRaises(Failure, files.put, self.folder / "taken", b"x")
+
+    def test_what_was_left_goes(self) -> None:
+        """Of a run that was killed, and not what a process writes still, or anybody else has."""
+        left, held, folder = (self.folder / f".file.irr-{mark * 8}" for mark in "abc")
+        others = [".file.irr-kept", ".file.original", ".files.irr-abcdefgh", "file.irr-abcdefgh"]
+        for path in [left, held, *(self.folder / name for name in others)]:
+            path.write_bytes(b"half")
+        folder.mkdir()
+        (link := self.folder / ".file.irr-dddddddd").symlink_to(left)
+        with open(held, "rb") as file:
+            fcntl.flock(file, fcntl.LOCK_EX)
+            files.put(self.folder / "file", b"whole")
+        kept = ["file", held.name, folder.name, link.name, *others]
+        self.assertEqual(sorted(os.listdir(self.folder)), sorted(kept))
+        files.put(self.folder / "file", b"whole")
+        kept.remove(held.name)
+        self.assertEqual(sorted(os.listdir(self.folder)), sorted(kept))
+
+    @unittest.skipUnless(os.geteuid() == 0, "it takes root")
+    def test_what_another_user_left_stays(self) -> None:
+        (left := self.folder / ".file.irr-abcdefgh").touch()
+        os.chown(left, 65_534, 65_534)
+        files.put(self.folder / "file", b"whole")
+        self.assertTrue(left.exists())
+
+    def test_several_write_one_file(self) -> None:
+        """Each puts its own text in place, and none takes that of another away."""
+        path, texts = self.folder / "file", [bytes([65 + number]) * 5_000 for number in range(4)]
+        numbers = []
+        for text in texts:
+            if not (number := os.fork()):
+                status = 1
+                try:
+                    for _ in range(100):
+                        files.put(path, text)
+                    status = 0
+                finally:
+                    os._exit(status)
+            numbers.append(number)
+        self.assertEqual([os.waitpid(number, 0)[1] for number in numbers], [0] * 4)
+        self.assertIn(path.read_bytes(), texts)
+        self.assertEqual(os.listdir(self.folder), ["file"])
 
     def test_what_is_no_file_is_not_replaced(self) -> None:
         pipe, link = self.folder / "pipe", self.folder / "link"

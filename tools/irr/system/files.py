@@ -3,6 +3,7 @@ many."""
 import contextlib
 import fcntl
 import os
+import re
 import shutil
 import stat
 import sys
@@ -13,6 +14,8 @@ from typing import BinaryIO, Iterable, Iterator
 from irr.errors import ARGUMENTS, FAILED, Failure, system_words
 
 PUBLIC, PRIVATE = 0o644, 0o600
+# What tempfile puts after a prefix.
+MADE = re.compile("[a-z0-9_]{8}")
 # As many links as the system follows on the way to a file.
 MOST_LINKS = 40
 
@@ -58,7 +61,7 @@ def begun(target: Path) -> tuple[int, str]:
     left which were killed go: nobody holds them."""
     prefix = f".{target.name}.irr-"
     for name in names_in(target.parent):
-        if name.startswith(prefix):
+        if name.startswith(prefix) and MADE.fullmatch(name, len(prefix)):
             with contextlib.suppress(OSError):
                 remove_left(target.with_name(name))
     while True:

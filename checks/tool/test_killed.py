@@ -375,8 +375,8 @@ def test_a_mirror_serves_one_of_two_states(trial: Trial, places: Places, tell: T
                     wait_until("a replica", PATIENCE, lambda: answered(port) in wanted)
                 except Failure as failure:
                     there = sorted(str(path.relative_to(folder)) for path in folder.rglob("*"))
-                    words = f"{folder.parent.name} {place}: {there} {said_by(said)[:2_000]}"
-                    raise Failure(f"{failure}: {words}") from None
+                    what = f"{folder.parent.name} {place}: {there} {said_by(said)[:2_000]}"
+                    raise Failure(f"{failure}: {what}") from None
             expect(sorted(os.listdir(folder)), [".lock", str(port), "made"], "what is left")
             names = set(os.listdir(folder / "made")) - {"irr.db-wal"}
             expect(names, {"dump.rpsl", "irr.db", "irr.toml"}, "what is left of what was made")

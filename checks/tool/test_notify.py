@@ -176,9 +176,12 @@ def test_what_was_refused_goes_to_upd_to(mailed: Mailed) -> None:
     log.write_text("")
     mailed.told("--log", str(log))
 
+    def stamp(moment: float) -> str:
+        return time.strftime("%Y-%m-%dT%H:%M:%S+00:00", time.gmtime(moment))
+
     def entry(second: float, outcome: str, **more: object) -> str:
-        stamp = time.strftime("%Y-%m-%dT%H:%M:%S+00:00", time.gmtime(time.time() + second))
-        told = {"time": stamp, "client": "192.0.2.7", "item": 1, "class": "route"}
+        at = stamp(time.time() + second)
+        told = {"time": at, "client": "192.0.2.7", "item": 1, "class": "route"}
         return json.dumps(told | {"key": "192.0.1.0/24 AS1", "outcome": outcome} | more) + "\n"
 
     log.write_text(
@@ -206,8 +209,8 @@ def test_what_was_refused_goes_to_upd_to(mailed: Mailed) -> None:
     last = int(time.time()) - 30
     noted.write_text(json.dumps(json.loads(noted.read_text()) | {"since": float(last)}))
     log.write_text(
-        entry(last - time.time(), "E13", **{"mnt-by": ["A-MNT"], "key": "told before"})
-        + entry(last + 1 - time.time(), "E13", **{"mnt-by": ["A-MNT"], "key": "not yet"})
+        entry(0, "E13", **{"mnt-by": ["A-MNT"], "key": "told before", "time": stamp(last)})
+        + entry(0, "E13", **{"mnt-by": ["A-MNT"], "key": "not yet", "time": stamp(last + 1)})
     )
     (text,) = mailed.told("--log", str(log)).values()
     expect(("told before" in text, "not yet" in text), (False, True), "what is told then")

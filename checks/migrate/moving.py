@@ -1,7 +1,7 @@
 """A plain second reading of what `irr import` makes of a dump."""
 
 import re
-from collections.abc import Callable, Iterator
+from collections.abc import Iterator
 from typing import Any
 
 from checks.model import numbers
@@ -59,16 +59,6 @@ class Out(Exception):
 
 def is_maintainer(item: bytes) -> bool:
     return MNT.fullmatch(item) is not None and item.upper() not in EXPRESSION
-
-
-def member_of(number: int) -> Callable[[bytes], bytes | None]:
-    """The reader of a set's name in `member-of`: that of a route is a route-set's."""
-
-    def read_name(item: bytes) -> bytes | None:
-        name = numbers.set_name(item)
-        return None if name and number == ROUTE and numbers.set_kind(name) == b"AS" else name
-
-    return read_name
 
 
 def lists_of(number: int) -> set[bytes]:
@@ -230,13 +220,20 @@ class Second:
                 item if is_any and item.upper() == b"ANY" else self.name(item) for item in found
             ]
         is_good = (
-            member_of(number)
+            numbers.set_name
             if name == b"member-of"
             else as_set_member
             if number == AS_SET
             else route_set_member
         )
-        return [item for item in found if self.stays(item, is_good(SCOPE.sub(b"", item)))]
+        read = [(item, is_good(SCOPE.sub(b"", item))) for item in found]
+        # A route names as-sets too, AS-ANY among them, and is in none (RFC 2622, 5).
+        is_route = (number, name) == (ROUTE, b"member-of")
+        return [
+            item
+            for item, own in read
+            if self.stays(item, own) and not (is_route and own and numbers.set_kind(own) == b"AS")
+        ]
 
     def stays(self, item: bytes, read: object) -> bool:
         """Whether an item stays that was read, or was not: then it must be a word, or of IPv6."""

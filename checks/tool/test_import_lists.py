@@ -89,6 +89,9 @@ def test_a_route_is_in_no_as_set() -> None:
     assert lists_of(alone) == ([(b"member-of", [b"# theirs"])], {"member-of"})
     assert mended(alone, ["member-of"]) == "not mended because of --no-member-of"
     assert lists_of(rest("aut-num: AS1", "member-of: AS-X"))[1] == set()
+    # irrdesk reads this name there: the others of its list mean the same without it.
+    any_of_all = rest("route: 10.0.0.0/8", "origin: AS1", "member-of: RS-X, AS-ANY, foo")
+    assert lists_of(any_of_all) == ([(b"member-of", [b"RS-X"])], {"member-of", "item"})
 
 
 # Scopes.

@@ -146,7 +146,7 @@ class Attack:
         self.talk(address, self.whois, query.encode() + b"\r\n")
 
     def post(self, address: str, body: bytes) -> None:
-        head = "POST /submissions HTTP/1.1\r\nHost: x\r\nConnection: close\r\n"
+        head = "POST /submissions HTTP/1.1\r\nHost: irr.example.net\r\nConnection: close\r\n"
         head += f"Content-Length: {len(body)}\r\n\r\n"
         self.talk(address, self.http, head.encode() + body)
 

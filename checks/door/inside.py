@@ -83,6 +83,12 @@ async def until(is_so: Callable[[], object]) -> None:
             await asyncio.sleep(0.001)
 
 
+def plain(text: str) -> socket.socket:
+    """A client of a place, in a thread of its own."""
+    host, _, port = text.rpartition(":")
+    return socket.create_connection((host, int(port)), 60)
+
+
 async def connected(text: str) -> socket.socket:
     """A client of a place, with little room for what it is sent."""
     host, _, port = text.rpartition(":")

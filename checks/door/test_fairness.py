@@ -29,10 +29,8 @@ def at_most(found: float, most: float, what: str) -> None:
         raise Failure(f"{what}: {found:.4g}, and at most {most:.4g} were to be")
 
 
-@pytest.fixture(scope="module")
-def crowd(trial: Trial) -> Iterator[Registries]:
-    """A registry with what attackers registered before: rings, salts and names."""
-    count = trial.pick(30_000, 300_000)
+def registered(count: int, maintainers: int, names: int, sets: int) -> str:
+    """A dump of so many routes, with maintainers of many salts, names and a ring of sets."""
     routes = (
         f"route: {1 + (n >> 16)}.{n >> 8 & 255}.{n & 255}.0/24\n"
         f"origin: AS{1 if n % 100 else 2 + n // 100 % 900}\n"
@@ -40,23 +38,23 @@ def crowd(trial: Trial) -> Iterator[Registries]:
         for n in range(count)
     )
     numbers = (f"aut-num: AS{n}\nmnt-by: ROOT-MNT\nsource: TEST\n\n" for n in range(1, 1_001))
-    sets = (
+    small = (
         "as-set: AS-SMALL\nmembers: AS2, AS3\nmnt-by: ROOT-MNT\nsource: TEST\n\n"
         "as-set: AS-BIG\nmembers: AS1, AS2\nmnt-by: ROOT-MNT\nsource: TEST\n\n"
     )
-    dump = "".join(
-        [
-            HEAD,
-            attackers.maintainer("E", "e"),
-            attackers.salted(trial.pick(4, 64)),
-            attackers.named(trial.pick(500, 15_000)),
-            SPACE,
-            *numbers,
-            *routes,
-            sets,
-            attackers.ring(trial.pick(6, 16)),
-        ]
-    )
+    made = [
+        attackers.maintainer("E", "e"),
+        attackers.salted(maintainers),
+        attackers.named(names),
+    ]
+    return "".join([HEAD, *made, SPACE, *numbers, *routes, small, attackers.ring(sets)])
+
+
+@pytest.fixture(scope="module")
+def crowd(trial: Trial) -> Iterator[Registries]:
+    """A registry with what attackers registered before: rings, salts and names."""
+    count = trial.pick(30_000, 300_000)
+    dump = registered(count, trial.pick(4, 64), trial.pick(500, 15_000), trial.pick(6, 16))
     with Registries(trial, "crowd", dump, replicas=2, limit=LIMIT) as made:
         yield made
 

@@ -3,18 +3,23 @@ much."""
 
 import asyncio
 import gc
+import io
 import sys
+import threading
 import time
+from pathlib import Path
 from types import FrameType
 from typing import Any
 
 import pytest
 
 from checks.door import inside
-from checks.running import expect
+from checks.door.opened import read_all
+from checks.running import Trial, expect
 from irr.door.budget import Client, Clients
 from irr.door.pacing import Paces
 from irr.door.queries import Asker
+from irr.local import serials
 
 COUNT = 4_000
 # Calls of functions that a turn may make: some 20 ms of them.
@@ -66,10 +71,11 @@ LINES = [
 
 
 class Work:
-    """The calls of functions in this thread, and the most of them in a turn of the loop."""
+    """The calls of functions in this thread, and the most of them in a turn of the loop; and of
+    these the calls that open a file."""
 
     def __init__(self) -> None:
-        self.calls = self.most = self.all = 0
+        self.calls = self.most = self.all = self.opened = self.most_opened = 0
         self.loop = asyncio.get_running_loop()
         self.is_over = False
 
@@ -84,10 +90,12 @@ class Work:
 
     def note(self, frame: FrameType, event: str, told: Any) -> None:
         self.calls += event in ("call", "c_call")
+        self.opened += event == "c_call" and told is io.open
 
     def turn(self) -> None:
         self.all += self.calls
         self.most, self.calls = max(self.most, self.calls), 0
+        self.most_opened, self.opened = max(self.most_opened, self.opened), 0
         if not self.is_over:
             self.loop.call_soon(self.turn)
 
@@ -151,3 +159,77 @@ def test_what_is_being_made_is_counted() -> None:
 
     before, most, after = inside.run(ask())
     expect((before, most, after), (0, len(ROUTES), 0), "bytes that are counted")
+
+
+# Files that a turn may open: some milliseconds of them.
+MOST_FILES = 150
+
+
+@pytest.fixture(scope="module")
+def history(trial: Trial) -> Path:
+    """A history of as many states as are kept, each of one change."""
+    folder = Path(trial.place("history"))
+    (folder / "serials").mkdir()
+    for last in range(1, serials.MOST_STATES + 1):
+        told = serials.Told("TEST", last, last, 0, "0" * 40, "0" * 64)
+        text = b"\nADD %d\n\naut-num: AS%d\nsource: TEST\n" % (last, last)
+        serials.Serials(folder).path(last).write_bytes(told.head() + text)
+    return folder
+
+
+def taken(place: str, line: bytes, found: list[bytes]) -> None:
+    """A client in a thread of its own, which takes what comes as fast as it can."""
+    with inside.plain(place) as peer:
+        peer.sendall(line)
+        found.append(read_all(peer))
+
+
+def test_a_long_range_of_serials_is_told_in_many_turns(history: Path) -> None:
+    async def ask() -> tuple[int, int, list[bytes]]:
+        given: dict[str, Any] = {"history": str(history), "mirrors": ["127.0.0.1"]}
+        async with inside.opened(lambda line: b"% no entries\n", **given) as (door, _):
+            found: list[bytes] = []
+            words = (door.settings.whois[0], b"-g TEST:3:1-LAST\r\n", found)
+            thread = threading.Thread(target=taken, args=words)
+            with Work() as work:
+                thread.start()
+                await inside.until(lambda: found)
+            thread.join()
+            return work.most, work.most_opened, found
+
+    most, opened, (answer,) = inside.run(ask())
+    expect((answer.count(b"\nADD "), answer[-12:]), (5_000, b"\n%END TEST\n\n"), "the answer")
+    expect(most <= MOST, True, f"{most} calls in a turn")
+    expect(opened <= MOST_FILES, True, f"{opened} files opened in a turn")
+
+
+def test_a_long_answer_that_is_taken_at_once_leaves_room_for_others() -> None:
+    """However fast a client takes it, no turn sends more than some of it."""
+    text = b"remarks: x\n" * (2 << 20) + b"\n"
+
+    async def ask() -> tuple[int, int]:
+        async with inside.opened(lambda line: text, keep=60) as (door, _):
+            found: list[bytes] = []
+            words = (door.settings.whois[0], b"AS1\r\n", found)
+            thread = threading.Thread(target=taken, args=words)
+            sent: list[int] = []
+            most = 0
+
+            def turn() -> None:
+                nonlocal most
+                places = [one.place for one in door.door.connections]
+                sent.append(max(places, default=0))
+                if len(sent) > 1:
+                    most = max(most, sent[-1] - sent[-2])
+                if not found:
+                    door.loop.call_soon(turn)
+
+            thread.start()
+            turn()
+            await inside.until(lambda: found)
+            thread.join()
+            return most, len(found[0])
+
+    most, size = inside.run(ask())
+    expect(size, len(text), "bytes of the answer")
+    expect(most <= 1 << 21, True, f"{most} bytes in a turn")

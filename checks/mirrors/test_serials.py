@@ -1,11 +1,13 @@
 """The serials of a history: each change has one, they never go back, and they begin anew where it
 is not known what was between."""
 
+import asyncio
 import hashlib
 import os
 import shutil
-from collections.abc import Iterable
+from collections.abc import AsyncIterator, Iterable
 from pathlib import Path
+from typing import Any, cast
 
 import pytest
 from hypothesis import given
@@ -50,10 +52,13 @@ class States:
         self.commit(*objects, source=source, now=now)
         return self.update(now)
 
+    def parts(self, first: int, last: int) -> list[serials.Part]:
+        return [part for some in self.serials.parts(first, last) for part in some]
+
     def told(self, first: int, last: int) -> list[tuple[str, str]]:
         """The changes of a range, each as its words and its key."""
         text = b""
-        for part in self.serials.parts(first, last):
+        for part in self.parts(first, last):
             with open(part.path, "rb") as file:
                 text += file.read()[part.begin : part.end]
         blocks = text.decode().strip("\n").split("\n\n")
@@ -177,12 +182,53 @@ def test_an_answer_whose_file_is_gone_lacks_its_last_line(states: States) -> Non
     states.add()
     states.add(aut_num(1))
     found = states.add(aut_num(1), aut_num(2))
-    parts = states.serials.parts(found.first, found.last)
+    parts = states.parts(found.first, found.last)
     whole, cut = (nrtm.Changes("TEST", found.first, parts) for _ in range(2))
     expect(handed(whole).endswith(b"\n%END TEST\n\n"), True, "the whole answer")
     parts[1].path.unlink()
     text = handed(cut)
     expect((b"AS1\n" in text, b"%END" in text), (True, False), "the answer")
+
+
+def test_an_answer_whose_file_was_cut_ends_there(states: States) -> None:
+    states.add()
+    found = states.add(aut_num(1))
+    parts = states.parts(found.first, found.last)
+    answer = nrtm.Changes("TEST", found.first, parts)
+    with open(parts[0].path, "r+b") as file:
+        file.truncate(parts[0].begin + 9)
+    text = handed(answer)
+    expect((b"\nADD" in text, b"%END" in text), (True, False), "the answer")
+
+
+@pytest.mark.parametrize("stretch", [1, 2, 20, 300])
+def test_a_change_is_found_wherever_it_stands(
+    states: States, monkeypatch: pytest.MonkeyPatch, stretch: int
+) -> None:
+    """Also across the end of what is searched at once."""
+    monkeypatch.setattr(serials, "STRETCH", stretch)
+    states.add(aut_num(9))
+    found = states.add(*(aut_num(number) for number in range(1, 7)))
+    wanted = states.told(found.first, found.last)
+    for place in range(len(wanted)):
+        serial = found.first + place
+        expect(states.told(serial, serial), wanted[place : place + 1], f"serial {serial}")
+
+
+def test_serials_that_cannot_be_read_are_refused_and_told(states: States) -> None:
+    states.add()
+    states.add(aut_num(1))
+    found = states.add(aut_num(1), aut_num(2))
+    mirrors = nrtm.Mirrors(Settings(mirrors=("192.0.2.1",), history=str(states.folder)))
+    path = states.serials.path(found.first)
+    whole = path.read_bytes()
+    path.write_bytes(b"x" + whole[1:])
+    with pytest.raises(flags.Bad, match="can't be read here"):
+        answered(mirrors, f"TEST:3:{found.first}-LAST", "192.0.2.1")
+    expect(str(path) in " ".join(mirrors.faults()), True, f"{mirrors.faults()}")
+    path.write_bytes(whole)
+    answered(mirrors, f"TEST:3:{found.first}-LAST", "192.0.2.1")
+    expect(mirrors.faults(), [], "what is told once they can be read")
 
 
 @pytest.fixture(scope="module")
@@ -197,6 +243,21 @@ def kept(trial: Trial) -> Kept:
     return mirrors, found, states.told(found.first, found.last)
 
 
+class Asking:
+    """Who asks from an address, and never waits for others."""
+
+    def __init__(self, address: str) -> None:
+        self.address = address
+
+    async def paced(self, pieces: Iterable[Any]) -> AsyncIterator[Any]:
+        for piece in pieces:
+            yield piece
+
+
+def answered(mirrors: nrtm.Mirrors, word: str, address: str) -> bytes | nrtm.Changes:
+    return asyncio.run(mirrors.answer(word, cast(Any, Asking(address))))
+
+
 @given(st.integers(-3, 60), st.integers(-3, 60), st.booleans())
 def test_a_range_is_told_exactly_or_refused(
     kept: Kept, first: int, last: int, is_open: bool
@@ -205,7 +266,7 @@ def test_a_range_is_told_exactly_or_refused(
     first, last = first + found.first, found.last if is_open else last + found.first
     asked = f"TEST:3:{first}-{'LAST' if is_open else last}"
     try:
-        answer = mirrors.answer(asked, "192.0.2.1")
+        answer = answered(mirrors, asked, "192.0.2.1")
     except flags.Bad as bad:
         assert bad.number == 401
         assert not found.first <= first <= last <= found.last
@@ -229,7 +290,7 @@ def test_a_range_is_told_exactly_or_refused(
 @given(st.text() | st.from_regex(nrtm.ASKED), st.text() | st.ip_addresses().map(str))
 def test_no_words_of_a_mirror_do_more_than_be_refused(kept: Kept, words: str, address: str) -> None:
     try:
-        answer = kept[0].answer(words, address)
+        answer = answered(kept[0], words, address)
     except flags.Bad as bad:
         assert bad.number in (401, 402, 403, 405)
         return

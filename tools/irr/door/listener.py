@@ -23,8 +23,9 @@ IDLE = 30.0
 QUIET = 4.0
 # The longest line, and the most bytes of lines that are read ahead.
 LONGEST, AHEAD = 1_100, 1 << 16
-# Bytes that are written at once, and lines that are answered at once.
-PIECE, IN_A_TURN = 1 << 17, 100
+# Bytes that are written at once, and how often before others have their turn; and lines that are
+# answered at once.
+PIECE, PIECES, IN_A_TURN = 1 << 17, 8, 100
 MANY = b"% too many connections; come again later\n"
 TOO_MANY = b"% too many connections of yours; come again later\n"
 UNNAMED = b"% the proxy does not say whose connection this is; see proxied in irr-door(1)\n"
@@ -288,13 +289,24 @@ class Connection:
 
     def flow(self) -> None:
         wire = self.transport
-        while self.held is not None and not wire.rest and not wire.closes:
+        for _ in range(PIECES):
+            if self.held is None or wire.rest or wire.closes:
+                return
             piece = self.held.piece(self.place, PIECE)
             self.place += len(piece)
             if self.place >= self.held.size():
                 self.held = None
                 self.door.taking.pop(self, None)
             wire.write(piece)
+        if self.held is not None and not wire.rest and not wire.closes:
+            # It is taken as fast as it is sent.
+            self.door.loop.call_soon(self.flow_on)
+
+    def flow_on(self) -> None:
+        if self.held is not None:
+            self.flow()
+            if self.held is None:
+                self.given()
 
     def sent(self) -> None:
         if self.held is None:

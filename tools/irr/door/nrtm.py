@@ -4,21 +4,27 @@ A range may be asked for up to `LAST`; where that would be too long an answer, i
 its first line says, and the mirror asks on.
 """
 
+import contextlib
 import re
 import time
 from pathlib import Path
-from typing import Optional
+from typing import TYPE_CHECKING, Optional
 
 from irr.door.flags import Bad
 from irr.door.settings import Settings, is_in, networks
 from irr.errors import Failure
 from irr.local.serials import Part, Serials, Told
 
+if TYPE_CHECKING:
+    from irr.door.queries import Asker
+
 # Seconds for which what everybody may ask is taken as it was.
 KEPT = 1.0
 # How many mirrors are remembered.
 MOST = 1_000
 ASKED = re.compile(r"([A-Za-z][A-Za-z0-9_-]*):([0-9]{1,9}):([0-9]{1,18})-([0-9]{1,18}|LAST)", re.I)
+# The files that are read for a piece of an answer.
+FILES = 16
 NO_NEWER = b"% Warning: there are no newer updates available\n\n"
 
 
@@ -31,6 +37,8 @@ class Mirrors:
         self.serials = Serials(Path(settings.history))
         self.seen: Optional[Told] = None
         self.looked = 0.0
+        # What could not be read of the serials when they were last asked for.
+        self.unread = ""
         # The last serial that each mirror asked for, and when.
         self.asked: dict[str, tuple[int, float]] = {}
 
@@ -62,8 +70,9 @@ class Mirrors:
         found = self.range()
         return found.last if found else 0
 
-    def answer(self, word: str, address: str) -> "bytes | Changes":
+    async def answer(self, word: str, asker: "Asker") -> "bytes | Changes":
         """What `-g` and its word are answered; Bad where that is an error."""
+        address = asker.address
         if not self.allows(address):
             raise Bad(402, f"not authorised to mirror the database from IP address {address}")
         asked = ASKED.fullmatch(word)
@@ -85,18 +94,25 @@ class Mirrors:
             return NO_NEWER
         if not found.first <= first <= last <= found.last:
             raise Bad(401, f"invalid range: Not within {found.first}-{found.last}")
+        self.unread = ""
         try:
-            return Changes(found.source, first, self.cut(first, last, is_open))
-        except OSError:
+            return Changes(found.source, first, await self.cut(asker, first, last, is_open))
+        except FileNotFoundError:
             raise Bad(401, f"invalid range: {first} is no longer kept") from None
+        except (OSError, Failure) as error:
+            self.unread = str(error)
+            raise Bad(401, "invalid range: its serials can't be read here") from None
 
-    def cut(self, first: int, last: int, is_open: bool) -> list[Part]:
+    async def cut(self, asker: "Asker", first: int, last: int, is_open: bool) -> list[Part]:
         """The parts of a range, as many as one answer has."""
-        parts, size = self.serials.parts(first, last), 0
-        for count, part in enumerate(parts):
-            size += part.end - part.begin
-            if is_open and count and size > self.most:
-                return parts[:count]
+        parts: list[Part] = []
+        size = 0
+        async for some in asker.paced(self.serials.parts(first, last)):
+            for part in some:
+                size += part.end - part.begin
+                if is_open and parts and size > self.most:
+                    return parts
+                parts.append(part)
         return parts
 
     def note(self, address: str, first: int) -> None:
@@ -114,6 +130,8 @@ class Mirrors:
         found = self.range()
         if found is None:
             return [f"mirrors have no serials in {self.serials.folder}: look at irrdesk-history"]
+        if self.unread:
+            return [f"the serials for mirrors can't be read: {self.unread}"]
         return [
             f"mirror {one} asks for serial {serial}, and the last is {found.last}: if it is not in"
             f" error, serials went back; remove {self.serials.folder}, so that mirrors begin anew"
@@ -150,20 +168,32 @@ class Changes:
         self.at = 0
 
     def piece(self, place: int, size: int) -> bytes:
-        """The bytes from a place on, which never goes back."""
+        """The bytes from a place on, which never goes back: of few files, however short they
+        are."""
+        pieces: list[bytes] = []
+        for _ in range(FILES):
+            pieces.append(self.one(place, size))
+            place += len(pieces[-1])
+            size -= len(pieces[-1])
+            if not size or place >= self.size():
+                break
+        return b"".join(pieces)
+
+    def one(self, place: int, size: int) -> bytes:
+        """Those of one file."""
         while place >= self.ends[self.at]:
             self.at += 1
         part, begun = self.parts[self.at], self.ends[self.at - 1] if self.at else 0
         if isinstance(part, bytes):
             return part[place - begun :]
-        try:
-            with open(part.path, "rb") as file:
-                file.seek(part.begin + place - begun)
-                return file.read(min(size, self.ends[self.at] - place))
-        except FileNotFoundError:
+        found = b""
+        with contextlib.suppress(OSError), open(part.path, "rb") as file:
+            file.seek(part.begin + place - begun)
+            found = file.read(min(size, self.ends[self.at] - place))
+        if not found:
             # It is kept no longer: the answer ends without its last line, so the mirror asks again.
             self.ends = [place]
-            return b""
+        return found
 
     def size(self) -> int:
         return self.ends[-1]

@@ -37,7 +37,7 @@ async def answer(asker: Asker, line: bytes, stays: bool) -> Reply:
                 return Reply(b"" if stays else b"\n", "answered", not stays)
             stays = True
         if "g" in flags.words:
-            return mirrored(Asker(main, asker.client, asker.address), flags.words["g"], stays)
+            return await mirrored(Asker(main, asker.client, asker.address), flags.words["g"], stays)
         body, outcome, cost = await found(asker, flags)
     except Bad as bad:
         return Reply(
@@ -135,10 +135,10 @@ async def found(asker: Asker, flags: Flags) -> tuple[list[bytes], str, float]:
     )
 
 
-def mirrored(asker: Asker, word: str, stays: bool) -> Reply:
+async def mirrored(asker: Asker, word: str, stays: bool) -> Reply:
     """`-g`: what changed, for a mirror. An error is one line."""
     try:
-        found_here = asker.pool.mirrors.answer(word, asker.address)
+        found_here = await asker.pool.mirrors.answer(word, asker)
     except Bad as bad:
         line = texts.shown_line(f"%ERROR:{bad.number}: {bad.title}")
         return Reply(f"{line}\n\n".encode(), "error", stays)

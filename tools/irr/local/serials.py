@@ -10,7 +10,7 @@ import os
 import re
 from bisect import bisect_left
 from pathlib import Path
-from typing import Iterator, NamedTuple
+from typing import BinaryIO, Generator, Iterator, NamedTuple
 
 from irr.errors import Failure, reading
 from irr.local import changes
@@ -27,6 +27,8 @@ HEAD = re.compile(
 # A serial that begins is the time in such steps, so that a folder that was lost is followed by
 # higher ones, as long as there was no more than one change in each.
 STEP = 10
+# The files that are looked at, and the bytes that are searched, before others have their turn.
+AT_ONCE, STRETCH = 100, 1 << 20
 
 
 class Told(NamedTuple):
@@ -105,20 +107,25 @@ class Serials:
             return self.range()
         return last._replace(first=oldest.first)
 
-    def parts(self, first: int, last: int) -> list[Part]:
-        """Where the changes of a range that is kept stand."""
+    def parts(self, first: int, last: int) -> Iterator[list[Part]]:
+        """Where the changes of a range that is kept stand, some at a time: what is done before the
+        next ones takes some milliseconds."""
         kept = self.kept()
         found = kept[bisect_left(kept, first) : bisect_left(kept, last) + 1]
-        return [self.part(self.told(one), first, last) for one in found]
-
-    def part(self, told: Told, first: int, last: int) -> Part:
-        path, begin = self.path(told.last), len(told.head())
-        end = path.stat().st_size
-        if first > told.first or last < told.last:
-            with open(path, "rb") as file, mmap.mmap(file.fileno(), 0, prot=mmap.PROT_READ) as all:
-                begin = place_of(all, first) if first > told.first else begin
-                end = place_of(all, last + 1) if last < told.last else end
-        return Part(path, begin, end, min(last, told.last))
+        for place in range(0, len(found), AT_ONCE):
+            parts: list[Part] = []
+            for one in found[place : place + AT_ONCE]:
+                told = self.told(one)
+                path, begin = self.path(one), len(told.head())
+                end = path.stat().st_size
+                if first > told.first or last < told.last:
+                    with open(path, "rb") as file, mapped(file) as all:
+                        if first > told.first:
+                            begin = yield from place_of(all, first)
+                        if last < told.last:
+                            end = yield from place_of(all, last + 1)
+                parts.append(Part(path, begin, end, min(last, told.last)))
+            yield parts
 
     # What is written, by one process at a time, which holds the history.
 
@@ -190,10 +197,19 @@ def pieces(told: Told, found: list[Change]) -> Iterator[bytes]:
         yield b"\n%s %d\n\n%s" % (change.word.encode(), serial, change.text)
 
 
-def place_of(text: mmap.mmap, serial: int) -> int:
-    """Where the change of a serial begins in a file that has it."""
-    for word in changes.ADD, changes.DEL:
-        place = text.find(b"\n\n%s %d\n\n" % (word.encode(), serial))
-        if place >= 0:
-            return place + 1
+def mapped(file: BinaryIO) -> mmap.mmap:
+    return mmap.mmap(file.fileno(), 0, prot=mmap.PROT_READ)
+
+
+def place_of(text: mmap.mmap, serial: int) -> Generator[list[Part], None, int]:
+    """Where the change of a serial begins in a file that has it; nothing comes of each step of the
+    search but the last."""
+    heads = [b"\n\n%s %d\n\n" % (word.encode(), serial) for word in (changes.ADD, changes.DEL)]
+    for begin in range(0, len(text), STRETCH):
+        end = begin + STRETCH + len(heads[0])
+        for head in heads:
+            place = text.find(head, begin, end)
+            if place >= 0:
+                return place + 1
+        yield []
     raise Failure(f"serial {serial}", "its file lacks it; remove the folder of the serials")

@@ -2,10 +2,14 @@
 trace in the journal."""
 
 import contextlib
+import http.client
+import select
 import socket
+from collections.abc import Iterator
 
 import pytest
 
+from checks.door import worlds
 from checks.door.opened import Opened, read_all
 from checks.running import Each, expect
 
@@ -127,4 +131,102 @@ def test_a_target_of_any_form_has_an_answer(door: Opened, each: Each) -> None:
     for target in b"/status", b"/metrics", b"/status?json":
         reply = asked(door, GET.replace(b"/query/AS1", target) + b"\r\n")
         expect(reply[:12], b"HTTP/1.1 404", f"{target!r} at the port of everybody")
+    has_no_trace(door)
+
+
+# Requests that are refused by their heads, each with far more of a body than is read at once, and
+# the status.
+BODY_OF_MANY = [b"x" * 32_000] * 60
+UNREAD = {
+    "chunked": ("POST", "/submissions", {"Transfer-Encoding": "chunked"}, 501),
+    "too long": ("POST", "/submissions", {"Content-Length": "1920000"}, 413),
+    "of no length": ("POST", "/submissions", {"Connection": "close"}, 411),
+    "from another site": (
+        "POST",
+        "/submissions",
+        {"Content-Length": "200000", "Origin": "http://evil"},
+        403,
+    ),
+    "to nothing": ("POST", "/nothing", {"Content-Length": "1920000"}, 404),
+    "to a query": ("POST", "/query/AS1", {"Content-Length": "1920000"}, 405),
+    "with a query": ("GET", "/query/AS1", {"Content-Length": "1920000"}, 413),
+    "of absurd length": ("POST", "/submissions", {"Content-Length": "9" * 30}, 400),
+}
+
+
+@pytest.mark.parametrize("name", UNREAD)
+def test_who_sends_a_body_that_is_refused_gets_the_reply(door: Opened, name: str) -> None:
+    """Though it reads nothing before it has sent all."""
+    method, path, fields, status = UNREAD[name]
+    for _ in range(12):
+        peer = http.client.HTTPConnection("127.0.0.1", door.http_port, timeout=60)
+        with contextlib.closing(peer):
+            peer.putrequest(method, path)
+            for field, value in fields.items():
+                peer.putheader(field, value)
+            peer.endheaders()
+            for piece in BODY_OF_MANY:
+                peer.send(piece)
+            expect(peer.getresponse().status, status, "the status")
+    has_no_trace(door)
+
+
+def test_a_flood_of_fields_is_answered_once_it_is_sent(door: Opened) -> None:
+    for _ in range(12):
+        with contextlib.closing(door.connect(door.http_port)) as peer:
+            peer.sendall(b"GET /query/AS1 HTTP/1.1\r\n")
+            for number in range(200):
+                peer.sendall(b"X-%d: %s\r\n" % (number, b"y" * 8_000))
+            peer.sendall(b"\r\n")
+            expect(read_all(peer)[:12], b"HTTP/1.1 431", "the status")
+    has_no_trace(door)
+
+
+CONTINUE = b"HTTP/1.1 100 Continue\r\n\r\n"
+ITEM = b"password: bc\n\nas-set: AS-ODD\nmnt-by: ROOT-MNT\nsource: TEST\n"
+
+
+@contextlib.contextmanager
+def posting(door: Opened, head: bytes) -> Iterator[socket.socket]:
+    with contextlib.closing(door.connect(door.http_port)) as peer:
+        peer.sendall(head)
+        yield peer
+
+
+def test_who_expects_to_be_asked_for_a_body_is(door: Opened) -> None:
+    fields = b"Content-Length: %d\r\nExpect: 100-continue\r\n\r\n"
+    with posting(door, POST + fields % len(ITEM)) as peer:
+        expect(peer.recv(100), CONTINUE, "what comes before the body")
+        peer.sendall(ITEM[:20])
+        peer.sendall(ITEM[20:])
+        reply = read_all(peer)
+        expect((reply[:12], b"AS-ODD: added" in reply), (b"HTTP/1.1 200", True), f"{reply!r}")
+    with posting(door, POST + fields % len(ITEM) + ITEM) as peer:
+        expect(read_all(peer)[:12], b"HTTP/1.1 200", "of one that did not wait")
+    with posting(door, POST + fields % 10**7) as peer:
+        expect(read_all(peer)[:12], b"HTTP/1.1 413", "of one that is too long")
+    old = POST.replace(b"HTTP/1.1", b"HTTP/1.0")
+    with posting(door, old + fields % len(ITEM)) as peer:
+        expect(select.select([peer], [], [], 0.5)[0], [], "what comes before the body")
+        peer.sendall(ITEM)
+        expect(read_all(peer)[:12], b"HTTP/1.1 200", "of HTTP/1.0, which knows no such reply")
+    has_no_trace(door)
+
+
+def test_requests_on_one_connection_are_answered_in_turn(door: Opened) -> None:
+    """Submissions and queries that are sent at once, cut anywhere, with a last one that is cut
+    short."""
+    kept = POST.replace(b"Connection: close\r\n", b"")
+    get = GET.replace(b"Connection: close\r\n", b"") + b"\r\n"
+    post = kept + b"Content-Length: %d\r\n\r\n" % len(ITEM) + ITEM
+    text = get + post + get + b"\r\n" + post + get + post[:-9]
+    for place in range(1, len(text), 97):
+        with contextlib.closing(door.connect(door.http_port)) as peer:
+            peer.sendall(text[:place])
+            peer.sendall(text[place:])
+            peer.shutdown(socket.SHUT_WR)
+            reply = read_all(peer)
+        words = [part[:3] for part in reply.split(b"HTTP/1.1 ")[1:]]
+        expect(words, [b"200"] * 5 + [b"400"], f"the statuses, cut after {place} bytes")
+        expect(reply.count(worlds.AS1), 3, "answers to the query")
     has_no_trace(door)

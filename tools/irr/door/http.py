@@ -26,8 +26,8 @@ HEAD, FIELDS = 8_192, 64
 IDLE = 60.0
 # The bytes of a dump that a client takes each second at least.
 SLOWEST = 1 << 18
-# Seconds for which a body is read, and not looked at, that was refused.
-LINGERING = 5.0
+# Seconds for which what still comes after a request that was refused is read, and not looked at.
+LINGERING = 10.0
 REASONS = {
     200: "OK",
     400: "Bad Request",
@@ -160,7 +160,8 @@ class Http(Connection):
         self.buffer = rest
         self.check(request)
         if (
-            request.fields.get("expect", "").lower() == "100-continue"
+            request.is_new
+            and request.fields.get("expect", "").lower() == "100-continue"
             and len(rest) < request.length
         ):
             self.transport.write(b"HTTP/1.1 100 Continue\r\n\r\n")
@@ -211,10 +212,10 @@ class Http(Connection):
         self.is_ending = True
         self.door.silent.pop(self, None)
         self.transport.write(failed(bad.status, bad.fields, bad.text, False))
-        if bad.status != 413 or self.has_ended:
+        if self.has_ended:
             self.transport.close()
             return
-        # A proxy that still sends the body would take a closed connection for no reply.
+        # Who still sends would take a closed connection for no reply.
         self.transport.write_eof()
         self.deadline = time.monotonic() + LINGERING
 

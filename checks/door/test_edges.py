@@ -32,7 +32,7 @@ def test_no_object_of_a_stranger_is_too_long_for_replicas(trial: Trial, door: Op
         status, _, report = door.submit("password: bc\n\n" + text)
         expect((status, report.endswith(b"% items 1\n")), (200, True), f"{report!r}")
     dump = door.http("GET", "/dump")[2]
-    loadable = list(temporary.loadable([dump]))
+    loadable = list(temporary.Loadable([dump]))
     expect(max(map(len, loadable)) <= MOST + 1, True, "the longest text")
     copy = trial.place("loaded")
     write_settings(copy, limit=1_000)

@@ -519,6 +519,24 @@ class Service:
         guest.done("systemctl start irrdesk-check", seconds=600)
         return "64 answers from 16 addresses, and 40 while the door was started again"
 
+    def past(self) -> str:
+        """The door has git tell what an object was, with what its unit leaves both of them."""
+        guest, kept = self.guest, "/var/lib/irrdesk-history"
+        guest.done("systemctl start irrdesk-history.service", seconds=300)
+        asked = "curl --silent --show-error --fail-with-body http://127.0.0.1:4380"
+        expect(
+            json.loads(guest.done(f"{asked}/about"))["history"], True, "whether a history is told"
+        )
+        told = json.loads(guest.done(f"{asked}/history/mntner/ROOT-MNT"))
+        expect([one["word"] for one in told["states"]], ["added"], "the states of an object")
+        state = told["states"][0]["state"]
+        lines = json.loads(guest.done(f"{asked}/history/mntner/ROOT-MNT?to={state}"))["lines"]
+        expect(lines[0], ["+", "mntner:         ROOT-MNT"], "the first line of a state")
+        ended = guest.ended(f"{asked}/history/mntner/ROOT-MNT?to={'0' * 40}")
+        expect("the history does not have it" in ended.printed, True, f"another: {ended.printed}")
+        guest.done(f"rm -r {kept}")
+        return f"{len(lines)} lines of {state[:12]}"
+
     def analysed(self) -> str:
         """That systemd-analyze accepts all units, and rates the server as docs/OPERATING.md
         says."""

@@ -303,7 +303,7 @@ class Loadable(unittest.TestCase):
             b" filtered\n\n"
         )
         text = b"".join(
-            temporary.loadable(
+            temporary.Loadable(
                 [self.MNTNER + other + b"% end 2\n"], {"A-MNT": [b"one", b"two \\1"]}
             )
         )
@@ -319,7 +319,7 @@ class Loadable(unittest.TestCase):
             b"a%d:" % number + b" " * (14 - len(str(number))) + b"x\n" for number in range(5_000)
         )
         text = self.MNTNER[:-1] + lines + b"\n"
-        made = b"".join(temporary.loadable([text]))
+        made = b"".join(temporary.Loadable([text]))
         self.assertLess(len(made), syntax.LARGEST)
         self.assertEqual(
             syntax.read(made.removesuffix(b"\n")).text(),

@@ -153,9 +153,7 @@ def answer_at(repository: Repository, when: str, words: list[str], limit: int) -
         yield from objects
 
     with temporary.TemporaryRegistry(source, limit=limit) as then:
-        then.load(
-            then.put("then.rpsl", temporary.loadable(pieces())), f"{repository.folder} at {when}"
-        )
+        then.fill(pieces(), f"{repository.folder} at {when}")
         if hashlib.sha256(then.dump()).hexdigest() != state.dump:
             raise Failure(
                 str(repository.folder),

@@ -12,7 +12,7 @@ from typing import Callable, Iterable, Iterator, Protocol
 
 from irr.errors import ARGUMENTS, Failure
 from irr.local import excerpts
-from irr.local.temporary import TemporaryRegistry, loadable
+from irr.local.temporary import TemporaryRegistry
 from irr.registry import answers, submissions
 from irr.registry.refusals import Registry
 from irr.registry.server import Server
@@ -56,9 +56,7 @@ def run(
     }
     with contextlib.ExitStack() as stack:
         scratch = stack.enter_context(TemporaryRegistry(source))
-        scratch.load(
-            scratch.put("dump.rpsl", loadable(pieces, auths, place.url)), f"the dump of {place.url}"
-        )
+        scratch.fill(pieces, f"the dump of {place.url}", auths)
         printer = printer_of(Served(scratch, stack, excerpt is not None))
         size = sum(len(item.text()) + 1 for item in items) + syntax.LARGEST * (len(asked) + 1)
         sender = Sender(lambda text: [scratch.submit(text)], size, size)

@@ -69,16 +69,15 @@ def make(place: Server, limit: int, work: Path, known: str) -> Made | None:
     first = next(databases.blocks_of(made.dump))
     source = answers.source_of(first[:-1], place.url)
     loadable, seen = work / "loadable.rpsl", work / "seen.rpsl"
-    files.put(
-        loadable,
-        temporary.loadable((block.text + b"\n" for block in blocks(made.dump)), place=place.url),
-        files.PRIVATE,
-    )
+    texts_of = (block.text + b"\n" for block in blocks(made.dump))
+    taken = temporary.Loadable(texts_of, place=place.url)
+    files.put(loadable, taken, files.PRIVATE)
     copy = Copy(
         work,
         temporary.SETTINGS.format(source=source, root="ROOT-MNT", auth=temporary.AUTH, limit=limit),
     )
     copy.load(loadable)
+    taken.add_rest(copy.store)
     copy.dump(seen)
     if not databases.same(made.dump, seen):
         raise Failure(

@@ -11,13 +11,16 @@ import sys
 import tempfile
 import time
 from pathlib import Path
-from typing import Any, Callable, Iterable, Iterator, Mapping
+from typing import TYPE_CHECKING, Any, Callable, Iterable, Iterator, Mapping
 
 from irr.errors import DATABASE, Failure, system_words
 from irr.registry import answers
 from irr.rpsl import keys, syntax
 from irr.rpsl.syntax import Attribute
 from irr.system import files
+
+if TYPE_CHECKING:
+    import sqlite3
 
 # The digest of no password that anybody knows: the root of a scratch registry is that of the dump
 # that is loaded.
@@ -29,10 +32,11 @@ SETTINGS = (
 HIDDEN, NOBODY = re.compile(rb"^auth:           # filtered$", re.M), b"auth:           FILTERED"
 UNKNOWN = Attribute(b"auth", [b"FILTERED"])
 TEMPORARY, ROOM = "the temporary folder", "make room, or give another folder by TMPDIR"
-TOO_LONG = (
-    "{} and {} are a byte too long for a copy: each was sent as the last of its text, without"
-    " the end of its line; make one of them shorter"
-)
+# The number of a class in the program's tables, and the names that it has there.
+MNTNER = 1
+MAINTAINERS = f"SELECT okey FROM object WHERE class = {MNTNER}"
+# A maintainer that stands for another one, in as few bytes as can be.
+STAND_IN = "mntner:{0}\nmnt-by:{0}\nauth:x\nsource:{1}\n\n"
 OPENING = 600
 # Of ports that were free, and then taken by another program.
 TRIES = 5
@@ -118,6 +122,14 @@ class TemporaryRegistry:
         if done.returncode:
             raise trouble(done, name, path, "irrdesk does not load it")
 
+    def fill(
+        self, pieces: Iterable[bytes], name: str, auths: Mapping[str, list[bytes]] | None = None
+    ) -> None:
+        """Makes the registry from a public dump in pieces, with these values of `auth`."""
+        made = Loadable(pieces, auths, name)
+        self.load(self.put("dump.rpsl", made), name)
+        made.add_rest(self.folder / "irr.db")
+
     def submit(self, text: bytes) -> bytes:
         """The report of a submission. Its text, which has passwords, is on no disk."""
         done = self.run("submit", "/dev/stdin", stdin=text)
@@ -179,32 +191,85 @@ class TemporaryRegistry:
         )
 
 
-def loadable(
-    pieces: Iterable[bytes], auths: Mapping[str, list[bytes]] | None = None, place: str = "the dump"
-) -> Iterator[bytes]:
+class Loadable:
     """A dump that `irrdesk load` takes, made of a public one in pieces. The registry of it answers
-    each query as the one that was dumped does. The maintainers of `auths` have these values of
-    `auth`; the others have one that lets nobody in."""
-    last = b""
-    for block in syntax.blocks(pieces):
-        text = with_auths(block.text, auths or {}, place) if b"auth:" in block.text else block.text
-        if len(text) > syntax.LARGEST:
-            text = short_text(text, place)
-        if len(text) <= syntax.LARGEST:
-            yield text + b"\n"
-        elif last:
-            raise Failure(place, TOO_LONG.format(*map(name_of, (last, text))))
-        else:
-            # It was sent without the end of its last line, as the last of a text alone can be.
+    each query as the one that was dumped does, once it has the `rest`. The maintainers of `auths`
+    have these values of `auth`; the others have one that lets nobody in.
+
+    An object may have a byte more than a paragraph: it was sent as the last of its text, without
+    the end of its last line. A dump has one such object, as its last; the others are the rest."""
+
+    def __init__(
+        self,
+        pieces: Iterable[bytes],
+        auths: Mapping[str, list[bytes]] | None = None,
+        place: str = "the dump",
+    ) -> None:
+        self.pieces, self.auths, self.place = pieces, auths or {}, place
+        self.rest: list[bytes] = []
+
+    def __iter__(self) -> Iterator[bytes]:
+        last = b""
+        for block in syntax.blocks(self.pieces):
+            text = block.text
+            if b"auth:" in text:
+                text = with_auths(text, self.auths, self.place)
+            if len(text) > syntax.LARGEST:
+                text = short_text(text, self.place)
+            if len(text) <= syntax.LARGEST:
+                yield text + b"\n"
+                continue
+            if last:
+                self.rest.append(last)
+                if last.startswith(b"mntner:"):
+                    # Others may name it.
+                    yield stand_in(name_of(last), answers.source_of(last, self.place))
             last = text.removesuffix(b"\n")
-    if last:
-        yield last
+        if last:
+            yield last
+
+    def add_rest(self, store: Path) -> None:
+        """Puts the rest into the database that was made: the rows of each, as the program makes
+        them in a registry of its own."""
+        import sqlite3
+
+        try:
+            for text in self.rest:
+                with contextlib.closing(sqlite3.connect(store)) as into:
+                    self.add(text, into)
+        except sqlite3.Error as error:
+            raise Failure(
+                str(store), f"SQLite can't add an object to it: {error}; make room", DATABASE
+            ) from None
+
+    def add(self, text: bytes, into: "sqlite3.Connection") -> None:
+        import sqlite3
+
+        source = answers.source_of(text, self.place)
+        names = {name for (name,) in into.execute(MAINTAINERS)} - {name_of(text)}
+        pieces = [*(stand_in(name, source) for name in sorted(names)), text]
+        with TemporaryRegistry(source) as own:
+            own.load(own.put("dump.rpsl", pieces), self.place)
+            with contextlib.closing(sqlite3.connect(own.folder / "irr.db")) as made:
+                objects = made.execute("SELECT class, okey, body FROM object").fetchall()
+                named = made.execute("SELECT maintainer, class, okey FROM named").fetchall()
+        with into:
+            for row in objects:
+                if row[0] != MNTNER or row[1] not in names:
+                    into.execute("INSERT OR REPLACE INTO object VALUES (?, ?, ?)", row)
+                    into.execute("DELETE FROM named WHERE class = ? AND okey = ?", row[:2])
+                    mine = [one for one in named if one[1:] == row[:2]]
+                    into.executemany("INSERT INTO named VALUES (?, ?, ?)", mine)
+
+
+def stand_in(name: str, source: str) -> bytes:
+    return STAND_IN.format(name, source).encode("ascii")
 
 
 def name_of(text: bytes) -> str:
-    """The class and key of an object, for people."""
+    """The key of an object; nothing of what is none."""
     key = keys.key_of(syntax.read_any(text))
-    return f"{key.kind} {key.text}" if key else "an object"
+    return key.text if key else ""
 
 
 def with_auths(text: bytes, auths: Mapping[str, list[bytes]], place: str) -> bytes:

@@ -19,15 +19,18 @@ COUNT = 30_000
 LATE = 'irrdesk_door_connections_total{what="late"}'
 
 
-@pytest.fixture(scope="module")
-def big(trial: Trial) -> Iterator[Registries]:
+def dump(count: int) -> str:
     routes = "".join(
         f"route: {1 + (n >> 16)}.{n >> 8 & 255}.{n & 255}.0/24\norigin: AS1\n"
         "mnt-by: ROOT-MNT\nsource: TEST\n\n"
-        for n in range(COUNT)
+        for n in range(count)
     )
-    numbers = "aut-num: AS1\nmnt-by: ROOT-MNT\nsource: TEST\n\n"
-    with Registries(trial, "big", HEAD + SPACE + numbers + routes, replicas=1) as made:
+    return HEAD + SPACE + "aut-num: AS1\nmnt-by: ROOT-MNT\nsource: TEST\n\n" + routes
+
+
+@pytest.fixture(scope="module")
+def big(trial: Trial) -> Iterator[Registries]:
+    with Registries(trial, "big", dump(COUNT), replicas=1) as made:
         yield made
 
 
@@ -121,6 +124,26 @@ def test_all_answers_have_a_bound(trial: Trial, big: Registries, tell: Tell) -> 
     expect(refused, 0, "how many of another client's short answers were refused")
     # The unit's bound is three times the bytes of answers.
     expect(highest < before + 2 * most + (64 << 20), True, f"{highest >> 20} MiB")
+
+
+def test_an_answer_has_a_bound(trial: Trial, tell: Tell) -> None:
+    """What is over it is told in each dialect, and /dump has it; it is not asked without end."""
+    count, largest = trial.pick((30_000, 2 << 20), (380_000, 32 << 20))
+    config = f"largest = {largest}\nburst = 10000\n"
+    with Registries(trial, "above", dump(count), replicas=1) as registries:
+        with Opened(trial, "above-door", registries.words, config) as door:
+            for line in "inverse mnt ROOT-MNT", "!gAS1", "-i mnt-by ROOT-MNT", "more 0.0.0.0/0":
+                answer = door.whois(line)
+                named = b"%d MiB" % (largest >> 20) in answer and b"/dump" in answer
+                expect((named, answer.count(b"route:")), (True, 0), f"{line}: {answer[:300]!r}")
+            status, _, said = door.http("GET", "/query/inverse%20mnt%20ROOT-MNT")
+            expect((status, b"/dump" in said), (422, True), f"{said!r}")
+            expect(door.status()["answers_bytes"] < 1 << 20, True, "that nothing of it is kept")
+            status, _, whole = door.http("GET", "/dump")
+            expect((status, whole.endswith(b"\n%% end %d\n" % (count + 3))), (200, True), "the dump")
+            wanted = door.whois("inverse mnt E-MNT")
+            expect((wanted, door.whois("AS1")[:8]), (b"% no entries\n", b"aut-num:"), "others")
+            tell(f"{len(whole) >> 20} MiB registered, answers of {largest >> 20} MiB at most")
 
 
 def test_all_connections_have_a_bound(trial: Trial, tell: Tell) -> None:

@@ -6,6 +6,7 @@ import shutil
 import socket
 import struct
 import subprocess
+import time
 from collections.abc import Iterator
 from pathlib import Path
 
@@ -159,6 +160,108 @@ def test_a_header_may_come_byte_by_byte() -> None:
     expect(
         proxy_protocol.read(second("2001:db8::7", family=0x21)).address, "2001:db8::7", "version 6"
     )
+
+
+UNNAMED = b"% the proxy does not say"
+LINE_FEED_ALONE = FIRST.replace(b"\r", b"")
+
+
+def sent(door: Opened, *parts: bytes) -> bytes:
+    """All that comes of a text that the proxy sends in parts, and ends."""
+    with contextlib.closing(door.connect(door.whois_port)) as peer:
+        peer.setsockopt(socket.IPPROTO_TCP, socket.TCP_NODELAY, 1)
+        for number, part in enumerate(parts):
+            time.sleep(0.002 if number else 0)
+            peer.sendall(part)
+        peer.shutdown(socket.SHUT_WR)
+        return read_all(peer)
+
+
+def has_no_trace(door: Opened) -> None:
+    said = door.words_said()
+    expect("Traceback" in said or "report this" in said, False, said[-600:])
+    expect(door.metrics()["irrdesk_door_faults_total"], 0.0, "faults of the door")
+
+
+@pytest.mark.parametrize("header", [FIRST, second("192.0.2.7", more=b"\4\0\1x")])
+def test_a_header_may_be_cut_anywhere(door: Opened, header: bytes) -> None:
+    """Within it, before its query or with it; or for good, which is no query."""
+    text = header + b"!!\nAS1\n!gAS1\n"
+    wanted = sent(door, text)
+    expect(worlds.AS1 in wanted, True, "the answers")
+    for place in range(1, len(text)):
+        expect(sent(door, text[:place], text[place:]), wanted, f"cut after {place} bytes")
+    slow = [text[place : place + 1] for place in range(len(text))]
+    expect(sent(door, *slow), wanted, "byte by byte")
+    for place in range(len(header)):
+        expect(sent(door, text[:place]), b"", f"the first {place} bytes alone")
+    has_no_trace(door)
+
+
+@pytest.mark.parametrize(
+    "header,wanted",
+    [
+        (proxied.SECOND + b"\x21\x11\0\0", UNNAMED),
+        (proxied.SECOND + b"\x21\x11\0\x0b" + bytes(11), UNNAMED),
+        (proxied.SECOND + b"\x21\x21\0\x23" + bytes(35), UNNAMED),
+        (proxied.SECOND + b"\x21\x11\x10\x01", UNNAMED),
+        (proxied.SECOND + b"\x21\x11\xff\xff" + bytes(12), UNNAMED),
+        (proxied.SECOND + b"\x11\x11\0\x0c" + bytes(12), UNNAMED),
+        (proxied.SECOND + b"\x21\x11\0\xff" + bytes(12), b""),
+        (proxied.SECOND + b"\x21\x31\0\x0c" + bytes(12), worlds.AS1 + b"\n"),
+        (proxied.SECOND + b"\x20\0\0\0", worlds.AS1 + b"\n"),
+        (FIRST[:-2] + b" " * 100, UNNAMED),
+        (FIRST[:-2] + b" " * 10_000 + b"\r\n", UNNAMED),
+        (LINE_FEED_ALONE, UNNAMED),
+        (b"PROXY TCP4 192.0.2.7 192.0.2.1 4000 65536\r\n", UNNAMED),
+        (LINE_FEED_ALONE * 3, UNNAMED),
+        (b"PROXY  \r\n", UNNAMED),
+        (b"PROXY TCP4 192.0.2.7\r\n", UNNAMED),
+        (b"PROXY TCP6 192.0.2.7 192.0.2.1 1 43\r\n", UNNAMED),
+        (b"PROXY TCP4 \xff\xfe 192.0.2.1 1 43\r\n", UNNAMED),
+        (b"proxy TCP4 192.0.2.7 192.0.2.1 1 43\r\n", UNNAMED),
+    ],
+)
+def test_a_header_of_false_length_or_form_names_nobody(
+    door: Opened, header: bytes, wanted: bytes
+) -> None:
+    for text in header + b"AS1\r\n", header + b"AS1\r\n" + b"x" * 200:
+        answer = sent(door, text)
+        if wanted or len(text) < 100:
+            expect(answer[: len(wanted)] if wanted else answer, wanted, f"{text[:60]!r}")
+    has_no_trace(door)
+
+
+def test_a_header_that_does_not_end_holds_no_connection(trial: Trial, each: Each) -> None:
+    with Registries(trial, "half", worlds.DUMP, replicas=0) as registries:
+        config = 'proxied = true\ntrusted = ["127.0.0.1"]\npatience = 1\n'
+        with Opened(trial, "half-door", registries.words, config) as door:
+            for header in FIRST, second("192.0.2.7"):
+                for size in 0, 1, len(header) - 1, len(header):
+                    with each(f"{size} bytes of {header[:20]!r}"):
+                        with contextlib.closing(door.connect(door.whois_port, 1, 300)) as peer:
+                            peer.sendall(header[:size])
+                            expect(read_all(peer), b"", "what comes before it is ended")
+
+
+def test_addresses_of_a_56_are_one_client(door: Opened) -> None:
+    peers = []
+    try:
+        for number in range(6):
+            peers.append(door.connect(door.whois_port))
+            header = second(f"2001:db8:0:1{number}0::{number}", family=0x21)
+            peers[-1].sendall(header + b"!!\n!s-lc\n")
+            expect(peers[-1].recv(64), b"A5\nTEST\nC\n", "an answer")
+        answer = sent(door, second("2001:db8:0:1ff::1", family=0x21) + b"AS1\n")
+        expect(b"connections of yours" in answer, True, f"a seventh: {answer!r}")
+        answer = sent(door, second("2001:db8:0:200::1", family=0x21) + b"AS1\n")
+        expect(answer, worlds.AS1 + b"\n", "another client")
+        for field, status in ("2001:db8:0:1a0::9", 429), ("2001:db8:0:2a0::9", 200):
+            reply = door.http("GET", "/query/AS1", X_Forwarded_For=field)
+            expect(reply[0], status, f"over HTTP, for {field}")
+    finally:
+        for peer in peers:
+            peer.close()
 
 
 def test_no_client_takes_all_that_a_proxy_of_http_has(door: Opened) -> None:

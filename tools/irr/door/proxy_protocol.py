@@ -4,6 +4,8 @@
 import ipaddress
 from typing import NamedTuple, Optional
 
+from irr.rpsl import keys
+
 FIRST, SECOND = b"PROXY ", b"\r\n\r\n\0\r\nQUIT\n"
 # The most bytes of a header of version 1, and of what follows the first 16 of version 2.
 MOST, MOST_MORE = 107, 4_096
@@ -50,7 +52,8 @@ def read_first(text: bytes) -> Optional[Header]:
         address = ipaddress.ip_address(words[2].decode("ascii"))
     except (ValueError, IndexError):
         raise Bad from None
-    if len(words) != 6 or NAMES.get(words[1]) != address.version:
+    ports = [keys.read_number(word.decode("latin-1"), 0, 65_535) for word in words[4:]]
+    if len(ports) != 2 or None in ports or NAMES.get(words[1]) != address.version:
         raise Bad
     return Header(str(address), size)
 

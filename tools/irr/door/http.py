@@ -154,7 +154,7 @@ class Http(Connection):
                 self.transport.close()
             return False
         self.door.silent.pop(self, None)
-        self.deadline = time.monotonic() + self.door.settings.patience
+        self.deadline = self.late()
         request = Request(head.lstrip(b"\r\n"))
         request.is_kept = request.is_kept and not self.door.is_closing
         self.buffer = rest
@@ -283,7 +283,11 @@ class Http(Connection):
 
     def begin_reply(self, dialect: str, outcome: str) -> None:
         self.door.counters.query(dialect, outcome)
-        self.deadline = time.monotonic() + self.door.settings.patience
+        self.deadline = self.late()
+
+    def late(self) -> float:
+        """When what is sent now has to be taken."""
+        return time.monotonic() + self.door.settings.patience
 
     def finish(
         self, request: Request, head: bytes, source: "Optional[InMemory | Dump]" = None
@@ -335,7 +339,11 @@ class Http(Connection):
                 has_begun = True
                 self.begin_reply("submission", "answered")
                 self.transport.write(report_head(request))
+            is_behind = bool(self.transport.rest)
             self.transport.write(b"%x\r\n%s\r\n" % (len(text), text) if request.is_new else text)
+            if not is_behind:
+                # Who has taken all lines may wait for the next ones.
+                self.deadline = self.late() if self.transport.rest else 0.0
 
         try:
             await self.submissions.submit(self.who(request), body, told)
@@ -350,7 +358,7 @@ class Http(Connection):
             self.task = None
             self.abort()
             return
-        self.task = None
+        self.task, self.deadline = None, self.late()
         if request.is_new:
             self.transport.write(b"0\r\n\r\n")
         self.is_ending = self.is_ending or not request.is_kept or not request.is_new
@@ -393,7 +401,7 @@ class StatusHttp(Http):
             )
         else:
             text, kind, serves = self.status.line(), PLAIN, self.door.pool.answers
-        self.deadline = time.monotonic() + self.door.settings.patience
+        self.deadline = self.late()
         head = reply_head(200 if serves else 503, len(text), request.is_kept, kind)
         self.finish(request, head, InMemory(text))
 

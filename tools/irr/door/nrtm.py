@@ -7,6 +7,7 @@ its first line says, and the mirror asks on.
 import contextlib
 import re
 import time
+from itertools import repeat
 from pathlib import Path
 from typing import TYPE_CHECKING, Optional
 
@@ -107,12 +108,16 @@ class Mirrors:
         """The parts of a range, as many as one answer has."""
         parts: list[Part] = []
         size = 0
-        async for some in asker.paced(self.serials.parts(first, last)):
-            for part in some:
+        steps = self.serials.parts(first, last)
+        async for _ in asker.paced(repeat(None)):
+            some = next(steps, None)
+            for part in some or ():
                 size += part.end - part.begin
                 if is_open and parts and size > self.most:
                     return parts
                 parts.append(part)
+            if some is None:
+                break
         return parts
 
     def note(self, address: str, first: int) -> None:

@@ -140,7 +140,9 @@ def test_an_answer_has_a_bound(trial: Trial, tell: Tell) -> None:
             expect((status, b"/dump" in said), (422, True), f"{said!r}")
             expect(door.status()["answers_bytes"] < 1 << 20, True, "that nothing of it is kept")
             status, _, whole = door.http("GET", "/dump")
-            expect((status, whole.endswith(b"\n%% end %d\n" % (count + 3))), (200, True), "the dump")
+            expect(
+                (status, whole.endswith(b"\n%% end %d\n" % (count + 3))), (200, True), "the dump"
+            )
             wanted = door.whois("inverse mnt E-MNT")
             expect((wanted, door.whois("AS1")[:8]), (b"% no entries\n", b"aut-num:"), "others")
             tell(f"{len(whole) >> 20} MiB registered, answers of {largest >> 20} MiB at most")

@@ -234,7 +234,9 @@ def test_a_report_that_lasts_longer_than_a_client_may_be_slow_comes_whole(trial:
         with Opened(trial, "long-report", words, "patience = 1\nburst = 1000\n") as door:
             many = "".join(f"as-set: AS-M{n}\nmnt-by: A-MNT\nsource: TEST\n\n" for n in range(400))
             status, _, report = door.submit(many)
-            expect((status, report.splitlines()[-1]), (200, b"% items 400"), "the end of the report")
+            expect(
+                (status, report.splitlines()[-1]), (200, b"% items 400"), "the end of the report"
+            )
 
 
 class Slow:

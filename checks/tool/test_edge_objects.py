@@ -148,7 +148,9 @@ def test_objects_that_no_file_can_have_together_are_copied(
     for text in TOGETHER:
         sent = write(folder, "o", b"password: bc\n\n" + text.encode())
         report = trial.run(folder, "submit", "s.toml", sent).printed
-        expect(re.search(rb": (added|changed)\n% items 1\n$", report) is not None, True, f"{report!r}")
+        expect(
+            re.search(rb": (added|changed)\n% items 1\n$", report) is not None, True, f"{report!r}"
+        )
     dump = trial.run(folder, "dump", "s.toml").printed
     with Serving([trial.program], folder, COUNT) as server:
         made = replicas.make(Server(f"http://127.0.0.1:{server.port}"), 1_000, work, "")

@@ -191,6 +191,36 @@ def test_too_many_are_told_and_the_silent_make_room(trial: Trial) -> None:
                 peer.close()
 
 
+def test_the_status_is_told_while_all_connections_are_taken(trial: Trial) -> None:
+    """By clients of one each, of whom none has more than another; and the status takes none of
+    theirs."""
+    with Registries(trial, "taken", worlds.DUMP, replicas=0) as registries:
+        with Opened(trial, "taken-door", registries.words, "connections = 20\n") as door:
+            held = [door.connect(door.status_port) for _ in range(10)]
+            peers = [door.connect(door.whois_port, last) for last in range(2, 22)]
+            for peer in peers:
+                peer.sendall(b"!!\n!s-lc\n")
+                expect(peer.recv(64), b"A5\nTEST\nC\n", "an answer")
+            told = b"% too many connections; come again later\n"
+            expect(door.whois("AS1", 30), told, "one more")
+            expect(door.status()["connections"], 31, "the connections that the status tells")
+            expect(door.http("GET", "/status", port=door.status_port)[0], 200, "the status")
+            held += [door.connect(door.status_port) for _ in range(100)]
+            wait_until("that the status has a bound", 60, lambda: is_told(held[-1]))
+            peers[0].sendall(b"!s-lc\n")
+            expect(peers[0].recv(64), b"A5\nTEST\nC\n", "one who was let in")
+            for peer in [*held, *peers]:
+                peer.close()
+
+
+def is_told(peer: socket.socket) -> bool:
+    """Whether something came."""
+    peer.settimeout(1)
+    with contextlib.suppress(TimeoutError):
+        return b" 503 " in peer.recv(64)
+    return False
+
+
 def test_an_http_client_can_send_what_it_likes(trial: Trial, each: Each) -> None:
     with Registries(trial, "http", worlds.DUMP, replicas=0) as registries:
         with Opened(trial, "http-door", registries.words) as door:

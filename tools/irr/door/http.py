@@ -11,7 +11,7 @@ from irr.door.cache import Answer
 from irr.door.dialects import outcome_of
 from irr.door.dumps import Dumps
 from irr.door.journal import Who
-from irr.door.listener import AHEAD, SLOW, TOO_MANY, Connection, Door
+from irr.door.listener import AHEAD, SLOW, STATUS, TOO_MANY, Connection, Door
 from irr.door.page import Page, is_asked
 from irr.door.pool import Refused
 from irr.door.queries import Asker
@@ -369,7 +369,7 @@ class StatusHttp(Http):
     """A connection to the port that tells the state of the door."""
 
     __slots__ = ("status",)
-    port = "status"
+    port = STATUS
 
     def __init__(
         self, door: Door, submissions: Submissions, page: Page, dumps: Dumps, status: Status

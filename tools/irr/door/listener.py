@@ -29,6 +29,8 @@ PIECE, PIECES, IN_A_TURN = 1 << 17, 8, 100
 MANY = b"% too many connections; come again later\n"
 TOO_MANY = b"% too many connections of yours; come again later\n"
 UNNAMED = b"% the proxy does not say whose connection this is; see proxied in irr-door(1)\n"
+# The port of the status, and how many connections it has at most.
+STATUS, WATCHING = "status", 50
 # Seconds after which one that takes its answer slowly makes room for others.
 SLOW = 10.0
 # Of how many clients each may have as much of the answers in memory, where others lack room.
@@ -52,6 +54,8 @@ class Door:
         self.taking: OrderedDict["Connection", float] = OrderedDict()
         pool.ledger.makers.append(self.drop_slow)
         self.number = 0
+        # How many ask for the status: they have room of their own.
+        self.watching = 0
         # Whether nobody else is let in.
         self.is_closing = False
         self.kept_dump: Optional[tuple[Dump, int, float]] = None
@@ -81,23 +85,33 @@ class Door:
         if client.connections >= self.settings.of_client and not connection.is_trusted:
             self.counters.connection("refused")
             return TOO_MANY
-        if len(self.connections) >= self.settings.connections and not self.make_room(client):
+        if not (self.has_place(connection) or self.make_room(connection)):
             self.counters.connection("refused")
             return MANY
         client.connections += 1
+        self.watching += connection.port == STATUS
         self.connections.add(connection)
         self.silent[connection] = None
         self.number += 1
         connection.number = self.number
         return None
 
-    def make_room(self, client: Client) -> bool:
+    def has_place(self, connection: "Connection") -> bool:
+        if connection.port == STATUS:
+            return self.watching < WATCHING
+        return len(self.connections) - self.watching < self.settings.connections
+
+    def make_room(self, connection: "Connection") -> bool:
         """Ends the connection that is silent for longest; without one a connection of the client
         that has most, if that has more than this one. Whether there was one."""
-        if self.silent:
-            oldest, _ = self.silent.popitem(last=False)
-            oldest.abort()
-            return True
+        if connection.port == STATUS:
+            return False
+        client = connection.client
+        for oldest in self.silent:
+            if oldest.port != STATUS:
+                del self.silent[oldest]
+                oldest.abort()
+                return True
         others = [one for one in self.connections if not one.is_trusted or one.admitted != one.own]
         most = max(others, key=lambda one: one.admitted.connections, default=None)
         if most is None or most.admitted.connections <= client.connections + 1:
@@ -141,6 +155,7 @@ class Door:
     def dismiss(self, connection: "Connection") -> None:
         if connection in self.connections:
             self.connections.discard(connection)
+            self.watching -= connection.port == STATUS
             self.silent.pop(connection, None)
             self.taking.pop(connection, None)
             connection.admitted.connections -= 1

@@ -9,6 +9,7 @@ from collections import Counter
 from typing import BinaryIO, Iterable, Iterator
 
 from irr.errors import ARGUMENTS, REFUSED, Failure, reading, system_words
+from irr.local.tables import Row, once
 from irr.migrate import parting
 from irr.migrate.dumps import pieces_of
 from irr.migrate.items import name_of
@@ -32,7 +33,7 @@ from irr.migrate.normalisation import (
     unscoped,
 )
 from irr.migrate.report import Place, Tally
-from irr.rpsl import keys, spans, syntax
+from irr.rpsl import holders, keys, spans, syntax
 from irr.rpsl.syntax import Attribute, Paragraph
 from irr.terminal import texts
 
@@ -71,8 +72,8 @@ class Import:
         self.off, self.root = mender.off, mender.root.decode()
         self.paths: list[str] = []
         self.taken: list[dict[int | str, int]] = [{} for _ in range(len(keys.CLASSES) + 1)]
-        self.starts, self.sizes, self.lines = array("Q"), array("L"), array("Q")
-        self.path_numbers, self.source_numbers = array("L"), array("L")
+        self.starts, self.sizes, self.lines = array("Q"), array("I"), array("I")
+        self.path_numbers, self.source_numbers = array("I"), array("I")
         self.sources: dict[str, int] = {}
         # Of the objects whose lists have lost items, or have scoped ones: the lost ones.
         self.dropped: dict[int, tuple[Dropped, ...]] = {}
@@ -366,8 +367,8 @@ class Import:
 
     # Writing.
 
-    def objects(self) -> Iterator[bytes]:
-        """The texts of the registry in the order of a dump."""
+    def rows(self) -> Iterator[Row]:
+        """The objects of the registry in the order of a dump."""
         for number in range(MNTNER, len(self.taken)):
             taken, added = self.taken[number], self.added(number)
             is_mntner = number == MNTNER
@@ -375,10 +376,15 @@ class Import:
             order = names.get if is_mntner else None
             # The keys of a class are all numbers, or all names.
             for key in sorted([*taken, *added], key=order):  # type: ignore[arg-type]  # as said
+                name = names.get(key, "")
                 if key in taken:
-                    yield self.final(taken[key], names.get(key, ""))
+                    place = taken[key]
+                    by, text = self.names[place], self.final(place, name)
+                    if self.new:
+                        by = tuple(self.new.get(one, one) for one in by)
                 else:
-                    yield added[key].text()
+                    by, text = once(holders.named(added[key])), added[key].text()
+                yield Row(number, name or key, by, text)
 
     def added(self, number: int) -> dict[int | str, Paragraph]:
         """The objects of a class that were in no dump."""
@@ -454,8 +460,8 @@ class Import:
     def write(self, out: BinaryIO) -> None:
         """Writes the dump, as `irrdesk dump --full` does."""
         count = 0
-        for text in self.objects():
-            out.write(text + b"\n")
+        for row in self.rows():
+            out.write(row.text + b"\n")
             count += 1
         out.write(b"%% end %d\n" % count)
         self.tally.made = count - self.tally.taken

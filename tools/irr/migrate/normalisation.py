@@ -3,6 +3,7 @@ a time."""
 import re
 from typing import Callable, NamedTuple
 
+from irr.local.tables import once
 from irr.migrate import parting
 from irr.migrate.items import (
     IPV6,
@@ -35,6 +36,8 @@ READ = [
     ),
 ]
 OTHERS = frozenset((b"mp-members", b"password", b"delete"))
+# Those that name maintainers, in the order in which a database has these.
+NAMING = (b"mnt-by", b"mnt-lower", b"mnt-routes", b"mbrs-by-ref")
 # An `auth` of a password, one that lets nobody in, and the longest name of a maintainer.
 PASSWORD = re.compile(rb"SHA256-PW [A-Za-z0-9]{0,16}:[0-9A-Fa-f]{64}", re.I)
 NOBODY = b"FILTERED"
@@ -192,9 +195,9 @@ class Mender:
         self, number: int, attributes: list[Attribute]
     ) -> tuple[tuple[str, ...], list[Attribute]]:
         """The maintainers that an object names, and its attributes with lists that can be read."""
-        names: dict[str, None] = {}
+        names: dict[bytes, list[str]] = {name: [] for name in NAMING}
         kept: list[Attribute] = []
-        has_mnt_by = has_auth = False
+        has_auth = False
         grants: Grants | None = None
         for attribute in attributes:
             name = attribute.name
@@ -204,12 +207,10 @@ class Mender:
                 continue
             self.listing = name
             if name in (b"mnt-by", b"mnt-lower"):
-                listed = ITEM.findall(attribute.meaning())
-                has_mnt_by |= name == b"mnt-by" and bool(listed)
-                for item in listed:
-                    names[self.maintainer(item)] = None
+                for item in ITEM.findall(attribute.meaning()):
+                    names[name].append(self.maintainer(item))
             elif name == b"mnt-routes":
-                grants = grants or Grants(self, names)
+                grants = grants or Grants(self, names[name])
                 changed = self.changed(attribute, grants.token, TOKEN)
             elif name == b"member-of":
                 changed = self.changed(attribute, lambda item: self.set_item(number, item))
@@ -218,7 +219,7 @@ class Mender:
             elif name == b"mbrs-by-ref":
                 for item in ITEM.findall(attribute.meaning()):
                     if item.upper() != b"ANY":
-                        names[self.maintainer(item)] = None
+                        names[name].append(self.maintainer(item))
             elif name == b"auth":
                 changed, has_auth = self.auth(attribute), True
             elif name == b"mp-members":
@@ -229,14 +230,14 @@ class Mender:
                 kept.append(changed)
         if grants and grants.state == "ranges":
             raise LeftOut(UNREAD, b"mnt-routes", b"{")
-        if not has_mnt_by:
+        if not names[b"mnt-by"]:
             self.use("mnt-by")
             kept.insert(source_place(kept), Attribute(b"mnt-by", [self.root]))
-            names[self.root.decode()] = None
+            names[b"mnt-by"].append(self.root.decode())
         if number == MNTNER and not has_auth:
             self.use("auth")
             kept.insert(1, Attribute(b"auth", [NOBODY]))
-        return tuple(names), kept
+        return once(name for listed in names.values() for name in listed), kept
 
     def changed(
         self,
@@ -374,7 +375,7 @@ class Grants:
     """Reads the entries of `mnt-routes`, which may begin in one attribute and end in the next, and
     drops what is no part of one."""
 
-    def __init__(self, mender: Mender, names: dict[str, None]) -> None:
+    def __init__(self, mender: Mender, names: list[str]) -> None:
         self.mender, self.names, self.state = mender, names, "start"
 
     def token(self, token: bytes) -> bytes | None:
@@ -396,7 +397,7 @@ class Grants:
             # It may be a range in another spelling, without which the entry before it grants more.
             raise self.mender.unread(token)
         else:
-            self.names[self.mender.maintainer(token)] = None
+            self.names.append(self.mender.maintainer(token))
             self.state = "named"
         return token
 

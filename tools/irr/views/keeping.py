@@ -6,7 +6,7 @@ from pathlib import Path
 from typing import Any
 
 from irr.errors import Failure
-from irr.local import temporary
+from irr.local import tables, temporary
 from irr.local.databases import Copy
 from irr.local.replicas import Made
 from irr.system import files
@@ -65,16 +65,19 @@ class View:
                     continue
                 with files.written(made.dump, files.PRIVATE) as out:
                     merge.write(out)
+                is_new = made.digest() != known
+                if is_new:
+                    tables.write(made.store, merge.rows())
             finally:
                 merge.spool.close()
             break
         self.told, self.next = told, self.label_of()
-        if made.digest() == known:
+        if not is_new:
             put_label(self.folder / "made", self.next)
             self.commit()
             return None
         put_label(work, self.next)
-        copy = Copy(
+        Copy(
             work,
             temporary.SETTINGS.format(
                 source=self.settings.name,
@@ -83,7 +86,6 @@ class View:
                 limit=self.settings.limit,
             ),
         )
-        copy.load(made.dump)
         return made
 
     def need_all(self) -> None:

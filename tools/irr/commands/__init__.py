@@ -52,6 +52,7 @@ TABLE = (
     Command("backup", KEEP, "backup", "make a verified backup of a registry, served or not"),
     Command("restore", KEEP, "restore", "put a backup in the place of a registry"),
     Command("history", KEEP, "history", "keep each public state of a registry, and show what was"),
+    Command("nrtm4", KEEP, "nrtm4", "show and change the keys that sign what mirrors take"),
     Command("notify", KEEP, "notify", "mail what changed and was refused to those concerned"),
     Command("reset", KEEP, "reset", "give a maintainer of a stopped registry another password"),
     Command(

@@ -1,18 +1,19 @@
 """`irr export FOLDER`: the public dump in RIPE's split form, a gzip'd file a class; with
-`--history` also in one file, with the serial from which a mirror follows it."""
+`--history` also in one file, with the serial from which a mirror follows it, or as the files of
+NRTM, version 4."""
 import argparse
 import contextlib
 import gzip
-import hashlib
 from pathlib import Path
-from typing import BinaryIO, Iterable, Iterator
+from typing import BinaryIO, Iterable
 
 from irr.errors import ARGUMENTS, DONE, Failure
-from irr.local.history import Repository, State
-from irr.local.serials import Serials, Told
+from irr.local.nrtm4 import Publisher
+from irr.local.serials import Serials
 from irr.registry import answers, server
 from irr.rpsl import keys
 from irr.system import files
+from irr.system.signing import Keys
 from irr.terminal import texts
 
 EXAMPLES = """
@@ -20,7 +21,11 @@ irr export /srv/ftp/irr                     /srv/ftp/irr/example.db.route.gz and
 irr export -s https://irr.example.net .     of another registry, into this folder
 irr export --history /var/lib/irrdesk-history /srv/ftp/irr
                                             also example.db.gz and EXAMPLE.CURRENTSERIAL
+irr export --history /var/lib/irrdesk-history --nrtm4 keys /srv/ftp/irr
+                                            the files of NRTM, version 4, below nrtmv4/
 """
+# The folder of the files of NRTM, version 4.
+BELOW = "nrtmv4"
 
 
 def arguments(parser: argparse.ArgumentParser) -> None:
@@ -32,6 +37,12 @@ def arguments(parser: argparse.ArgumentParser) -> None:
         " in one file too, SOURCE.db.gz, and its serial into SOURCE.CURRENTSERIAL",
     )
     parser.add_argument(
+        "--nrtm4",
+        metavar="KEYS",
+        help="write the files of NRTM, version 4, in place of these, signed by the key in this"
+        f" folder, into {BELOW}/; see `irr nrtm4`",
+    )
+    parser.add_argument(
         "folder",
         metavar="FOLDER",
         help="where the files go: SOURCE.db.CLASS.gz, SOURCE in small letters",
@@ -41,6 +52,8 @@ def arguments(parser: argparse.ArgumentParser) -> None:
 def run(options: argparse.Namespace) -> int:
     if options.history and options.server:
         raise Failure("--history", "it takes no server; leave one of them out", ARGUMENTS)
+    if options.nrtm4:
+        return published(options)
     folder = files.folder(options.folder)
     with files.locked(folder):
         if options.history:
@@ -50,6 +63,17 @@ def run(options: argparse.Namespace) -> int:
             counts = written(place.dump(), place.url, folder, False)
     if counts:
         texts.note("; ".join(f"{kind} {count:,}" for kind, count in counts.items()))
+    return DONE
+
+
+def published(options: argparse.Namespace) -> int:
+    """Writes what changed since the last time, and nothing where nothing did."""
+    if not options.history:
+        raise Failure("--nrtm4", "it needs --history; give the folder of it", ARGUMENTS)
+    keys_in = files.folder(options.nrtm4, 0o700)
+    out = files.folder(Path(options.folder) / BELOW)
+    with files.locked(keys_in), files.locked(out):
+        Publisher(Path(options.history), out, Keys(keys_in)).publish()
     return DONE
 
 
@@ -70,7 +94,7 @@ def of_history(history: Path, folder: Path) -> dict[str, int]:
             f" {Serials(history).folder}, and run `irr history` and this again, so that mirrors"
             " begin anew",
         )
-    counts = written(dump_of(history, last), str(history), folder, True)
+    counts = written(Serials(history).dump(last), str(history), folder, True)
     files.put(path, f"{last.last}\n".encode())
     return counts
 
@@ -83,24 +107,6 @@ def serial_of(path: Path) -> int | None:
     if serial is None:
         raise Failure(str(path), "it has no serial; remove it if mirrors do not follow this folder")
     return serial
-
-
-def dump_of(history: Path, last: Told) -> Iterator[bytes]:
-    """The public dump of a state, which has to be the one that was fetched."""
-    digest, count = hashlib.sha256(), 0
-    for piece in Repository(history).objects(State(last.commit, 0, last.dump)):
-        digest.update(piece)
-        count += 1
-        yield piece
-    end = f"% end {count}\n".encode()
-    digest.update(end)
-    if digest.hexdigest() != last.dump:
-        raise Failure(
-            str(history),
-            f"commit {last.commit} does not give the dump that it was made of; the repository was"
-            " changed: take it from a backup",
-        )
-    yield end
 
 
 def written(dump: Iterable[bytes], name: str, folder: Path, is_one: bool) -> dict[str, int]:

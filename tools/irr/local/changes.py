@@ -18,6 +18,10 @@ class Change(NamedTuple):
     word: str
     text: bytes
 
+    def becomes(self) -> bytes:
+        """What there is after it; nothing after a deletion."""
+        return self.text if self.word == ADD else b""
+
 
 def in_order(
     added: Iterable[bytes], changed: Iterable[bytes], deleted: Iterable[bytes], name: str

@@ -55,6 +55,7 @@ UNITS = (
     *("irrdesk-backup.timer", "irrdesk-backup.service"),
     *("irrdesk-history.timer", "irrdesk-history.service"),
     *("irrdesk-export.timer", "irrdesk-export.service"),
+    *("irrdesk-nrtm4.timer", "irrdesk-nrtm4.service"),
     *("irrdesk-dump.timer", "irrdesk-dump.service"),
     *("irrdesk-filter.timer", "irrdesk-filter.service"),
     *("irrdesk-notify.timer", "irrdesk-notify.service"),

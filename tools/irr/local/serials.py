@@ -5,6 +5,7 @@ A file begins with a line of what it is, and has the changes as NRTM tells them.
 from which mirrors can only begin has none. All of them are made of the commits of the history, so
 what a stop left out is made up for by the next run.
 """
+import hashlib
 import mmap
 import os
 import re
@@ -126,6 +127,32 @@ class Serials:
                             end = yield from place_of(all, last + 1)
                 parts.append(Part(path, begin, end, min(last, told.last)))
             yield parts
+
+    def changes(self, first: int, last: int) -> Iterator[Change]:
+        """The changes of a range that is kept, in order."""
+        for part in self.parts(first, last):
+            with open(part.path, "rb") as file:
+                file.seek(part.begin)
+                words = file.read(part.end - part.begin).strip(b"\n").split(b"\n\n")
+            for word, text in zip(words[::2], words[1::2], strict=True):
+                yield Change(word.split()[0].decode(), text + b"\n")
+
+    def dump(self, told: Told) -> Iterator[bytes]:
+        """The public dump of a state, which has to be the one that was fetched."""
+        history, digest, count = self.folder.parent, hashlib.sha256(), 0
+        for piece in Repository(history).objects(State(told.commit, 0, told.dump)):
+            digest.update(piece)
+            count += 1
+            yield piece
+        end = f"% end {count}\n".encode()
+        digest.update(end)
+        if digest.hexdigest() != told.dump:
+            raise Failure(
+                str(history),
+                f"commit {told.commit} does not give the dump that it was made of; the repository"
+                " was changed: take it from a backup",
+            )
+        yield end
 
     # What is written, by one process at a time, which holds the history.
 

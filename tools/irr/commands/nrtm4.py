@@ -9,14 +9,14 @@ from irr.terminal import texts
 
 EXAMPLES = """
 irr nrtm4 /var/lib/irrdesk-nrtm4          print the public key, and the next one
-irr nrtm4 --new /var/lib/irrdesk-nrtm4    make the next key, which each mirror is told from now on
+irr nrtm4 --new /var/lib/irrdesk-nrtm4    make the next key, and announce it to mirrors
 irr nrtm4 --roll /var/lib/irrdesk-nrtm4   let it sign from now on
 
 `irr export --nrtm4` makes the first key. Tell mirrors the public one over another way, such as a
 page with TLS. Run what changes keys as the user of the unit: runuser -u irrdesk-public -- irr ...
 """
-# Seconds for which a next key is to be told before it signs.
-TOLD = 7 * 86_400
+# Seconds for which a next key is announced before it signs.
+ANNOUNCED = 7 * 86_400
 
 
 def arguments(parser: argparse.ArgumentParser) -> None:
@@ -31,7 +31,7 @@ def arguments(parser: argparse.ArgumentParser) -> None:
         help="make a key of Ed25519 (EdDSA, which is taken otherwise) or P-256 (ES256)",
     )
     parser.add_argument(
-        "--now", action="store_true", help="let a key sign that was told for less than a week"
+        "--now", action="store_true", help="let a key sign that was announced for less than a week"
     )
     parser.add_argument("keys", metavar="KEYS", help="the folder of the keys")
 
@@ -56,10 +56,10 @@ def roll(keys: signing.Keys, is_now: bool) -> None:
     """Lets the next key sign once mirrors know it."""
     with files.locked(files.folder(keys.folder, 0o700)):
         days = (time.time() - keys.next.stat().st_mtime) / 86_400 if keys.next.exists() else 0
-        if keys.next.exists() and days * 86_400 < TOLD and not is_now:
+        if keys.next.exists() and days * 86_400 < ANNOUNCED and not is_now:
             raise Failure(
                 str(keys.next),
-                f"it was made {days:.1f} days ago; wait until it was told for {TOLD // 86_400}, so"
+                f"it was made {days:.1f} days ago; wait until it was announced for {ANNOUNCED // 86_400}, so"
                 " that each mirror has seen it, or give --now",
             )
         keys.roll()
@@ -70,6 +70,6 @@ def show(keys: signing.Keys) -> None:
         raise Failure(
             str(keys.folder), "it has no key; `irr export --nrtm4` makes one, or --new", ARGUMENTS
         )
-    for path, words in (keys.now, "signs now"), (keys.next, "is told as the next"):
+    for path, words in (keys.now, "signs now"), (keys.next, "is announced as the next"):
         if path.exists():
             texts.put(f"% {words}: {signing.algorithm_of(path)}\n{signing.public(path)}".encode())

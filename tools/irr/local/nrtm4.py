@@ -201,7 +201,7 @@ class Publisher:
         return [record(key, change) for key, change in last_of.items() if key not in same]
 
     def write(self, head: Record, records: Iterable[Record]) -> File:
-        """Writes a text sequence (RFC 7464) under a name that nobody can guess before it is told."""
+        """Writes a text sequence (RFC 7464) under a name that nobody guesses before it is named."""
         parts = (head["type"], head["version"], head["source"], head["session_id"])
         name = f"nrtm-{'.'.join(map(str, parts))}.{secrets.token_hex(16)}.json.gz"
         with files.written(self.out / name) as file:

@@ -18,7 +18,6 @@ from checks.mirrors.test_serials import NOW, States, aut_num
 from checks.running import Tell, Trial, expect
 from checks.tool.forking import run_forked
 from checks.worlds import Tool
-from irr.errors import Failure as ToolFailure
 from irr.local import nrtm4
 from irr.system import signing
 
@@ -164,35 +163,50 @@ def test_the_notification_is_signed_anew_each_hour(states: Publishing) -> None:
     expect(states.signed_at() < before, True, "whether one of the future is")
 
 
-def test_lost_serials_begin_a_session_and_lower_ones_are_refused(states: Publishing) -> None:
-    first = states.publish(aut_num(1))
+def test_lost_serials_begin_a_session_anew(states: Publishing) -> None:
+    """Also where the new ones are the same numbers, or lower."""
+    sessions = [states.publish(aut_num(1)).session]
     mirror = states.mirror()
     mirror.follow()
     copy = states.folder.with_name("copy")
     shutil.copytree(states.folder, copy)
     states.publish(aut_num(2))
+
+    def need_anew(what: str) -> None:
+        again = states.publish()
+        expect((versions(again), again.session in sessions), ((1, 1, []), False), what)
+        sessions.append(again.session)
+        expect((mirror.follow(), mirror.snapshots), (True, len(sessions)), f"a mirror, {what}")
+        states.need_same(mirror)
+
     shutil.rmtree(states.folder)
     copy.rename(states.folder)
-    with pytest.raises(ToolFailure, match="serials went back"):
-        states.publish()
-    expect((mirror.follow(), mirror.version), (True, 2), "what mirrors are told still")
+    need_anew("an older history")
+    states.publish(aut_num(3))
+    states.publish(aut_num(4))
+    mirror.follow()
     shutil.rmtree(states.serials.folder)
-    states.update(NOW + 100)
-    again = states.publish()
-    expect((versions(again), again.session != first.session), ((1, 1, []), True), "what is anew")
-    expect((mirror.follow(), mirror.snapshots), (True, 2), "the mirror")
-    states.need_same(mirror)
+    states.update()
+    need_anew("serials from the same one on")
+    for number in range(3):
+        states.add(aut_num(number))
+    shutil.rmtree(states.serials.folder)
+    states.update()
+    for number in range(9):
+        states.add(aut_num(number))
+    need_anew("others in the place of those that were lost")
 
 
-def test_states_that_nobody_knows_any_more_are_a_version_without_changes(
+def test_states_that_nobody_knows_any_more_begin_a_session_anew(
     states: Publishing, monkeypatch: pytest.MonkeyPatch
 ) -> None:
-    states.publish(aut_num(1))
+    first = states.publish(aut_num(1))
     mirror = states.mirror()
     mirror.follow()
     states.add(aut_num(2))
     monkeypatch.setattr("irr.local.serials.MOST_STATES", 1)
-    expect(versions(states.publish(aut_num(3))), (2, 2, []), "what is published")
+    found = states.publish(aut_num(3))
+    expect((versions(found), found.session != first.session), ((1, 1, []), True), "what is anew")
     expect((mirror.follow(), mirror.snapshots), (True, 2), "the mirror")
     states.need_same(mirror)
 

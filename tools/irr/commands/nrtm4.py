@@ -59,8 +59,8 @@ def roll(keys: signing.Keys, is_now: bool) -> None:
         if keys.next.exists() and days * 86_400 < ANNOUNCED and not is_now:
             raise Failure(
                 str(keys.next),
-                f"it was made {days:.1f} days ago; wait until it was announced for {ANNOUNCED // 86_400}, so"
-                " that each mirror has seen it, or give --now",
+                f"it was made {days:.1f} days ago; wait until it was announced for"
+                f" {ANNOUNCED // 86_400}, so that each mirror has seen it, or give --now",
             )
         keys.roll()
 

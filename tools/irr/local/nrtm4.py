@@ -50,14 +50,14 @@ class File(NamedTuple):
 
 
 class Published(NamedTuple):
-    """What is published: the registry, and the serial that mirrors could begin from; the session,
-    the version, and the last serial that it has; the files."""
+    """What is published: the registry, the session and the version; the last serial that it has,
+    and the commit of it; the files."""
 
     source: str
-    since: int
     session: str
     version: int
     serial: int
+    commit: str
     snapshot: File
     deltas: list[File]
 
@@ -111,16 +111,7 @@ class Publisher:
         if not self.signers.now.exists():
             self.signers.make("EdDSA")
         old = published_in(self.signers.folder)
-        if old and (old.source, old.since) != (last.source, last.since):
-            old = None
-        if old and old.serial > last.last:
-            raise Failure(
-                str(self.signers.folder / STATE),
-                f"serial {old.serial} was published, and the history has {last.last}: serials went"
-                f" back; remove {self.serials.folder}, and run `irr history` and this again, so"
-                " that mirrors begin anew",
-            )
-        state = self.followed(old, last) if old else self.begun(last)
+        state = self.followed(old, last) if old and self.is_known(old) else self.begun(last)
         next_key = public(self.signers.next) if self.signers.next.exists() else ""
         before = self.published()
         self.keep(before, state)
@@ -140,7 +131,7 @@ class Publisher:
     def begun(self, last: Told) -> Published:
         """A session of a state, and of none before it."""
         session, none = str(uuid.uuid4()), File(0, "", "", 0)
-        state = Published(last.source, last.since, session, 1, last.last, none, [])
+        state = Published(last.source, session, 1, last.last, last.commit, none, [])
         return state._replace(snapshot=self.snapshot(state, last))
 
     def followed(self, old: Published, last: Told) -> Published:
@@ -150,12 +141,8 @@ class Publisher:
             del deltas[0]
         if not all(map(self.is_there, deltas)):
             deltas = []
-        state = old._replace(serial=last.last)
-        changes = self.changes(old.serial, last) if last.last > old.serial else []
-        if changes is None:
-            # Nobody knows them any more: each mirror takes the snapshot.
-            state, deltas = state._replace(version=old.version + 1), []
-        elif changes:
+        state = old._replace(serial=last.last, commit=last.commit)
+        if changes := self.changes(old, last):
             state = state._replace(version=old.version + 1)
             deltas.append(self.write(state.head("delta"), changes))
         state = state._replace(deltas=deltas)
@@ -164,6 +151,12 @@ class Publisher:
         if is_old or old.snapshot.version < first - 1 or not self.is_there(old.snapshot):
             state = state._replace(snapshot=self.snapshot(state, last))
         return state
+
+    def is_known(self, old: Published) -> bool:
+        """Whether the changes since what was published are kept: its serial is, and is of the same
+        state, and of none in the place of lost ones."""
+        kept = old.serial in self.serials.kept()
+        return kept and self.serials.told(old.serial).commit == old.commit
 
     def is_kept(self, file: File, now: float) -> bool:
         return file.made > now - CHANGES and self.is_there(file)
@@ -180,14 +173,12 @@ class Publisher:
         records = ({"object": text_of(paragraph.text())} for _, paragraph in dump)
         return self.write(head, records)
 
-    def changes(self, serial: int, last: Told) -> list[Record] | None:
-        """What changed after a serial, of each object the last; None where that is not kept."""
-        if serial not in self.serials.kept():
-            return None
-        before, name = self.serials.told(serial), str(self.history)
+    def changes(self, old: Published, last: Told) -> list[Record]:
+        """What changed after what was published, of each object the last."""
+        name = str(self.history)
         last_of: dict[Key, Change] = {}
         several: set[Key] = set()
-        for change in self.serials.changes(serial + 1, last.last):
+        for change in self.serials.changes(old.serial + 1, last.last):
             key = keys.key_of(answers.read(change.text, name))
             if key is None:
                 raise answers.Strange(name)
@@ -195,8 +186,7 @@ class Publisher:
                 several.add(key)
             last_of[key] = change
         # What is as it was is not told: it came and went, or was changed and changed back.
-        state = State(before.commit, 0, before.dump)
-        was = Repository(self.history).texts_of(state, several)
+        was = Repository(self.history).texts_of(State(old.commit, 0, ""), several)
         same = {key for key in several if last_of[key].becomes() == was.get(key, b"")}
         return [record(key, change) for key, change in last_of.items() if key not in same]
 

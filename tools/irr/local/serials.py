@@ -6,6 +6,7 @@ from which mirrors can only begin has none. All of them are made of the commits 
 what a stop left out is made up for by the next run.
 """
 import hashlib
+import itertools
 import mmap
 import os
 import re
@@ -130,7 +131,7 @@ class Serials:
 
     def changes(self, first: int, last: int) -> Iterator[Change]:
         """The changes of a range that is kept, in order."""
-        for part in self.parts(first, last):
+        for part in itertools.chain.from_iterable(self.parts(first, last)):
             with open(part.path, "rb") as file:
                 file.seek(part.begin)
                 words = file.read(part.end - part.begin).strip(b"\n").split(b"\n\n")

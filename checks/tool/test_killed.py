@@ -373,6 +373,9 @@ def test_a_mirror_serves_one_of_two_states(trial: Trial, places: Places, tell: T
     for folder in kills.each(places.first / "mirror", words):
         wait_until("a replica that goes on alone", PATIENCE, lambda: not is_served(port))
         for place, wanted in (dead, [old, new]), (places.world.url, [new]):
+            left = folder / "made.next" / "left"
+            left.parent.mkdir(exist_ok=True)
+            left.touch()
             with mirroring(places.tool, ["-s", place], folder, port) as said:
                 try:
                     wait_until("a replica", PATIENCE, lambda: answered(port) in wanted)
@@ -380,7 +383,10 @@ def test_a_mirror_serves_one_of_two_states(trial: Trial, places: Places, tell: T
                     there = sorted(str(path.relative_to(folder)) for path in folder.rglob("*"))
                     what = f"{folder.parent.name} {place}: {there} {said_by(said)[:2_000]}"
                     raise Failure(f"{failure}: {what}") from None
-            expect(sorted(os.listdir(folder)), [".lock", str(port), "made"], "what is left")
+            expect(left.exists(), False, "whether what was begun before is left")
+            # What is begun again each second may be cut off by the end of the mirror.
+            found = set(os.listdir(folder)) - {"made.next"}
+            expect(found, {".lock", str(port), "made"}, "what is left")
             names = set(os.listdir(folder / "made")) - {"irr.db-wal"}
             expect(names, {"dump.rpsl", "irr.db", "irr.toml"}, "what is left of what was made")
     tell(f"{kills.killed} ended")

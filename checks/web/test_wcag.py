@@ -255,6 +255,7 @@ def test_the_focus_is_never_lost(stage: Stage, tell: Tell) -> None:
     browser.until(drawn, "the map of an object")
     expect(browser.js(focus), "map-title", "after a link to the map")
     browser.go(stage.nginx.address("bad") + "#q=slow")
+    browser.until("!document.getElementById('look-stop').hidden", "what can be stopped")
     browser.js("document.getElementById('look-stop').focus()")
     press(browser, Keys.ENTER)
     browser.until("document.getElementById('look-stop').hidden", "the end of waiting")

@@ -1,8 +1,9 @@
-"""Times a program over this repository's crates beside a plain one: calls, growth, and memory for each entry.
+"""Times a program over this repository's crates beside a plain one: calls, growth, and memory for
+each entry.
 
-Both programs take a shape's number, a count of entries and whether to keep them, and print the nanoseconds of all
-insertions, searches and removals, and then what these gave, of which the first number is the count of new entries.
-"""
+Both programs take a shape's number, a count of entries and whether to keep them, and print the
+nanoseconds of all insertions, searches and removals, and then what these gave, of which the first
+number is the count of new entries."""
 import os
 import resource
 import subprocess
@@ -19,8 +20,13 @@ def small_stack():
 
 def run(program, shape, count, limit=None):
     """The nanoseconds of each kind of call, and what the calls gave."""
-    done = subprocess.run([program, str(shape), str(count), "0"], capture_output=True, text=True, check=True,
-                          preexec_fn=limit)
+    done = subprocess.run(
+        [program, str(shape), str(count), "0"],
+        capture_output=True,
+        text=True,
+        check=True,
+        preexec_fn=limit,
+    )
     words = [int(word) for word in done.stdout.split()]
     return words[:3], words[3:]
 
@@ -47,7 +53,8 @@ def memory(program, shape, count):
 
 
 def compare(shapes, ours, plain, value_bytes):
-    """Prints, for each shape, the calls at each count, their growth, their ratio to the plain program's, and memory."""
+    """Prints, for each shape, the calls at each count, their growth, their ratio to the plain
+    program's, and memory."""
     for shape, name in enumerate(shapes):
         before = None
         for count in COUNTS:
@@ -61,8 +68,15 @@ def compare(shapes, ours, plain, value_bytes):
             before = (count, each)
         beside, expected = best(plain, shape, COUNTS[-1])
         assert given == expected, (given, expected)
-        ratios = ", ".join(f"{call} {own / other:.2f}" for call, own, other in zip(CALLS, times, beside))
+        ratios = ", ".join(
+            f"{call} {own / other:.2f}" for call, own, other in zip(CALLS, times, beside)
+        )
         print(f"  beside std's map: {ratios} times as long (wanted: at most 2)")
         entry = memory(ours, shape, COUNTS[-1])
-        print(f"  memory: {entry:.0f} bytes an entry, {entry - value_bytes:.0f} beside its value (wanted: at most 130)",
-              flush=True)
+        print(
+            (
+                f"  memory: {entry:.0f} bytes an entry, {entry - value_bytes:.0f} beside its value"
+                " (wanted: at most 130)"
+            ),
+            flush=True,
+        )

@@ -1,8 +1,8 @@
 """Builds the programs that the benchmarks time.
 
-Each is proved and built in a repository of its own. Where the environment names a folder by IRRDESK_BENCH, that repository
-stands there and is kept, so that only what changed is built again.
-"""
+Each is proved and built in a repository of its own. Where the environment names a folder by
+IRRDESK_BENCH, that repository stands there and is kept, so that only what changed is built
+again."""
 import os
 import shutil
 import subprocess
@@ -51,7 +51,9 @@ def bring(crate, folder):
             shutil.copytree(os.path.join(here, part), os.path.join(there, part))
     if stamp(here) and stamp(here) != stamp(there):
         shutil.rmtree(os.path.join(there, "out"), ignore_errors=True)
-        shutil.copytree(os.path.join(here, "out", "rlib"), os.path.join(there, "out", "rlib"), symlinks=True)
+        shutil.copytree(
+            os.path.join(here, "out", "rlib"), os.path.join(there, "out", "rlib"), symlinks=True
+        )
 
 
 def build_ours(folder, name, uses, source):
@@ -70,11 +72,20 @@ def build_ours(folder, name, uses, source):
     lines = libraries(listed) | {crate: known[crate] for crate in wanted} | {name: uses}
     with open(listed, "w") as out:
         out.writelines(f"{crate}: {' '.join(lines[crate])}\n" for crate in lines)
-    made = subprocess.run(["rt", "run", "--jobs", "1"], cwd=program, stdin=subprocess.DEVNULL, capture_output=True, text=True,
-                          check=False)
+    made = subprocess.run(
+        ["rt", "run", "--jobs", "1"],
+        cwd=program,
+        stdin=subprocess.DEVNULL,
+        capture_output=True,
+        text=True,
+        check=False,
+    )
     built = os.path.join(program, "out", name)
     if not os.path.exists(f"{built}.stamp"):
-        sys.exit(f"{(made.stdout + made.stderr)[-2000:]}\nthe program {name} over this repository's crates was not built")
+        sys.exit(
+            f"{(made.stdout + made.stderr)[-2000:]}\nthe program {name} over this repository's"
+            " crates was not built"
+        )
     return built
 
 
@@ -88,5 +99,7 @@ def build_plain(folder, source):
 def build_c(folder, name, source, *libraries_used):
     """The plain program of this C file."""
     program = os.path.join(folder, name)
-    subprocess.run(["cc", "-O2", "-Wall", "-Wextra", "-o", program, source, *libraries_used], check=True)
+    subprocess.run(
+        ["cc", "-O2", "-Wall", "-Wextra", "-o", program, source, *libraries_used], check=True
+    )
     return program

@@ -1,4 +1,5 @@
-"""Registries as rows of databases: their texts, the programs that write the same rows by statements alone, and their times."""
+"""Registries as rows of databases: their texts, the programs that write the same rows by statements
+alone, and their times."""
 import os
 import sqlite3
 import subprocess
@@ -11,16 +12,29 @@ DIGEST = "ba7816bf8f01cfea414140de5dae2223b00361a396177a9cb410ff61f20015ad"
 REST = "mnt-by:         ROOT-MNT\nsource:         TEST\n\n"
 PORT_LIBRARIES = ["anyhow", "sqlite", "sqlite_std_file", "sqlite_store"]
 DESK = os.path.join(building.TOP, "bench", "desk")
-DESK_LIBRARIES = ["anyhow", "rr_desk", "rr_io", "rr_number", "rr_object", "rr_registry", "rr_text", "sqlite", "sqlite_std_file",
-                  "sqlite_store", "sqlite_trees"]
+DESK_LIBRARIES = [
+    "anyhow",
+    "rr_desk",
+    "rr_io",
+    "rr_number",
+    "rr_object",
+    "rr_registry",
+    "rr_text",
+    "sqlite",
+    "sqlite_std_file",
+    "sqlite_store",
+    "sqlite_trees",
+]
 
 
 def opening():
     """The objects that a registry opens with, in the order of their keys."""
-    return [f"mntner:         ROOT-MNT\nauth:           SHA256-PW a:{DIGEST}\n" + REST,
-            "as-block:       AS0 - AS65535\n" + REST,
-            "as-block:       AS65536 - AS4294967295\n" + REST,
-            "inetnum:        0.0.0.0 - 255.255.255.255\n" + REST]
+    return [
+        f"mntner:         ROOT-MNT\nauth:           SHA256-PW a:{DIGEST}\n" + REST,
+        "as-block:       AS0 - AS65535\n" + REST,
+        "as-block:       AS65536 - AS4294967295\n" + REST,
+        "inetnum:        0.0.0.0 - 255.255.255.255\n" + REST,
+    ]
 
 
 def inetnum(n):
@@ -39,13 +53,21 @@ def write(path, paragraphs):
 
 def build_desk(folder):
     """The program that times a desk: its loads, openings, submissions, dumps and answers."""
-    return building.build_ours(folder, "desk_times", DESK_LIBRARIES, building.read(os.path.join(DESK, "main.rt.txt")))
+    return building.build_ours(
+        folder, "desk_times", DESK_LIBRARIES, building.read(os.path.join(DESK, "main.rt.txt"))
+    )
 
 
 def build_plain(folder):
-    """The programs that write rows by statements alone: over the port, and in C over SQLite's library."""
-    port = building.build_ours(folder, "port_times", PORT_LIBRARIES, building.read(os.path.join(STORE, "port.rt.txt")))
-    return {"the port alone": port, "C": building.build_c(folder, "rows", os.path.join(STORE, "rows.c"), "-lsqlite3")}
+    """The programs that write rows by statements alone: over the port, and in C over SQLite's
+    library."""
+    port = building.build_ours(
+        folder, "port_times", PORT_LIBRARIES, building.read(os.path.join(STORE, "port.rt.txt"))
+    )
+    return {
+        "the port alone": port,
+        "C": building.build_c(folder, "rows", os.path.join(STORE, "rows.c"), "-lsqlite3"),
+    }
 
 
 def remove(database):
@@ -59,16 +81,21 @@ def numbers(*words, text=None):
     with open(text or os.devnull, "rb") as given:
         made = subprocess.run(words, stdin=given, capture_output=True, text=True, check=False)
     if made.returncode:
-        sys.exit(f"bench: {' '.join(words)} ended with {made.returncode}: {made.stdout}{made.stderr}")
+        sys.exit(
+            f"bench: {' '.join(words)} ended with {made.returncode}: {made.stdout}{made.stderr}"
+        )
     return [int(word) for word in made.stdout.split()]
 
 
 def content(database):
     """The rows of a database, by SQLite's own library, which also looks at its pages."""
     connection = sqlite3.connect(database)
-    (sound,), = connection.execute("PRAGMA integrity_check")
+    ((sound,),) = connection.execute("PRAGMA integrity_check")
     assert sound == "ok", sound
-    found = [connection.execute(f"SELECT * FROM {table} ORDER BY 1, 2").fetchall() for table in ["meta", "object", "named"]]
+    found = [
+        connection.execute(f"SELECT * FROM {table} ORDER BY 1, 2").fetchall()
+        for table in ["meta", "object", "named"]
+    ]
     connection.close()
     return found
 

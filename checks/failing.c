@@ -2,7 +2,8 @@
    program makes, and fails one of them, or all from one on, or ends the process in place of one,
    or lets each read give one byte, or lets NUMBER bytes pass in all and then fails. FAILING is
    KIND:HOW:NUMBER, and FAILING_COUNT a file for the count. Calls of the kind `room` fail as on a
-   disk that is full. */
+   disk that is full. Under `clock:fast:NUMBER` none fails: the clock runs so many times as fast,
+   and a connection holds few bytes that its peer has not taken. */
 #define _GNU_SOURCE
 #include <errno.h>
 #include <fcntl.h>
@@ -13,6 +14,7 @@
 #include <sys/socket.h>
 #include <sys/syscall.h>
 #include <sys/types.h>
+#include <time.h>
 #include <unistd.h>
 
 extern void *__libc_malloc(size_t);
@@ -44,7 +46,10 @@ __attribute__((destructor)) static void tell_count(void)
 }
 
 /* Whether bytes are counted in place of calls of this kind. */
-static int takes(const char *called) { return strcmp(kind, called) == 0 && strcmp(how, "take") == 0; }
+static int takes(const char *called)
+{
+    return strcmp(kind, called) == 0 && strcmp(how, "take") == 0;
+}
 
 /* Whether this call of the kind is to fail. */
 static int fails(const char *called)
@@ -89,9 +94,15 @@ static void *refused(void)
 
 void *malloc(size_t size) { return fails("memory") ? refused() : __libc_malloc(size); }
 
-void *calloc(size_t count, size_t size) { return fails("memory") ? refused() : __libc_calloc(count, size); }
+void *calloc(size_t count, size_t size)
+{
+    return fails("memory") ? refused() : __libc_calloc(count, size);
+}
 
-void *realloc(void *block, size_t size) { return fails("memory") ? refused() : __libc_realloc(block, size); }
+void *realloc(void *block, size_t size)
+{
+    return fails("memory") ? refused() : __libc_realloc(block, size);
+}
 
 ssize_t read(int file, void *bytes, size_t size)
 {
@@ -119,11 +130,34 @@ int socket(int domain, int type, int protocol)
     return fails("socket") ? failed(EMFILE) : syscall(SYS_socket, domain, type, protocol);
 }
 
+int accept4(int file, struct sockaddr *address, socklen_t *length, int flags)
+{
+    int few = 1;
+    int found = fails("accept") ? failed(EMFILE)
+                                : syscall(SYS_accept4, file, address, length, flags);
+    if (found >= 0 && strcmp(kind, "clock") == 0)
+        setsockopt(found, SOL_SOCKET, SO_SNDBUF, &few, sizeof few);
+    return found;
+}
+
+int clock_gettime(clockid_t clock, struct timespec *told)
+{
+    long found = syscall(SYS_clock_gettime, clock, told);
+    __int128 fast;
+    if (found == 0 && clock == CLOCK_MONOTONIC && strcmp(kind, "clock") == 0) {
+        fast = ((__int128)told->tv_sec * 1000000000 + told->tv_nsec) * wanted;
+        told->tv_sec = (time_t)(fast / 1000000000);
+        told->tv_nsec = (long)(fast % 1000000000);
+    }
+    return found;
+}
+
 ssize_t recv(int file, void *bytes, size_t size, int flags)
 {
     if (fails("peer"))
         return failed(ECONNRESET);
-    return passed("peer", syscall(SYS_recvfrom, file, bytes, passing("peer", size), flags, NULL, NULL));
+    size = passing("peer", size);
+    return passed("peer", syscall(SYS_recvfrom, file, bytes, size, flags, NULL, NULL));
 }
 
 ssize_t send(int file, const void *bytes, size_t size, int flags)
@@ -138,7 +172,10 @@ ssize_t pread(int file, void *bytes, size_t size, off_t place)
     return fails("disk") ? failed(EIO) : syscall(SYS_pread64, file, bytes, size, place);
 }
 
-ssize_t pread64(int file, void *bytes, size_t size, off_t place) { return pread(file, bytes, size, place); }
+ssize_t pread64(int file, void *bytes, size_t size, off_t place)
+{
+    return pread(file, bytes, size, place);
+}
 
 ssize_t pwrite(int file, const void *bytes, size_t size, off_t place)
 {
@@ -147,13 +184,19 @@ ssize_t pwrite(int file, const void *bytes, size_t size, off_t place)
     return fails("disk") ? failed(EIO) : syscall(SYS_pwrite64, file, bytes, size, place);
 }
 
-ssize_t pwrite64(int file, const void *bytes, size_t size, off_t place) { return pwrite(file, bytes, size, place); }
+ssize_t pwrite64(int file, const void *bytes, size_t size, off_t place)
+{
+    return pwrite(file, bytes, size, place);
+}
 
 int fsync(int file) { return fails("disk") ? failed(EIO) : syscall(SYS_fsync, file); }
 
 int fdatasync(int file) { return fails("disk") ? failed(EIO) : syscall(SYS_fdatasync, file); }
 
-int ftruncate(int file, off_t size) { return fails("disk") ? failed(EIO) : syscall(SYS_ftruncate, file, size); }
+int ftruncate(int file, off_t size)
+{
+    return fails("disk") ? failed(EIO) : syscall(SYS_ftruncate, file, size);
+}
 
 int ftruncate64(int file, off_t size) { return ftruncate(file, size); }
 

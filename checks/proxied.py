@@ -229,10 +229,10 @@ class Nginx(Door):
                 ("listen 80", f"listen 127.0.0.1:{self.http}"),
                 ("listen [::]:80", f"listen [::1]:{self.http}"),
                 ("127.0.0.1:4380", f"127.0.0.1:{self.door_port}"),
-                ("/etc/ssl/irr.example.net.pem", self.cert),
-                ("/etc/ssl/private/irr.example.net.key", self.key),
+                ("/etc/letsencrypt/live/irr.example.net/fullchain.pem", self.cert),
+                ("/etc/letsencrypt/live/irr.example.net/privkey.pem", self.key),
                 ("/usr/share/irrdesk/web", web),
-                ("/var/www/acme", f"{self.folder}/acme"),
+                ("/var/www/html", f"{self.folder}/acme"),
                 ("/etc/nginx/irrdesk.users", f"{self.folder}/users"),
             ],
         )

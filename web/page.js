@@ -5,7 +5,7 @@ import {ageWords, served, sourceAsked, viewAsked} from './lib/served.js';
 // The ids of the views' sections, by the words of addresses, so that what is shown can be sent on:
 // #q=QUERY, #set=SET, #why=PREFIX SET, #map=PREFIX, #history=CLASS KEY, #submit.
 const SECTIONS = {
-    __proto__: null, q: 'look', set: 'tree', why: 'why', map: 'map', history: 'past',
+    __proto__: null, q: 'look', set: 'tree', why: 'why', map: 'map', history: 'history',
     submit: 'submit',
 };
 const COMING = 'This part of the page is still loading.';
@@ -96,11 +96,11 @@ async function learn() {
     const reply = await fetch('/about', {cache: 'no-store'}).catch(() => null);
     const isSaid = reply?.ok && reply.headers.get('Content-Type') === 'application/json';
     const said = isSaid ? await reply.json().catch(() => ({})) : {};
-    const {name, why, history: past, views: found} = said;
+    const {name, why, history: hasStates, views: found} = said;
     served.name = String(name ?? 'the registry');
     served.views = Array.isArray(found) ? found : [];
     document.documentElement.classList.toggle('has-why', why === true);
-    document.documentElement.classList.toggle('has-history', past === true);
+    document.documentElement.classList.toggle('has-history', hasStates === true);
     offer();
 }
 
@@ -110,7 +110,7 @@ learn();
 $('look-form').addEventListener('submit', asked('q', $('words')));
 $('tree-form').addEventListener('submit', asked('set', $('set')));
 $('map-form').addEventListener('submit', asked('map', $('prefix')));
-$('past-form').addEventListener('submit', asked('history', $('past-key')));
+$('history-form').addEventListener('submit', asked('history', $('history-key')));
 addEventListener('hashchange', () => show());
 // Back to what was asked elsewhere.
 addEventListener('popstate', () => {

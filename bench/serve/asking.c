@@ -1,5 +1,5 @@
-// Asks a whois server on 127.0.0.1 for the closest objects of addresses in 10.0.0.0/8, one connection after the other, and prints how
-// many seconds that took and how many bytes came.
+// Asks a whois server on 127.0.0.1 for the closest objects of addresses in 10.0.0.0/8, one
+// connection after the other, and prints how many seconds that took and how many bytes came.
 #include <arpa/inet.h>
 #include <netinet/in.h>
 #include <stdio.h>
@@ -20,16 +20,22 @@ int main(int count_of_words, char **words) {
         fprintf(stderr, "asking PORT COUNT\n");
         return 2;
     }
-    struct sockaddr_in address = {.sin_family = AF_INET, .sin_port = htons(atoi(words[1])), .sin_addr.s_addr = htonl(INADDR_LOOPBACK)};
+    struct sockaddr_in address = {
+        .sin_family = AF_INET,
+        .sin_port = htons(atoi(words[1])),
+        .sin_addr.s_addr = htonl(INADDR_LOOPBACK),
+    };
     long count = atol(words[2]), bytes = 0;
     unsigned place = 1;
     double begun = now();
     for (long turn = 0; turn < count; turn++) {
         char block[65536];
         place = place * 1664525u + 1013904223u;
-        int length = sprintf(block, "closest 10.%u.%u.%u\r\n", place >> 24, place >> 16 & 255, place >> 8 & 255);
+        unsigned high = place >> 24, middle = place >> 16 & 255, low = place >> 8 & 255;
+        int length = sprintf(block, "closest 10.%u.%u.%u\r\n", high, middle, low);
         int peer = socket(AF_INET, SOCK_STREAM, 0);
-        if (connect(peer, (struct sockaddr *)&address, sizeof address) < 0 || send(peer, block, length, MSG_NOSIGNAL) != length) {
+        if (connect(peer, (struct sockaddr *)&address, sizeof address) < 0 ||
+            send(peer, block, length, MSG_NOSIGNAL) != length) {
             perror("asking");
             return 1;
         }

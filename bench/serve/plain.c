@@ -1,4 +1,5 @@
-// A plain server on 127.0.0.1: accepts one connection after the other, reads to the first LF, writes a constant, and closes.
+// A plain server on 127.0.0.1: accepts one connection after the other, reads to the first LF,
+// writes a constant, and closes.
 #include <arpa/inet.h>
 #include <netinet/in.h>
 #include <stdio.h>
@@ -14,10 +15,15 @@ int main(int count_of_words, char **words) {
     }
     const char *answer = words[3];
     size_t length = strlen(answer);
-    struct sockaddr_in address = {.sin_family = AF_INET, .sin_port = htons(atoi(words[1])), .sin_addr.s_addr = htonl(INADDR_LOOPBACK)};
+    struct sockaddr_in address = {
+        .sin_family = AF_INET,
+        .sin_port = htons(atoi(words[1])),
+        .sin_addr.s_addr = htonl(INADDR_LOOPBACK),
+    };
     int listener = socket(AF_INET, SOCK_STREAM, 0), on = 1;
     setsockopt(listener, SOL_SOCKET, SO_REUSEADDR, &on, sizeof on);
-    if (bind(listener, (struct sockaddr *)&address, sizeof address) < 0 || listen(listener, 128) < 0) {
+    if (bind(listener, (struct sockaddr *)&address, sizeof address) < 0 ||
+        listen(listener, 128) < 0) {
         perror("plain");
         return 1;
     }

@@ -1,7 +1,8 @@
-// Writes the rows of one database of a registry into another, new one by SQLite's own library, or reads those of its objects.
-// The last COUNT objects are added one by one, each with its maintainer in one transaction, and those before them in one
-// transaction together. It prints how many microseconds the two parts took, or how many objects were read and how many
-// microseconds that took.
+// Writes the rows of one database of a registry into another, new one by SQLite's own library, or
+// reads those of its objects. The last COUNT objects are added one by one, each with its maintainer
+// in one transaction, and those before them in one transaction together. It prints how many
+// microseconds the two parts took, or how many objects were read and how many microseconds that
+// took.
 #include <sqlite3.h>
 #include <stdio.h>
 #include <stdlib.h>
@@ -25,7 +26,8 @@ static long long now(void) {
 }
 
 static void stop(sqlite3 *database) {
-    fprintf(stderr, "rows: %s\n", database ? sqlite3_errmsg(database) : "the databases are not as they should be");
+    const char *other = "the databases are not as they should be";
+    fprintf(stderr, "rows: %s\n", database ? sqlite3_errmsg(database) : other);
     exit(1);
 }
 
@@ -88,7 +90,8 @@ static struct rows objects(sqlite3 *database, const char *text) {
 
 // Gives each object the one maintainer that names it, which stands in the same order.
 static void name(sqlite3 *database, struct rows *rows) {
-    sqlite3_stmt *statement = prepared(database, "SELECT maintainer, okey FROM named ORDER BY rowid");
+    sqlite3_stmt *statement =
+        prepared(database, "SELECT maintainer, okey FROM named ORDER BY rowid");
     size_t place = 0;
     int step;
     while ((step = sqlite3_step(statement)) == SQLITE_ROW) {
@@ -110,7 +113,8 @@ static void step_once(sqlite3 *database, sqlite3_stmt *statement) {
     sqlite3_reset(statement);
 }
 
-static void add(sqlite3 *database, sqlite3_stmt *object, sqlite3_stmt *named, const struct row *row) {
+static void add(sqlite3 *database, sqlite3_stmt *object, sqlite3_stmt *named,
+                const struct row *row) {
     sqlite3_bind_int(object, 1, row->class);
     sqlite3_bind_text(object, 2, row->key, row->key_size, SQLITE_STATIC);
     sqlite3_bind_blob(object, 3, row->body, row->body_size, SQLITE_STATIC);
@@ -133,13 +137,16 @@ static void write_rows(const char *from, const char *to, size_t count) {
     run(database,
         "BEGIN;"
         "CREATE TABLE meta (name TEXT NOT NULL PRIMARY KEY, value TEXT NOT NULL) STRICT;"
-        "CREATE TABLE object (class INTEGER NOT NULL CHECK (class >= 1 AND class <= 7), okey TEXT NOT NULL,"
+        "CREATE TABLE object (class INTEGER NOT NULL CHECK (class >= 1 AND class <= 7),"
+        " okey TEXT NOT NULL,"
         " body BLOB NOT NULL, PRIMARY KEY (class, okey)) STRICT;"
         "CREATE TABLE named (maintainer TEXT NOT NULL, class INTEGER NOT NULL, okey TEXT NOT NULL,"
         " PRIMARY KEY (maintainer, class, okey)) STRICT;"
         "INSERT INTO meta (name, value) VALUES ('version', '2')");
-    sqlite3_stmt *object = prepared(database, "INSERT INTO object (class, okey, body) VALUES (?1, ?2, ?3)");
-    sqlite3_stmt *named = prepared(database, "INSERT INTO named (maintainer, class, okey) VALUES (?1, ?2, ?3)");
+    sqlite3_stmt *object =
+        prepared(database, "INSERT INTO object (class, okey, body) VALUES (?1, ?2, ?3)");
+    sqlite3_stmt *named =
+        prepared(database, "INSERT INTO named (maintainer, class, okey) VALUES (?1, ?2, ?3)");
     sqlite3_stmt *begin = prepared(database, "BEGIN"), *commit = prepared(database, "COMMIT");
     for (size_t place = 0; place < rows.count - count; place++)
         add(database, object, named, &rows.items[place]);
@@ -156,7 +163,8 @@ static void write_rows(const char *from, const char *to, size_t count) {
 static void read_rows(const char *from) {
     sqlite3 *database = opened(from);
     long long begun = now();
-    struct rows rows = objects(database, "SELECT class, okey, body FROM object ORDER BY class, okey");
+    struct rows rows =
+        objects(database, "SELECT class, okey, body FROM object ORDER BY class, okey");
     printf("%zu %lld\n", rows.count, now() - begun);
 }
 

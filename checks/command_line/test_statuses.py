@@ -257,6 +257,13 @@ def test_settings_are_read_or_their_fault_is_told(case: Commands) -> None:
     case.run("init", "s.toml").gives(
         "settings that are no TOML", 3, "irrdesk: s.toml: the settings are not TOML: see line 1", ""
     )
+    case.write("s.toml", "# a comment\n" * 6 + "auth = x\n")
+    case.run("init", "s.toml").gives(
+        "settings that are no TOML further down",
+        3,
+        "irrdesk: s.toml: the settings are not TOML: see line 7",
+        "",
+    )
     case.settings("irr.db", "limit = 0")
     case.run("init", "s.toml").gives(
         "a setting out of its bounds",
@@ -352,6 +359,12 @@ def test_a_terminal_shows_how_far_a_command_is(case: Commands) -> None:
         "a terminal is told what is read from it",
         line in case.read("shown").replace("\r", "").split("\n")
         and case.read("report") == "% items 0\n",
+    )
+    case.sh("""script -qec "'$program' <added.rpsl >report" shown </dev/null >/dev/null""")
+    case.check(
+        "it is told nothing where a file is read",
+        "irrdesk" not in case.read("shown").replace(case.program, "")
+        and case.read("report") == "1 inetnum 10.0.0.0 - 10.255.255.255: added\n% items 1\n",
     )
 
 

@@ -15,6 +15,8 @@ from irr.door import service, settings
 from irr.door.sockets import Watch
 
 
+# What an upstream does once it has read a line.
+Answering = Callable[[bytes, asyncio.StreamWriter], Awaitable[None]]
 # What watches the sockets of the door that runs.
 WATCH: ContextVar[Watch] = ContextVar("WATCH")
 
@@ -76,6 +78,24 @@ async def opened(
     expect((troubles, door.counters.faults), ([], 0), "faults of the door")
 
 
+@contextlib.asynccontextmanager
+async def answering(answer: Answering) -> AsyncIterator[str]:
+    """The address of an upstream that does this with each line."""
+
+    async def serve(reader: asyncio.StreamReader, writer: asyncio.StreamWriter) -> None:
+        with contextlib.suppress(ConnectionError):
+            await answer(await reader.readline(), writer)
+            await writer.drain()
+        writer.close()
+
+    port = free_port()
+    server = await asyncio.start_server(serve, "127.0.0.1", port)
+    try:
+        yield f"http://127.0.0.1:{port}"
+    finally:
+        server.close()
+
+
 async def until(is_so: Callable[[], object]) -> None:
     """Waits for a condition."""
     async with asyncio.timeout(60):
@@ -99,10 +119,12 @@ async def connected(text: str) -> socket.socket:
     return peer
 
 
-async def asked(text: str, line: bytes) -> bytes:
-    """The whole answer to a line of whois."""
+async def asked(text: str, line: bytes, last: int = 1) -> bytes:
+    """The whole answer to a line of whois, or a request, from the address 127.0.0.LAST."""
     host, _, port = text.rpartition(":")
-    reader, writer = await asyncio.open_connection(host, int(port))
+    reader, writer = await asyncio.open_connection(
+        host, int(port), local_addr=(f"127.0.0.{last}", 0)
+    )
     writer.write(line + b"\r\n")
     answer = await reader.read()
     writer.close()

@@ -14,7 +14,7 @@ import time
 from collections.abc import Callable
 from typing import Any, Self
 
-from checks.running import AUTH, TOP, Failure, Trial, write, write_settings
+from checks.running import AUTH, PATIENCE, TOP, Failure, Trial, write, write_settings
 from checks.serving import Serving, free_port
 from checks.worlds import COUNT
 
@@ -240,9 +240,15 @@ class Bridge:
         self.number = os.fork()
         if not self.number:
             self.serve()
-        # Its first look at the registry has to be over.
+        # It listens, however long a busy machine takes to begin it.
+        end = time.monotonic() + PATIENCE
+        while not self.said():
+            if time.monotonic() > end or os.waitpid(self.number, os.WNOHANG)[0]:
+                raise Failure("the door does not open")
+            time.sleep(0.02)
+        # Its first look at the registry has to be over, which may not be there.
         end = time.monotonic() + 20
-        while time.monotonic() < end and not self.knows():
+        while time.monotonic() < end and not self.said().startswith(b"A"):
             time.sleep(0.02)
         return self.port
 
@@ -259,13 +265,14 @@ class Bridge:
         finally:
             os._exit(status)
 
-    def knows(self) -> bool:
+    def said(self) -> bytes:
+        """What it says of its sources; nothing where it does not listen yet."""
         with contextlib.suppress(OSError), socket.create_connection(
             ("127.0.0.1", self.port), 10
         ) as peer:
             peer.sendall(b"!s-lc\n")
-            return peer.recv(10).startswith(b"A")
-        return False
+            return peer.recv(10)
+        return b""
 
     def __exit__(self, *_: object) -> None:
         os.kill(self.number, signal.SIGKILL)

@@ -41,6 +41,18 @@ def test_one_who_waits_can_leave() -> None:
     assert turns.remove(one) and not turns.remove(one) and turns.next(0.0) is None
 
 
+def test_what_goes_on_comes_before_what_its_client_has_not_begun() -> None:
+    """As the second part of a submission does."""
+    clients = Clients(0.5, 3.0)
+    turns: Turns[Turn] = Turns(clients)
+    first, second = Turn(clients.of("a", 0.0)), Turn(clients.of("a", 0.0))
+    turns.add(first)
+    turns.add(second)
+    assert turns.next(0.0) is first
+    turns.again(first)
+    assert [turns.next(0.0), turns.next(0.0)] == [first, second]
+
+
 @pytest.mark.parametrize(
     "address,name",
     [
@@ -80,6 +92,22 @@ def test_kept_answers_are_of_one_state_and_counted() -> None:
     with pytest.raises(cache.Full):
         cache.Answer(b"x" * 1_001, 1.0, ledger)
     assert ledger.used == 1
+
+
+def test_an_eighth_of_the_answers_is_left_to_short_ones() -> None:
+    """However many long ones there are; and what is kept makes room for either."""
+    most = 16 * cache.SHORT
+    ledger = cache.Ledger(most)
+    long = [cache.Answer(b"x" * 2 * cache.SHORT, 1.0, ledger) for _ in range(7)]
+    with pytest.raises(cache.Full):
+        cache.Answer(b"x" * 2 * cache.SHORT, 1.0, ledger)
+    short = [cache.Answer(b"x" * cache.SHORT, 1.0, ledger) for _ in range(2)]
+    with pytest.raises(cache.Full):
+        cache.Answer(b"x", 1.0, ledger)
+    assert (len(long), len(short), ledger.used) == (7, 2, most)
+    ledger.makers.append(lambda: bool(long) and long.pop() is not None)
+    cache.Answer(b"x", 1.0, ledger)
+    assert len(long) == 6
 
 
 def test_a_query_is_dear_if_it_was_so_twice() -> None:

@@ -96,8 +96,12 @@ REPLIES = {
     "!": b"F Missing IRRD command\n",
     **{f"!{one}": b"F Missing parameter for %c query\n" % ord(one.upper()) for one in "tg6ijmnors"},
     "!t0": b"F Invalid value for timeout: 0\n",
+    "!m" + "x" * 1_050: b"F a question has at most 1024 bytes\n",
+    "!m" + "x" * 2_000: b"F a question has at most 1024 bytes\n",
     "!q": b"",
 }
+# What stands round a question for no reason.
+BLANKS = {"before it": b" \t%s\n", "after it": b"%s \t\n", "both": b" %s \r\n"}
 FORMATS: dict[str, list[str]] = {
     "plain": [],
     "bird": ["-b"],
@@ -129,6 +133,17 @@ def test_each_question_has_its_reply(door: Opened, each: Each) -> None:
                 expect(both, wanted + after, f"{question} in a kept connection")
 
 
+@pytest.mark.parametrize("name", BLANKS)
+def test_blanks_round_a_question_say_nothing(door: Opened, name: str) -> None:
+    text = b"".join(BLANKS[name] % line for line in (b"!!", b"!gAS1", b"!s-lc", b"!q"))
+    expect(door.whois(text), REPLIES["!gAS1"] + REPLIES["!s-lc"], "the replies")
+
+
+def test_a_client_that_calls_itself_bgpq_stops_at_a_line_that_is_too_long(door: Opened) -> None:
+    text = b"!!\n!nbgpq4\n!i" + b"x" * 2_000 + b"\n"
+    expect(door.whois(text), b"C\n%\nF a question has at most 1024 bytes\n", "the replies")
+
+
 def test_objects_of_a_maintainer_come_in_one_reply(door: Opened) -> None:
     reply = door.whois("!oA-MNT")
     head, _, text = reply.partition(b"\n")
@@ -146,9 +161,9 @@ def test_a_strict_door_refuses_what_lacks_a_set(trial: Trial, registries: Regist
     with Opened(trial, "strict", registries.words, "strict = true\n") as door:
         for question in "!aAS-X", "!iAS-X,1":
             expect(b"F AS-X: sets that it reaches" in door.whois(question), True, question)
-            expect(
-                door.whois(b"!!\n!nbgpq4\n" + question.encode() + b"\n!gAS1\n")[:4], b"C\n%\n", ""
-            )
+            reply = door.whois(b"!!\n!nbgpq4\n" + question.encode() + b"\n!gAS1\n!q\n")
+            # It would go on after that, and make a list that lacks something.
+            expect((reply[:6], reply.count(b"\n")), (b"C\n%\nF ", 3), f"{reply!r}")
         expect(b"missing sets are refused" in door.whois("!v"), True, "!v")
 
 

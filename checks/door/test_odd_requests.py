@@ -171,6 +171,32 @@ def test_who_sends_a_body_that_is_refused_gets_the_reply(door: Opened, name: str
     has_no_trace(door)
 
 
+# Lines that end as those of no client of good will, and the status: as the registry has it.
+ENDS = {
+    "line feeds alone": (b"GET /query/AS1 HTTP/1.1\nConnection: close\n\n", 200),
+    "both": (b"GET /query/AS1 HTTP/1.1\r\nConnection: close\nA: b\r\n\n", 200),
+    "empty lines before it": (b"\r\n\n\r\n\r\nGET /query/AS1 HTTP/1.0\r\n\r\n", 200),
+    "a return alone": (b"GET /query/AS1 HTTP/1.0\r\nA: b\rContent-Length: 5\r\n\r\n", 400),
+    "a NUL": (b"GET /query/AS1 HTTP/1.0\r\nA: \0b\r\n\r\n", 400),
+    "a body after line feeds": (
+        POST.replace(b"\r\n", b"\n") + b"Content-Length: 4\n\nfoo\n",
+        200,
+    ),
+}
+
+
+@pytest.mark.parametrize("name", ENDS)
+def test_lines_of_a_head_end_as_for_the_registry(door: Opened, name: str) -> None:
+    text, status = ENDS[name]
+    for cut in range(0, len(text), 7):
+        with contextlib.closing(door.connect(door.http_port, patience=10)) as peer:
+            peer.setsockopt(socket.IPPROTO_TCP, socket.TCP_NODELAY, 1)
+            peer.sendall(text[:cut])
+            peer.sendall(text[cut:])
+            expect(read_all(peer)[:12], b"HTTP/1.1 %d" % status, f"the status, cut at {cut}")
+    has_no_trace(door)
+
+
 def test_a_flood_of_fields_is_answered_once_it_is_sent(door: Opened) -> None:
     for _ in range(12):
         with contextlib.closing(door.connect(door.http_port)) as peer:

@@ -8,6 +8,7 @@ import socket
 import time
 from collections.abc import Iterator
 from pathlib import Path
+from types import SimpleNamespace
 from typing import Any
 
 import pytest
@@ -422,6 +423,17 @@ def test_what_is_over_a_bound_is_refused(
         reply = http_get(port, "/why/10.1.2.0/24/AS-X")
     expect(reply.partition(b"\r\n")[0], b"HTTP/1.1 422 Unprocessable Content", "the status")
     expect(b"% this takes more than the door gives" in reply, True, f"{reply!r}")
+
+
+def test_a_machine_that_does_other_things_makes_no_question_long() -> None:
+    """What counts is what the door itself has worked."""
+    clients = Clients(0.5, 3.0)
+    asker: Any = SimpleNamespace(client=clients.of("192.0.2.1", 0.0))
+    asker.pool = SimpleNamespace(clients=clients)
+    slices = page.Slices(asker)
+    time.sleep(0.3)
+    slices.end()
+    expect(slices.worked < 0.2, True, f"{slices.worked} s of work")
 
 
 def http_get(port: int, path: str) -> bytes:

@@ -2,9 +2,12 @@
 answers."""
 
 import asyncio
+import time
 from typing import Any
 
-from checks.door import inside
+import pytest
+
+from checks.door import inside, worlds
 from checks.running import expect
 from irr.door.cache import Answer
 from irr.door.service import Service
@@ -86,3 +89,59 @@ def test_who_has_more_than_a_share_of_the_answers_makes_room_at_once() -> None:
             return len(answer) - len(text), answer[:10]
 
     expect(inside.run(ask()), (0, b"remarks: x"), "the answer of another one")
+
+
+@pytest.mark.parametrize("text, seconds", [(b"!!\n!s-lc\n", 30), (b"!!\n!t700\n", 700)])
+def test_a_kept_connection_may_be_silent_for_as_long_as_it_asked(text: bytes, seconds: int) -> None:
+    async def ask() -> float:
+        async with inside.opened(lambda line: b"% no entries\n") as (door, _):
+            peer = await inside.connected(door.settings.whois[0])
+            loop = asyncio.get_running_loop()
+            await loop.sock_sendall(peer, text)
+            await loop.sock_recv(peer, 100)
+            (connection,) = door.door.connections
+            left = connection.deadline - time.monotonic()
+            peer.close()
+            return left
+
+    found = inside.run(ask())
+    expect(seconds - 20 < found <= seconds, True, f"{found} s are left, of {seconds}")
+
+
+def test_a_connection_of_a_proxy_counts_as_its_clients_while_it_is_answered() -> None:
+    """And as its own while it is kept; none of them is counted once it has ended."""
+
+    async def ask() -> list[tuple[int, int]]:
+        may_answer = asyncio.Event()
+
+        async def late(line: bytes, writer: asyncio.StreamWriter) -> None:
+            if line.startswith(b"AS1"):
+                await may_answer.wait()
+            writer.write(worlds.ALL + b"\n")
+
+        async with inside.answering(late) as at:
+            async with inside.opened(lambda _: b"", registry=at, keep=0) as (door, _):
+                counts = list[tuple[int, int]]()
+                loop, clients = asyncio.get_running_loop(), door.pool.clients
+                client, proxy = (clients.of(one, loop.time()) for one in ("192.0.2.7", "127.0.0.1"))
+
+                def count() -> None:
+                    counts.append((client.connections, proxy.connections))
+
+                peer = await inside.connected(door.settings.http[0])
+                text = b"GET /query/AS1 HTTP/1.1\r\nX-Forwarded-For: 192.0.2.7\r\n\r\n"
+                for _ in range(2):
+                    may_answer.clear()
+                    await loop.sock_sendall(peer, text)
+                    await inside.until(lambda: client.connections)
+                    count()
+                    may_answer.set()
+                    await loop.sock_recv(peer, 1_000)
+                    await inside.until(lambda: not client.connections)
+                    count()
+                peer.close()
+                await inside.until(lambda: not door.door.connections)
+                count()
+                return counts
+
+    expect(inside.run(ask()), [(1, 0), (0, 1)] * 2 + [(0, 0)], "the client's, and the proxy's own")

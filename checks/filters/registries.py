@@ -21,8 +21,8 @@ from checks.worlds import COUNT
 from irr.registry.server import Server
 
 NUMBERS = ("AS11", "AS12", "AS13", "AS14", "AS15")
-AS_SETS = ("AS-A", "AS-B", "AS11:AS-C", "AS-A:AS-D")
-ROUTE_SETS = ("RS-A", "RS-B", "AS11:RS-C", "RS-A:RS-D")
+AS_SETS = ("AS-A", "AS-B", "AS11:AS-C", "AS-A:AS-D", "AS-A:AS12")
+ROUTE_SETS = ("RS-A", "RS-B", "AS11:RS-C", "RS-A:RS-D", "RS-A:AS12")
 MAINTAINERS = ("ROOT-MNT", "A-MNT", "B-MNT")
 OPERATORS = ("", "", "", "^+", "^-", "^24", "^24-26", "^23-32", "^30", "^22", "^26-28")
 SETTINGS = 'source = "TEST"\nroot = "ROOT-MNT"\nauth = "%s"\nlimit = 100000\nstore = "irr.db"\n'

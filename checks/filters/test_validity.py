@@ -128,6 +128,28 @@ def test_roas_that_are_cut_are_not_taken() -> None:
             roas.read(CSV + line + b"\n", "x")
 
 
+@pytest.mark.parametrize("said", ["", "soon", "-1", "1e9", "2026-11-29T00:00:00Z"])
+def test_an_end_that_cannot_be_read_is_told_in_either_form(said: str) -> None:
+    """A ROA would count for ever otherwise. It is found by the name of its column."""
+    entry = {"prefix": "10.0.0.0/8", "maxLength": 8, "asn": 1, "expires": said}
+    csv = f"ASN,IP Prefix,Max Length,Trust Anchor,Expires\nAS1,10.0.0.0/8,8,x,{said}\n"
+    other = f"ASN,IP Prefix,Max Length,Expires,Trust Anchor\nAS1,10.0.0.0/8,8,{said},4000000000\n"
+    for text in json.dumps({"roas": [entry]}), csv, other:
+        with pytest.raises(Failure, match="its `expires` is .*, which is not a time in seconds"):
+            roas.read(text.encode(), "x")
+    good = other.replace(f",{said},", ",4000000000,").encode()
+    assert len(roas.read(good, "x").roas) == 1
+
+
+def test_nobody_is_as0() -> None:
+    """No ROA makes a route of AS0 valid (RFC 6483, 4), whatever length it allows."""
+    covering = [roas.Roa(keys.Prefix(10 << 24, 8), 32, number) for number in (0, 64496)]
+    for found in covering[:1], covering[1:], covering:
+        state, why = roas.judged(keys.Prefix(10 << 24, 8), 0, table_of(found))
+        assert state == "invalid" and why.startswith(": AS0 may originate nothing: ")
+        assert all(one.text() in why for one in found)
+
+
 def test_states(trial: Trial) -> None:
     seen = {"valid": 0, "invalid": 0, "not found": 0}
 

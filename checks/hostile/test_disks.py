@@ -79,13 +79,13 @@ def test_a_disk_that_fails_from_the_second_item_on(
     tell(f"call {number}")
 
 
-def test_a_disk_that_fails_once_a_maintainer_is_looked_up(
+def test_a_disk_that_fails_once_a_registry_is_open(
     trial: Trial, failing: Failing, tell: Tell
 ) -> None:
     """The disk fails once a registry is open of which more stands in the database than is kept in
-    memory: what names a maintainer, which is looked up there, is `% error 5`. That stops a server,
-    which then answers nothing else."""
-    base, registry = trial.place("failed lookup"), opened()
+    memory there: each query is answered all the same, since none is looked up there. The first
+    submission fails, which stops a server; it then answers nothing else."""
+    base, registry = trial.place("failed once open"), opened()
     write_settings(base, limit=LIMIT)
     registry.submit(
         PASSWORD
@@ -97,33 +97,32 @@ def test_a_disk_that_fails_once_a_maintainer_is_looked_up(
         trial.run(base, "load", "s.toml", "dump.rpsl").printed, b"loaded 204 objects\n", "the load"
     )
     words = ["query", "s.toml", "inverse", "mnt", "root-mnt"]
-    # A query that is answered from memory makes the calls of opening and closing alone.
+    right = answer(registry, b"inverse mnt root-mnt", LIMIT)
+    # A query makes the calls of opening and closing alone.
     number = failing.count(base, ["query", "s.toml", "AS1"], "disk", "once") + 1
     folder, ran = failed_from(failing, base, words, number)
-    expect((ran.status, ran.printed, ran.said), (1, b"% error 5\n", b""), "the answer")
+    expect((ran.status, ran.printed == right, ran.said), (0, True, b""), "the answer")
     shutil.rmtree(folder)
-    expect(
-        served_from(
-            trial,
-            failing,
-            base,
-            number,
-            [
-                b"AS1\r\n",
-                b"inverse mnt root-mnt\r\n",
-                b"AS1\r\n",
-                posted(NEW),
-                b"GET /dump HTTP/1.1\r\n\r\n",
-            ],
-        ),
-        [b"% no entries\n", b"% error 5\n", b"% error 6\n", REFUSED, REFUSED],
-        "the replies",
+    replies = served_from(
+        trial,
+        failing,
+        base,
+        number,
+        [
+            b"AS1\r\n",
+            b"inverse mnt root-mnt\r\n",
+            posted(NEW),
+            b"AS1\r\n",
+            b"GET /dump HTTP/1.1\r\n\r\n",
+        ],
     )
+    expect(replies[1] == right, True, "whether a server answers it")
     expect(
-        trial.run(base, *words).printed == answer(registry, b"inverse mnt root-mnt", LIMIT),
-        True,
-        "whether it is answered afterwards",
+        [replies[0], *replies[2:]],
+        [b"% no entries\n", STOPPED, b"% error 6\n", REFUSED],
+        "the other replies",
     )
+    expect(trial.run(base, *words).printed == right, True, "whether it is answered afterwards")
     tell(f"call {number}")
 
 
@@ -165,6 +164,10 @@ def served_from(
 # 200 objects of it are more than the 8 MB of a database that are kept in memory.
 LARGE = b"descr: %s\n" % (b"x" * 60_000)
 NEW = PASSWORD + b"\n" + item(b"inetnum", b"11.0.0.0/8")
+STOPPED = (
+    b"HTTP/1.1 200 OK\r\nContent-Type: text/plain\r\nConnection: close\r\n\r\n1 inetnum 11.0.0.0 -"
+    b" 11.255.255.255: refused E91\n% stopped after 0 items\n"
+)
 REFUSED = (
     b"HTTP/1.1 503 Service Unavailable\r\nContent-Type: text/plain\r\nContent-Length:"
     b" 24\r\nConnection: close\r\n\r\n503 Service Unavailable\n"

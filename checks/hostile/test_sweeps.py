@@ -254,13 +254,11 @@ def migration(
 
 
 def check_answer(query: bytes, kind: str) -> Callable[..., Any]:
-    """That a query is answered; or refused because memory ran out, where it was refused, or by the
-    database, where it is looked up there; or that a fault is told behind a front of the answer."""
+    """That a query is answered; or refused because memory ran out, where it was refused; or that a
+    fault is told behind a front of the answer."""
     right, errors = answer(ASKED.registry, query, LIMIT), []
     if kind == "memory":
         errors.append(b"% error 4\n")
-    if query.startswith(b"inverse mnt") and kind in ("memory", "disk"):
-        errors.append(b"% error 5\n")
 
     def check(ran: Ran, rows: bytes, _: int) -> None:
         check_rows(rows, ASKED.dumps[-1])

@@ -108,20 +108,29 @@ class Second:
         self.objects: dict[Order, Form] = {}
         self.causes: dict[str, int] = {}
         self.sources: dict[Order, bytes] = {}
+        # The maintainers and sets that can't be read, and the registry of the last object.
+        self.withheld: dict[Order, bytes] = {}
         for text in texts:
-            paragraphs = list(blocks(text))
+            paragraphs, self.last = list(blocks(text)), b""
             for place, block in enumerate(paragraphs, 1):
                 self.read += 1
                 try:
                     attributes: Any = read(block)
-                    if place == len(paragraphs) and is_cut(text, paragraphs):
-                        raise Out("cut off")
-                    order, one = self.mended(attributes)
+                    try:
+                        if place == len(paragraphs) and is_cut(text, paragraphs):
+                            raise Out("cut off")
+                        order, one = self.mended(attributes)
+                    except Out:
+                        self.withhold(block)
+                        raise
                     source = b"".join(values(attributes, b"source")).upper()
+                    self.last = source or self.last
                     if order in self.objects:
                         is_named = order[0] == MNTNER or order[0] in SETS
                         is_other = is_named and source != self.sources[order]
                         raise Out("a name of another registry" if is_other else "duplicate")
+                    if self.withheld.get(order, source) != source:
+                        raise Out("a name of another registry, where it can't be read")
                     self.objects[order] = one
                     self.sources[order] = source
                 except Out as cause:
@@ -136,6 +145,29 @@ class Second:
                     if not items[name]:
                         del items[name]
         self.settle()
+
+    def withhold(self, block: list[bytes]) -> None:
+        """Keeps the name of what can't be read, by its lines that can be."""
+        kept: list[bytes] = []
+        goes_on = False
+        for line in block:
+            is_good = not isinstance(read([b"x: y", line]), str)
+            if line[:1] in (b" ", b"\t", b"\r", b"+"):
+                is_good = is_good and goes_on
+            elif line[:1] not in (b"#", b"%"):
+                goes_on = is_good
+            kept += [line] if is_good else []
+        attributes: Any = read(kept)
+        if not attributes or kept[0] != block[0] or attributes[0][0] not in CLASSES:
+            return
+        names = [name for name, _ in attributes]
+        end = next((at for at, name in enumerate(names) if at and name in OF_CLASSES), len(names))
+        number = CLASSES.index(names[0]) + 1
+        key = self.key(number, meaning(attributes[0][1]), None)
+        sources = values(attributes[:end], b"source")
+        source = next(filter(numbers.NAME.fullmatch, sources), self.last)
+        if key is not None and number in (MNTNER, *SETS):
+            self.withheld.setdefault((number, key), source.upper())
 
     def leave_out(self, cause: str) -> None:
         self.causes[cause] = self.causes.get(cause, 0) + 1
@@ -250,8 +282,8 @@ class Second:
             name = numbers.set_name(bare.partition(b"^")[0])
             source = scope and scope[1].upper()
             own = [
-                self.sources[order]
-                for order in self.objects
+                self.sources[order] if order in self.objects else self.withheld[order]
+                for order in dict.fromkeys([*self.withheld, *self.objects])
                 if name and order[0] in SETS and order[1] == name
             ]
             imported = {self.sources[order] for order in self.objects}

@@ -199,10 +199,9 @@ def allowed_calls() -> set[str]:
 
 
 def unit_lines(name: str) -> dict[str, str]:
-    with open(os.path.join(UNITS, name), encoding="ascii") as opened:
-        return dict(
-            line.rstrip("\n").split("=", 1) for line in opened if re.match(r"[A-Z]\w+=", line)
-        )
+    """The settings of a unit; a backslash at its end continues a line."""
+    text = Path(UNITS, name).read_text(encoding="ascii").replace("\\\n", " ")
+    return dict(re.findall(r"^([A-Z]\w+)=(.*)$", text, re.M))
 
 
 @systemd

@@ -20,10 +20,25 @@ USES = {
     ".antt": (re.compile(r"^use ([^\s{]+(?:\{[^}]*\})?(?: as \S+)?)", re.M), "--"),
 }
 # Where programs of Python and of sh stand.
-PLACES = ["scripts", "checks", "tools", "bench", "units", "dist/debian", ".ci"]
-# What is bound to a width besides the crates.
-WIDE = {".py", ".sh", ".js", ".css"}
-WIDE_PLACES = ["scripts", "checks", "tools", "units", "web", "dist/debian", ".ci"]
+PLACES = [
+    *("scripts", "checks", "tools", "bench", "units", "docs/drawings", "examples"),
+    *("dist/debian", ".ci", "irrdesk"),
+]
+# What is bound to a width besides the crates and the programs.
+WIDE = {
+    *(".py", ".sh", ".js", ".css", ".html", ".c", ".drawing", ".svg"),
+    *(".toml", ".conf", ".cfg", ".yml", ".json", ".service", ".socket", ".timer"),
+}
+# Folders that are not looked at: those of the crates, and of what is made.
+PASSED = re.compile(r"crates|out|__pycache__|\.(?!ci$).*")
+# Lines that may be long, by the kind of the file. HAProxy continues no line, so its comments alone
+# are bound. In a file of nginx a text in quotation marks is one line.
+UNBROKEN = {".cfg": re.compile(r" *[^# ]"), ".conf": re.compile(r'[^"]*"[^"]{80,}"')}
+# Files of /etc in the package, whose old comments stay: where one of these files changed, and its
+# operator changed it too, dpkg asks which one to keep.
+AS_RELEASED = {"units/irr.toml", "units/door.toml"}
+# A file of the rooms has fewer lines.
+LINES = 600
 # Packages of one version with several sets of bytes, from before a version was released once.
 RELEASED_AGAIN = {"irrdesk_1.1.0_amd64.deb", "irrdesk_1.2.0_amd64.deb"}
 
@@ -48,6 +63,7 @@ def long_lines(paths: list[Path]) -> list[str]:
         for path in paths
         for number, line in enumerate(path.read_text(encoding="utf-8").split("\n"), 1)
         if len(line) > COLUMNS
+        and not (path.suffix in UNBROKEN and UNBROKEN[path.suffix].match(line))
     ]
 
 
@@ -94,7 +110,7 @@ def programs_of(language: str) -> list[Path]:
     """The files that name a language in their first line, and those whose name does."""
     found = []
     for place in PLACES:
-        for path in sorted((TOP / place).rglob("*")):
+        for path in [TOP / place, *sorted((TOP / place).rglob("*"))]:
             if not path.is_file() or "__pycache__" in path.parts:
                 continue
             with open(path, "rb") as opened:
@@ -138,16 +154,32 @@ def test_the_crates_use_what_they_import_for_contracts_and_proofs() -> None:
 # The rest.
 
 
-def test_no_line_of_python_shell_scripts_or_styles_is_too_wide() -> None:
-    paths = {
-        path
-        for place in WIDE_PLACES
-        for path in (TOP / place).rglob("*")
-        if path.suffix in WIDE and "__pycache__" not in path.parts
-    }
-    programs = {*programs_of("python3"), *programs_of("/bin/sh")}
-    paths |= {path for path in programs if path.parts[len(TOP.parts)] != "bench"}
-    assert not long_lines(sorted(paths))
+def files_beside_the_crates() -> list[Path]:
+    """All files of the repository but those of the crates, and what is made."""
+    found = []
+    for folder, folders, names in os.walk(TOP):
+        folders[:] = [name for name in folders if not PASSED.fullmatch(name)]
+        found += [Path(folder, name) for name in names]
+    return sorted(found)
+
+
+def test_no_line_beside_the_crates_is_too_wide(tell: Tell) -> None:
+    """Of programs, styles, settings, units, configurations and drawings, not of pages."""
+    paths = {path for path in files_beside_the_crates() if path.suffix in WIDE}
+    paths |= {*programs_of("python3"), *programs_of("/bin/sh"), TOP / "dist/files"}
+    tell(f"{len(paths)} files")
+    assert not long_lines(sorted(paths - {TOP / name for name in AS_RELEASED}))
+
+
+def test_no_file_of_the_rooms_is_too_long() -> None:
+    """Nor a manual."""
+    rooms = ("tools", "checks", "scripts", "web", "man", "units", "bench")
+    assert not [
+        f"{path.relative_to(TOP)}: {count} lines"
+        for path in files_beside_the_crates()
+        if path.relative_to(TOP).parts[0] in rooms
+        and (count := path.read_bytes().count(b"\n")) >= LINES
+    ]
 
 
 def test_pyflakes_finds_nothing(tell: Tell) -> None:
@@ -165,7 +197,7 @@ def test_mypy_finds_nothing_in_the_checks() -> None:
 
 
 def test_black_would_change_nothing(tell: Tell) -> None:
-    files = [path for path in programs_of("python3") if path.parts[len(TOP.parts)] != "bench"]
+    files = programs_of("python3")
     tell(f"{len(files)} files")
     assert not judged(needed("black"), "--check", "-q", *files)
 

@@ -25,17 +25,21 @@ LISTS = {
     "mp-members": ["route-set"],
     "mbrs-by-ref": ["as-set", "route-set"],
 }
+# The classes whose names are named elsewhere, and what no line may have.
+NAMED = ("mntner", "as-set", "route-set")
+CONTROL = re.compile(r"[\x00-\x08\x0b\x0c\x0e-\x1f\x7f]")
 SECRET = re.compile("SHA256-PW [a-z0-9]{0,16}:[0-9a-f]{64}", re.I)
 Attributes = list[tuple[str, list[str]]]
 
 
 class Piece(NamedTuple):
-    """A paragraph, or what it is parted into: the number of its first line, its attributes, and
-    whether a line of it is none, which has no name here."""
+    """A paragraph, or what it is parted into: the number of its first line, its attributes,
+    whether a line of it is none, which has no name here, and whether no blank line is before it."""
 
     line: int
     attributes: Attributes
     is_broken: bool
+    is_inside: bool
 
     @property
     def names(self) -> list[str]:
@@ -72,6 +76,7 @@ def parted(held: list[tuple[int, str]]) -> Iterator[Piece]:
     """A paragraph's lines as one piece, or as several: one begins with a class line whose attribute
     before is a `source` that is not the first one."""
     line, attributes, is_broken = 0, [], False  # type: int, Attributes, bool
+    is_inside = False
     # What the attribute before is called: nothing where a line is none.
     before, count = "", 0
     for number, text in held:
@@ -81,11 +86,12 @@ def parted(held: list[tuple[int, str]]) -> Iterator[Piece]:
         name = name.rstrip(BLANKS).lower()
         is_known = bool(colon) and text[0] not in " \t\r+"
         if is_known and name in CLASSES + OTHERS and before == "source" and count > 1:
-            yield Piece(line, attributes, is_broken)
+            yield Piece(line, attributes, is_broken, is_inside)
             line, attributes, is_broken, before, count = 0, [], False, "", 0
+            is_inside = True
         line = line or number
         count += 1
-        is_broken |= bool(re.search(r"[\x00-\x08\x0b\x0c\x0e-\x1f\x7f]", text))
+        is_broken |= bool(CONTROL.search(text))
         if text[0] in " \t\r+":
             if attributes:
                 attributes[-1][1].append(text[1:].strip(BLANKS))
@@ -100,7 +106,7 @@ def parted(held: list[tuple[int, str]]) -> Iterator[Piece]:
             attributes.append((name, [value.strip(BLANKS)]))
             before = name
     if held:
-        yield Piece(line, attributes, is_broken)
+        yield Piece(line, attributes, is_broken, is_inside)
 
 
 # Keys.
@@ -198,6 +204,8 @@ def refusal(piece: Piece, is_cut_off: bool) -> str:
         return "`source` twice"
     if is_cut_off:
         return "cut off"
+    if piece.is_inside and "source" not in piece.names[1:]:
+        return "no blank line before it"
     if piece.kind in OTHERS:
         return f"class {piece.kind}"
     if piece.is_broken:
@@ -369,15 +377,25 @@ class Registry:
         self.causes: dict[int, str] = {}
         self.gone: list[tuple[int, str, str]] = []
         taken: dict[tuple[str, Any], Piece] = {}
+        # The maintainers and sets that can't be read, with their registries.
+        self.withheld: dict[tuple[str, Any], str] = {}
+        last = ""
         is_last_cut = is_cut(dump, self.pieces)
         for piece in self.pieces:
             cause = refusal(piece, is_last_cut and piece is self.pieces[-1])
-            first = taken.get((piece.kind, key_of(piece))) if not cause else None
+            own = "".join(piece.values("source")).upper()
+            if cause:
+                self.withhold(piece, last)
+                self.causes[piece.line] = cause
+                continue
+            last = own or last
+            first = taken.get((piece.kind, key_of(piece)))
             if first:
-                sources = {"".join(one.values("source")).upper() for one in (first, piece)}
-                is_named = piece.kind in ("mntner", "as-set", "route-set")
-                both = is_named and len(sources) > 1
+                sources = {own, "".join(first.values("source")).upper()}
+                both = piece.kind in NAMED and len(sources) > 1
                 cause = "a name of another registry" if both else "duplicate"
+            elif self.withheld.get((piece.kind, key_of(piece)), own) != own:
+                cause = "where it can't be read"
             if cause:
                 self.causes[piece.line] = cause
             else:
@@ -388,6 +406,21 @@ class Registry:
             place: "".join(piece.values("source")).upper() for place, piece in taken.items()
         }
         self.objects = {place: self.object_of(piece) for place, piece in taken.items()}
+        self.lines = {place: piece.line for place, piece in taken.items()}
+
+    def withhold(self, piece: Piece, last: str) -> None:
+        """Keeps the name of what can't be read, if it tells one; without a `source` it is of the
+        registry of the last object."""
+        known: Attributes = []
+        for name, lines in piece.attributes:
+            if known and name in CLASSES + OTHERS:
+                break
+            if name and not CONTROL.search(lines[0]):
+                known.append((name, [line for line in lines if not CONTROL.search(line)]))
+        read = piece._replace(attributes=known)
+        if read.kind in NAMED and read.kind == piece.kind and key_of(read):
+            own = next(filter(NAME.fullmatch, read.values("source")), last)
+            self.withheld.setdefault((read.kind, key_of(read)), own.upper())
 
     def leave_out_crossing(self, taken: dict[tuple[str, Any], Piece], kind: str) -> None:
         stay: list[tuple[int, int]] = []
@@ -465,13 +498,30 @@ class Registry:
         named = set_name(item.partition("^")[0])
         if named and named[1] in ("AS-ANY", "RS-ANY"):
             return set(self.sources.values()) == {scope}
-        own = self.sources.get(named, scope) if named else scope
+        own = self.sources.get(named, self.withheld.get(named, scope)) if named else scope
         return own == scope and scope in self.sources.values()
+
+
+def maintainers_in(kind: str, attributes: list[tuple[str, list[str]]]) -> Iterator[str]:
+    """The maintainers that an object names."""
+    for name, items in attributes:
+        if name in ("mnt-by", "mnt-lower", "mnt-routes", "mbrs-by-ref") and kind in LISTS[name]:
+            yield from (item for item in items if is_maintainer(item))
 
 
 def odd(dump: bytes, registry: Registry) -> Iterator[tuple[object, ...]]:
     """What is odd about the objects of a registry: the lines with `#` or `%` first, or a CR that is
-    not at the end, as they are shown, and the first lines of those that have no `source`."""
+    not at the end, as they are shown, and the first lines of those that have no `source`, and of
+    the mntners that objects of another registry name."""
+    others = {
+        ("mntner", name.upper())
+        for place, attributes in registry.objects.items()
+        for name in maintainers_in(place[0], attributes)
+        if len({registry.sources.get(("mntner", name.upper())), registry.sources[place], "", None})
+        == 4
+    }
+    for other in others:
+        yield (registry.lines[other],)
     lines = dump.decode("latin-1").split("\n")
     left_out = set(registry.causes)
     for piece in registry.pieces:

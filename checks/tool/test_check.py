@@ -402,6 +402,7 @@ def test_the_status_says_what_a_restart_mends(
 
 def test_the_unit_runs_it_and_restarts_what_its_status_says() -> None:
     text = Path(TOP, "units", "irrdesk-check.service").read_text(encoding="ascii")
+    text = text.replace("\\\n", " ")
     lines: dict[str, Any] = dict(re.findall(r"^(Exec\w+)=(.*)$", text, re.M))
     assert lines["ExecStart"] == "/usr/bin/irr check --restarts"
     script = re.search(r"'(.*)'", lines["ExecStopPost"])[1].replace("$$", "$")

@@ -13,7 +13,7 @@ from checks import worlds
 from irr.errors import FAILED, Failure
 from irr.registry import replies
 from irr.registry.server import Server
-from irr.views import sources
+from irr.views import fetching
 
 HEAD = b"HTTP/1.1 200 OK\r\nContent-Type: text/plain\r\nConnection: close\r\n"
 END = b"origin:         AS1\nmnt-by:         A-MNT\nsource:         T\n\n"
@@ -29,7 +29,10 @@ def _certificate(tmp_path_factory: pytest.TempPathFactory) -> tuple[str, str]:
 
 @contextlib.contextmanager
 def over_tls(
-    certificate: tuple[str, str], reply: bytes, has_end: bool, monkeypatch: pytest.MonkeyPatch
+    certificate: tuple[str, str],
+    reply: bytes | bytearray,
+    has_end: bool,
+    monkeypatch: pytest.MonkeyPatch,
 ) -> Iterator[Server]:
     """A server that gives a reply over TLS, and ends with close_notify or without."""
     context = ssl.SSLContext(ssl.PROTOCOL_TLS_SERVER)
@@ -79,6 +82,46 @@ def test_end_without_close_notify_is_a_cut(
         assert raised.value.status == FAILED
 
 
+LIST = b"10.1.0.0/16\n10.2.0.0/16^24\n% missing AS-X\n"
+CHUNKS = b"10\r\n%s\r\n" % LIST[:16] + b"1a\r\n%s\r\n0\r\n\r\n" % LIST[16:]
+FRAMED = {
+    "without a length": HEAD + b"\r\n" + LIST,
+    "with a length": HEAD + b"Content-Length: %d\r\n\r\n" % len(LIST) + LIST,
+    "in chunks": HEAD + b"Transfer-Encoding: chunked\r\n\r\n" + CHUNKS,
+}
+
+
+@pytest.mark.parametrize("framed", FRAMED)
+@pytest.mark.parametrize("has_end", [False, True])
+def test_no_part_of_a_list_is_the_list(
+    certificate: tuple[str, str], monkeypatch: pytest.MonkeyPatch, framed: str, has_end: bool
+) -> None:
+    """Wherever it is cut. One whose length nobody tells may end behind a line, with close_notify,
+    as a shorter one would: then it is asked for again."""
+    monkeypatch.setattr(replies, "LINGERING", 0.01)
+    whole, part = FRAMED[framed], bytearray()
+    begin = whole.index(LIST[:11])
+    with over_tls(certificate, part, has_end, monkeypatch) as place:
+
+        def answered() -> bytes | None:
+            with contextlib.suppress(Failure):
+                return place.query("prefixes", "RS-X").text
+            return None
+
+        for end in [0, 9, begin - 1, *range(begin, len(whole))]:
+            part[:] = whole[:end]
+            can_be: tuple[bytes | None, ...] = (None,)
+            if framed == "without a length" and has_end and end > begin and part.endswith(b"\n"):
+                can_be = (bytes(part[begin:]),)
+            elif framed == "in chunks" and end > len(whole) - len(b"0\r\n\r\n"):
+                # All of it is there, and a chunk of nothing has begun.
+                can_be = None, LIST
+            assert answered() in can_be, (end, bytes(part))
+        part[:] = whole
+        wanted = LIST if has_end or framed != "without a length" else None
+        assert answered() == wanted
+
+
 def test_python_takes_no_such_end_for_a_good_one(
     certificate: tuple[str, str], monkeypatch: pytest.MonkeyPatch
 ) -> None:
@@ -105,11 +148,11 @@ def test_cut_dump_of_a_view_over_tls(
             reply = HEAD + length + b"\r\n" + TWO
             with over_tls(certificate, reply, has_end, monkeypatch) as place:
                 if has_end or length:
-                    sources.fetched(place.url, False, "", tmp_path / "part")
+                    fetching.taken(place.url, False, "", tmp_path / "part")
                     assert (tmp_path / "part").read_bytes() == TWO
                     continue
                 with pytest.raises(Failure, match="it cannot be fetched"):
-                    sources.fetched(place.url, False, "", tmp_path / "part")
+                    fetching.taken(place.url, False, "", tmp_path / "part")
 
 
 def test_a_view_asks_only_whom_it_knows(
@@ -118,11 +161,11 @@ def test_a_view_asks_only_whom_it_knows(
     with over_tls(certificate, HEAD + b"\r\n" + TWO, True, monkeypatch) as place:
         monkeypatch.setenv("SSL_CERT_FILE", "/dev/null")
         with pytest.raises(Failure, match="certificate"):
-            sources.fetched(place.url, False, "", tmp_path / "part")
+            fetching.taken(place.url, False, "", tmp_path / "part")
         other = place.url.replace("127.0.0.1", "localhost")
         monkeypatch.setenv("SSL_CERT_FILE", certificate[0])
         with pytest.raises(Failure, match="localhost"):
-            sources.fetched(other, False, "", tmp_path / "part")
+            fetching.taken(other, False, "", tmp_path / "part")
 
 
 def test_cut_head_over_tls(certificate: tuple[str, str], monkeypatch: pytest.MonkeyPatch) -> None:

@@ -117,6 +117,28 @@ MANY = {
 }
 
 
+def test_lists_of_both_families_are_two() -> None:
+    """FRR tells them apart, so one name may be that of both."""
+    old = "".join(f"ip prefix-list X permit 10.{n}.0.0/16\n" for n in range(9))
+    six = "ipv6 prefix-list X seq 5 permit 2001:db8::/32\n"
+    assert loss("frr", old + six, old + six) == [("X", 0, 9), ("X", 0, 1)]
+    assert loss("frr", old + six, old) == [("X", 0, 9), ("X", 1, 1)]
+    assert loss("frr", old + six, six) == [("X", 9, 9), ("X", 0, 1)]
+
+
+def test_macros_are_lists() -> None:
+    """So bgpq4 writes them for OpenBGPD where it is not told otherwise."""
+    old = 'BIG="prefix { \\\n' + "".join(f"\t10.{n}.0.0/16 \\\n" for n in range(9)) + '\t}"\n'
+    small = 'small = "prefix { \\\n\t10.99.0.0/16 prefixlen 16 - 24\n\t}"\n'
+    assert loss("openbgpd", old + small, small + old) == [("BIG", 0, 9), ("small", 0, 1)]
+    assert loss("openbgpd", old + small, old) == [("BIG", 0, 9), ("small", 1, 1)]
+    numbers = 'peers="{ 64496 64497 }"\n'
+    kept = [("BIG", 0, 9), ("peers", 0, 2)]
+    assert loss("openbgpd", old + numbers, numbers + old) == kept
+    gone = [("BIG", 0, 9), ("peers", 1, 2)]
+    assert loss("openbgpd", old + numbers, old + numbers.replace("7", "8")) == gone
+
+
 @pytest.mark.parametrize("router", list(MANY))
 def test_each_list_of_a_file(router: str) -> None:
     """What one list has lost is not made up for by another one, nor by one of another name."""

@@ -103,6 +103,53 @@ def test_nothing_taken_replaces_nothing(content: bytes, capsys: pytest.CaptureFi
     }
 
 
+def test_files_without_a_paragraph_are_told(capsys: pytest.CaptureFixture[str]) -> None:
+    """One of many split files may be empty because it could not be fetched."""
+    Path("dump").write_bytes(GOOD)
+    assert run("dump", "-o", "full") == 0
+    assert "without a paragraph" not in capsys.readouterr().err
+    for name, content in ("empty", b""), ("zipped", gzip.compress(b"")), ("bare", b"% none\n\n"):
+        Path(name).write_bytes(content)
+    assert run("empty", "dump", "zipped", "bare", "-o", "full") == 0
+    said = capsys.readouterr().err
+    assert "\nwithout a paragraph: 3 files\n  empty\n  zipped\n  bare\n" in said
+
+
+# The lines of a dump by `sed`, and what is said of it: objects that are others, or missing.
+OTHER_DUMPS = [
+    ("", ""),
+    ("s/AS64497/AS64498/", "object 7 of the registry differs from that of the result, `as-set: "),
+    ("/^aut-num/,/^$/d", "object 5 of the registry differs from that of the result, `aut-num: "),
+    ("/^as-set/,/^$/d", "object 7 of the registry differs from that of the result, `as-set: "),
+    ("s/^% end 7/% end 6/", "the registry has 7 objects and not 7; "),
+]
+
+
+@pytest.mark.parametrize("change, words", OTHER_DUMPS)
+def test_a_registry_that_has_another_object_is_refused(
+    program: str, change: str, words: str, capfd: pytest.CaptureFixture[str], folder: Path
+) -> None:
+    """By `--check`, before anything is put in place."""
+    changed = folder / "irrdesk"
+    changed.write_text(
+        f"""#!/bin/sh
+if [ "$1" = dump ]; then {program} "$@" | sed '{change}'; else exec {program} "$@"; fi
+"""
+    )
+    changed.chmod(0o755)
+    Path("dump").write_bytes(GOOD + obj("as-set: AS-X", "members: AS64497", "source: RIPE"))
+    Path("full").write_bytes(b"before")
+    with pytest.MonkeyPatch.context() as patch:
+        patch.setenv("IRRDESK", str(changed))
+        status = run("dump", "--check", "-o", "full")
+    said = capfd.readouterr().err.splitlines()
+    assert (status, Path("full").read_bytes() == b"before") == (
+        (FAILED, True) if words else (0, False)
+    )
+    start = f"irr import: --check: {words}" if words else "checked: "
+    assert [line for line in said if line.startswith(start)]
+
+
 @pytest.mark.parametrize("names", ["-o --left-out", "-o --renamed", "--left-out --renamed"])
 def test_files_to_write_are_several(names: str, capsys: pytest.CaptureFixture[str]) -> None:
     """Also through a link, and where none of them is there."""

@@ -490,40 +490,6 @@ def test_the_last_object_of_a_file_that_was_cut_off(end: str) -> None:
         assert left_out(good) == []
 
 
-# Names that two registries have.
-
-
-def test_all_of_one_registry_of_several_is_dropped() -> None:
-    """`AS-ANY` here is the aut-nums of all registries that are imported."""
-    sets = obj("route-set: RS-X", "members: RADB::AS-ANY^+, RADB::rs-any, AS1", *SET[1:])
-    other = obj("as-set: AS-Z", "mnt-by: A-MNT", "source: RADB")
-    cause = "all of one registry of several"
-    assert [line.split("\t")[0] for line in left_out(sets + other)] == [cause] * 2
-    assert texts_of(made(sets + other)[0], "route-set")[0].split("\n")[1].split()[1:] == ["AS1"]
-    assert left_out(sets + other, keeps_scoped=True) == []
-    alone = sets.replace(b"RIPE", b"RADB") + other
-    assert left_out(alone) == []
-    assert b"AS-ANY^+, rs-any, AS1" in made(alone)[0]
-
-
-def test_names_of_two_registries() -> None:
-    """What of another registry has the name of a maintainer or a set is no mere duplicate."""
-    for kind in "mntner: A-MNT", "as-set: AS-X", "route-set: RS-X":
-        one = obj(kind, "mnt-by: A-MNT", "source: RIPE")
-        other = one.replace(b"RIPE", b"RADB")
-        for texts, causes in [
-            ((one, other), ["a name of another registry"]),
-            ((one, one), ["duplicate"]),
-            ((one, other, one), ["a name of another registry", "duplicate"]),
-        ]:
-            _, tally = made(b"".join(texts))
-            assert sorted(tally.causes.elements()) == causes
-            assert tally.mended["duplicate"] == len(causes)
-    route = obj("route: 10.0.0.0/8", "origin: AS1", "mnt-by: A-MNT", "source: RIPE")
-    _, tally = made(route + route.replace(b"RIPE", b"RADB"))
-    assert dict(tally.causes) == {"duplicate": 1}
-
-
 # The list of what is left out.
 
 

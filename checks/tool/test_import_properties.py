@@ -7,12 +7,12 @@ import re
 import subprocess
 from typing import Any
 
-from hypothesis import given, settings
+from hypothesis import example, given, settings
 
 from checks import rpsl
 from checks.rpsl import Registry
 from checks.tool import second_reading
-from checks.tool.importing import AUTH, made
+from checks.tool.importing import AUTH, made, obj
 from checks.tool.second_reading import LISTS, NAME, RESERVED, Piece, key_of, meaning, tokens_of
 from irr.migrate.report import Tally
 
@@ -66,7 +66,15 @@ def with_new_names(
     return found
 
 
+INSIDE = obj("as-set: AS-A", "mnt-by: A-MNT", "source: RIPE", "as-set: AS-B", "mnt-by: B-MNT")
+AFTER = obj("aut-num: AS64496", "mnt-by: A-MNT", "source: RIPE")
+
+
 @given(rpsl.dumps())
+@example(INSIDE + AFTER)
+@example(INSIDE.replace(b"as-set: AS-B", b"person: Jo") + AFTER)
+@example(INSIDE.replace(b"B-MNT", b"B-MNT\nsource:") + AFTER)
+@example(INSIDE)
 def test_nothing_is_lost_and_nothing_is_merged(dump: bytes) -> None:
     compare(dump)
 

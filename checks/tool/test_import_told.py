@@ -53,6 +53,23 @@ def test_no_source_is_the_cause_where_that_is_not_mended() -> None:
     ]
 
 
+# Maintainers of several registries.
+
+
+def test_a_mntner_that_may_change_objects_of_another_registry_is_told() -> None:
+    """Also where that registry's dump has no mntner of the name."""
+    own = obj("mntner: A-MNT", "mnt-by: A-MNT", "source: RADB")
+    cause = "a mntner that objects of another registry name"
+    for line in "mnt-by: A-MNT", "mnt-lower: a-mnt", "mnt-routes: A-MNT {10.0.0.0/8}":
+        other = obj("aut-num: AS1", line, "source: RIPE")
+        for text in other + own, own + other, own + other * 2 + own.replace(b"RADB", b"RIPE"):
+            assert [one[::2] for one in told(text)] == [(cause, "mntner: A-MNT")]
+        assert told(own + other.replace(b"RIPE", b"RADB")) == []
+    for bare in obj("aut-num: AS1", "mnt-by: A-MNT"), obj("mntner: A-MNT"):
+        assert [one[0] for one in told(bare + own)] == ["no `source`"]
+    assert told(obj("aut-num: AS1", "mnt-by: B-MNT", "source: RIPE") + own) == []
+
+
 # Files that were cut off at the end of a line.
 
 

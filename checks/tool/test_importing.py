@@ -181,6 +181,19 @@ class Mending(unittest.TestCase):
         self.assertEqual((len(text) < 65_536, kinds), (True, {"long"}))
         self.assertEqual(len(syntax.read(text).attributes), 4_003)
 
+    def test_a_text_that_the_registry_refuses_for_its_size_is_told(self) -> None:
+        """Also where it is short without comments and blanks: as it was read it is E07."""
+        for filler in ["# " + "x" * 98] * 660, ["descr: x" + " " * 92] * 660:
+            lines = ["as-set: AS-X", "mnt-by: A-MNT", *filler, "source: TEST"]
+            text, kinds = mended(obj(*lines))
+            self.assertEqual((len(text) < 65_536, kinds), (True, {"long"}))
+            self.assertEqual(mended(obj(*lines), ["long"]), "not mended because of --no-long")
+        room = 65_536 - len(obj("as-set: AS-X", "mnt-by: A-MNT", "source: TEST", "#")) + 1
+        for more in 0, 1:
+            text = obj("as-set: AS-X", "mnt-by: A-MNT", "#" * (room + more + 1), "source: TEST")
+            self.assertEqual(len(text), 65_537 + more)
+            self.assertEqual(mended(text)[1], {"long"} if more else set())
+
     def test_each_kind_is_turned_off(self) -> None:
         bad = {
             "source": "source: RIPE",

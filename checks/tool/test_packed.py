@@ -6,10 +6,14 @@ import shutil
 import subprocess
 import time
 import zipimport
+from pathlib import Path
 
 from checks.running import TOP, Tell, Trial, expect, run, write
 from checks.worlds import Tool
 from irr.registry.codes import TABLE as CODES
+
+# The manual of a group of commands, where it is not called by the group.
+PAGES = {"ask": "irr.1", "about": "irr.1"}
 
 
 def test_its_one_file_has_all_commands_and_the_same_bytes_each_time(
@@ -77,27 +81,15 @@ def test_shells_complete_commands_options_and_codes(trial: Trial, tool: Tool, te
 
 def test_the_manual_names_each_command_option_and_code(tool: Tool, tell: Tell) -> None:
     """The manual names each command and option, and its codes are those of the table."""
-    parts = {}
-    for name in "irrdesk.1", "irr.1", "irr-register.1", "irr-filter.1", "irr-keep.1", "irr-door.1":
-        path = os.path.join(TOP, "man", name)
-        if os.path.exists(path):
-            with open(path, encoding="utf-8") as file:
-                parts[name] = file.read()
+    parts = {path.name: path.read_text(encoding="utf-8") for path in Path(TOP, "man").glob("*.1")}
     listed: dict[str, str] = {}
     for group, names in re.findall(
         r"^([a-z]+):\n((?:  .*\n)+)", tool("--help").printed.decode(), re.M
     ):
         listed |= {name: group for name in re.findall(r"^  (\S+) ", names, re.M)}
-    page = {
-        "ask": "irr.1",
-        "about": "irr.1",
-        "register": "irr-register.1",
-        "filter": "irr-filter.1",
-        "keep": "irr-keep.1",
-    }
     for name, group in listed.items():
         # The door and its log have a page of their own.
-        of = "irr-door.1" if name in ("door", "log") else page[group]
+        of = "irr-door.1" if name in ("door", "log") else PAGES.get(group, f"irr-{group}.1")
         text = parts[of]
         expect(f".It Cm {name}" in text or f".Cm {name}" in text, True, f"{name} in {of}")
         for option in re.findall(

@@ -170,6 +170,18 @@ def test_a_source_in_the_first_line_ends_no_object() -> None:
     assert (tally.read, tally.taken) == (1, 0)
 
 
+def test_a_part_without_a_source_is_no_object() -> None:
+    """A stranger may have written it into the object before."""
+    inside = obj(
+        "as-set: AS-A", "source: RIPE", "route-set: RS-X", "members: AS666", "mnt-by: E-MNT"
+    )
+    text, tally = made(inside + obj("route-set: RS-X", "members: AS1", "source: RIPE"))
+    assert (tally.taken, b"E-MNT" in text, b"AS666" in text) == (2, False, False)
+    assert left_out(inside + obj("aut-num: AS1", "source: RIPE"))[0].startswith(
+        "no `source`, and no blank line before it\t"
+    )
+
+
 def test_each_part_that_is_left_out_is_listed_by_its_own_line() -> None:
     lines = left_out(b"\n" + obj(*A, "person: Jo", "source: RIPE", *B, *B))
     assert [line.split("\t")[:1] + line.rsplit(":", 2)[1:] for line in lines] == [

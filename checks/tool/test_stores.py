@@ -3,6 +3,7 @@
 import contextlib
 import errno
 import os
+import re
 import signal
 import sqlite3
 import subprocess
@@ -15,13 +16,20 @@ from types import SimpleNamespace
 from typing import Any
 from unittest import mock
 
-from checks.running import PATIENCE
+from checks.running import PATIENCE, TOP
 from checks.tool.stores import TEXT, Folder, limited, program
 from irr.commands import backup
 from irr.errors import DATABASE, SETTINGS, Failure
 from irr.local import databases, replicas
 from irr.local.databases import Settings
 from irr.rpsl import syntax
+
+
+def kill_all(number: int, kind: int) -> None:
+    """Sends a signal to all that a process has begun, and to it."""
+    begun = Path(f"/proc/{number}/task/{number}/children").read_text(encoding="ascii")
+    for other in [*map(int, begun.split()), number]:
+        os.kill(other, kind)
 
 
 class Stores(Folder):
@@ -393,7 +401,17 @@ class Stores(Folder):
             with self.subTest(kill.__name__):
                 self.need_going_on(kill)
 
-    def need_going_on(self, kill: Callable[[int, int], None]) -> None:
+    def test_goes_on_when_all_of_the_unit_is_killed(self) -> None:
+        """As where memory runs out: what the unit runs after that lets it go on."""
+        text = Path(TOP, "units", "irrdesk-backup.service").read_text(encoding="ascii")
+        kill = r"^ExecStopPost=\+-/usr/bin/systemctl kill --signal=(\w+) irrdesk\.service$"
+        (name,) = re.findall(kill, text, re.M)
+        self.need_going_on(kill_all, signal.Signals[name])
+
+    def need_going_on(
+        self, kill: Callable[[int, int], None], after: signal.Signals | None = None
+    ) -> None:
+        """Also where it is still after that kill, if a signal after it is given."""
         settings = self.settings()
         server = self.server(settings)
         words = (
@@ -413,6 +431,10 @@ class Stores(Folder):
             self.assertEqual(holder.stdout.readline(), b"still\n")
             self.assertTrue(databases.is_still(server.pid))
             kill(holder.pid, signal.SIGKILL)
+            if after:
+                holder.wait()
+                self.assertTrue(databases.is_still(server.pid))
+                os.kill(server.pid, after)
             self.wait_until_it_goes_on(server)
         finally:
             for process in holder, server:

@@ -257,6 +257,18 @@ def test_many_chains_are_bounded(capsys: pytest.CaptureFixture[str]) -> None:
     assert (len(few.first), few.more, few.is_cut) == (10, 6, False)
 
 
+def test_the_first_chain_is_found_whatever_it_takes(monkeypatch: pytest.MonkeyPatch) -> None:
+    """Otherwise a prefix would be told not to be in a set that lists one, of many, so often."""
+    monkeypatch.setattr(references, "MOST_PARTS", 20)
+    below = ["RS-L1", "RS-L2", "RS-L3", "10.0.0.0/8"]
+    for layer, name in enumerate(below):
+        items = ", ".join(f"{name}^{low}-32" for low in range(1, 17))
+        text = made(f"route-set: RS-L{layer}\nmembers: {items}")
+        monkeypatch.setitem(OBJECTS, f"object route-set RS-L{layer}", text)
+    found = References(Table(OBJECTS), prefix("10.0.0.0/16"), "RS-L0").chains(10)
+    assert found.first and found.is_cut
+
+
 def test_many_sets_are_bounded(monkeypatch: pytest.MonkeyPatch) -> None:
     monkeypatch.setattr(references, "MOST_ASKED", 20)
     place = Table(OBJECTS | layers(12, 4))
@@ -304,3 +316,39 @@ def test_a_source_is_named_in_a_view_alone(capsys: pytest.CaptureFixture[str]) -
         prefix = keys.need_place("10.0.0.0/16")
         found = References(registry, prefix, 1, sources).chains(10).first
         assert [step.source for step in found[0]] == ["", wanted]
+
+
+VIEW_ROOT = made("mntner: IRR-VIEW-MNT\nauth: # filtered", "IRR-VIEW-MNT")
+ALL = made("inetnum: 0.0.0.0 - 255.255.255.255", "IRR-VIEW-MNT")
+
+
+def of(text: bytes, source: str) -> bytes:
+    """An object with a comment on its `source`."""
+    return text.replace(b"TEST\n", b"TEST # " + source.encode() + b"\n")
+
+
+@pytest.mark.parametrize("case", ["own", "of a source", "no view", "no root", "a route's text"])
+def test_a_view_is_known_by_what_its_root_alone_can_write(case: str) -> None:
+    """At a view's own port, where nobody tells its sources. Elsewhere anybody may write a
+    comment."""
+    route = of(ROUTE, "RADB")
+    table = {
+        "less 10.0.0.0/16": ALL + route,
+        "object aut-num AS1": of(OBJECTS["object aut-num AS1"], "RIPE"),
+    }
+    if case != "own":
+        around = of(ALL, "test").replace(b"IRR-VIEW-MNT", b"ROOT-MNT")
+        table["less 10.0.0.0/16"] = around + route
+    if case in ("of a source", "a route's text"):
+        table["object mntner IRR-VIEW-MNT"] = VIEW_ROOT
+    if case == "no view":
+        table["less 10.0.0.0/16"] = ALL.replace(b"IRR-VIEW-MNT", b"ROOT-MNT") + route
+        table["object mntner IRR-VIEW-MNT"] = VIEW_ROOT
+    if case == "a route's text":
+        forged = of(made("route: 10.0.0.0/16\norigin: AS9\ninetnum: 0.0.0.0/0"), "RIPE")
+        plain = ALL.replace(b"IRR-VIEW-MNT", b"ROOT-MNT")
+        table["less 10.0.0.0/16"] = plain + route + forged
+    found = References(Table(table), prefix("10.0.0.0/16"), 1)
+    (chain,) = found.chains(10).first
+    wanted = ["RIPE", "RADB"] if case in ("own", "of a source") else ["", ""]
+    assert [step.source for step in chain] == wanted

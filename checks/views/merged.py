@@ -84,8 +84,15 @@ def merged(several: Several) -> Registry:
                 for one in several.registries[source].objects
                 if one.kind in rpsl.SETS and one.key == name
             )
-            waiting.append(Object(((own.kind, f"{name}--{source}"), *own.attributes[1:])))
+            waiting.append(Object(((own.kind, apart_name(name, source)), *own.attributes[1:])))
     return Registry(tuple(unscoped(joined(held, apart), several, first)[0] for held in found))
+
+
+def apart_name(name: str, source: str) -> str:
+    """The name of a set of a source where an earlier one has it too, which is a set's name still:
+    an AS number with letters after it is none."""
+    is_number = models.is_number(name.split(":")[-1])
+    return name + (":AS-" if "AS-" in name else ":RS-") * is_number + f"--{source}"
 
 
 def joined(held: Object, apart: set[tuple[str, str]]) -> Object:
@@ -96,7 +103,8 @@ def joined(held: Object, apart: set[tuple[str, str]]) -> Object:
         if attribute == "member-of":
             items = value.split(", ")
             value = ", ".join(
-                f"{item}, {item}--{source}" if (source, item) in apart else item for item in items
+                f"{item}, {apart_name(item, source)}" if (source, item) in apart else item
+                for item in items
             )
         attributes.append((attribute, value))
     return Object(tuple(attributes))
@@ -127,7 +135,7 @@ def unscoped(
             return name
         if any((front == one.key) for one in several.registries[source].objects):
             wanted.add((source, front))
-            return f"{front}--{source}" + name[len(front) :]
+            return apart_name(front, source) + name[len(front) :]
         return None
 
     attributes = []

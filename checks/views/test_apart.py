@@ -184,5 +184,37 @@ def test_a_set_of_an_earlier_source_is_no_other_one_where_it_cannot_be_read(
     folder = made(view)
     for name in "AS-X", "RS-X":
         expect(asked(program, folder, "prefixes", name), "% no entries\n", name)
-    expect(asked(program, folder, "prefixes", "AS-ALL"), "% missing AS-X\n", "AS-ALL")
-    expect(view.told["RADB"].left, {"an earlier source has it": 2}, "what is told")
+    found = asked(program, folder, "prefixes", "AS-ALL")
+    expect(found, "10.6.0.0/16\n% missing AS-X\n", "AS-ALL, which names also that of RADB")
+    expect(view.told["RADB"].left, {"an earlier source has it": 1}, "what is told")
+
+
+def test_a_set_that_a_source_between_has_and_cannot_be_read_is_apart(
+    program: str, tmp_path: Path, monkeypatch: pytest.MonkeyPatch
+) -> None:
+    """And what a source has of another one takes no name of it."""
+    monkeypatch.setenv("IRRDESK", program)
+    sources = {
+        "TEST": """
+            as-set: AS-X|members: AS1|mnt-by: T-MNT
+            as-set: AS-ALL|members: RADB::AS-X|mnt-by: T-MNT
+        """,
+        "RIPE": """
+            mntner: X-MNT|mnt-by: X-MNT
+            as-set: AS-X|members: AS1 EXCEPT AS2|mnt-by: X-MNT
+            as-set: AS-Z|members: AS1 EXCEPT AS2|mnt-by: X-MNT
+        """,
+        "RADB": """
+            as-set: AS-X|members: AS6|mnt-by: X-MNT
+            as-set: AS-Y|members: AS7|mnt-by: X-MNT
+            as-set: AS-Z|members: AS8|mnt-by: X-MNT
+        """,
+    }
+    view = written(tmp_path, several_of(sources))
+    with open(tmp_path / "RIPE", "a", encoding="ascii") as dump:
+        dump.write("as-set: AS-Y\nmembers: AS1 EXCEPT AS2\nsource: OTHER\n\n")
+    folder = made(view)
+    expect(asked(program, folder, "expand", "AS-ALL"), "AS6\n", "AS-ALL")
+    expect(asked(program, folder, "expand", "AS-X"), "AS1\n", "AS-X")
+    expect(asked(program, folder, "expand", "AS-Y"), "AS7\n", "AS-Y")
+    expect(asked(program, folder, "object", "as-set", "AS-Z"), "% no entries\n", "AS-Z")

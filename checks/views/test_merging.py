@@ -155,6 +155,31 @@ def test_a_set_taken_apart_has_its_members_by_reference(
         assert asked(program, folder, "prefixes", name).split() == prefixes, name
 
 
+def test_a_set_whose_name_ends_in_an_as_number_is_taken_apart(
+    program: str, tmp_path: Path, monkeypatch: pytest.MonkeyPatch
+) -> None:
+    """What lists it by its own registry has its members, as of any other set."""
+    monkeypatch.setenv("IRRDESK", program)
+    sources = {
+        "TEST": "as-set: AS-Y:AS2|members: AS8|mnt-by: T-MNT"
+        "\nas-set: AS-C|members: RADB::as-y:as02, AS-D|mnt-by: T-MNT"
+        "\nroute-set: RS-C|members: RADB::RS-Y:AS2^24|mnt-by: T-MNT"
+        "\nroute-set: RS-Y:AS2|members: AS8|mnt-by: T-MNT",
+        "RIPE": "route: 10.8.0.0/16|origin: AS8|mnt-by: X-MNT",
+        "RADB": "as-set: AS-Y:AS2|members: AS6|mnt-by: R-MNT"
+        "\nroute-set: RS-Y:AS2|members: 10.6.0.0/24|mnt-by: R-MNT"
+        "\nas-set: AS-D|mbrs-by-ref: ANY|mnt-by: R-MNT"
+        "\nroute: 10.6.0.0/16|origin: AS6|mnt-by: R-MNT",
+    }
+    view = written(tmp_path, several_of(sources))
+    folder = made(view)
+    assert asked(program, folder, "prefixes", "AS-C").split() == ["10.6.0.0/16"]
+    assert asked(program, folder, "prefixes", "RS-C").split() == ["10.6.0.0/24"]
+    assert not view.told["TEST"].lost, view.told
+    for name in "AS-Y:AS2:AS---RADB", "RS-Y:AS2:RS---RADB":
+        assert "# RADB" in asked(program, folder, name)
+
+
 def test_a_set_taken_apart_lacks_a_member_whose_text_has_no_room(
     program: str, tmp_path: Path, monkeypatch: pytest.MonkeyPatch
 ) -> None:

@@ -208,8 +208,10 @@ def test_a_history_has_its_states_and_what_changed(stage: Stage) -> None:
     )
     browser.until("document.querySelector('.object .of-history').checkVisibility()", "a link to it")
     browser.click(".object .of-history")
-    browser.until(said("past"), "the history")
-    expect_in("5 states of route 10.1.0.0/16 AS64496.", browser.text("past-said"), "what is said")
+    browser.until(said("history"), "the history")
+    expect_in(
+        "5 states of route 10.1.0.0/16 AS64496.", browser.text("history-said"), "what is said"
+    )
     times = [f"2023-11-14 22:13:2{n} UTC" for n in range(5, 0, -1)]
     words = ["added", "deleted", "changed", "changed", "added"]
     expect(
@@ -226,10 +228,10 @@ def test_a_history_has_its_states_and_what_changed(stage: Stage) -> None:
         "where the reader is",
     )
     expect(browser.all("#states b"), [], "markup of an object")
-    first = browser.js("return document.querySelector('#past-from').options[5].value")
-    browser.choose("past-from", first)
+    first = browser.js("return document.querySelector('#history-from').options[5].value")
+    browser.choose("history-from", first)
     browser.choose(
-        "past-to", browser.js("return document.querySelector('#past-to').options[2].value")
+        "history-to", browser.js("return document.querySelector('#history-to').options[2].value")
     )
     browser.click("#states form button")
     browser.until(
@@ -247,8 +249,8 @@ def test_a_history_has_its_states_and_what_changed(stage: Stage) -> None:
         ("route 10.0.0.0/8", "The server says: write /history/CLASS/KEY"),
         ("mntner ..", "The server says: write /history/CLASS/KEY"),
     ]:
-        browser = shown(stage, f"#history={key}", said("past"))
-        expect_in(wanted, browser.text("past-said"), key)
+        browser = shown(stage, f"#history={key}", said("history"))
+        expect_in(wanted, browser.text("history-said"), key)
 
 
 def test_it_asks_its_own_origin_alone(stage: Stage, tell: Tell) -> None:

@@ -39,7 +39,7 @@ def test_it_is_used_without_a_mouse(stage: Stage, tell: Tell) -> None:
         "return [...document.querySelectorAll('header a')].filter(a => a.checkVisibility())"
         ".map(a => [a.dataset.view, a.textContent])"
     )
-    has = [view for view in views if view not in ("why", "past")]
+    has = [view for view in views if view not in ("why", "history")]
     expect([view for view, _ in links], has, "the links to what a registry without a door has")
     reached = []
     for _ in range(len(links) + 2):

@@ -82,7 +82,7 @@ DOORED = {
         "#history=route%2010.1.0.0/16%20AS64496",
         "document.querySelector('#states ins') && document.querySelectorAll('#source option')[1]",
     ),
-    "no key": ("#history=AS1", "document.querySelector('#past-said.bad')"),
+    "no key": ("#history=AS1", "document.querySelector('#history-said.bad')"),
 }
 OTHER_STATES = [
     "faults of fields",

@@ -8,11 +8,11 @@ use Rattle.rr_auth.specs.Registries.{Reg}
 use Rattle.rr_io.specs.Told.{Told}
 use Rattle.rr_io.specs.Sending.{Takes}
 use Rattle.rr_io.proofs.Transfers.{Takes-then, TakesPrefix-more, TakesPrefix-then, flat_map-next}
-use Rattle.rr_text.specs.CanonicalText.{ended}
 use Rattle.rr_object.specs.Objects.{Obj}
 use Rattle.rr_sets.specs.Lists.{lent}
 use Rattle.rr_answer.specs.declared.dumping.DumpFault.{DumpFault}
 use Rattle.rr_answer.specs.declared.dumping.DumpFault.TheVariants.{Write, Memory}
+use Rattle.rr_answer.specs.HasBytes.{line_has_bytes}
 use Rattle.rr_answer.specs.Dumps.{IsCut, dump, dumped, end_line}
 use Rattle.rr_answer.proofs.Lists.{texts_lent}
 
@@ -43,10 +43,6 @@ cut_after start middle end xs ys Memory p q = record {
   some_left = q.some_left;
   takes = Takes-then xs q.prefix p q.takes;
 }
-
--- a line has its end
-pub line_has_bytes : (line : List ℕ) → 0 < length (ended line)
-line_has_bytes line = rw length-append (omega arith)
 
 -- an object in a dump has the empty line after it
 pub object_has_bytes : (full : Bool) (o : Obj) → 0 < length (dumped full o)

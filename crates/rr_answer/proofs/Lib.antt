@@ -3,6 +3,8 @@ pub mod Dumped
 pub mod Exact
 pub mod Expanded
 pub mod Lists
+pub mod Parts
+pub mod Places
 pub mod Routes
 pub mod Rows
 pub mod Secrets

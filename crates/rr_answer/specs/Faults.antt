@@ -3,7 +3,7 @@ use Rattle.std.specs.Prelude.{ℕ, ◌+◌, List, [], ◌∷◌, ◌++◌, codes
 use Rattle.rr_text.specs.CanonicalText.{ended}
 use Rattle.rr_answer.specs.declared.fault.QueryFault.{QueryFault}
 use Rattle.rr_answer.specs.declared.fault.QueryFault.TheVariants.{Bad, TooLong, TooMany, Memory}
-use Rattle.rr_answer.specs.declared.fault.QueryFault.TheVariants.{Store, Stopped}
+use Rattle.rr_answer.specs.declared.fault.QueryFault.TheVariants.{Stopped}
 
 -- The number of an error (profile).
 abbrev pub error_number : QueryFault → ℕ
@@ -11,7 +11,6 @@ error_number Bad = 1
 error_number TooLong = 2
 error_number TooMany = 3
 error_number Memory = 4
-error_number Store = 5
 error_number Stopped = 6
 
 -- An error is answered as one line with its number, which has one digit (profile).

@@ -2,7 +2,10 @@ pub mod Answers
 pub mod Dumps
 pub mod Expansions
 pub mod Faults
+pub mod Founds
+pub mod HasBytes
 pub mod Queries
 pub mod Secrecy
 pub mod Selections
 pub mod Texts
+pub mod WritingParts

@@ -1,6 +1,9 @@
 -- The texts of objects and of expansions.
 use Rattle.std.specs.Prelude.{ℕ, List, [], ◌∷◌, ◌++◌, codes}
 use Rattle.std.specs.List.{flat_map}
+use Rattle.rr_number.specs.Applied.{range_text}
+use Rattle.rr_number.specs.AsNumbers.{as_number_text}
+use Rattle.rr_number.specs.Ranges.{RangeParts}
 use Rattle.rr_text.specs.CanonicalText.{canonical, ended}
 use Rattle.rr_object.specs.Objects.{Obj}
 use Rattle.rr_object.specs.Readings.{public_of}
@@ -25,6 +28,13 @@ objects_text os = or_else no_entries (flat_map public_text os)
 -- The line of a name that is reached and not registered (profile).
 abbrev pub missing_line : List ℕ → List ℕ
 missing_line name = ended (codes "% missing " ++ name)
+
+-- The lines of an AS number and of a range (profile).
+abbrev pub number_line : ℕ → List ℕ
+number_line n = ended (as_number_text n)
+
+abbrev pub range_line : RangeParts → List ℕ
+range_line range = ended (range_text range)
 
 -- An expansion as it is answered: a line for each AS number or range, then one for each missing
 -- name (profile).

@@ -4,21 +4,79 @@ ghost use Rattle.std.specs.Prelude.{◌≢◌, Err, IfErr, IfOk, Ok};
 ghost use Rattle.rr_answer.specs.declared.fault.QueryFault.TheVariants.{Memory};
 ghost use Rattle.rr_number.specs.SetNames.{kind_of};
 ghost use Rattle.rr_answer.specs.Answers.{IsAnswer, IsAnswerTo, IsExpanded};
+ghost use Rattle.rr_answer.specs.Founds.{found_text};
 
 use crate::expansion::{numbers, ranges};
 use crate::fault::QueryFault;
+use crate::found::Found;
 use crate::query::Query;
 use crate::reading::read_query;
 use crate::selection::asked;
-use crate::text::objects_text;
 use rr_book::Keeper;
 use rr_number::{SetKind, SetName};
 use rr_registry::Registry;
 use rr_sets::SetBook;
 use std::alloc::Global;
 
-/// The answer to a query: the objects that it asks for, or the members of a set, `limit` bounding
-/// its expansion. The fault is `TooMany` for an expansion over the limit, or that memory ran out.
+/// What a query finds: the objects that it asks for, or the members of a set, `limit` bounding its
+/// expansion. The fault is `TooMany` for an expansion over the limit, or that memory ran out.
+pub fn find<'a, B: Keeper>(
+    alloc: Global,
+    registry: &'a Registry<B>,
+    limit: usize,
+    query: &Query,
+) -> Result<Found<'a>, QueryFault>
+    ensures ok { IfOk result
+        (λ found. IsAnswer registry.now limit query.now (Ok (found_text found))) }
+    ensures fault { IfErr result
+        (λ fault. fault ≢ Memory → IsAnswer registry.now limit query.now (Err fault)) }
+{
+    match query {
+        Query::Expand(name) => expanded(alloc, registry.book(), name, limit),
+        Query::Prefixes(name) => ranges(alloc, registry.book(), name, limit),
+        _ => {
+            let objects = asked(alloc, registry, query)?;
+            Ok(Found::of(alloc, &objects)?)
+        }
+    }
+}
+
+/// The members of a set, by its kind.
+fn expanded<'a, B: SetBook>(
+    alloc: Global,
+    book: &'a B,
+    name: &SetName,
+    limit: usize,
+) -> Result<Found<'a>, QueryFault>
+    ensures ok { IfOk result (λ found. IsExpanded (kind_of name.now)
+        (B.contents book.now) limit name.now (Ok (found_text found))) }
+    ensures fault { IfErr result (λ fault. fault ≢ Memory
+        → IsExpanded (kind_of name.now) (B.contents book.now) limit name.now (Err fault)) }
+{
+    match name.kind() {
+        SetKind::AsSet => numbers(alloc, book, name, limit),
+        SetKind::RouteSet => ranges(alloc, book, name, limit),
+    }
+}
+
+/// What the text of a query finds. The fault is the first of `TooLong`, `Bad` and `TooMany` that
+/// fits, or that memory ran out.
+pub fn find_for<'a, B: Keeper>(
+    alloc: Global,
+    registry: &'a Registry<B>,
+    limit: usize,
+    text: &[u8],
+) -> Result<Found<'a>, QueryFault>
+    ensures ok { IfOk result
+        (λ found. IsAnswerTo registry.now limit text.now (Ok (found_text found))) }
+    ensures fault { IfErr result
+        (λ fault. fault ≢ Memory → IsAnswerTo registry.now limit text.now (Err fault)) }
+{
+    let query = read_query(alloc, text)?;
+    find(alloc, registry, limit, &query)
+}
+
+/// The answer to a query, in memory: the text of what [`find`] finds, with its faults.
 pub fn answer<B: Keeper>(
     alloc: Global,
     registry: &Registry<B>,
@@ -29,36 +87,12 @@ pub fn answer<B: Keeper>(
     ensures fault { IfErr result
         (λ fault. fault ≢ Memory → IsAnswer registry.now limit query.now (Err fault)) }
 {
-    match query {
-        Query::Expand(name) => expanded(alloc, registry.book(), name, limit),
-        Query::Prefixes(name) => ranges(alloc, registry.book(), name, limit),
-        _ => {
-            let objects = asked(alloc, registry, query)?;
-            Ok(objects_text(alloc, &objects)?)
-        }
-    }
+    let found = find(alloc, registry, limit, query)?;
+    Ok(found.text(alloc)?)
 }
 
-/// The members of a set, by its kind.
-fn expanded<B: SetBook>(
-    alloc: Global,
-    book: &B,
-    name: &SetName,
-    limit: usize,
-) -> Result<Vec<u8>, QueryFault>
-    ensures ok { IfOk result (λ text. IsExpanded (kind_of name.now)
-        (B.contents book.now) limit name.now (Ok text.items)) }
-    ensures fault { IfErr result (λ fault. fault ≢ Memory
-        → IsExpanded (kind_of name.now) (B.contents book.now) limit name.now (Err fault)) }
-{
-    match name.kind() {
-        SetKind::AsSet => numbers(alloc, book, name, limit),
-        SetKind::RouteSet => ranges(alloc, book, name, limit),
-    }
-}
-
-/// The answer to the text of a query. The fault is the first of `TooLong`, `Bad` and `TooMany` that
-/// fits, or that memory ran out.
+/// The answer to the text of a query, in memory: the text of what [`find_for`] finds, with its
+/// faults.
 pub fn answer_to<B: Keeper>(
     alloc: Global,
     registry: &Registry<B>,
@@ -70,6 +104,6 @@ pub fn answer_to<B: Keeper>(
     ensures fault { IfErr result
         (λ fault. fault ≢ Memory → IsAnswerTo registry.now limit text.now (Err fault)) }
 {
-    let query = read_query(alloc, text)?;
-    answer(alloc, registry, limit, &query)
+    let found = find_for(alloc, registry, limit, text)?;
+    Ok(found.text(alloc)?)
 }

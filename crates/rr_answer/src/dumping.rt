@@ -135,7 +135,7 @@ fn push_dumped(text: &mut Vec<u8>, object: &Object, full: bool) -> Result<(), Al
 }
 
 /// Writes the last line.
-#[tactic(auto, using(crate::proofs::Dumped::line_has_bytes))]
+#[tactic(auto, using(crate::specs::HasBytes::line_has_bytes))]
 fn dump_end<W: Sink>(alloc: Global, writer: &mut W, count: usize) -> Result<(), DumpFault>
     ensures writes { WritesDump (end_line count) (W.told writer.old) (W.told writer.new) result }
     ensures aside { W.aside writer.new ≡ W.aside writer.old }

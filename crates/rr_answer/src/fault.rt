@@ -21,16 +21,13 @@ pub enum QueryFault {
     /// 4: memory ran out.
     #[error("out of memory")]
     Memory,
-    /// 5: the store refused.
-    #[error("the store failed")]
-    Store,
     /// 6: the desk is stopped.
     #[error("stopped")]
     Stopped,
 }
 
 impl QueryFault {
-    /// The number of the error, 1 to 6.
+    /// The number of the error: 1 to 4, or 6.
     pub fn number(self) -> u8
         ensures { result ≡ error_number self }
     {
@@ -39,7 +36,6 @@ impl QueryFault {
             QueryFault::TooLong => 2,
             QueryFault::TooMany => 3,
             QueryFault::Memory => 4,
-            QueryFault::Store => 5,
             QueryFault::Stopped => 6,
         }
     }
@@ -53,7 +49,6 @@ impl QueryFault {
             QueryFault::TooLong => b"% error 2\n",
             QueryFault::TooMany => b"% error 3\n",
             QueryFault::Memory => b"% error 4\n",
-            QueryFault::Store => b"% error 5\n",
             QueryFault::Stopped => b"% error 6\n",
         }
     }

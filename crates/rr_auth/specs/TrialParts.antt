@@ -1,6 +1,6 @@
 -- What is remembered of the maintainers that were tried. Only private functions of src promise it
 -- to each other: no verdict depends on it.
-use Rattle.std.specs.Prelude.{◌≡◌, ℕ, Bool, ◌≤◌, true, List, length, take, IfSome}
+use Rattle.std.specs.Prelude.{◌≡◌, ℕ, Bool, ◌≤◌, true, List, length, take, IfSome, IsTrue}
 use Rattle.std.specs.declared.cmp.Ordering.{Ordering}
 use Rattle.std.specs.BTreeMap.{BTreeMap, get}
 use Rattle.std.specs.BTreeSet.{BTreeSet, contains}
@@ -54,6 +54,10 @@ HasDigests salt wanted secrets digests =
     (digest : List ℕ) → contains (slice_cmp nat_cmp) wanted digest ≡ true
     → contains (slice_cmp nat_cmp) digests digest
     ≡ list_any (fits_line (record { salt = salt; digest = digest })) secrets
+
+-- The line's digest is wanted.
+abbrev pub IsWanted : BTreeSet (List ℕ) → AuthParts → Type 0
+IsWanted wanted line = IsTrue (contains (slice_cmp nat_cmp) wanted line.digest)
 
 -- The order of salts.
 abbrev pub salt_cmp : Vec ℕ → Vec ℕ → Ordering

@@ -4,14 +4,15 @@
 //! once with each salt, and not once with each line: its digest is then looked up for all lines of
 //! that salt.
 
-ghost use Rattle.std.specs.Prelude.{◌≡◌, ℕ, true, IfOk, IsSome, List, None, OnOk};
+ghost use Rattle.std.specs.Prelude.{◌≡◌, ℕ, All, IfOk, IsSome, IsTrue, List, None, OnOk};
 ghost use Rattle.std.specs.BTreeMap.{get};
 ghost use Rattle.std.specs.BTreeSet.{BTreeSet as Digests, contains};
 ghost use Rattle.std.specs.Cmp.Lexicographic.{slice_cmp};
 ghost use Rattle.std.specs.List.{list_any};
 ghost use Rattle.std.specs.Ordering.{nat_cmp};
 ghost use Rattle.rr_auth.specs.Passing.{fits_line};
-ghost use Rattle.rr_auth.specs.TrialParts.{AreDigests, HasDigests, salt_cmp, some_line_fits};
+ghost use Rattle.rr_auth.specs.TrialParts.{AreDigests, HasDigests, IsWanted, salt_cmp};
+ghost use Rattle.rr_auth.specs.TrialParts.{some_line_fits};
 
 use crate::secret::{Secret, salted_digest, some_fits};
 use rr_object::Auth;
@@ -60,7 +61,9 @@ fn some_line_fits_by_salt(
 }
 
 /// The digests of the lines; the error is out of memory.
-fn digests_of(alloc: Global, lines: &[Auth]) -> Result<BTreeSet<[u8; DIGEST_BYTES]>, AllocError> {
+fn digests_of(alloc: Global, lines: &[Auth]) -> Result<BTreeSet<[u8; DIGEST_BYTES]>, AllocError>
+    ensures { IfOk result (λ digests. All (IsWanted digests) lines.now) }
+{
     let mut digests = BTreeSet::new(alloc);
     for line in lines {
         digests.insert(*line.digest())?;
@@ -95,14 +98,11 @@ impl Salted {
         wanted: &BTreeSet<[u8; DIGEST_BYTES]>,
         line: &Auth,
     ) -> Result<bool, AllocError>
-        requires { AreDigests wanted.now secrets.now self.old.digests }
+        requires remembered { AreDigests wanted.now secrets.now self.old.digests }
+        requires wanted { IsWanted wanted.now line.now }
         ensures answer { IfOk result (λ fits. fits ≡ list_any (fits_line line.now) secrets.now) }
         ensures remembers { AreDigests wanted.now secrets.now self.new.digests }
     {
-        // Each line's digest is wanted. This spares the proof that it is.
-        if !wanted.contains(line.digest()) {
-            return Ok(some_fits(secrets, line));
-        }
         let salt = Vec::from_slice(self.alloc, line.salt())?;
         match self.digests.get(&salt) {
             Some(digests) => Ok(digests.contains(line.digest())),
@@ -122,7 +122,7 @@ impl Salted {
     ) -> Result<bool, AllocError>
         requires remembered { AreDigests wanted.now secrets.now self.old.digests }
         requires unhashed { get salt_cmp self.old.digests salt ≡ None }
-        requires wanted { contains (slice_cmp nat_cmp) wanted.now digest.now ≡ true }
+        requires wanted { IsTrue (contains (slice_cmp nat_cmp) wanted.now digest.now) }
         ensures answer { IfOk result (λ fits. fits ≡ list_any
             (fits_line (record { salt = salt.items; digest = digest.now })) secrets.now) }
         ensures remembers { AreDigests wanted.now secrets.now self.new.digests }

@@ -1,7 +1,7 @@
 -- Lemmas on the statuses of queries.
 use Rattle.std.proofs.Common.{◌≡◌, ℕ, List, Result, Ok, Err, refl}
 use Rattle.rr_answer.specs.declared.fault.QueryFault.{QueryFault}
-use Rattle.rr_answer.specs.declared.fault.QueryFault.TheVariants.{Bad, TooLong, TooMany, Memory, Store, Stopped}
+use Rattle.rr_answer.specs.declared.fault.QueryFault.TheVariants.{Bad, TooLong, TooMany, Memory, Stopped}
 use Rattle.rr_desk.specs.Answering.{told_number}
 use Rattle.rr_commands.specs.Asked.{answer_status, error_status}
 
@@ -12,5 +12,4 @@ error_status-told (Err Bad) = refl
 error_status-told (Err TooLong) = refl
 error_status-told (Err TooMany) = refl
 error_status-told (Err Memory) = refl
-error_status-told (Err Store) = refl
 error_status-told (Err Stopped) = refl

@@ -7,8 +7,7 @@ use Rattle.rr_io.specs.Told.{Told}
 use Rattle.rr_answer.specs.declared.fault.QueryFault.{QueryFault}
 use Rattle.rr_answer.specs.Answers.{answer_bytes}
 use Rattle.rr_desk.specs.Desks.{GivesAnswer, desk_state}
-use Rattle.rr_desk.specs.Rows.{KeepsRows, CommitsNothing}
-use Rattle.rr_desk.specs.Stocks.{DatabaseLasts}
+use Rattle.rr_desk.specs.Rows.{KeepsRows}
 use Rattle.rr_desk.specs.declared.desk.Desk.{Desk}
 use Rattle.rr_commands.specs.Commands.{ActsBySettings, AtDesk, CommandEnd, DatabaseCalls}
 use Rattle.rr_commands.specs.Commands.{ProgramEnd, Reads}
@@ -23,21 +22,18 @@ abbrev pub answer_status : Result (List ℕ) QueryFault → ℕ
 answer_status (Ok text) = 0
 answer_status (Err fault) = 1
 
--- a desk was asked: its answer was made whole and then printed, and the status says whether it is
--- an error; or it could not be written whole. The registry, its rows and the settings stay, nothing
--- is committed, and the connection lasts (profile)
+-- a desk was asked: its answer was printed, and the status says whether it is an error; or it could
+-- not be written whole. Nothing of the desk changes, and it keeps the rows of its registry
+-- (profile)
 pub record HasAsked {S : Type 0} (g : Ghosts S) (text : List ℕ) (old new : Told)
     (before after : Desk S) (ended : CommandEnd) : Type 0 where
   pub answer : Result (List ℕ) QueryFault
-  pub gives : GivesAnswer g before after text answer
+  pub gives : GivesAnswer before text answer
   pub writes : Writes old new (answer_bytes answer) ended
   pub status : IfOk ended (λ status. status ≡ answer_status answer)
   pub trouble : IfErr ended (λ trouble. trouble ≡ Unwritten)
-  pub registry : after.stored.registry ≡ before.stored.registry
-  pub settings : after.settings ≡ before.settings
+  pub same : after ≡ before
   pub keeps : KeepsRows before.stored.registry (desk_state g after)
-  pub commits_nothing : CommitsNothing (desk_state g before) (desk_state g after)
-  pub lasts : DatabaseLasts (desk_state g before) (desk_state g after)
 
 -- what `irrdesk query` does, by its settings file (profile)
 abbrev pub AsksBy : {D S : Type 0} → Ghosts S → DatabaseCalls D S → Reads → List ℕ → List ℕ

@@ -60,8 +60,8 @@ fn query_at<D: Databases, W: Sink>(
         databases.old databases.new (W.told output.old) (W.told output.new)
         settings path.now result }
 {
-    let mut desk = open_desk(rt, databases, settings, path, found)?;
-    let end = answer_to(rt.alloc(), &mut desk, text, output);
+    let desk = open_desk(rt, databases, settings, path, found)?;
+    let end = answer_to(rt.alloc(), &desk, text, output);
     let conn = desk.close();
     close(databases, conn);
     end
@@ -70,13 +70,13 @@ fn query_at<D: Databases, W: Sink>(
 /// Asks a desk, and writes the answer: the status is 0, or 1 if the answer is an error.
 pub fn answer_to<S: Alter, W: Sink>(
     alloc: Global,
-    desk: &mut Desk<S>,
+    desk: &Desk<S>,
     query: &[u8],
     writer: &mut W,
 ) -> Result<u8, Trouble>
-    requires { desk.old.stored.stopped ≡ false }
+    requires { desk.now.stored.stopped ≡ false }
     ensures asked { HasAsked S.Store query.now
-        (W.told writer.old) (W.told writer.new) desk.old desk.new result }
+        (W.told writer.old) (W.told writer.new) desk.now desk.now result }
     ensures aside { W.aside writer.new ≡ W.aside writer.old }
 {
     match desk.answer(alloc, query, writer) {

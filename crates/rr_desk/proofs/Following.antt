@@ -137,14 +137,14 @@ module _ {S X E : Type 0} (g : Ghosts S) (P Q : Database → Database → Type 0
     done = λ clean. then_ok result (writes.done clean) (f (database g new));
     is_open = writes.is_open;
     kept = writes.kept;
-    crash = survives_weaker _ _ _ _ (λ clean trees made. trees_of f trees made) writes.crash;
+    crash = survives_weaker _ _ _ _ (λ clean trees made. (made.0, trees_of f trees made.1)) writes.crash;
   }
 
   -- and so the rows follow
   pub writes_follow : Transacts g P old new result → IsSettled g new → FollowsIn g Q old new result
   writes_follow writes settled =
       let made = writes_as writes in
-      record { done = made.done; is_open = λ clean on. made.is_open clean; settled = λ before. settled; kept = made.kept; crash = made.crash }
+      record { done = made.done; is_open = λ clean on. made.is_open clean; settled = λ before. settled; kept = made.kept; crash = survives_weaker _ _ _ _ (λ clean trees left. left.1) made.crash }
 
 -- where nothing is done, all is left
 pub rest_itself : {S : Type 0} (g : Ghosts S) (h : Held S) → LeavesRest g h h

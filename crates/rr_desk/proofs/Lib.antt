@@ -10,7 +10,6 @@ pub mod Listed
 pub mod TurnLemmas
 pub mod MemoryLemmas
 pub mod AnswerLemmas
-pub mod LookupRows
 pub mod Loads
 pub mod Grown
 pub mod Migrated
@@ -18,3 +17,8 @@ pub mod Sources
 pub mod DeskLaws
 pub mod DeskSecrets
 pub mod TurnOrder
+pub mod HistoryRows
+pub mod HistoryLemmas
+pub mod HistoryPrefixes
+pub mod HistoryRuns
+pub mod HistorySecrets

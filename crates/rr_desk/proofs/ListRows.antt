@@ -13,14 +13,16 @@ use Rattle.rr_object.specs.KeyOrders.{key_cmp}
 use Rattle.rr_object.specs.Objects.{Obj, lent}
 use Rattle.rr_auth.specs.Registries.{Reg, Sound}
 use Rattle.rr_registry.specs.Loading.{IsTaken, gathered}
-use Rattle.rr_rows.specs.Entries.{TreesOf, entry_of}
+use Rattle.rr_rows.specs.Entries.{entry_of}
+use Rattle.rr_rows.specs.Made.{IsMadeWith}
 use Rattle.rr_rows.specs.Maps.{AreStored, HasRows, IsFilled, IsObject}
 use Rattle.rr_rows.proofs.MapLists.{put_all, stored_rows}
 use Rattle.rr_store.specs.Creating.{IsStoreOf}
 use Rattle.rr_load.proofs.Sources.{one_found}
 use Rattle.sqlite_trees.specs.declared.store.Store.{Ghosts}
-use Rattle.sqlite.specs.Held.{Held}
-use Rattle.rr_desk.specs.Opened.{GivesBack, MakesNone, MakesTables}
+use Rattle.sqlite.specs.Held.{Held, state}
+use Rattle.rr_store.specs.Calls.{database}
+use Rattle.rr_desk.specs.Opened.{CommitsTables, GivesBack, MakesNone, MakesTables}
 use Rattle.rr_desk.proofs.Following.{trees_of}
 
 -- a list that is gathered is put in one by one
@@ -50,22 +52,27 @@ pub lent_rows : (r : Reg) (objects : List (Bor Obj)) → Sound r → lent object
 lent_rows r objects sound same db store =
     registry_rows r db sound (subst (AllByRecursion IsObject) same store.read) (subst (λ os. IsFilled (map entry_of os) db) same store.filled)
 
--- a stop that may leave such a database may leave one of which more is said
-pub left_as : {P Q : Database → Type 0} (old new : State) → ((db : Database) → P db → Q db) → Survives old new (TreesOf P) → Survives old new (TreesOf Q)
-left_as {P} {Q} old new f one = survives_weaker old new (TreesOf P) (TreesOf Q) (λ clean trees made. trees_of f trees made) one
+-- tables that are made with such rows are made with those of which more is said
+pub made_as : {P Q : Database → Type 0} (old db : Database) → (P db → Q db) → IsMadeWith P old db → IsMadeWith Q old db
+made_as old db f made = record { vacant = made.vacant; tables = made.tables; rows = f made.rows }
 
 -- a connection that was not touched leaves what it left before
 pub untouched : (s : State) (P : Trees → Type 0) → Survives s s P
 untouched s P = record { clean = omega arith; shield = λ h. h; counts = omega arith; limit = refl; closes = λ clean h. inl h; crash = λ clean db h. inl h }
 
 module _ {S : Type 0} (g : Ghosts S) where
-  -- and is given back as it was
+  -- a stop that may leave such tables may leave those of which more is said
+  pub left_as : {P Q : Database → Type 0} (conn new : Held S) → ((db : Database) → P db → Q db) → Survives (state g conn) (state g new) (CommitsTables g P conn) → Survives (state g conn) (state g new) (CommitsTables g Q conn)
+  left_as {P} {Q} conn new f one =
+      survives_weaker (state g conn) (state g new) (CommitsTables g P conn) (CommitsTables g Q conn) (λ clean trees made. (made.0, trees_of (λ db. made_as (database g conn) db (f db)) trees made.1)) one
+
+  -- a connection that was not touched is given back as it was
   pub untouched_back : (commits : Trees → Type 0) (conn : Held S) → conn.in_transaction ≡ false → GivesBack g commits conn conn
-  untouched_back commits conn autocommit = record { autocommit = autocommit; kept = λ clean on. refl; crash = untouched _ _ }
+  untouched_back commits conn autocommit = record { autocommit = autocommit; was_open = λ clean on. on; kept = λ clean on. refl; crash = untouched _ _ }
 
   -- tables with such rows have those of which more is said
   pub makes_as : {P Q : Database → Type 0} (conn made : Held S) → ((db : Database) → P db → Q db) → MakesTables g P conn made → MakesTables g Q conn made
-  makes_as conn made f makes = record { vacant = makes.vacant; tables = makes.tables; crash = left_as _ _ f makes.crash; crash_tables = makes.crash_tables }
+  makes_as conn made f makes = record { was_open = makes.was_open; vacant = makes.vacant; tables = makes.tables; crash = left_as conn made f makes.crash }
 
   pub none_as : {P Q : Database → Type 0} (conn left : Held S) → ((db : Database) → P db → Q db) → MakesNone g P conn left → MakesNone g Q conn left
-  none_as conn left f none = record { autocommit = none.autocommit; kept = none.kept; crash = left_as _ _ f none.crash }
+  none_as conn left f none = record { autocommit = none.autocommit; was_open = none.was_open; kept = none.kept; crash = left_as conn left f none.crash }

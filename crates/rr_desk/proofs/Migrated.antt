@@ -1,5 +1,5 @@
 -- What migration makes of tables of version 1, and why there is none.
-use Rattle.std.proofs.Common.{◌≡◌, ◌⊎◌, inl, inr, ℕ, Bool, false, List, [], ◌∷◌, ◌++◌, Result, Ok, Err, IfOk, OnOk, refl, sym, ap, subst, ◌∙◌, arith, IsPermutation}
+use Rattle.std.proofs.Common.{◌≡◌, ◌⊎◌, inl, inr, ℕ, Bool, false, List, [], ◌∷◌, ◌++◌, Result, Ok, Err, IfOk, OnOk, IsTrue, refl, sym, ap, subst, ◌∙◌, arith, IsPermutation}
 use Rattle.std.proofs.lemmas.Bool.{or_from, or_parts}
 use Rattle.std.proofs.lemmas.List.Sorted.{IsPermutation-append_left, IsPermutation-map}
 use Rattle.std.specs.List.{AllByRecursion, list_any}
@@ -8,7 +8,7 @@ use Rattle.sqlite_trees.proofs.ListLemmas.{all-append, all-permutation, all_weak
 use Rattle.sqlite.specs.Effect.{Database}
 use Rattle.sqlite.specs.declared.error.Error.{Error}
 use Rattle.sqlite.specs.State.{HasCleanDisk, IsUnchanged, Survives}
-use Rattle.sqlite.proofs.StateLemmas.{survives_then}
+use Rattle.sqlite.proofs.StateLemmas.{survives_then, survives_weaker}
 use Rattle.rr_text.specs.Fields.{Field}
 use Rattle.rr_object.specs.declared.fault.ObjectFault.{ObjectFault}
 use Rattle.rr_object.specs.Objects.{Obj}
@@ -31,18 +31,18 @@ use Rattle.rr_store.specs.declared.fault.MigrateFault.{MigrateFault}
 use Rattle.rr_store.specs.declared.fault.MigrateFault.TheVariants as migrate
 use Rattle.sqlite_trees.specs.declared.store.Store.{Ghosts}
 use Rattle.sqlite.specs.Held.{Held, state}
-use Rattle.rr_store.specs.Calls.{database}
+use Rattle.rr_store.specs.Calls.{WhereOpen, database}
 use Rattle.rr_store.specs.Faults.{no_tables, unread_fault}
 use Rattle.rr_store.specs.Opening.{RefusesTables}
 use Rattle.rr_store.specs.declared.version.Version.TheVariants.{Old}
 use Rattle.rr_store.specs.declared.fault.OpenFault.{OpenFault}
 use Rattle.rr_store.specs.declared.fault.OpenFault.TheVariants as opened
-use Rattle.rr_desk.specs.Opened.{MakesNone}
+use Rattle.rr_desk.specs.Opened.{GivesBack}
 use Rattle.rr_desk.specs.Rows.{CommitsNothing}
 use Rattle.rr_desk.specs.Stocks.{Stock}
 use Rattle.rr_store.specs.Migrating.{HasNoRoot, IsMigrated, has_mntner, is_mntner_of, upper_block}
 use Rattle.rr_store.proofs.CauseLemmas.{caused_then}
-use Rattle.rr_desk.specs.Migrating.{AreRegistry, FailsMigrating, FailsToMigrateTables, HasNoOldRegistry, HasUpper, IsGrown, IsMigratedBy, IsRootless, MigratesTables, RefusesOldRegistry}
+use Rattle.rr_desk.specs.Migrating.{AreRegistry, CommitsMigrated, FailsMigrating, FailsToMigrateTables, HasNoOldRegistry, HasUpper, IsGrown, IsMigratedBy, IsMigratedTo, IsRootless, MigratesTables, RefusesOldRegistry}
 use Rattle.rr_desk.specs.MigratingParts.{HasLoadFault, HasUpperFault, IsGrowthFault, told_as}
 use Rattle.rr_desk.specs.Settings.{IsSettings, SettingsParts}
 use Rattle.rr_desk.proofs.Grown.{rootless, the_upper_object}
@@ -99,7 +99,7 @@ no_old_registry source os db stored bad r of rows =
       formed = of.sound.formed;
       read = λ k o found. of_any source o (in_all (IsObjectOf source) o (values r) rows.of_source (found_in r k o found));
     } in
-    let same = permuted_map r os keyed (all_weaker (IsObjectOf source) IsObject (of_any source) os stored.of_source) stored.apart (stored_alike old_key_bytes old_version source os (values r) db stored rows) in
+    let same = permuted_map r os keyed (all_weaker (IsObjectOf source) IsObject (of_any source) os stored.of_source) stored.apart (stored_alike old_key_bytes old_version source source os (values r) db stored rows) in
     let none = sound_list os r stored.apart of.sound (gathered_is empty os ∙ same) in
     let is = bad.is_fault in
     absurd (cc)
@@ -124,7 +124,7 @@ is_rootless s db r grown none = record {
   objects = grown.objects;
   before = grown.before;
   sound = grown.sound;
-  missing = missing_alike s.root none.objects grown.objects (stored_alike old_key_bytes old_version s.source none.objects grown.objects db none.before grown.before) none.missing;
+  missing = missing_alike s.root none.objects grown.objects (stored_alike old_key_bytes old_version s.source s.source none.objects grown.objects db none.before grown.before) none.missing;
 }
 
 -- where the root is no maintainer of a registry of version 1, the block is none's
@@ -156,10 +156,19 @@ migrated_rows s r old new grown made =
     let same : made.upper ≡ upper = same_block s.source (upper_block s.root s.source) made.upper upper made.read grown.grown.read in
     let alike : IsPermutation (made.objects ++ made.upper ∷ []) (os ++ upper ∷ []) =
     subst (λ b. IsPermutation (made.objects ++ made.upper ∷ []) (os ++ b ∷ [])) same
-    (IsPermutation-append_left (made.upper ∷ []) made.objects os (stored_alike old_key_bytes old_version s.source made.objects os old made.before grown.before)) in
+    (IsPermutation-append_left (made.upper ∷ []) made.objects os (stored_alike old_key_bytes old_version s.source s.source made.objects os old made.before grown.before)) in
     let all = all_weaker (IsObjectOf s.source) IsObject (of_any s.source) (os ++ upper ∷ []) (all-permutation (IsObjectOf s.source) _ _ alike made.after.of_source) in
     subst (λ m. HasRows m new) (sym (taken.whole ∙ gathered_is empty (os ++ upper ∷ [])))
     (listed_rows (os ++ upper ∷ []) new all (taken_apart (os ++ upper ∷ []) r taken) (rows_permuted _ _ new (IsPermutation-map entry_of _ _ alike) made.after.rows) made.after.version)
+
+-- and so a stop leaves these
+pub grown_commits : {S : Type 0} (g : Ghosts S) (s : SettingsParts) (r : Reg) (conn new : Held S) → (HasCleanDisk (state g conn) → IsGrown s (database g conn) r)
+    → Survives (state g conn) (state g new) (WhereOpen g conn (TreesOf (IsMigratedBy s (database g conn)))) → Survives (state g conn) (state g new) (CommitsMigrated g s conn)
+grown_commits g s r conn new grown crash =
+    survives_weaker (state g conn) (state g new) (WhereOpen g conn (TreesOf (IsMigratedBy s (database g conn)))) (CommitsMigrated g s conn)
+    (λ clean trees made.
+    let is = grown (omega (arith, clean, crash.clean)) in
+    (made.0, (made.1.0, record { migrated = made.1.1; registry = r; grown = is; rows = migrated_rows s r (database g conn) made.1.0 is made.1.1 }, made.1.2))) crash
 
 -- why tables of version 1 are not read is why they are not migrated
 module _ (s : SettingsParts) (db : Database) where
@@ -209,26 +218,31 @@ module _ {S : Type 0} (g : Ghosts S) (s : SettingsParts) (first between : Held S
   as_was : HasCleanDisk (state g between) → database g between ≡ database g first
   as_was clean = (same clean).0.now_is
 
-  migrated_crash : (last : Held S) → Survives (state g between) (state g last) (TreesOf (IsMigratedBy s (database g between))) → Survives (state g first) (state g last) (TreesOf (IsMigratedBy s (database g first)))
+  was_open : HasCleanDisk (state g between) → IsTrue (state g first).is_open
+  was_open clean = (same clean).0.was_open
+
+  migrated_crash : (last : Held S) → Survives (state g between) (state g last) (CommitsMigrated g s between) → Survives (state g first) (state g last) (CommitsMigrated g s first)
   migrated_crash last two =
       survives_then (state g first) (state g between) (state g last) _ _ _ (λ clean trees none. absurd none)
-      (λ clean trees made. (made.0, subst (λ db. IsMigratedBy s db made.0) (as_was (omega (arith, two.clean))) made.1, made.2)) one two
+      (λ clean trees made. (was_open (omega (arith, two.clean)), (made.1.0, subst (λ db. IsMigratedTo s db made.1.0) (as_was (omega (arith, two.clean))) made.1.1, made.1.2))) one two
 
   pub migrates_then : (stored : Stock S) → MigratesTables g s between stored → MigratesTables g s first stored
   migrates_then stored migrates = record {
+    was_open = λ clean. was_open (let kept = migrates.crash.clean in omega (arith, kept));
     grown = λ clean. subst (λ db. IsGrown s db stored.registry) (as_was (let kept = migrates.crash.clean in omega (arith, kept))) (migrates.grown clean);
     migrated = λ clean. subst (λ db. IsMigratedBy s db (database g stored.store)) (as_was (let kept = migrates.crash.clean in omega (arith, kept))) (migrates.migrated clean);
     crash = migrated_crash stored.store migrates.crash;
   }
 
-  none_then : (left : Held S) → MakesNone g (IsMigratedBy s (database g between)) between left → MakesNone g (IsMigratedBy s (database g first)) first left
+  none_then : (left : Held S) → GivesBack g (CommitsMigrated g s between) between left → GivesBack g (CommitsMigrated g s first) first left
   none_then left none = record {
     autocommit = none.autocommit;
+    was_open = λ clean on. was_open (let kept = none.crash.clean in omega (arith, kept));
     kept = λ clean on. none.kept clean on ∙ as_was (let kept = none.crash.clean in omega (arith, kept));
     crash = migrated_crash left none.crash;
   }
 
-  store_then : (left : Held S) (fault : MigrateFault) → MakesNone g (IsMigratedBy s (database g between)) between left → FailsMigrating g s between left fault → FailsMigrating g s first left fault
+  store_then : (left : Held S) (fault : MigrateFault) → GivesBack g (CommitsMigrated g s between) between left → FailsMigrating g s between left fault → FailsMigrating g s first left fault
   store_then left fault none store error is tidy clean =
       let was = same (let kept = none.crash.clean in omega (arith, kept)) in
       elim (store error is (subst IsTidy (sym was.0.now_is) tidy) clean) [

@@ -8,7 +8,7 @@ use Rattle.rr_desk.specs.declared.desk.Desk.{Desk}
 use Rattle.std.specs.Prelude.{is_ok}
 use Rattle.rr_io.specs.Told.{Told}
 use Rattle.rr_desk.specs.TurnParts.{TakesTurn}
-use Rattle.rr_desk.specs.Turns.{ConnEnd, Does, DoesAll, InOrder, IsAccepted, IsClosed, IsNext, IsUnaccepted, Serving, TakesTurns, Tally, Turn, Visit, closed, given_in, is_served, turn_of, with_turn}
+use Rattle.rr_desk.specs.Turns.{ConnEnd, Does, DoesAll, InOrder, IsAccepted, IsClosed, IsNext, IsUnaccepted, Serving, StaysServed, TakesTurns, Tally, Turn, Visit, closed, given_in, is_served, turn_of, with_turn}
 
 mapped_more : (visits : List (Option Visit)) (visit : Option Visit) → map turn_of (visits ++ visit ∷ []) ≡ map turn_of visits ++ turn_of visit ∷ []
 mapped_more [] visit = refl
@@ -89,12 +89,12 @@ no_turn g serves desk tally = record {
 -- a connection was accepted, served and closed, which is a turn
 pub served_turn : {S : Type 0} (g : Ghosts S) (serves : Serving) (before after : Desk S) (first between last : Tally) (given : Option (List ℕ)) (reader_before reader_after writer_before writer_after : Told) (ended : ConnEnd) (well : Bool) → well ≡ is_ok ended →
     IsAccepted first between given reader_before writer_before →
-    serves S g before after reader_before reader_after writer_before writer_after ended →
+    serves S g before after reader_before reader_after writer_before writer_after ended → StaysServed g before after →
     IsClosed given writer_after.bytes between last →
     TakesTurn g serves before after first last well
-served_turn g serves before after first between last given reader_before reader_after writer_before writer_after ended well is accepted served closes = record {
+served_turn g serves before after first between last given reader_before reader_after writer_before writer_after ended well is accepted served stays closes = record {
   visit = Some (record { reader_before = reader_before; reader_after = reader_after; writer_before = writer_before; writer_after = writer_after; ended = ended });
-  does = (accepted.fresh, served);
+  does = (accepted.fresh, served, stays);
   is_next = subst (IsNext (Some reader_before.bytes) first.waiting) (sym closes.waiting) accepted.is_next;
   taken = record {
     counted = closes.counts.counted ∙ ap (λ n. n + 1) accepted.counted;

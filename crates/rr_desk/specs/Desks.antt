@@ -2,7 +2,7 @@
 use Rattle.std.specs.Prelude.{ℕ, List, Result}
 use Rattle.sqlite_trees.specs.declared.store.Store.{Ghosts}
 use Rattle.sqlite.specs.Held.{state}
-use Rattle.sqlite.specs.State.{State, HasCleanDisk}
+use Rattle.sqlite.specs.State.{State}
 use Rattle.rr_io.specs.Told.{Told}
 use Rattle.rr_auth.specs.Sources.{IsRegistryOf}
 use Rattle.rr_submission.specs.Submissions.{SubmitsText}
@@ -32,16 +32,12 @@ SubmitsTo g old new reader_old reader_new writer_old writer_new result =
     writer_old writer_new result
 
 -- the answer of a desk to the text of a query
-abbrev pub GivesAnswer : {S : Type 0} → Ghosts S → Desk S → Desk S → List ℕ
-    → Result (List ℕ) QueryFault → Type 0
-GivesAnswer g old new text answer =
-    IsAnswered (HasCleanDisk (desk_state g new)) old.settings.source old.stored.registry
-    old.settings.limit text old.stored.stopped new.stored.stopped answer
+abbrev pub GivesAnswer : {S : Type 0} → Desk S → List ℕ → Result (List ℕ) QueryFault → Type 0
+GivesAnswer desk text answer =
+    IsAnswered desk.stored.registry desk.settings.limit text desk.stored.stopped answer
 
--- one such answer is made whole, and then written
-abbrev pub WritesAnswer : {S : Type 0} → Ghosts S → Desk S → Desk S → List ℕ → Told
-    → Told
+-- one such answer is written
+abbrev pub WritesAnswer : {S : Type 0} → Desk S → List ℕ → Told → Told
     → Result Answered WriteFault → Type 0
-WritesAnswer g old new text writer_old writer_new result =
-    Answers (HasCleanDisk (desk_state g new)) old.settings.source old.stored.registry
-    old.settings.limit text old.stored.stopped new.stored.stopped writer_old writer_new result
+WritesAnswer desk text old new result =
+    Answers desk.stored.registry desk.settings.limit text desk.stored.stopped old new result

@@ -1,14 +1,11 @@
--- That a connection lasts where nothing is done, through a look at its tables, and through what is
--- done after something else.
+-- That a connection lasts where nothing is done, and through what is done after something else.
 use Rattle.std.specs.Prelude.{refl}
-use Rattle.std.proofs.Common.{arith, inl, subst, sym}
+use Rattle.std.proofs.Common.{arith, inl}
 use Rattle.sqlite_trees.specs.declared.store.Store as store
 use Rattle.sqlite.specs.Held.{state}
 use Rattle.sqlite.specs.State.{State, HasCleanDisk}
-use Rattle.sqlite.proofs.StateLemmas.{survives_then, survives_weaker}
-use Rattle.rr_rows.specs.Contents.{KeepsOthers}
+use Rattle.sqlite.proofs.StateLemmas.{survives_then}
 use Rattle.rr_rows.proofs.OtherLemmas.{others_itself, others_then}
-use Rattle.rr_desk.specs.Private.{ChangesNothing}
 use Rattle.rr_desk.specs.Stocks.{DatabaseLasts, Stock, stock_ledger}
 
 -- a connection lasts where nothing is done
@@ -24,16 +21,6 @@ database_still s = record {
   };
   was_open = λ clean on. on;
   others = λ clean on. others_itself s.now;
-}
-
--- it lasts through a look that changes nothing
-pub look_lasts : (old now : State) → ChangesNothing old now → DatabaseLasts old now
-look_lasts old now look = record {
-  survives = survives_weaker old now (λ trees. ⊥) (λ trees. Unit {0}) (λ clean trees none. tt)
-      look.commits_nothing;
-  was_open = look.was_open;
-  others = λ clean on.
-      subst (KeepsOthers old.now) (sym (look.same clean on)) (others_itself old.now);
 }
 
 -- what lasts through something, and through what is done after it, lasts through both

@@ -4,7 +4,6 @@ use Rattle.std.specs.Prelude.{Option, Some, Result, Err}
 use Rattle.std.specs.Prelude.{length, slice_get}
 use Rattle.std.specs.FinMap.{get}
 use Rattle.sqlite.specs.Effect.{Database}
-use Rattle.sqlite_trees.specs.View.{doubt}
 use Rattle.rr_io.specs.Told.{Told}
 use Rattle.rr_text.specs.CanonicalText.{canonical}
 use Rattle.rr_text.specs.Entries.{size_limit}
@@ -63,26 +62,14 @@ RowsAreDumpable =
     → length (canonical o.paragraph) ≤ size_limit)
     → IsDumpable source registry
 
--- neither that memory ran out nor a fault of the store kept the answer back (profile)
-pub record IsUnhindered (answer : Result (List ℕ) QueryFault) : Type 0 where
-  pub has_memory : answer ≢ Err query_fault.Memory
-  pub no_fault : answer ≢ Err query_fault.Store
-
--- this flag of a store's state says that the disk gives back what was written (profile)
-abbrev pub IsCleanDisk : Bool → Type 0
-IsCleanDisk clean = doubt clean ≡ 0
-
--- desks that are both stopped or both not, over such disks, whose registries look alike, answer
--- each query alike under the same limit, if nothing keeps back either answer (profile)
+-- desks that are both stopped or both not, whose registries look alike, answer each query alike
+-- under the same limit, unless memory runs out for either answer (profile)
 abbrev pub DesksKeepSecrets : Type 0
 DesksKeepSecrets =
     (r s : Reg) → IsRead r → IsRead s → LookAlike r s
-    → (clean other_clean : Bool) → IsCleanDisk clean → IsCleanDisk other_clean
-    → (source other_source : List ℕ) (limit : ℕ) (text : List ℕ)
-    → (stopped after other_after : Bool) (answer other : Result (List ℕ) QueryFault)
-    → IsAnswered (IsCleanDisk clean) source r limit text stopped after answer
-    → IsAnswered (IsCleanDisk other_clean) other_source s limit text stopped other_after other
-    → IsUnhindered answer → IsUnhindered other → answer ≡ other
+    → (limit : ℕ) (text : List ℕ) (stopped : Bool) (answer other : Result (List ℕ) QueryFault)
+    → IsAnswered r limit text stopped answer → IsAnswered s limit text stopped other
+    → answer ≢ Err query_fault.Memory → other ≢ Err query_fault.Memory → answer ≡ other
 
 -- where the bytes of connections to come are told, the first turn is of the first of them, the
 -- second of the second, and so on (profile)

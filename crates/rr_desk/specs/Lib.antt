@@ -13,9 +13,12 @@ pub mod MemoryTold
 pub mod Answering
 pub mod Desks
 pub mod Dumping
-pub mod LookupParts
 pub mod LoadFaults
 pub mod Loaded
 pub mod Migrating
 pub mod MigratingParts
+pub mod Events
+pub mod Modes
+pub mod Histories
+pub mod HistoryLaws
 pub mod Laws

@@ -23,7 +23,7 @@ use Rattle.rr_desk.specs.declared.loading.DeskLoadFault.{DeskLoadFault}
 use Rattle.rr_desk.specs.declared.loading.DeskLoadFault.TheVariants.{NotEmpty, Read, Endless, Text}
 use Rattle.rr_desk.specs.declared.loading.DeskLoadFault.TheVariants.{Object, Duplicate, Overlap}
 use Rattle.rr_desk.specs.declared.loading.DeskLoadFault.TheVariants.{Unnamed, Store, Memory}
-use Rattle.rr_desk.specs.Opened.{LeavesItsTables, MakesNone, TellsOtherTables}
+use Rattle.rr_desk.specs.Opened.{MakesNone, TellsOtherTables}
 
 -- a text was read to its end, and is a dump of this registry of the source (profile)
 pub record IsLoaded (source : List ℕ) (start now : Told) (registry : Reg) : Type 0 where
@@ -72,7 +72,6 @@ FailsToLoad source start now Memory = FailsToRead source start now dump.Memory
 pub record FailsToLoadTables {S : Type 0} (g : Ghosts S) (source : List ℕ) (start now : Told)
     (conn left : Held S) (fault : DeskLoadFault) : Type 0 where
   pub none : MakesNone g (HasLoadedRows source start now) conn left
-  pub crash_tables : LeavesItsTables g conn left
   pub why : FailsToLoad source start now fault
   pub not_empty : fault ≡ NotEmpty → OnCleanDisk g left (IsOccupied (database g conn))
   pub store : (error : Error) → fault ≡ Store error → FailsOverRow g conn left error

@@ -1,7 +1,8 @@
 -- Tables of version 1 that a desk migrates (profile).
-use Rattle.std.specs.Prelude.{◌≡◌, ◌⊎◌, ℕ, false, List, [], ◌∷◌, ◌++◌}
+use Rattle.std.specs.Prelude.{◌≡◌, ◌⊎◌, ℕ, false, IsTrue, List, [], ◌∷◌, ◌++◌}
 use Rattle.std.specs.FinMap.{values}
 use Rattle.sqlite_trees.specs.declared.store.Store.{Ghosts}
+use Rattle.sqlite_trees.specs.Tree.{Trees}
 use Rattle.sqlite.specs.Effect.{Database}
 use Rattle.sqlite.specs.declared.error.Error.{Error}
 use Rattle.sqlite.specs.Held.{Held, state}
@@ -13,9 +14,9 @@ use Rattle.rr_auth.specs.Sources.{IsRegistryOf}
 use Rattle.rr_registry.specs.Loading.{IsTaken}
 use Rattle.rr_rows.specs.Contents.{IsTidy}
 use Rattle.rr_rows.specs.Entries.{TreesOf}
-use Rattle.rr_rows.specs.Maps.{AreOldStored}
+use Rattle.rr_rows.specs.Maps.{AreOldStored, HasRows}
 use Rattle.rr_rows.specs.Tables.{HasTables}
-use Rattle.rr_store.specs.Calls.{IsCaused, OnCleanDisk, database}
+use Rattle.rr_store.specs.Calls.{IsCaused, OnCleanDisk, WhereOpen, database}
 use Rattle.rr_store.specs.Faults.{no_tables}
 use Rattle.rr_store.specs.Migrating.{IsMigrated, IsOfOldRows, has_mntner, upper_block}
 use Rattle.rr_store.specs.Opening.{SaysNoOther, SaysOther}
@@ -23,7 +24,7 @@ use Rattle.rr_store.specs.declared.fault.MigrateFault.{MigrateFault}
 use Rattle.rr_store.specs.declared.fault.MigrateFault.TheVariants.{BadRow, NoRoot, Store}
 use Rattle.rr_store.specs.declared.fault.MigrateFault.TheVariants.{WrongVersion}
 use Rattle.rr_store.specs.declared.version.Version.TheVariants.{Old}
-use Rattle.rr_desk.specs.Opened.{MakesNone}
+use Rattle.rr_desk.specs.Opened.{GivesBack}
 use Rattle.rr_desk.specs.Settings.{SettingsParts}
 use Rattle.rr_desk.specs.Stocks.{Stock}
 
@@ -83,16 +84,30 @@ pub record RefusesOldRegistry (settings : SettingsParts) (db : Database) (fault 
 abbrev pub IsMigratedBy : SettingsParts → Database → Database → Type 0
 IsMigratedBy settings = IsMigrated settings.root settings.source
 
--- tables of version 1 were migrated to those of this registry, and a stop of the process leaves the
--- old ones or the new ones (profile)
+-- tables of version 1 are migrated by settings to those of a registry, which has their objects and
+-- the block (profile)
+pub record IsMigratedTo (settings : SettingsParts) (old new : Database) : Type 0 where
+  pub migrated : IsMigratedBy settings old new
+  pub registry : Reg
+  pub grown : IsGrown settings old registry
+  pub rows : HasRows registry new
+
+-- what may be committed where tables are migrated: the new ones, where the connection was open
+-- (profile)
+abbrev pub CommitsMigrated : {S : Type 0} → Ghosts S → SettingsParts → Held S → Trees → Type 0
+CommitsMigrated g settings conn =
+    WhereOpen g conn (TreesOf (IsMigratedTo settings (database g conn)))
+
+-- tables of version 1 were migrated to those of this registry, over a connection that was open, and
+-- a stop of the process leaves the old ones or the new ones (profile)
 pub record MigratesTables {S : Type 0} (g : Ghosts S) (settings : SettingsParts) (conn : Held S)
     (stored : Stock S) : Type 0 where
+  pub was_open : OnCleanDisk g stored.store (IsTrue (state g conn).is_open)
   pub grown : OnCleanDisk g stored.store
       (IsGrown settings (database g conn) stored.registry)
   pub migrated : OnCleanDisk g stored.store
       (IsMigratedBy settings (database g conn) (database g stored.store))
-  pub crash : Survives (state g conn) (state g stored.store)
-      (TreesOf (IsMigratedBy settings (database g conn)))
+  pub crash : Survives (state g conn) (state g stored.store) (CommitsMigrated g settings conn)
 
 -- where the rows have numbers of their own, an error of the database has a cause outside them, or
 -- there is a registry as which they are to be written anew (profile)
@@ -105,6 +120,6 @@ FailsMigrating g settings conn left fault =
 -- the tables were not migrated, and the fault says why (profile)
 pub record FailsToMigrateTables {S : Type 0} (g : Ghosts S) (settings : SettingsParts)
     (conn left : Held S) (fault : MigrateFault) : Type 0 where
-  pub none : MakesNone g (IsMigratedBy settings (database g conn)) conn left
+  pub none : GivesBack g (CommitsMigrated g settings conn) conn left
   pub why : OnCleanDisk g left (RefusesOldRegistry settings (database g conn) fault)
   pub store : FailsMigrating g settings conn left fault

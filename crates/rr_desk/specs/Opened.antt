@@ -1,5 +1,5 @@
 -- Desks that are opened, made, loaded or migrated over a connection (profile).
-use Rattle.std.specs.Prelude.{◌≡◌, ◌≢◌, ℕ, false, List}
+use Rattle.std.specs.Prelude.{◌≡◌, ◌≢◌, ℕ, false, IsTrue, List}
 use Rattle.sqlite_trees.specs.declared.store.Store.{Ghosts}
 use Rattle.sqlite_trees.specs.Tree.{Trees}
 use Rattle.sqlite.specs.Effect.{Database}
@@ -9,10 +9,10 @@ use Rattle.sqlite.specs.State.{Survives}
 use Rattle.rr_auth.specs.Registries.{Reg}
 use Rattle.rr_auth.specs.Sources.{IsRegistryOf}
 use Rattle.rr_rows.specs.Entries.{TreesOf}
-use Rattle.rr_rows.specs.Made.{HasItsTables, IsOccupied, IsVacant, no_schema}
+use Rattle.rr_rows.specs.Made.{HasItsTables, IsMadeWith, IsOccupied, IsVacant, no_schema}
 use Rattle.rr_rows.specs.Maps.{HasRows}
 use Rattle.rr_rows.specs.Tables.{HasTables}
-use Rattle.rr_store.specs.Calls.{FailsOverTidy, OnCleanDisk, WhileOpen, database}
+use Rattle.rr_store.specs.Calls.{FailsOverTidy, OnCleanDisk, WhereOpen, WhileOpen, database}
 use Rattle.rr_store.specs.Creating.{FailsOverRow}
 use Rattle.rr_store.specs.Faults.{no_tables}
 use Rattle.rr_store.specs.Opening.{IfStore, IsOfRows, SaysNoOther, SaysOther}
@@ -62,30 +62,33 @@ pub record RefusesRegistry (source : List ℕ) (db : Database) (fault : OpenFaul
   pub untabled : ¬ HasTables db.schema → fault ≡ opened.Store no_tables
 
 module _ {S : Type 0} (g : Ghosts S) where
-  -- tables were opened: their rows are those of the registry, and nothing was changed (profile)
+  -- tables were opened, over a connection that was open: their rows are those of the registry, and
+  -- nothing was changed (profile)
   pub record OpensTables (conn : Held S) (opened : Stock S) : Type 0 where
+    pub was_open : OnCleanDisk g opened.store (IsTrue (state g conn).is_open)
     pub rows : OnCleanDisk g opened.store (HasRows opened.registry (database g conn))
     pub same : OnCleanDisk g opened.store (database g opened.store ≡ database g conn)
     pub crash : CommitsNothing (state g conn) (state g opened.store)
 
-  -- a stop of the process leaves what there was, or the tables of a new store and all else as it
-  -- was (profile)
-  abbrev pub LeavesItsTables : Held S → Held S → Type 0
-  LeavesItsTables old new =
-      Survives (state g old) (state g new) (TreesOf (HasItsTables (database g old)))
+  -- what may be committed where tables are made: in a database that had room for them, over a
+  -- connection that was open, the tables of a new store with these rows, and all else as it was
+  -- (profile)
+  abbrev pub CommitsTables : (Database → Type 0) → Held S → Trees → Type 0
+  CommitsTables rows conn = WhereOpen g conn (TreesOf (IsMadeWith rows (database g conn)))
 
-  -- tables were made in a database that had room for them, and a stop of the process leaves what
-  -- there was or tables with these rows (profile)
+  -- tables were made in a database that had room for them, over a connection that was open, and a
+  -- stop of the process leaves what there was or tables with these rows (profile)
   pub record MakesTables (rows : Database → Type 0) (conn made : Held S) : Type 0 where
+    pub was_open : OnCleanDisk g made (IsTrue (state g conn).is_open)
     pub vacant : OnCleanDisk g made (IsVacant (database g conn))
     pub tables : OnCleanDisk g made (HasItsTables (database g conn) (database g made))
-    pub crash : Survives (state g conn) (state g made) (TreesOf rows)
-    pub crash_tables : LeavesItsTables conn made
+    pub crash : Survives (state g conn) (state g made) (CommitsTables rows conn)
 
   -- a connection is given back: it is in no transaction, what there was stands, and a stop of the
-  -- process leaves that or what may have been committed (profile)
+  -- process leaves that or what may have been committed; one that is open was open (profile)
   pub record GivesBack (commits : Trees → Type 0) (conn left : Held S) : Type 0 where
     pub autocommit : left.in_transaction ≡ false
+    pub was_open : WhileOpen g left (IsTrue (state g conn).is_open)
     pub kept : WhileOpen g left (database g left ≡ database g conn)
     pub crash : Survives (state g conn) (state g left) commits
 
@@ -93,10 +96,10 @@ module _ {S : Type 0} (g : Ghosts S) where
   abbrev pub OpensNone : Held S → Held S → Type 0
   OpensNone = GivesBack (λ _. ⊥)
 
-  -- no tables were made: what there was stands, and a stop of the process leaves that or tables
-  -- with these rows
+  -- no tables were made: what there was stands, and a stop of the process leaves that or, where
+  -- there was room for them, tables with these rows
   abbrev pub MakesNone : (Database → Type 0) → Held S → Held S → Type 0
-  MakesNone rows = GivesBack (TreesOf rows)
+  MakesNone rows conn = GivesBack (CommitsTables rows conn) conn
 
   -- no tables were opened, and the fault says why; where their rows have numbers of their own, an
   -- error of the database has a cause outside the rows (profile)
@@ -112,7 +115,6 @@ module _ {S : Type 0} (g : Ghosts S) where
   pub record FailsToMakeTables (rows : Database → Type 0) (conn left : Held S) (fault : CreateFault)
       : Type 0 where
     pub none : MakesNone rows conn left
-    pub crash_tables : LeavesItsTables conn left
     pub not_empty : fault ≡ NotEmpty → OnCleanDisk g left (IsOccupied (database g conn))
     pub store : (error : Error) → fault ≡ Store error → FailsOverRow g conn left error
     pub untabled : (error : Error) → fault ≡ Store error

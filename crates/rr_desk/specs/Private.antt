@@ -3,9 +3,12 @@ use Rattle.std.specs.Prelude.{◌≡◌, None, ℕ, Bool, true, false, IsTrue, L
 use Rattle.std.specs.Prelude.{Ok, OnErr, OnOk, Result}
 use Rattle.std.specs.FinMap.{get, insert, remove}
 use Rattle.sqlite_trees.specs.declared.store.Store.{Ghosts}
+use Rattle.sqlite.specs.declared.error.Error.{Error}
+use Rattle.sqlite.specs.declared.error.Error.TheVariants.{SqliteFailure}
+use Rattle.sqlite.specs.declared.error.ErrorCode.TheVariants as code
 use Rattle.sqlite.specs.Effect.{Database}
 use Rattle.sqlite.specs.Held.{Held, state}
-use Rattle.sqlite.specs.State.{State, HasCleanDisk, Survives}
+use Rattle.sqlite.specs.State.{Survives}
 use Rattle.rr_text.specs.Fields.{Field}
 use Rattle.rr_object.specs.declared.key.Key.{Key}
 use Rattle.rr_object.specs.Objects.{Obj}
@@ -22,9 +25,10 @@ use Rattle.rr_rows.specs.Contents.{KeepsOthers}
 use Rattle.rr_rows.specs.Entries.{TreesOf}
 use Rattle.rr_rows.specs.Maps.{HasRows}
 use Rattle.rr_store.specs.Calls.{IsSettled, OnCleanDisk, WhileOpen, database}
+use Rattle.rr_store.specs.declared.fault.StoreFault.{StoreFault}
+use Rattle.rr_store.specs.declared.fault.StoreFault.TheVariants as store_fault
 use Rattle.rr_store.specs.declared.fault.OpenFault.{OpenFault}
 use Rattle.rr_store.specs.declared.fault.OpenFault.TheVariants as opened
-use Rattle.rr_desk.specs.Rows.{CommitsNothing}
 use Rattle.rr_desk.specs.declared.loading.DeskLoadFault.{DeskLoadFault}
 use Rattle.rr_desk.specs.declared.loading.DeskLoadFault.TheVariants as load
 
@@ -72,12 +76,6 @@ abbrev pub Follows : Key → Outcome → Reg → Database → Database → Type 
 Follows key outcome after old new =
     (before : Reg) → LeadsTo before key outcome after → HasRows before old → HasRows after new
 
--- nothing was committed, and a connection that is open was open and has all as it was
-pub record ChangesNothing (old now : State) : Type 0 where
-  pub commits_nothing : CommitsNothing old now
-  pub was_open : HasCleanDisk now → IsTrue now.is_open → IsTrue old.is_open
-  pub same : HasCleanDisk now → IsTrue now.is_open → now.now ≡ old.now
-
 -- beside the rows of the three tables all is as it was
 abbrev pub LeavesRest : {S : Type 0} → Ghosts S → Held S → Held S → Type 0
 LeavesRest g old new = WhileOpen g new (KeepsOthers (database g old) (database g new))
@@ -94,6 +92,11 @@ pub record FollowsIn {S X E : Type 0} (g : Ghosts S) (Change : Database → Data
   pub settled : IsSettled g old → IsSettled g new
   pub kept : WhileOpen g new (OnErr result (database g new ≡ database g old))
   pub crash : Survives (state g old) (state g new) (TreesOf (Change (database g old)))
+
+-- the error of the database that a fault of its store is; out of memory is one of its own
+abbrev pub error_of : StoreFault → Error
+error_of (store_fault.Store error) = error
+error_of store_fault.Memory = SqliteFailure code.OutOfMemory
 
 -- rows of objects that are not a registry are bad rows; that memory ran out is told as such
 abbrev pub opening_fault : LoadFault → OpenFault

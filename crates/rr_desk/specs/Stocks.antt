@@ -1,5 +1,5 @@
 -- A registry with the store that keeps its rows, as a ledger (profile).
-use Rattle.std.specs.Prelude.{◌≡◌, ℕ, Bool, true, false, is_some, IsTrue, List, Option, Some, refl}
+use Rattle.std.specs.Prelude.{◌≡◌, Bool, false, is_some, IsTrue, Option, refl}
 use Rattle.std.specs.Coded.{Coded, code_by, coded×, coded_bool, coded_option}
 use Rattle.std.specs.FinMap as map
 use Rattle.sqlite_trees.specs.declared.store.Store as store
@@ -10,10 +10,9 @@ use Rattle.sqlite.specs.State.{State, HasCleanDisk, Survives}
 use Rattle.rr_object.specs.contracts.key.Key as key
 use Rattle.rr_object.specs.contracts.object.Object as object
 use Rattle.rr_auth.specs.Registries.{Reg}
-use Rattle.rr_auth.specs.Sources.{IsRegistryOf}
 use Rattle.rr_rows.specs.Contents.{KeepsOthers}
 use Rattle.rr_submission.specs.declared.ledger.Ledger as ledger
-use Rattle.rr_store.specs.Calls.{FailsFor, OnCleanDisk}
+use Rattle.rr_store.specs.Calls.{OnCleanDisk}
 use Rattle.rr_desk.specs.Stops.{LeavesStopped}
 use Rattle.rr_desk.specs.Rows.{Holds}
 
@@ -48,13 +47,6 @@ StoresRows g s = OnCleanDisk g s.store (Holds s.registry (state g s.store))
 -- was written
 abbrev pub StoresUntilStopped : {S : Type 0} → store.Ghosts S → Stock S → Type 0
 StoresUntilStopped g s = s.stopped ≡ false → StoresRows g s
-
--- where a fault of the store stops a stock whose registry is of this source, the database's error
--- has a cause outside the rows (profile)
-pub record StopsForCause {S : Type 0} (g : store.Ghosts S) (source : List ℕ) (old new : Stock S)
-    : Type 0 where
-  pub caused : old.stopped ≡ false → new.stopped ≡ true → IsRegistryOf source old.registry
-      → (error : Error) → new.cause ≡ Some error → FailsFor g old.store new.store error
 
 -- what lasts of a connection, whatever is committed in between: a disk that is clean was clean, and
 -- the count of its faults did not fall; the limit of steps stays; nothing but a fault of the disk

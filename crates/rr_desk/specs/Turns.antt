@@ -7,6 +7,8 @@ use Rattle.sqlite_trees.specs.declared.store.Store.{Ghosts}
 use Rattle.rr_io.specs.Told.{Told}
 use Rattle.rr_desk.specs.declared.desk.Desk.{Desk}
 use Rattle.rr_desk.specs.declared.peers.ConnFault.{ConnFault}
+use Rattle.rr_desk.specs.Desks.{desk_state}
+use Rattle.rr_desk.specs.Stocks.{DatabaseLasts, StoresUntilStopped}
 
 -- a turn, as a listener tells it: no connection could be accepted, or one was and is closed, whose
 -- reader told these bytes when it was accepted, and whose writer these when it was closed; `None`
@@ -97,8 +99,15 @@ abbrev pub is_served : Option Visit → Bool
 is_served None = false
 is_served (Some visit) = is_ok visit.ended
 
+-- what stays of a desk through a turn: its settings; its connection, which lasts; and until a fault
+-- of the store stops it, the rows of its registry
+pub record StaysServed {S : Type 0} (g : Ghosts S) (before after : Desk S) : Type 0 where
+  pub settings : after.settings ≡ before.settings
+  pub lasts : DatabaseLasts (desk_state g before) (desk_state g after)
+  pub rows : StoresUntilStopped g after.stored
+
 -- what a turn did: nothing where no connection could be accepted, otherwise what serving it does,
--- from when it was accepted
+-- from when it was accepted, and what stays of the desk
 abbrev pub Does : (S : Type 0) → Ghosts S → Serving → Option Visit → Desk S → Desk S
     → Type 0
 Does S g serves None before after = after ≡ before
@@ -106,6 +115,7 @@ Does S g serves (Some visit) before after =
     IsFresh visit.reader_before visit.writer_before
     × serves S g before after visit.reader_before visit.reader_after
     visit.writer_before visit.writer_after visit.ended
+    × StaysServed g before after
 
 -- the turns were taken one after the other, in this order
 abbrev pub DoesAll : (S : Type 0) → Ghosts S → Serving → List (Option Visit) → Desk S

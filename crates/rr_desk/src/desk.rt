@@ -3,6 +3,9 @@
 ghost use Rattle.std.specs.Prelude.{◌≡◌, false, true, IfErr, IfOk, is_some};
 ghost use Rattle.rr_submission.specs.Submissions.{RefusesSubmission, UnlessStoreFault};
 ghost use Rattle.rr_desk.specs.Desks.{IsOfItsSource, SubmitsTo, desk_state};
+ghost use Rattle.rr_desk.specs.Events as events;
+ghost use Rattle.rr_desk.specs.Histories.{Happens, MakesEvent, OpensEvent, ReopensEvents};
+ghost use Rattle.rr_desk.specs.Histories as histories;
 ghost use Rattle.rr_desk.specs.Opened.{FailsToMakeTables, FailsToOpenTables, HasOpeningRows};
 ghost use Rattle.rr_desk.specs.Opened.{IsRunning, MakesTables, OpensTables};
 ghost use Rattle.rr_desk.specs.Opening.{IsOpeningRegistry};
@@ -32,9 +35,9 @@ impl<S: Alter> Desk<S> {
     /// The desk of the registry that opens with these settings, in a database with nothing in it or
     /// with the three tables and no row: all of the rows are written in one transaction. The caller
     /// gives a connection that is in no transaction. After a fault it is given back, with the rows
-    /// as they were; a stop of the process leaves these, or the new ones whole. `NotEmpty` says
-    /// that one of the tables has a row. Where other tables stand in place of the three, the error
-    /// of the database says that.
+    /// as they were; a stop of the process leaves these or, where there was room for them, the new
+    /// ones whole. `NotEmpty` says that one of the tables has a row. Where other tables stand in
+    /// place of the three, the error of the database says that.
     pub fn create(
         alloc: Global,
         conn: Connection<S>,
@@ -47,6 +50,7 @@ impl<S: Alter> Desk<S> {
             MakesTables S.Store (HasOpeningRows settings) conn desk.stored.store) }
         ensures fails { IfErr result (λ e.
             FailsToMakeTables S.Store (HasOpeningRows settings) conn e.1 e.0) }
+        ensures event { MakesEvent S.Store settings (events.of_settings settings) conn result }
     {
         let Ok(registry) = opening_registry(alloc, &settings) else {
             return Err((CreateFault::Memory, conn));
@@ -72,6 +76,7 @@ impl<S: Alter> Desk<S> {
         ensures opens { IfOk result (λ desk. OpensTables S.Store conn desk.stored) }
         ensures fails { IfErr result (λ e.
             FailsToOpenTables S.Store settings.source conn e.1 e.0) }
+        ensures event { OpensEvent S.Store settings conn result }
     {
         match open_stored(alloc, conn, settings.source()) {
             Ok(stored) => Ok(Desk { settings, stored }),
@@ -86,6 +91,7 @@ impl<S: Alter> Desk<S> {
         ensures opens { IfOk result (λ desk. OpensTables S.Store self.stored.store desk.stored) }
         ensures fails { IfErr result (λ e.
             FailsToOpenTables S.Store self.settings.source self.stored.store e.1 e.0) }
+        ensures events { ReopensEvents S.Store self.settings self result }
     {
         let Desk { settings, stored } = self;
         Desk::open(alloc, stored.close(), settings)
@@ -120,6 +126,10 @@ impl<S: Alter> Desk<S> {
         ensures rows { StoresUntilStopped S.Store self.new.stored }
         ensures settings { self.new.settings ≡ self.old.settings }
         ensures of_source { IsOfItsSource self.old → IsOfItsSource self.new }
+        ensures event { Happens S.Store (histories.at_desk self.old)
+            (events.submitted (R.told reader.old) (R.told reader.new)
+            (W.told writer.old) (W.told writer.new) result)
+            (histories.at_desk self.new) }
         ensures reader_aside { R.aside reader.new ≡ R.aside reader.old }
         ensures writer_aside { W.aside writer.new ≡ W.aside writer.old }
     {
@@ -171,6 +181,8 @@ impl<S: Alter> Desk<S> {
     pub fn close(self) -> Connection<S>
         ensures same { result ≡ self.stored.store }
         ensures autocommit { result.in_transaction ≡ false }
+        ensures event { Happens S.Store (histories.at_desk self) events.closed
+            (histories.at_rest result) }
     {
         let Desk { stored, .. } = self;
         stored.close()

@@ -4,6 +4,9 @@ ghost use Rattle.std.specs.Prelude.{◌≡◌, false, true, length, IfOk};
 ghost use Rattle.std.specs.FinMap.{values};
 ghost use Rattle.rr_answer.specs.Dumps as dumps;
 ghost use Rattle.rr_desk.specs.Dumping.{Dumps, RefusesDump};
+ghost use Rattle.rr_desk.specs.Events as events;
+ghost use Rattle.rr_desk.specs.Histories.{Happens};
+ghost use Rattle.rr_desk.specs.Histories as histories;
 
 use crate::desk::Desk;
 use rr_io::Sink;
@@ -57,6 +60,10 @@ impl<S: Alter> Desk<S> {
             → Dumps (dumps.dump full self.now.stored.registry)
             (W.told writer.old) (W.told writer.new) result }
         ensures count { IfOk result (λ count. count ≡ length (values self.now.stored.registry)) }
+        ensures event { self.now.stored.stopped ≡ false → Happens S.Store
+            (histories.at_desk self.now)
+            (events.dumped full (dumps.dump full self.now.stored.registry))
+            (histories.at_desk self.now) }
         ensures aside { W.aside writer.new ≡ W.aside writer.old }
     {
         if self.stored.stopped() {

@@ -1,7 +1,13 @@
 //! Laws of desks, for readers and for the proofs of other crates. Nothing calls these functions.
 
+ghost use Rattle.rr_desk.specs.Histories.{BlanksStand, DesksStand, HistoriesAreRuns};
+ghost use Rattle.rr_desk.specs.HistoryLaws.{BareTreesAreOfNone, HistoriesAreConfined};
+ghost use Rattle.rr_desk.specs.HistoryLaws.{HistoriesKeepSecrets, ReportedIsKept};
+ghost use Rattle.rr_desk.specs.HistoryLaws.{RowsTellTheRegistry, TreesTellTheRegistry};
 ghost use Rattle.rr_desk.specs.Laws.{DesksKeepSecrets, FullDumpsAreLoaded, RowsAreDumpable};
 ghost use Rattle.rr_desk.specs.Laws.{TurnsAreInOrder};
+
+use sqlite::Alter;
 
 /// Where a reader has the full dump of a registry that can be read again (`IsDumpable`), a load
 /// gives that registry, or its fault is not of the text.
@@ -15,9 +21,8 @@ pub fn rows_are_dumpable()
     ensures { RowsAreDumpable }
 {}
 
-/// Two desks, both stopped or both not, over clean disks and under the same limit, whose registries
-/// look alike, answer each query alike, unless memory or the store fails: hidden text cannot be
-/// asked for, nor found in the tables.
+/// Two desks, both stopped or both not and under the same limit, whose registries look alike,
+/// answer each query alike, unless memory runs out: hidden text cannot be asked for.
 pub fn answers_of_desks_keep_secrets()
     ensures { DesksKeepSecrets }
 {}
@@ -26,4 +31,55 @@ pub fn answers_of_desks_keep_secrets()
 /// i-th.
 pub fn turns_are_in_order()
     ensures { TurnsAreInOrder }
+{}
+
+/// Each history of a database is one of its registry by itself: the bytes that were told are those
+/// of the same requests to that registry, in the same order, and the tables hold its objects and no
+/// others. It is said over a disk that gives back what was written.
+pub fn histories_are_runs<S: Alter>()
+    ensures { HistoriesAreRuns S.Store }
+{}
+
+/// A desk that runs stands as its registry by itself, so that a history can begin with it.
+pub fn desks_stand<S: Alter>()
+    ensures { DesksStand S.Store }
+{}
+
+/// A connection to a new database stands as no registry, so that a history can begin with it.
+pub fn blanks_stand<S: Alter>()
+    ensures { BlanksStand S.Store }
+{}
+
+/// Whatever becomes of a submission, the next opening has the registry after the first of its
+/// items: all those that were reported, and one more at most.
+pub fn reported_is_kept()
+    ensures { ReportedIsKept }
+{}
+
+/// All that is submitted in a history is one run, whatever stops it in between, which answers the
+/// holders of a prefix as if nobody else had submitted anything, and leaves what they hold to them.
+pub fn histories_are_confined()
+    ensures { HistoriesAreConfined }
+{}
+
+/// Registries that look alike tell the same of the same questions, unless memory runs out: hidden
+/// text cannot be asked for in any number of questions.
+pub fn histories_keep_secrets()
+    ensures { HistoriesKeepSecrets }
+{}
+
+/// Tables hold the rows of one registry at most.
+pub fn rows_tell_the_registry()
+    ensures { RowsTellTheRegistry }
+{}
+
+/// Where the trees are those of the rows of a registry, as a stop may leave them, it is the one
+/// that is opened.
+pub fn trees_tell_the_registry()
+    ensures { TreesTellTheRegistry }
+{}
+
+/// Trees whose first table has no row are those of no registry.
+pub fn bare_trees_are_of_none()
+    ensures { BareTreesAreOfNone }
 {}

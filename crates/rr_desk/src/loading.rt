@@ -2,6 +2,8 @@
 
 ghost use Rattle.std.specs.Prelude.{◌≡◌, false, IfErr, IfOk};
 ghost use Rattle.rr_auth.specs.Sources.{IsRegistryOf};
+ghost use Rattle.rr_desk.specs.Events as events;
+ghost use Rattle.rr_desk.specs.Histories.{MakesEvent};
 ghost use Rattle.rr_desk.specs.Loaded.{FailsToLoad, FailsToLoadTables, HasLoadedRows, IsLoaded};
 ghost use Rattle.rr_desk.specs.Opened.{IsRunning, MakesTables};
 ghost use Rattle.rr_desk.specs.Private.{IsNotOfStore};
@@ -113,8 +115,8 @@ impl<S: Alter> Desk<S> {
     /// written in one transaction, or none. The dump is any RPSL text whose entries are the objects
     /// of a sound registry of the settings' source. The caller gives a connection that is in no
     /// transaction. After a fault it is given back, with the rows as they were; a stop of the
-    /// process leaves these, or the new ones whole. Where other tables stand in place of the three,
-    /// the error of the database says that.
+    /// process leaves these or, where there was room for them, the new ones whole. Where other
+    /// tables stand in place of the three, the error of the database says that.
     pub fn load<R: Source>(
         alloc: Global,
         conn: Connection<S>,
@@ -129,6 +131,8 @@ impl<S: Alter> Desk<S> {
             (R.told reader.old) (R.told reader.new)) conn desk.stored.store) }
         ensures fails { IfErr result (λ e. FailsToLoadTables S.Store settings.source
             (R.told reader.old) (R.told reader.new) conn e.1 e.0) }
+        ensures event { MakesEvent S.Store settings (events.of_dump settings.source
+            (R.told reader.old) (R.told reader.new)) conn result }
         ensures aside { R.aside reader.new ≡ R.aside reader.old }
     {
         match read_registry(alloc, settings.source(), reader) {

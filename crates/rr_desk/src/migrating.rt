@@ -5,6 +5,7 @@ ghost use Rattle.rr_auth.specs.Registries.{Sound};
 ghost use Rattle.rr_auth.specs.Sources.{IsRegistryOf};
 ghost use Rattle.rr_store.specs.Calls.{Looks, OnCleanDisk, database};
 ghost use Rattle.rr_store.specs.declared.fault.MigrateFault.TheVariants.{BadRow, Memory, NoRoot};
+ghost use Rattle.rr_desk.specs.Histories.{MigratesEvent};
 ghost use Rattle.rr_desk.specs.Migrating.{AreRegistry, FailsMigrating, FailsToMigrateTables};
 ghost use Rattle.rr_desk.specs.Migrating.{HasUpper, IsGrown, MigratesTables, RefusesOldRegistry};
 ghost use Rattle.rr_desk.specs.MigratingParts.{HasLoadFault, HasUpperFault, IsGrowthFault, told_as};
@@ -39,6 +40,7 @@ impl<S: Alter> Desk<S> {
         ensures runs { IfOk result (IsRunning S.Store settings) }
         ensures migrates { IfOk result (λ desk. MigratesTables S.Store settings conn desk.stored) }
         ensures fails { IfErr result (λ e. FailsToMigrateTables S.Store settings conn e.1 e.0) }
+        ensures event { MigratesEvent S.Store settings conn result }
     {
         match migrate_stored(alloc, conn, &settings) {
             Ok(stored) => Ok(Desk { settings, stored }),

@@ -2,27 +2,22 @@
 
 ghost use Rattle.std.specs.Prelude.{◌≡◌, false, true, IfOk, OnErr, OnOk, is_some};
 ghost use Rattle.std.specs.FinMap.{get};
-ghost use Rattle.std.specs.List.{AllByRecursion};
 ghost use Rattle.sqlite.specs.Held.{state};
-ghost use Rattle.rr_answer.specs.declared.query.Query.TheVariants.{Naming};
-ghost use Rattle.rr_answer.specs.Selections.{asked};
 ghost use Rattle.rr_auth.specs.Laws.{key_about};
 ghost use Rattle.rr_registry.specs.Runs.{IsStep};
-ghost use Rattle.rr_rows.specs.Maps.{HasRows, IsObjectOf};
+ghost use Rattle.rr_rows.specs.Maps.{HasRows};
 ghost use Rattle.rr_store.specs.Calls.{IsOpen, IsSettled, OnCleanDisk, Transacts, database};
 ghost use Rattle.rr_desk.specs.Stops.{LeavesStopped, changes};
-ghost use Rattle.rr_desk.specs.LookupParts.{database_error, error_of};
-ghost use Rattle.rr_desk.specs.Private.{ChangesNothing, Follows, FollowsGain, FollowsIn};
-ghost use Rattle.rr_desk.specs.Private.{FollowsNew, LeavesRest, puts_one};
+ghost use Rattle.rr_desk.specs.Private.{Follows, FollowsGain, FollowsIn, FollowsNew};
+ghost use Rattle.rr_desk.specs.Private.{LeavesRest, error_of, puts_one};
 ghost use Rattle.rr_desk.specs.Rows.{KeepsRows};
-ghost use Rattle.rr_desk.specs.Stocks.{DatabaseLasts, StopsForCause, StoresUntilStopped};
+ghost use Rattle.rr_desk.specs.Stocks.{DatabaseLasts, StoresUntilStopped};
 ghost use Rattle.rr_desk.specs.Stocks.{StoresRows, stock_ledger};
 ghost use Rattle.rr_desk.specs.Lasting.{stock_on, stock_still};
 
 use rr_auth::{Book, Item, Secrets};
 use rr_index::IndexedBook;
-use rr_number::Name;
-use rr_object::{Code, Key, Object};
+use rr_object::{Code, Key};
 use rr_registry::{Outcome, Registry};
 use rr_store::{Store, StoreFault};
 use rr_submission::{Ledger, Stopped};
@@ -93,33 +88,6 @@ impl<S: Alter> Stored<S> {
         ensures { result.now ≡ self.now.registry }
     {
         &self.registry
-    }
-
-    /// The objects that name the maintainer, by class and key, as the rows of this source have
-    /// them. A fault of the store stops it; where its registry is of this source, the fault has a
-    /// cause outside the rows. Where memory runs out it is not stopped.
-    pub(crate) fn naming(
-        &mut self,
-        alloc: Global,
-        source: &Name,
-        name: &Name,
-    ) -> Result<Vec<Object>, StoreFault>
-        requires running { self.old.stopped ≡ false }
-        ensures found { OnCleanDisk S.Store self.new.store (IfOk result (λ objects.
-            objects.items ≡ asked (Naming name.now) self.old.registry)) }
-        ensures of_source { IfOk result (λ objects.
-            AllByRecursion (IsObjectOf source.now) objects.items) }
-        ensures cause { self.new.cause ≡ database_error result }
-        ensures stops { self.new.stopped ≡ is_some (database_error result) }
-        ensures why { StopsForCause S.Store source.now self.old self.new }
-        ensures registry { self.new.registry ≡ self.old.registry }
-        ensures keeps { KeepsRows self.old.registry (state S.Store self.new.store) }
-        ensures unchanged { ChangesNothing
-            (state S.Store self.old.store) (state S.Store self.new.store) }
-    {
-        let found = self.store.naming(alloc, source, name);
-        self.cause = database_error(&found);
-        found
     }
 
     /// Decides an item, which is about this key.
@@ -212,16 +180,6 @@ impl<S: Alter> Ledger for Stored<S> {
             Ok(key) => self.decide_about(alloc, secrets, &key, item),
             Err(AllocError) => Ok(Outcome::Refused(Code::E90)),
         }
-    }
-}
-
-/// The error with which the database refused, if it did.
-fn database_error(found: &Result<Vec<Object>, StoreFault>) -> Option<Error>
-    ensures { result ≡ database_error found.now }
-{
-    match found {
-        Err(StoreFault::Store(error)) => Some(*error),
-        Err(StoreFault::Memory) | Ok(_) => None,
     }
 }
 

@@ -3,8 +3,9 @@ use Rattle.std.proofs.Common.{◌≡◌, ◌⊎◌, ◌↔◌, true, false, cond
 use Rattle.std.specs.BTreeMap.{is_at}
 use Rattle.std.specs.BTreeSet.{BTreeSet, Updates, contains}
 use Rattle.std.specs.Cmp.{IsTotalOrder}
+use Rattle.std.specs.Global.{Vec}
 use Rattle.std.specs.List.{filter_map}
-use Rattle.std.specs.Option.{option_map}
+use Rattle.std.specs.Option.{IfSome, option_map}
 use Rattle.std.specs.Ordering.{eq_by_cmp}
 use Rattle.std.proofs.lemmas.Bool.{cases_Bool}
 use Rattle.std.proofs.lemmas.List.Elements.{Contains-append_cases, Contains-append_left, Contains-append_right, Contains-push, Contains-push_cases}
@@ -51,6 +52,10 @@ module _ {N L V : Type 0} (passed : L → V → Option V) where
       only = λ p has. absurd (Contains-nil p (subst (λ (l : List (N × V)). Contains l p) empty ((btree_set_contains_iff order exact made p).0 has)));
     }
 
+    -- an index that has less
+    pub IsDistinct-fewer : (edges kept : List (Edge N L)) (made new : BTreeSet (N × V)) → ((p : N × V) → IsTrue (contains cmp new p) → IsTrue (contains cmp made p)) → IsDistinct cmp passed value edges kept made → IsDistinct cmp passed value edges kept new
+    IsDistinct-fewer edges kept made new fewer before = record { enough = before.enough; only = λ p has. before.only p (fewer p has) }
+
     module _ (edges kept : List (Edge N L)) (made : BTreeSet (N × V)) (edge : Edge N L) (before : IsDistinct cmp passed value edges kept made) where
       -- an edge that drops the value
       pub IsDistinct-dropped : passed edge.label value ≡ None → IsDistinct cmp passed value (edges ++ edge ∷ []) kept made
@@ -60,11 +65,14 @@ module _ {N L V : Type 0} (passed : L → V → Option V) where
       }
 
       -- an edge that makes what another does
-      pub IsDistinct-again : (w : V) → passed edge.label value ≡ Some w → contains cmp made (edge.to, w) ≡ true → IsDistinct cmp passed value (edges ++ edge ∷ []) kept made
-      IsDistinct-again w is there = record {
+      pub IsDistinct-again : (w : V) (new : BTreeSet (N × V)) → passed edge.label value ≡ Some w → contains cmp made (edge.to, w) ≡ true → Updates cmp made new (edge.to, w) true → IsDistinct cmp passed value (edges ++ edge ∷ []) kept new
+      IsDistinct-again w new is there update = record {
         enough = IsEnough-more edges kept kept value edge before.enough (λ e has. has) (λ e has. inl has)
             (λ v also. let both : Some w ≡ Some v = sym is ∙ also in let same : w ≡ v = cc in subst (λ (x : V). Makes passed value kept edge.to x) same (before.only (edge.to, w) there));
-        only = before.only;
+        only = λ p has. elim (cases_Bool (eq_by_cmp cmp (edge.to, w) p)) [
+          | inl same ↦ subst (λ (q : N × V). Makes passed value kept q.0 q.1) (tells_apart exact (edge.to, w) p same) (before.only (edge.to, w) there)
+          | inr other ↦ before.only p (sym (update.2 p other) ∙ has)
+        ];
       }
 
       -- an edge that is kept
@@ -174,26 +182,26 @@ module _ {N L V : Type 0} (keeps : L → Bool) (passed : L → V → Option V) w
     }
 
     -- pairs over all chosen edges
-    pub IsMadeBut-chosen : (before : Bool) (pairs : List (N × V)) → pairs ≡ filter_map (pair_by passed value) choice.keeping.items ++ filter_map (pair_by passed value) choice.changing.items → IsMadeBut keeps passed edges value before pairs
-    IsMadeBut-chosen before pairs is = record { only = only; whole = whole } where
+    pub IsMadeBut-chosen : (others : List (Edge N L)) → IsEnough (changed keeps passed) edges value others → (before : Bool) (pairs : List (N × V)) → pairs ≡ filter_map (pair_by passed value) choice.keeping.items ++ filter_map (pair_by passed value) others → IsMadeBut keeps passed edges value before pairs
+    IsMadeBut-chosen others enough before pairs is = record { only = only; whole = whole } where
       keeping : List (N × V)
       keeping = filter_map (pair_by passed value) choice.keeping.items
 
       changing : List (N × V)
-      changing = filter_map (pair_by passed value) choice.changing.items
+      changing = filter_map (pair_by passed value) others
 
       only : (q : N × V) → Contains pairs q → Makes passed value edges q.0 q.1
       only q has = elim (Contains-append_cases keeping changing q (subst (λ (l : List (N × V)). Contains l q) is has)) [
         | inl kept ↦ keeping-makes q kept
         | inr other ↦
-            let (e, among, to, makes) = (Contains-pairs value choice.changing.items q).0 other in
-            (e, chosen.changing.among e among, to, makes)
+            let (e, among, to, makes) = (Contains-pairs value others q).0 other in
+            (e, enough.among e among, to, makes)
       ]
 
       whole : (q : N × V) → Makes passed value edges q.0 q.1 → Contains pairs q ⊎ (IsTrue before × Makes (changed keeps passed) value edges q.0 q.1)
       whole q makes = inl (subst (λ (l : List (N × V)). Contains l q) (sym is) (elim (kept-or-changed q makes) [
         | inl kept ↦ Contains-append_left keeping changing q kept
-        | inr other ↦ Contains-append_right keeping changing q ((Contains-pairs value choice.changing.items q).1 (Makes-changed value choice.changing.items q.0 q.1 (chosen.changing.whole q.0 q.1 other)))
+        | inr other ↦ Contains-append_right keeping changing q ((Contains-pairs value others q).1 (Makes-changed value others q.0 q.1 (enough.whole q.0 q.1 other)))
       ]))
 
   module _ {K : Type 0} (kind_of : V → K) (alike : (l m : L) (v w : V) → keeps l ≡ false → keeps m ≡ false → kind_of v ≡ kind_of w → passed l v ≡ passed m v → passed l w ≡ passed m w) (dropped : (l : L) (v w : V) → keeps l ≡ false → kind_of v ≡ kind_of w → passed l v ≡ None → passed l w ≡ None) where
@@ -208,6 +216,11 @@ module _ {N L V : Type 0} (keeps : L → Bool) (passed : L → V → Option V) w
             let (f, kept_, at, makes) = enough.whole node x (e, has, to, some) in
             (f, kept_, at, sym (changed-alike keeps passed kind_of alike dropped e.label f.label v w x same some makes) ∙ is)
 
+    -- and so if some are chosen
+    IfSome-alike : (edges : List (Edge N L)) (o : Option (Vec (Edge N L))) (v w : V) → kind_of v ≡ kind_of w → IfSome o (λ kept. IsEnough (changed keeps passed) edges v kept.items) → IfSome o (λ kept. IsEnough (changed keeps passed) edges w kept.items)
+    IfSome-alike edges None v w same is = is
+    IfSome-alike edges (Some kept) v w same enough = IsEnough-alike edges kept.items v w same enough
+
     module _ {cmp : N × K → N × K → Ordering} (exact : CmpEqualImpliesEq cmp) (all : N → List (Edge N L)) (old new : N × K → Option (Choice N L)) (node : N) (value : V) (choice : Choice N L) where
       -- one more node and kind
       pub IsKnown-entered : IsKnown keeps passed kind_of all old → IsChoice keeps passed (all node) value choice → ((key : N × K) → new key ≡ cond (is_at (cmp (node, kind_of value)) key) (Some choice) (old key)) → IsKnown keeps passed kind_of all new
@@ -217,7 +230,7 @@ module _ {N L V : Type 0} (keeps : L → Bool) (passed : L → V → Option V) w
             let both : Some choice ≡ Some k = sym (step (n, kind_of v) ∙ ap (λ b. cond b (Some choice) (old (n, kind_of v))) same) ∙ has in
             let alike_ : choice ≡ k = cc in
             subst (λ (m : N). IsChoice keeps passed (all m) v k) (ap (λ (q : N × K). q.0) it)
-            (subst (λ (c : Choice N L). IsChoice keeps passed (all node) v c) alike_ (record { keeping = chosen.keeping; changing = IsEnough-alike (all node) choice.changing.items value v (ap (λ (q : N × K). q.1) it) chosen.changing }))
+            (subst (λ (c : Choice N L). IsChoice keeps passed (all node) v c) alike_ (record { keeping = chosen.keeping; changing = IfSome-alike (all node) choice.changing value v (ap (λ (q : N × K). q.1) it) chosen.changing }))
         | inr other ↦ before n v k (sym (step (n, kind_of v) ∙ ap (λ b. cond b (Some choice) (old (n, kind_of v))) other) ∙ has)
       ]
 

@@ -1,6 +1,7 @@
 -- Runs of edges to one node, and what they make of its values.
-use Rattle.std.proofs.Common.{suc, ◌≡◌, ℕ, ◌+◌, ◌-◌, ◌<◌, ◌≤◌, Bool, true, false, not, ◌⊎◌, ◌↔◌, List, [], ◌∷◌, ◌++◌, length, get_or, map, take, drop, Contains, Option, None, Some, refl, sym, ap, ◌∙◌, subst, inl, inr, arith}
+use Rattle.std.proofs.Common.{suc, ◌≡◌, ℕ, ◌+◌, ◌-◌, ◌<◌, ◌≤◌, Bool, true, false, not, ◌⊎◌, ◌↔◌, List, [], ◌∷◌, ◌++◌, length, get_or, map, take, drop, Contains, Option, Some, refl, sym, ap, ◌∙◌, subst, inl, inr, arith}
 use Rattle.std.specs.List.{filter_map}
+use Rattle.std.specs.Option.{is_some}
 use Rattle.std.proofs.Math.Seq.{drop-cons, take-add}
 use Rattle.std.proofs.lemmas.List.{length-drop, length-take-le, take-append-drop, take_all}
 use Rattle.std.proofs.lemmas.List.Elements.{Contains-append_cases, Contains-append_left, Contains-append_right, Contains-push}
@@ -50,14 +51,29 @@ module _ {N L V : Type 0} (passed : L → V → Option V) where
       ]),
     )
 
-    -- a run to another node makes nothing
-    pub IsPassed-lost : (old : List V) (node : N) (run : List (Edge N L)) → IsRun node run → at node ≡ None → (v : V) → Contains old v ↔ (Contains old v ⊎ IsPassed passed at run v)
-    IsPassed-lost old node run one unknown v = (
-      λ has. inl has,
-      λ both. elim both [
-        | inl there ↦ there
-        | inr (e, among, (w, (values, at_to, has), is)) ↦ let wrong : None ≡ Some values = sym (ap at (one e among) ∙ unknown) ∙ at_to in cc
+    -- a run to a known node after edges to known ones
+    pub known_run : (edges run : List (Edge N L)) (n m : ℕ) (node : N) (held : List V) → run ≡ take m (drop n edges) → IsRun node run → at node ≡ Some held → ((e : Edge N L) → Contains (take n edges) e → is_some (at e.to) ≡ true) → (e : Edge N L) → Contains (take (n + m) edges) e → is_some (at e.to) ≡ true
+    known_run edges run n m node held is one known before e has = elim (Contains-append_cases (take n edges) run e (subst (λ (l : List (Edge N L)). Contains l e) whole has)) [
+      | inl earlier ↦ before e earlier
+      | inr here ↦ ap is_some (ap at (one e here) ∙ known)
+    ] where
+      whole : take (n + m) edges ≡ take n edges ++ run
+      whole = take-add n m edges ∙ ap (λ (l : List (Edge N L)). take n edges ++ l) (sym is)
+
+    -- what edges make, and then other values
+    pub IsPassed-first : (edges : List (Edge N L)) (none made own all : List V) → none ≡ [] → all ≡ made ++ own → ((v : V) → Contains made v ↔ (Contains none v ⊎ IsPassed passed at edges v)) → (v : V) → Contains all v ↔ (Contains own v ⊎ IsPassed passed at edges v)
+    IsPassed-first edges none made own all empty is has_made v = (
+      λ has. elim (Contains-append_cases made own v (subst (λ (l : List V). Contains l v) is has)) [
+        | inl there ↦ elim ((has_made v).0 there) [
+          | inl never ↦ absurd (Contains-nil v (subst (λ (l : List V). Contains l v) empty never))
+          | inr by_edges ↦ inr by_edges
+        ]
+        | inr owned ↦ inl owned
       ],
+      λ both. rw is (elim both [
+        | inl owned ↦ Contains-append_right made own v owned
+        | inr by_edges ↦ Contains-append_left made own v ((has_made v).1 (inr by_edges))
+      ]),
     )
 
   -- one edge

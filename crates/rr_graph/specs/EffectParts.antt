@@ -1,6 +1,6 @@
 -- Edges that are enough for a value: all that keep values, and of the others to one node that make
 -- the same of it, one. Private functions promise these; what a caller reads is in `Carried`.
-use Rattle.std.specs.Prelude.{◌≡◌, ◌⊎◌, Bool, List, Contains, Option, None, Some, IsTrue}
+use Rattle.std.specs.Prelude.{◌≡◌, ◌⊎◌, Bool, List, Contains, Option, None, Some, IsTrue, IfSome}
 use Rattle.std.specs.Prelude.{filter, if◌then◌else◌}
 use Rattle.std.specs.declared.cmp.Ordering.{Ordering}
 use Rattle.std.specs.BTreeSet.{BTreeSet, contains}
@@ -24,10 +24,12 @@ abbrev pub changed : {L V : Type 0} → (L → Bool) → (L → V → Option V) 
 changed keeps passed label value = if keeps label then None else passed label value
 
 module _ {N L V : Type 0} (keeps : L → Bool) (passed : L → V → Option V) where
-  -- Those of the edges that keep values, and some that change them and are enough for the value.
+  -- Those of the edges that keep values, and perhaps some that change them and are enough for the
+  -- value.
   pub record IsChoice (edges : List (Edge N L)) (value : V) (choice : Choice N L) : Type 0 where
     pub keeping : choice.keeping.items ≡ filter (λ e. keeps e.label) edges
-    pub changing : IsEnough (changed keeps passed) edges value choice.changing.items
+    pub changing : IfSome choice.changing
+        (λ kept. IsEnough (changed keeps passed) edges value kept.items)
 
   -- What is known of a node and a kind is enough for each value of that kind.
   abbrev pub IsKnown : {K : Type 0} → (V → K) → (N → List (Edge N L))

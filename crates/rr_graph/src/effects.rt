@@ -1,7 +1,7 @@
 //! What edges make of values, where many edges do the same.
 
 ghost use Rattle.std.specs.Prelude.{◌≡◌, [], ◌∷◌, ◌++◌, List, None};
-ghost use Rattle.std.specs.Prelude.{IfOk, OnOk, false, filter, not};
+ghost use Rattle.std.specs.Prelude.{IfOk, IfSome, IsTrue, OnOk, false, filter, not};
 ghost use Rattle.std.specs.BTreeMap.{get};
 ghost use Rattle.std.specs.BTreeSet.{contains};
 ghost use Rattle.std.specs.List.{filter_map};
@@ -18,6 +18,7 @@ use std::collections::{BTreeMap, BTreeSet};
 /// which kinds and groups of values were put through those that change values. Many references
 /// between two sets do the same to most values: 35 operators make one range of a /32, and no
 /// operator but none tells `10.0.0.0/8^8-9` from `10.0.0.0/8^8-10`. So each effect is used once.
+/// The first group of a kind goes through all edges: mostly there is no second one.
 #[derive(Drop)]
 pub(crate) struct Effects<G: Labelled> {
     map: BTreeMap<(G::Node, G::Kind), Choice<G::Node, G::Label>>,
@@ -25,11 +26,11 @@ pub(crate) struct Effects<G: Labelled> {
 }
 
 /// Of the edges of a node those that keep values, and of the others some that are enough for values
-/// of one kind.
+/// of one kind, once these are of a second group.
 #[derive(Drop)]
 struct Choice<N, L> {
     keeping: Vec<Edge<N, L>>,
-    changing: Vec<Edge<N, L>>,
+    changing: Option<Vec<Edge<N, L>>>,
 }
 
 impl<G: Labelled> Effects<G> {
@@ -71,14 +72,14 @@ impl<G: Labelled> Effects<G> {
             (contains ⟦<((G::Node, G::Kind), G::Group) as Ord>⟧.cmp self.old.marks
             ((node.now, G.kind_of value), G.group_of value)) pairs.items) }
     {
-        self.note(alloc, graph, node, edges, value)?;
         let first = self.mark(alloc, graph, node, value)?;
+        self.note(alloc, graph, node, edges, value, first)?;
         let pairs = self.chosen(alloc, graph, node, edges, value, first)?;
         Ok(pairs)
     }
 
-    /// Finds which of the edges are enough for values of this one's kind, unless that is known of
-    /// the node.
+    /// Notes of the node and the value's kind what the value needs, unless that is known: which of
+    /// the edges keep values, and at a second group, which of the others are enough.
     fn note(
         &mut self,
         alloc: Global,
@@ -86,6 +87,7 @@ impl<G: Labelled> Effects<G> {
         node: &G::Node,
         edges: &[Edge<G::Node, G::Label>],
         value: G::Value,
+        first: bool,
     ) -> Result<(), AllocError>
         ensures known { (all : G.Node → List (Edge G.Node G.Label)) → all node.now ≡ edges.now
             → IsKnown G.keeps G.passed G.kind_of all
@@ -94,11 +96,35 @@ impl<G: Labelled> Effects<G> {
         ensures marks { self.new.marks ≡ self.old.marks }
     {
         let key = (graph.copy(alloc, node)?, graph.kind(value));
-        if self.map.contains_key(&key) {
-            return Ok(());
+        if let Some(choice) = self.lacking(alloc, graph, &key, edges, value, first)? {
+            self.map.insert(key, choice)?;
         }
-        self.map.insert(key, choose(alloc, graph, edges, value)?)?;
         Ok(())
+    }
+
+    /// What the value needs and is not known under the key.
+    fn lacking(
+        &self,
+        alloc: Global,
+        graph: &G,
+        key: &(G::Node, G::Kind),
+        edges: &[Edge<G::Node, G::Label>],
+        value: G::Value,
+        first: bool,
+    ) -> Result<Option<Choice<G::Node, G::Label>>, AllocError>
+        ensures { IfOk result (λ lacking. IfSome lacking
+            (λ choice. IsChoice G.keeps G.passed edges.now value choice)) }
+    {
+        match self.map.get(key) {
+            None => Ok(Some(begin(alloc, graph, edges)?)),
+            Some(choice) => {
+                if first && choice.changing.is_none() {
+                    Ok(Some(choose(alloc, graph, edges, value)?))
+                } else {
+                    Ok(None)
+                }
+            }
+        }
     }
 
     /// Marks the kind and group of the value at the node, and tells whether they were not yet.
@@ -141,7 +167,7 @@ impl<G: Labelled> Effects<G> {
     {
         let key = (graph.copy(alloc, node)?, graph.kind(value));
         match self.map.get(&key) {
-            Some(choice) => choice.carried(alloc, graph, value, first),
+            Some(choice) => choice.carried(alloc, graph, edges, value, first),
             None => carried(alloc, graph, edges, value),
         }
     }
@@ -154,21 +180,39 @@ impl<N: Drop, L: Copy + Drop> Choice<N, L> {
         &self,
         alloc: Global,
         graph: &G,
+        edges: &[Edge<N, L>],
         value: G::Value,
         others: bool,
     ) -> Result<Vec<(N, G::Value)>, AllocError>
-        ensures { (edges : List (Edge N L)) → IsChoice G.keeps G.passed edges value self.now
-            → IfOk result
-            (λ pairs. IsMadeBut G.keeps G.passed edges value (not others) pairs.items) }
+        ensures { IsChoice G.keeps G.passed edges.now value self.now → IfOk result
+            (λ pairs. IsMadeBut G.keeps G.passed edges.now value (not others) pairs.items) }
     {
-        let mut pairs = carried(alloc, graph, &self.keeping, value)?;
         if !others {
-            return Ok(pairs);
+            return carried(alloc, graph, &self.keeping, value);
         }
-        let mut more = carried(alloc, graph, &self.changing, value)?;
+        let Some(changing) = &self.changing else {
+            return carried(alloc, graph, edges, value);
+        };
+        let mut pairs = carried(alloc, graph, &self.keeping, value)?;
+        let mut more = carried(alloc, graph, changing, value)?;
         pairs.append(&mut more)?;
         Ok(pairs)
     }
+}
+
+/// The edges that keep values.
+fn begin<G: Labelled>(
+    alloc: Global,
+    graph: &G,
+    edges: &[Edge<G::Node, G::Label>],
+) -> Result<Choice<G::Node, G::Label>, AllocError>
+    ensures { (value : G.Value)
+        → IfOk result (λ choice. IsChoice G.keeps G.passed edges.now value choice) }
+{
+    Ok(Choice {
+        keeping: keeping(alloc, graph, edges)?,
+        changing: None,
+    })
 }
 
 /// The edges that are enough for the value.
@@ -182,7 +226,10 @@ fn choose<G: Labelled>(
 {
     let keeping = keeping(alloc, graph, edges)?;
     let changing = distinct(alloc, graph, edges, value)?;
-    Ok(Choice { keeping, changing })
+    Ok(Choice {
+        keeping,
+        changing: Some(changing),
+    })
 }
 
 /// Those of the edges that keep values.
@@ -254,8 +301,23 @@ impl<G: Labelled> Kept<G> {
         }
     }
 
-    /// Adds the edge, unless it keeps or drops the value or another to its node makes the same of
-    /// it.
+    /// Forgets what was made at another node. Edges come a node at a time, so each is looked for
+    /// among few.
+    fn turn_to(&mut self, node: &G::Node)
+        ensures edges { self.new.edges ≡ self.old.edges }
+        ensures made { (made : G.Node × G.Value)
+            → IsTrue (contains ⟦<(G::Node, G::Value) as Ord>⟧.cmp self.new.made made)
+            → IsTrue (contains ⟦<(G::Node, G::Value) as Ord>⟧.cmp self.old.made made) }
+    {
+        if let Some(last) = self.edges.last() {
+            if last.to != *node {
+                self.made.clear();
+            }
+        }
+    }
+
+    /// Adds the edge, unless it keeps or drops the value or the one before it at its node makes the
+    /// same of it.
     fn add(
         &mut self,
         alloc: Global,
@@ -272,11 +334,12 @@ impl<G: Labelled> Kept<G> {
         let Some(passed) = changed(graph, edge.label, value) else {
             return Ok(());
         };
+        self.turn_to(&edge.to);
         let made = (graph.copy(alloc, &edge.to)?, passed);
-        if self.made.contains(&made) {
+        let first = self.made.insert(made)?;
+        if !first {
             return Ok(());
         }
-        self.made.insert(made)?;
         let to = graph.copy(alloc, &edge.to)?;
         self.edges.push(Edge {
             to,

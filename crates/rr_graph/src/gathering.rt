@@ -9,6 +9,7 @@ ghost use Rattle.rr_graph.specs.Carried.{Leads};
 ghost use Rattle.rr_graph.specs.ReversedParts.{IsCarriedPair};
 
 use crate::backward::reversed;
+use crate::descent::ends_first;
 use crate::labels::{Edge, Labelled};
 use crate::numbered::Numbered;
 use crate::order::ascending;
@@ -132,17 +133,21 @@ fn found_among<G: Labelled>(
     let numbered = Numbered::new(alloc, graph, nodes)?;
     let places = numbered.all(alloc)?;
     match numbered.place(start) {
-        Some(place) => found_at(alloc, &numbered, &places, &place, limit),
+        Some(place) => {
+            let order = ends_first(alloc, &numbered, place)?;
+            found_at(alloc, &numbered, &places, &order, &place, limit)
+        }
         None => Ok(Vec::new(alloc)),
     }
 }
 
 /// The values that are found at the start, in ascending order, where the nodes are those that are
-/// reached from it.
+/// reached from it, to be looked at in this order of their places.
 fn found_at<G: Labelled>(
     alloc: Global,
     graph: &G,
     nodes: &[G::Node],
+    order: &[u32],
     start: &G::Node,
     limit: usize,
 ) -> Result<Vec<G::Value>, ReachFault>
@@ -155,7 +160,7 @@ fn found_at<G: Labelled>(
     ensures many { result ≡ Err ReachFault.TooMany
         → HasManyPairs (G.edge graph.now) (G.own graph.now) G.passed limit start.now }
 {
-    let settled = settled(alloc, graph, nodes, limit)?;
+    let settled = settled(alloc, graph, nodes, order, limit)?;
     match settled.into_values(nodes, start) {
         Some(values) => Ok(values),
         None => walked(alloc, graph, nodes, start, limit),

@@ -7,6 +7,7 @@ ghost use Rattle.std.proofs.lemmas.Map.Lookups.{CmpEqualImpliesEq};
 ghost use Rattle.rr_graph.specs.Chain.{HasNoRepeats, IsReached, MoreThan};
 
 mod backward;
+mod descent;
 mod effects;
 mod gathering;
 mod labels;
@@ -16,7 +17,6 @@ mod pairs;
 mod settled;
 mod settling;
 mod tails;
-mod waiting;
 mod walk;
 
 pub use gathering::{Gathered, gather};

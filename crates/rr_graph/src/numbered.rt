@@ -19,8 +19,8 @@ use std::collections::BTreeMap;
 pub(crate) struct Numbered<'a, G: Labelled> {
     graph: &'a G,
     nodes: &'a [G::Node],
-    places: BTreeMap<G::Node, usize>,
-    edges: BTreeMap<usize, Vec<Edge<usize, G::Label>>>,
+    places: BTreeMap<G::Node, u32>,
+    edges: BTreeMap<u32, Vec<Edge<u32, G::Label>>>,
 }
 
 impl<G: Labelled> Labelled for Numbered<'_, G> {
@@ -30,7 +30,7 @@ impl<G: Labelled> Labelled for Numbered<'_, G> {
     ghost use Rattle.rr_graph.specs.NumberedParts.{IsAt};
     ghost use Rattle.rr_graph.specs.ReversedParts.{edges_at};
 
-    type Node = usize;
+    type Node = u32;
 
     type Label = G::Label;
 
@@ -68,19 +68,12 @@ impl<G: Labelled> Labelled for Numbered<'_, G> {
 
     ghost same = { G.same };
 
-    fn edges(
-        &self,
-        alloc: Global,
-        place: &usize,
-    ) -> Result<Vec<Edge<usize, G::Label>>, AllocError> {
-        match self.edges.get(place) {
-            Some(edges) => copies(alloc, edges),
-            None => Ok(Vec::new(alloc)),
-        }
+    fn edges(&self, alloc: Global, place: &u32) -> Result<Vec<Edge<u32, G::Label>>, AllocError> {
+        copies(alloc, self.leaving(*place))
     }
 
-    fn values(&self, alloc: Global, place: &usize) -> Result<Vec<G::Value>, AllocError> {
-        match self.nodes.get(*place) {
+    fn values(&self, alloc: Global, place: &u32) -> Result<Vec<G::Value>, AllocError> {
+        match self.nodes.get(*place as usize) {
             Some(node) => self.graph.values(alloc, node),
             None => Ok(Vec::new(alloc)),
         }
@@ -102,7 +95,7 @@ impl<G: Labelled> Labelled for Numbered<'_, G> {
         self.graph.group(value)
     }
 
-    fn copy(&self, _alloc: Global, place: &usize) -> Result<usize, AllocError> {
+    fn copy(&self, _alloc: Global, place: &u32) -> Result<u32, AllocError> {
         Ok(*place)
     }
 }
@@ -129,22 +122,50 @@ impl<'a, G: Labelled> Numbered<'a, G> {
     }
 
     /// The place of the node.
-    pub(crate) fn place(&self, node: &G::Node) -> Option<usize>
+    pub(crate) fn place(&self, node: &G::Node) -> Option<u32>
         ensures { result ≡ get G.Node.cmp self.now.places node.now }
     {
         self.places.get(node).copied()
     }
 
+    /// How many places there are.
+    pub(crate) fn len(&self) -> usize
+        ensures { result ≡ length self.now.nodes.now }
+    {
+        self.nodes.len()
+    }
+
+    /// The edges that leave the place.
+    pub(crate) fn leaving(&self, place: u32) -> &[Edge<u32, G::Label>]
+        ensures { result.now ≡ edges_at nat_cmp self.now.edges place }
+    {
+        match self.edges.get(&place) {
+            Some(edges) => edges.as_slice(),
+            None => &[],
+        }
+    }
+
     /// All places.
-    pub(crate) fn all(&self, alloc: Global) -> Result<Vec<usize>, AllocError>
+    pub(crate) fn all(&self, alloc: Global) -> Result<Vec<u32>, AllocError>
         ensures { IfOk result (λ places. (place : ℕ)
             → Contains places.items place ↔ (place < length self.now.nodes.now)) }
     {
         let mut places = Vec::new(alloc);
         for place in 0..self.nodes.len() {
-            places.push(place)?;
+            places.push(narrow(place)?)?;
         }
         Ok(places)
+    }
+}
+
+/// The place in four bytes, by which an edge takes half the memory. As many nodes as that is too
+/// few for don't fit into any.
+fn narrow(place: usize) -> Result<u32, AllocError>
+    ensures { IfOk result (λ narrow. narrow ≡ place) }
+{
+    match u32::try_from(place) {
+        Ok(narrow) => Ok(narrow),
+        Err(_) => Err(AllocError),
     }
 }
 
@@ -153,13 +174,13 @@ fn places<G: Labelled>(
     alloc: Global,
     graph: &G,
     nodes: &[G::Node],
-) -> Result<BTreeMap<G::Node, usize>, AllocError>
+) -> Result<BTreeMap<G::Node, u32>, AllocError>
     requires { HasNoRepeats nodes.now }
     ensures { IfOk result (λ places. IsPlaced nodes.now (get G.Node.cmp places)) }
 {
     let mut places = BTreeMap::new(alloc);
     for (place, node) in nodes.iter().enumerate() {
-        places.insert(graph.copy(alloc, node)?, place)?;
+        places.insert(graph.copy(alloc, node)?, narrow(place)?)?;
     }
     Ok(places)
 }
@@ -169,8 +190,8 @@ fn edges<G: Labelled>(
     alloc: Global,
     graph: &G,
     nodes: &[G::Node],
-    places: &BTreeMap<G::Node, usize>,
-) -> Result<BTreeMap<usize, Vec<Edge<usize, G::Label>>>, AllocError>
+    places: &BTreeMap<G::Node, u32>,
+) -> Result<BTreeMap<u32, Vec<Edge<u32, G::Label>>>, AllocError>
     requires { IsPlaced nodes.now (get G.Node.cmp places.now) }
     ensures { IfOk result
         (λ edges. IsNumbered (G.edge graph.now) nodes.now (edges_at nat_cmp edges)) }
@@ -178,7 +199,7 @@ fn edges<G: Labelled>(
     let mut all = BTreeMap::new(alloc);
     for (place, node) in nodes.iter().enumerate() {
         let edges = graph.edges(alloc, node)?;
-        all.insert(place, placed(alloc, &edges, places)?)?;
+        all.insert(narrow(place)?, placed(alloc, &edges, places)?)?;
     }
     Ok(all)
 }
@@ -187,8 +208,8 @@ fn edges<G: Labelled>(
 fn placed<N: Ord + Drop, L: Copy + Drop>(
     alloc: Global,
     edges: &[Edge<N, L>],
-    places: &BTreeMap<N, usize>,
-) -> Result<Vec<Edge<usize, L>>, AllocError>
+    places: &BTreeMap<N, u32>,
+) -> Result<Vec<Edge<u32, L>>, AllocError>
     ensures { IfOk result
         (λ placed. placed.items ≡ filter_map (placed_edge (get N.cmp places.now)) edges.now) }
 {
@@ -207,8 +228,8 @@ fn placed<N: Ord + Drop, L: Copy + Drop>(
 /// Equal edges.
 fn copies<L: Copy + Drop>(
     alloc: Global,
-    edges: &[Edge<usize, L>],
-) -> Result<Vec<Edge<usize, L>>, AllocError>
+    edges: &[Edge<u32, L>],
+) -> Result<Vec<Edge<u32, L>>, AllocError>
     ensures { IfOk result (λ copies. copies.items ≡ edges.now) }
 {
     let mut copies = Vec::new(alloc);

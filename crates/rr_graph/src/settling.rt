@@ -2,7 +2,8 @@
 //! there are no rings.
 
 ghost use Rattle.std.specs.Prelude.{◌≡◌, ◌≤◌, ◌↔◌, ◌⊎◌, ◌++◌, true};
-ghost use Rattle.std.specs.Prelude.{Contains, IfOk, IfSome, OnOk, is_some, length, map, take};
+ghost use Rattle.std.specs.Prelude.{Contains, IfOk, IfSome, IsTrue, OnOk, is_some, length, map};
+ghost use Rattle.std.specs.Prelude.{take};
 ghost use Rattle.std.specs.List.{filter_map};
 ghost use Rattle.std.specs.List.Sorted.{IsStrictlySortedBy};
 ghost use Rattle.std.proofs.lemmas.Map.Lookups.{CmpEqualImpliesEq};
@@ -17,16 +18,16 @@ use crate::effects::Effects;
 use crate::labels::{Edge, Labelled};
 use crate::order::put_in_order;
 use crate::settled::Settled;
-use crate::tails::{Tail, tails};
-use crate::waiting::Waiting;
+use crate::tails::{Tail, tail_of};
 use std::alloc::{AllocError, Global};
 
 /// Those of the nodes that no ring of edges is reached from, each with the values that are found at
-/// it.
+/// it, where their order has each after those to which its edges lead.
 pub(crate) fn settled<G: Labelled>(
     alloc: Global,
     graph: &G,
     nodes: &[G::Node],
+    order: &[u32],
     limit: usize,
 ) -> Result<Settled<G>, ReachFault>
     ensures settled { IfOk result (λ settled. HoldsAllValues (G.edge graph.now)
@@ -38,14 +39,11 @@ pub(crate) fn settled<G: Labelled>(
     ensures many { result ≡ Err ReachFault.TooMany
         → MoreThan limit (IsFoundAmong (G.edge graph.now) (G.own graph.now) G.passed nodes.now) }
 {
-    let tails = tails(alloc, graph, nodes)?;
-    let mut waiting = Waiting::new(alloc, graph, &tails)?;
     let mut settled = Settled::new(alloc);
-    for _turn in 0..tails.len() {
-        if let Some(place) = waiting.next()? {
-            if let Some(tail) = tails.get(place) {
-                settle(alloc, graph, &mut settled, tail, limit)?;
-            }
+    for place in order {
+        if let Some(node) = nodes.get(*place as usize) {
+            let tail = tail_of(alloc, graph, node)?;
+            settle(alloc, graph, &mut settled, &tail, limit)?;
         }
     }
     Ok(settled)
@@ -100,54 +98,43 @@ fn found_at<G: Labelled>(
     ensures sorted { IfOk result
         (λ found. IfSome found (λ values. IsStrictlySortedBy G.Value.cmp values.items)) }
 {
-    let edges = tail.edges.as_slice();
-    if !are_settled(settled, edges) {
+    let mut values = Vec::new(alloc);
+    if !add_passed(alloc, graph, settled, tail.edges.as_slice(), &mut values)? {
         return Ok(None);
     }
-    let mut values = graph.values(alloc, tail.node)?;
-    add_passed(alloc, graph, settled, edges, &mut values)?;
+    let mut own = graph.values(alloc, tail.node)?;
+    values.append(&mut own)?;
     put_in_order(&mut values);
     Ok(Some(values))
 }
 
-/// Whether the nodes are settled to which the edges lead.
-fn are_settled<G: Labelled>(settled: &Settled<G>, edges: &[Edge<G::Node, G::Label>]) -> bool
-    ensures { result ≡ true → (e : Edge G.Node G.Label) → Contains edges.now e
-        → is_some (values_at G.Node.cmp settled.now.values e.to) ≡ true }
-{
-    edges.iter().all(|edge| settled.at(&edge.to).is_some())
-}
-
 /// Adds what the labels of the edges make of the values of settled nodes, a run of edges to one
-/// node at a time.
+/// node at a time, and tells whether all nodes are settled to which they lead.
 fn add_passed<G: Labelled>(
     alloc: Global,
     graph: &G,
     settled: &Settled<G>,
     edges: &[Edge<G::Node, G::Label>],
     values: &mut Vec<G::Value>,
-) -> Result<(), AllocError>
-    ensures { OnOk result
-        ((v : G.Value) → Contains values.new.items v ↔ (Contains values.old.items v
+) -> Result<bool, AllocError>
+    ensures known { IfOk result (λ whole. IsTrue whole → (e : Edge G.Node G.Label)
+        → Contains edges.now e → is_some (values_at G.Node.cmp settled.now.values e.to) ≡ true) }
+    ensures passed { IfOk result (λ whole. IsTrue whole → (v : G.Value)
+        → Contains values.new.items v ↔ (Contains values.old.items v
         ⊎ IsPassed G.passed (values_at G.Node.cmp settled.now.values) edges.now v)) }
 {
     let mut last = values.len();
     let mut done = 0;
     while done < edges.len() {
         let node = &edges[done].to;
+        let Some(starts) = settled.at(node) else {
+            return Ok(false);
+        };
         let next = done + 1 + run_length(node, &edges[done + 1..]);
-        last = add_run(
-            alloc,
-            graph,
-            settled,
-            node,
-            &edges[done..next],
-            values,
-            last,
-        )?;
+        last = pass_run(alloc, graph, node, &edges[done..next], starts, values, last)?;
         done = next;
     }
-    Ok(())
+    Ok(true)
 }
 
 /// How many of the edges lead to the node, before one that does not.
@@ -161,27 +148,6 @@ fn run_length<N: Ord + Drop, L: Drop>(node: &N, edges: &[Edge<N, L>]) -> usize
         }
     }
     edges.len()
-}
-
-/// Adds what the labels of edges to the node make of its values, where it is settled.
-fn add_run<G: Labelled>(
-    alloc: Global,
-    graph: &G,
-    settled: &Settled<G>,
-    node: &G::Node,
-    run: &[Edge<G::Node, G::Label>],
-    values: &mut Vec<G::Value>,
-    last: usize,
-) -> Result<usize, AllocError>
-    requires { IsRun node.now run.now }
-    ensures { OnOk result
-        ((v : G.Value) → Contains values.new.items v ↔ (Contains values.old.items v
-        ⊎ IsPassed G.passed (values_at G.Node.cmp settled.now.values) run.now v)) }
-{
-    match settled.at(node) {
-        Some(starts) => pass_run(alloc, graph, node, run, starts, values, last),
-        None => Ok(last),
-    }
 }
 
 /// Adds what the labels of edges to the node make of the values, each effect once.

@@ -1,6 +1,6 @@
-//! The nodes of a labelled graph with the edges that leave them.
+//! A node of a labelled graph with the edges that leave it.
 
-ghost use Rattle.std.specs.Prelude.{All, Contains, IfOk};
+ghost use Rattle.std.specs.Prelude.{◌≡◌, IfOk};
 ghost use Rattle.rr_graph.specs.SettledParts.{HasEdges};
 
 use crate::labels::{Edge, Labelled};
@@ -13,21 +13,16 @@ pub(crate) struct Tail<'a, N, L> {
     pub(crate) edges: Vec<Edge<N, L>>,
 }
 
-/// Each of the nodes with the edges that leave it, in their order.
-pub(crate) fn tails<'a, G: Labelled>(
+/// The node with the edges that leave it.
+pub(crate) fn tail_of<'a, G: Labelled>(
     alloc: Global,
     graph: &G,
-    nodes: &'a [G::Node],
-) -> Result<Vec<Tail<'a, G::Node, G::Label>>, AllocError>
-    ensures among { IfOk result
-        (λ tails. All (λ tail. Contains nodes.now tail.node.now) tails.items) }
-    ensures edges { IfOk result (λ tails. All
-        (λ tail. HasEdges (G.edge graph.now) tail.node.now tail.edges.items) tails.items) }
+    node: &'a G::Node,
+) -> Result<Tail<'a, G::Node, G::Label>, AllocError>
+    ensures node { IfOk result (λ tail. tail.node.now ≡ node.now) }
+    ensures edges { IfOk result
+        (λ tail. HasEdges (G.edge graph.now) tail.node.now tail.edges.items) }
 {
-    let mut tails = Vec::new(alloc);
-    for node in nodes {
-        let edges = graph.edges(alloc, node)?;
-        tails.push(Tail { node, edges })?;
-    }
-    Ok(tails)
+    let edges = graph.edges(alloc, node)?;
+    Ok(Tail { node, edges })
 }

@@ -11,3 +11,4 @@ pub mod ToldLemmas
 pub mod ReplyBytesLemmas
 pub mod FaultLemmas
 pub mod DeskLemmas
+pub mod TurnEventLemmas

@@ -1,5 +1,5 @@
 -- A desk over tables as a registrar.
-use Rattle.std.specs.Prelude.{◌≡◌, ℕ, true, false, List, Result}
+use Rattle.std.specs.Prelude.{◌≡◌, ℕ, false, List, Result}
 use Rattle.sqlite_trees.specs.declared.store.Store as store
 use Rattle.rr_answer.specs.declared.fault.QueryFault.{QueryFault}
 use Rattle.rr_answer.specs.Answers.{answer_bytes}
@@ -7,7 +7,7 @@ use Rattle.rr_answer.specs.Dumps.{dump}
 use Rattle.rr_submission.specs.declared.ledger.Ledger as ledger
 use Rattle.rr_desk.specs.declared.desk.Desk.{Desk}
 use Rattle.rr_desk.specs.Desks.{GivesAnswer, desk_state}
-use Rattle.rr_desk.specs.Rows.{KeepsRows, CommitsNothing}
+use Rattle.rr_desk.specs.Rows.{KeepsRows}
 use Rattle.rr_desk.specs.Stocks.{StoresUntilStopped, stock_ledger}
 use Rattle.rr_desk.specs.Turns.{Serving}
 use Rattle.rr_http.specs.declared.registrar.Registrar as registrar
@@ -22,18 +22,15 @@ desk_ledger g = record {
   Lasts = λ old new. (stock_ledger g).Lasts old.stored new.stored;
 }
 
--- the text in which a desk answers a query, and what that leaves of the desk: its registry, whether
--- it is stopped, and the rows of its registry, also where a fault of the store stopped it; nothing
--- is committed, and a desk that was stopped stays as it is
+-- the text in which a desk answers a query, which changes nothing of it; until it is stopped it
+-- keeps the rows of its registry
 pub record IsDeskAnswer {S : Type 0} (g : store.Ghosts S) (before : Desk S) (query text : List ℕ)
     (after : Desk S) : Type 0 where
   pub answer : Result (List ℕ) QueryFault
-  pub answered : GivesAnswer g before after query answer
+  pub answered : GivesAnswer before query answer
   pub is : text ≡ answer_bytes answer
-  pub same : after.stored.registry ≡ before.stored.registry
+  pub same : after ≡ before
   pub keeps : before.stored.stopped ≡ false → KeepsRows before.stored.registry (desk_state g after)
-  pub still : before.stored.stopped ≡ true → after ≡ before
-  pub commits_nothing : CommitsNothing (desk_state g before) (desk_state g after)
 
 -- a desk answers queries, gives the public dump of its registry, and takes submissions until it is
 -- stopped

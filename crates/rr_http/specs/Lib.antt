@@ -15,3 +15,4 @@ pub mod Faults
 pub mod ToldBytes
 pub mod ReplyBytes
 pub mod DeskRegistrars
+pub mod TurnEvents

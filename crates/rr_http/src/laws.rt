@@ -4,9 +4,11 @@
 ghost use Rattle.rr_http.specs.Faults.{EndsTellFailedCalls};
 ghost use Rattle.rr_http.specs.ReplyBytes.{AnswersWithItsReply, AnswersWithItsReport};
 ghost use Rattle.rr_http.specs.ToldBytes.{BodyFollowsItsHead, WantsByItsBytes};
+ghost use Rattle.rr_http.specs.TurnEvents.{TurnsAreEvents};
 ghost use Rattle.rr_http.specs.Wants.{WantsByItsHead};
 
 use crate::registrar::Registrar;
+use sqlite::Alter;
 
 /// What is wanted by the head of a connection is wanted by all that it gives, whatever may follow.
 pub fn wants_by_its_head()
@@ -41,4 +43,11 @@ pub fn answers_with_its_report<D: Registrar>()
 /// accepted, how serving it ended tells whether a read of it failed or, if none did, a write.
 pub fn ends_tell_failed_calls<D: Registrar>()
     ensures { EndsTellFailedCalls D.Registrar }
+{}
+
+/// The turns of a desk that is served by whois and HTTP are events of a history of its database:
+/// each query with its answer, the public dump and each submission, by the bytes of the connection
+/// and of the reply to it; any other turn does nothing.
+pub fn turns_are_events<S: Alter>()
+    ensures { TurnsAreEvents S.Store }
 {}

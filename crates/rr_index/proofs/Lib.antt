@@ -3,6 +3,7 @@ pub mod Choices
 pub mod Counts
 pub mod Entered
 pub mod Gathered
+pub mod Inside
 pub mod Kept
 pub mod Listed
 pub mod MntnerNames

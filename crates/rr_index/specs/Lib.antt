@@ -1,6 +1,7 @@
 pub mod ChosenKeyParts
 pub mod EnteringParts
 pub mod Indexes
+pub mod InsideParts
 pub mod KeyRangeParts
 pub mod NameIndexes
 pub mod NamingIndexes

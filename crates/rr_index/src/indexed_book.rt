@@ -21,7 +21,7 @@ use std::marker::Model;
 /// finite map from keys to objects. It is always sound. A key, a maintainer and whether it is
 /// named, a closest inetnum, as-block or route, and a crossing are found in O(log n) steps for n
 /// objects; k objects of any list, or k origins, in O(k log n); k prefixes of an origin in O(k +
-/// log n).
+/// log n), and what is inside a span alike, where k have their first address in it.
 #[derive(Drop)]
 pub struct IndexedBook {
     objects: ObjectMap,
@@ -191,9 +191,7 @@ impl Keeper for IndexedBook {
     }
 
     fn inside(&self, alloc: Global, span: Span) -> Result<Vec<&Object>, AllocError> {
-        let spans = self.indexes.spans.inetnums.inside(alloc, span)?;
-        let prefixes = self.indexes.spans.routes.inside(alloc, span)?;
-        self.objects.chosen(alloc, &spans, &prefixes)
+        self.objects.inside(alloc, span)
     }
 }
 

@@ -18,15 +18,19 @@ ghost use Rattle.rr_object.specs.KeyOrders.{key_cmp};
 ghost use Rattle.rr_auth.specs.Closest.{origin_at, origins_among};
 ghost use Rattle.rr_auth.specs.Registries.{Reg, Sound};
 ghost use Rattle.rr_book.specs.Books.{book_of, is_in_order};
+ghost use Rattle.rr_book.specs.Listings.{inside, lies_in};
 ghost use Rattle.rr_book.specs.SetLists.{is_of_class};
 ghost use Rattle.rr_sets.specs.Lists.{lent};
 ghost use Rattle.rr_index.specs.ChosenKeyParts.{is_chosen};
+ghost use Rattle.rr_index.specs.InsideParts.{inetnum_at, is_inetnum_in, is_route_in};
+ghost use Rattle.rr_index.specs.InsideParts.{routes_from, routes_to};
 ghost use Rattle.rr_index.specs.KeyRangeParts.{lies_between};
 ghost use Rattle.rr_index.specs.OriginIndexes.{origin_cmp};
 ghost use Rattle.rr_index.specs.Private.{is_from, IsTold};
 
 use crate::origin_index::OriginIndex;
 use crate::placed::Placed;
+use rr_book::listings::lies_in;
 use rr_book::lists::origin_at;
 use rr_number::{Address, AsNumber, Prefix, Span};
 use rr_object::{Key, Object};
@@ -242,6 +246,61 @@ impl ObjectMap {
         self.entries.range(first..=last)
     }
 
+    /// The inetnums and routes inside the span, in the order of class and key; the error is that
+    /// memory ran out. It steps over those whose first address lies in the span, and looks at one
+    /// route more at most.
+    pub(crate) fn inside(&self, alloc: Global, span: Span) -> Result<Vec<&Object>, AllocError>
+        requires { Sound self.now }
+        ensures { IfOk result (λ found. lent found.items ≡ inside self.now span) }
+    {
+        let mut found = self.inetnums_inside(alloc, span)?;
+        let routes = self.routes_inside(alloc, span)?;
+        found.extend_from_slice(&routes)?;
+        Ok(found)
+    }
+
+    /// The inetnums inside the span; the error is that memory ran out.
+    fn inetnums_inside(&self, alloc: Global, span: Span) -> Result<Vec<&Object>, AllocError>
+        requires { Sound self.now }
+        ensures { IfOk result (λ found. lent found.items
+            ≡ filter (λ o. is_inetnum_in span o.key) (values self.now)) }
+    {
+        let (first, last) = (span.first(), span.last());
+        self.picked(alloc, span, inetnum_at(first), inetnum_at(last))
+    }
+
+    /// The routes inside the span; the error is that memory ran out.
+    fn routes_inside(&self, alloc: Global, span: Span) -> Result<Vec<&Object>, AllocError>
+        requires { Sound self.now }
+        ensures { IfOk result (λ found. lent found.items
+            ≡ filter (λ o. is_route_in span o.key) (values self.now)) }
+    {
+        let (first, last) = (span.first(), span.last());
+        self.picked(alloc, span, routes_from(first), routes_to(last))
+    }
+
+    /// The inetnums and routes inside the span whose keys lie from one key to another, in the order
+    /// of class and key; the error is that memory ran out.
+    fn picked(
+        &self,
+        alloc: Global,
+        span: Span,
+        first: Key,
+        last: Key,
+    ) -> Result<Vec<&Object>, AllocError>
+        requires { is_gt (key_cmp first last) ≡ false }
+        ensures { IfOk result (λ found. lent found.items ≡ filter (lies_in span)
+            (values_of (filter (λ e. lies_between first last e.0) (entries self.now)))) }
+    {
+        let mut found = Vec::new(alloc);
+        for (_, placed) in self.between(first, last) {
+            if lies_in(placed.object(), span) {
+                found.push(placed.object())?;
+            }
+        }
+        Ok(found)
+    }
+
     /// The inetnums of these spans and the routes of these prefixes, in the order of class and key;
     /// the error is that memory ran out.
     pub(crate) fn chosen(
@@ -345,6 +404,31 @@ fn inetnum_keys(alloc: Global, spans: &[Span]) -> Result<BTreeSet<Key>, AllocErr
         keys.insert(Key::Inetnum(*span))?;
     }
     Ok(keys)
+}
+
+/// The key of the inetnum of one address.
+fn inetnum_at(address: u32) -> Key
+    ensures { result ≡ inetnum_at address }
+{
+    Key::Inetnum(Span::new(address, address))
+}
+
+/// A key that no route from this address on is below, and at most one before it is not.
+fn routes_from(address: u32) -> Key
+    ensures { result ≡ routes_from address }
+{
+    if address == 0 {
+        first_of(Prefix::new(Address::from_bits(0), 0))
+    } else {
+        routes_to(address - 1)
+    }
+}
+
+/// A key that no route up to this address is above.
+fn routes_to(address: u32) -> Key
+    ensures { result ≡ routes_to address }
+{
+    last_of(Prefix::new(Address::from_bits(address), 32))
 }
 
 /// The least key that a route of the prefix can have.

@@ -40,10 +40,10 @@ module _ (form : KeyForm) where
       let is = same_list ys back.0 each (all-permutation IsObject xs back.0 back.1 all) back.2 in
       subst (IsPermutation xs) (sym is) back.1
 
--- lists of objects of one source that the same tables hold differ in their order alone
-pub stored_alike : (form : KeyForm) (number source : List ℕ) (xs ys : List Obj) (db : Database) → AreStoredIn form number source xs db → AreStoredIn form number source ys db → IsPermutation xs ys
-stored_alike form number source xs ys db first second =
+-- lists of objects of two sources, or of one, that the same tables hold differ in their order alone
+pub stored_alike : (form : KeyForm) (number source other : List ℕ) (xs ys : List Obj) (db : Database) → AreStoredIn form number source xs db → AreStoredIn form number other ys db → IsPermutation xs ys
+stored_alike form number source other xs ys db first second =
     let of_first = subst (λ l. IsPermutation l (contents (db.trees 2))) (map-map object_row (entry_in form) xs) first.rows.objects in
     let of_second = subst (λ l. IsPermutation l (contents (db.trees 2))) (map-map object_row (entry_in form) ys) second.rows.objects in
-    same_rows form xs ys (all_weaker (IsObjectOf source) IsObject (of_any source) xs first.of_source) (all_weaker (IsObjectOf source) IsObject (of_any source) ys second.of_source)
+    same_rows form xs ys (all_weaker (IsObjectOf source) IsObject (of_any source) xs first.of_source) (all_weaker (IsObjectOf other) IsObject (of_any other) ys second.of_source)
     (IsPermutation-trans _ _ _ of_first (IsPermutation-sym _ _ of_second))

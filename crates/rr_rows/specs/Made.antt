@@ -84,3 +84,9 @@ IsVacant db = (db.schema ≡ no_schema) ⊎ IsBare db
 pub record HasItsTables (old new : Database) : Type 0 where
   pub made : old.schema ≡ no_schema → new.schema ≡ with_named
   pub kept : IsBare old → KeepsOthers old new
+
+-- a database that had room for a new store has its tables, with these rows (profile)
+pub record IsMadeWith (Rows : Database → Type 0) (old new : Database) : Type 0 where
+  pub vacant : IsVacant old
+  pub tables : HasItsTables old new
+  pub rows : Rows new

@@ -148,7 +148,7 @@ fn submit<S: Alter, R: Source, W: Sink>(
 /// Answers a query: the number of the error.
 fn answer<S: Alter, W: Sink>(
     alloc: Global,
-    desk: &mut Desk<S>,
+    desk: &Desk<S>,
     query: &str,
     writer: &mut W,
 ) -> Result<u8, WriteFault> {

@@ -2,12 +2,13 @@
 use Rattle.std.proofs.Common.{◌≡◌, true, false, Ok, Err, Result, IsOk, IsErr, OnOk, OnErr, IsTrue, sym, ap, subst, ◌∙◌, arith}
 use Rattle.sqlite_trees.specs.declared.store.Store.{Ghosts}
 use Rattle.sqlite.specs.Effect.{Database}
-use Rattle.sqlite.specs.State.{State, HasCleanDisk, KeepsCommit, Survives}
+use Rattle.sqlite.specs.State.{HasCleanDisk, KeepsCommit, Survives}
 use Rattle.sqlite.specs.Held.{Held, state}
 use Rattle.sqlite.proofs.Callers.{survives_begin}
 use Rattle.sqlite.proofs.StateLemmas.{survives_then, survives_weaker}
+use Rattle.rr_rows.specs.Contents.{RunsOn}
 use Rattle.rr_rows.specs.Entries.{TreesOf}
-use Rattle.rr_store.specs.Calls.{Transacts}
+use Rattle.rr_store.specs.Calls.{Transacts, WhereOpen}
 use Rattle.rr_store.proofs.BodyLemmas.{then_ok}
 use Rattle.rr_store.proofs.LookLemmas.{of_both, on_err_as}
 
@@ -28,14 +29,7 @@ module _ {S X Y E F : Type 0} (g : Ghosts S) (old begun mid new : Held S) (work 
       go (Ok x) is one = subst (Change (state g old).now) (sym one) (changed clean is)
       go (Err e) is one = tt
 
-  -- and a stop may leave it
-  pub ended_survives : Survives (state g begun) (state g mid) (λ _. ⊥) → Survives (state g old) (state g new) (TreesOf (Change (state g old).now))
-  ended_survives first =
-      survives_begin g old (state g new) (TreesOf (Change (state g old).now))
-      (survives_then (state g (record old { in_transaction = true })) (state g mid) (state g new) (λ _. ⊥) (λ trees. IsOk work × (trees ≡ (state g mid).now.trees)) (TreesOf (Change (state g old).now)) (λ clean db none. absurd none)
-      (λ clean db is. ((state g mid).now, changed clean is.0, is.1)) (subst (λ h. Survives (state g h) (state g mid) (λ _. ⊥)) begins first) last)
-
-  module _ (first : Survives (state g begun) (state g mid) (λ _. ⊥)) (kept : HasCleanDisk (state g mid) → KeepsCommit (state g begun) (state g mid)) (settled : IsTrue (state g old).is_open → (state g old).now ≡ (state g old).committed)
+  module _ (first : Survives (state g begun) (state g mid) (λ _. ⊥)) (kept : HasCleanDisk (state g mid) → KeepsCommit (state g begun) (state g mid)) (goes_on : HasCleanDisk (state g mid) → OnOk work (RunsOn (state g begun) (state g mid))) (settled : IsTrue (state g old).is_open → (state g old).now ≡ (state g old).committed)
       (autocommit : new.in_transaction ≡ false) (done : OnOk result (IsOk work)) (ok : HasCleanDisk (state g new) → OnOk result ((state g new).now ≡ (state g mid).now)) (is_open : HasCleanDisk (state g new) → OnOk result (IsTrue (state g new).is_open))
       (was_open : HasCleanDisk (state g new) → OnOk result (IsTrue (state g mid).is_open))
       (err : HasCleanDisk (state g new) → IsTrue (state g new).is_open → OnErr result (((state g new).now ≡ (state g mid).committed) × IsTrue (state g mid).is_open)) where
@@ -44,6 +38,17 @@ module _ {S X Y E F : Type 0} (g : Ghosts S) (old begun mid new : Held S) (work 
 
     open_from : HasCleanDisk (state g new) → IsTrue (state g mid).is_open → IsTrue (state g old).is_open
     open_from clean on = subst (λ h. IsTrue (state g h).is_open) begins ((kept (earlier clean)).was_open on)
+
+    -- work that was done was done over a connection that was open
+    worked_open : HasCleanDisk (state g new) → IsOk work → IsTrue (state g old).is_open
+    worked_open clean is = open_from clean (done_so work is (goes_on (earlier clean))).is_open
+
+    -- and then a stop may leave what it made
+    ended_survives : Survives (state g old) (state g new) (WhereOpen g old (TreesOf (Change (state g old).now)))
+    ended_survives =
+        survives_begin g old (state g new) (WhereOpen g old (TreesOf (Change (state g old).now)))
+        (survives_then (state g (record old { in_transaction = true })) (state g mid) (state g new) (λ _. ⊥) (λ trees. IsOk work × (trees ≡ (state g mid).now.trees)) (WhereOpen g old (TreesOf (Change (state g old).now))) (λ clean db none. absurd none)
+        (λ clean db is. (worked_open clean is.0, ((state g mid).now, changed clean is.0, is.1))) (subst (λ h. Survives (state g h) (state g mid) (λ _. ⊥)) begins first) last)
 
     back : HasCleanDisk (state g new) → ((state g new).now ≡ (state g mid).committed) × IsTrue (state g mid).is_open → (state g new).now ≡ (state g old).now
     back clean both =
@@ -58,12 +63,8 @@ module _ {S X Y E F : Type 0} (g : Ghosts S) (old begun mid new : Held S) (work 
       done = ended_ok done ok;
       is_open = is_open;
       kept = λ clean on. on_err_as result (err clean on) (back clean);
-      crash = ended_survives first;
+      crash = ended_survives;
     }
-
--- what a stop may leave is also what follows from it
-pub survives_as : (old new : State) (P Q : Database → Type 0) → ((db : Database) → P db → Q db) → Survives old new (TreesOf P) → Survives old new (TreesOf Q)
-survives_as old new P Q follows h = survives_weaker old new (TreesOf P) (TreesOf Q) (λ clean trees left. (left.0, follows left.0 left.1, left.2)) h
 
 module _ {S : Type 0} (g : Ghosts S) (old new : Held S) (P Q : Database → Database → Type 0) where
   -- and what is written, too
@@ -74,7 +75,7 @@ module _ {S : Type 0} (g : Ghosts S) (old new : Held S) (P Q : Database → Data
     done = λ clean. then_ok r (w.done clean) (follows clean (state g new).now);
     is_open = w.is_open;
     kept = w.kept;
-    crash = survives_weaker (state g old) (state g new) (TreesOf (P (state g old).now)) (TreesOf (Q (state g old).now)) (λ clean trees left. (left.0, follows clean left.0 left.1, left.2)) w.crash;
+    crash = survives_weaker (state g old) (state g new) (WhereOpen g old (TreesOf (P (state g old).now))) (WhereOpen g old (TreesOf (Q (state g old).now))) (λ clean trees left. (left.0, (left.1.0, follows clean left.1.0 left.1.1, left.1.2))) w.crash;
   }
 
   -- what failed has, whatever it is called

@@ -12,7 +12,7 @@ use Rattle.rr_rows.specs.Queries.{Means}
 use Rattle.rr_rows.specs.Entries.{TreesOf}
 use Rattle.sqlite.specs.Effect.{Database}
 use Rattle.rr_rows.specs.Contents.{RunsOn}
-use Rattle.rr_store.specs.Calls.{Looks, Rests, Transacts}
+use Rattle.rr_store.specs.Calls.{Looks, Rests, Transacts, WhereOpen}
 use Rattle.rr_store.proofs.AddingLemmas.{survives_itself}
 use Rattle.rr_store.proofs.BodyLemmas.{then_ok}
 use Rattle.sqlite.specs.Held.{Held, state}
@@ -170,8 +170,8 @@ module _ {S : Type 0} (g : Ghosts S) where
           done = λ clean. then_ok r (two.done clean) (λ made. subst (λ d. Change d (state g c).now) (same (before clean)).0.now_is made);
           is_open = two.is_open;
           kept = λ clean on. on_err_as r (two.kept clean on) (λ is. is ∙ (same (before clean)).0.now_is);
-          crash = survives_then (state g a) (state g b) (state g c) (λ _. ⊥) (TreesOf (Change (state g b).now)) (TreesOf (Change (state g a).now)) (λ _ db h. absurd h)
-              (λ clean db made. subst (λ d. TreesOf (Change d) db) (same (before clean)).0.now_is made) one.crash two.crash;
+          crash = survives_then (state g a) (state g b) (state g c) (λ _. ⊥) (WhereOpen g b (TreesOf (Change (state g b).now))) (WhereOpen g a (TreesOf (Change (state g a).now))) (λ _ db h. absurd h)
+              (λ clean db made. ((same (before clean)).0.was_open, subst (λ d. TreesOf (Change d) db) (same (before clean)).0.now_is made.1)) one.crash two.crash;
         }
 
   -- a call that failed before its transaction has written nothing
@@ -183,7 +183,7 @@ module _ {S : Type 0} (g : Ghosts S) where
     done = λ clean. tt;
     is_open = λ clean. tt;
     kept = one.same;
-    crash = survives_weaker (state g a) (state g b) (λ _. ⊥) (TreesOf (Change (state g a).now)) (λ clean db h. absurd h) one.crash;
+    crash = survives_weaker (state g a) (state g b) (λ _. ⊥) (WhereOpen g a (TreesOf (Change (state g a).now))) (λ clean db h. absurd h) one.crash;
   }
 
   pub looks_failed : {X E : Type 0} (a b : Held S) (r : Result X E) → IsErr r → Rests g a b → Looks g a b r

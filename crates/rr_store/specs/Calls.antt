@@ -50,6 +50,10 @@ module _ {S : Type 0} (g : Ghosts S) where
   IsSettled conn = IsTrue (state g conn).is_open
       → (trees : Trees) → (state g conn).may_leave trees → trees ≡ (database conn).trees
 
+  -- what may be committed where the connection is open
+  abbrev pub WhereOpen : Held S → (Trees → Type 0) → Trees → Type 0
+  WhereOpen conn Commits trees = IsTrue (state g conn).is_open × Commits trees
+
   -- nothing changes, and a stop leaves what it left before
   pub record Rests (old new : Held S) : Type 0 where
     pub autocommit : new.in_transaction ≡ false
@@ -63,7 +67,7 @@ module _ {S : Type 0} (g : Ghosts S) where
     pub same : OnCleanDisk new (OnOk result (IsUnchanged (state g old) (state g new)))
 
   -- one transaction makes this change, or fails and leaves the rows as they were, while the
-  -- connection is open; a stop leaves one of the two
+  -- connection is open; a stop leaves one of the two, and the change only where it was open before
   pub record Transacts {X E : Type 0} (Change : Database → Database → Type 0) (old new : Held S)
       (result : Result X E) : Type 0 where
     pub autocommit : old.in_transaction ≡ false → new.in_transaction ≡ false
@@ -71,4 +75,5 @@ module _ {S : Type 0} (g : Ghosts S) where
     pub done : OnCleanDisk new (OnOk result (Change (database old) (database new)))
     pub is_open : OnCleanDisk new (OnOk result (IsTrue (state g new).is_open))
     pub kept : WhileOpen new (OnErr result (database new ≡ database old))
-    pub crash : Survives (state g old) (state g new) (TreesOf (Change (database old)))
+    pub crash : Survives (state g old) (state g new)
+        (WhereOpen old (TreesOf (Change (database old))))

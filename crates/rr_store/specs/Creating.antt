@@ -1,5 +1,5 @@
 -- What becomes of a call that makes a store.
-use Rattle.std.specs.Prelude.{◌≡◌, ◌≢◌, false, List, map}
+use Rattle.std.specs.Prelude.{◌≡◌, ◌≢◌, false, IsTrue, List, map}
 use Rattle.std.specs.List.{AllByRecursion}
 use Rattle.sqlite_trees.specs.declared.store.Store.{Ghosts}
 use Rattle.sqlite.specs.declared.error.Error.{Error}
@@ -8,10 +8,12 @@ use Rattle.sqlite.specs.Held.{Held, state}
 use Rattle.sqlite.specs.State.{Survives}
 use Rattle.rr_object.specs.Objects.{Obj}
 use Rattle.rr_rows.specs.Entries.{TreesOf, entry_of}
-use Rattle.rr_rows.specs.Made.{HasItsTables, HasSomeRow, IsOccupied, IsVacant, no_schema}
+use Rattle.rr_rows.specs.Made.{HasItsTables, HasSomeRow, IsMadeWith, IsOccupied, IsVacant}
+use Rattle.rr_rows.specs.Made.{no_schema}
 use Rattle.rr_rows.specs.Maps.{IsFilled, IsObject}
 use Rattle.rr_rows.specs.Tables.{HasTables}
-use Rattle.rr_store.specs.Calls.{FailsFor, IsOpen, IsSettled, OnCleanDisk, WhileOpen, database}
+use Rattle.rr_store.specs.Calls.{FailsFor, IsOpen, IsSettled, OnCleanDisk, WhereOpen, WhileOpen}
+use Rattle.rr_store.specs.Calls.{database}
 use Rattle.rr_store.specs.Faults.{no_tables}
 use Rattle.rr_store.specs.declared.fault.CreateFault.{CreateFault}
 use Rattle.rr_store.specs.declared.fault.CreateFault.TheVariants.{Memory, NotEmpty, Store}
@@ -28,21 +30,28 @@ FailsOverRow g old new error =
     HasTables (database g old).schema → HasSomeRow (database g old) → FailsFor g old new error
 
 module _ {S : Type 0} (g : Ghosts S) (objects : List Obj) (conn : Held S) where
-  -- a database that had room for it is the store of the objects (profile)
+  -- what a stop may leave beside what it left before: where the connection was open and the
+  -- database had room for it, the store of the objects, whole
+  abbrev pub LeavesStore : Held S → Type 0
+  LeavesStore new = Survives (state g conn) (state g new)
+      (WhereOpen g conn (TreesOf (IsMadeWith (IsStoreOf objects) (database g conn))))
+
+  -- a database that had room for it, over a connection that was open, is the store of the objects
+  -- (profile)
   pub record MakesStore (store : Held S) : Type 0 where
     pub filled : OnCleanDisk g store (IsStoreOf objects (database g store))
     pub tables : OnCleanDisk g store (HasItsTables (database g conn) (database g store))
+    pub was_open : OnCleanDisk g store (IsTrue (state g conn).is_open)
     pub is_open : IsOpen g store
     pub settled : IsSettled g store
     pub vacant : OnCleanDisk g store (IsVacant (database g conn))
-    pub crash : Survives (state g conn) (state g store) (TreesOf (IsStoreOf objects))
-    pub crash_tables : Survives (state g conn) (state g store)
-        (TreesOf (HasItsTables (database g conn)))
+    pub crash : LeavesStore store
 
   -- the rows are as they were, while the connection is open; where one stood in the tables, that is
   -- the fault, unless the database failed; where other tables stood, that is the fault
   pub record FailsToMake (left : Held S) (fault : CreateFault) : Type 0 where
     pub autocommit : left.in_transaction ≡ false
+    pub was_open : WhileOpen g left (IsTrue (state g conn).is_open)
     pub kept : WhileOpen g left (database g left ≡ database g conn)
     pub settled : IsSettled g left
     pub not_empty : fault ≡ NotEmpty
@@ -52,6 +61,4 @@ module _ {S : Type 0} (g : Ghosts S) (objects : List Obj) (conn : Held S) where
         → HasTables (database g conn).schema → ¬ HasSomeRow (database g conn))
     pub untabled : ¬ HasTables (database g conn).schema
         → (database g conn).schema ≢ no_schema → fault ≡ Store no_tables
-    pub crash : Survives (state g conn) (state g left) (TreesOf (IsStoreOf objects))
-    pub crash_tables : Survives (state g conn) (state g left)
-        (TreesOf (HasItsTables (database g conn)))
+    pub crash : LeavesStore left

@@ -1,6 +1,6 @@
 -- What migration makes of tables of version 1.
 use Rattle.std.specs.Prelude.{◌≡◌, ◌⊎◌, ℕ, Bool, true, false, List, [], ◌∷◌, ◌++◌}
-use Rattle.std.specs.Prelude.{codes}
+use Rattle.std.specs.Prelude.{IsTrue, codes}
 use Rattle.std.specs.List.{list_any}
 use Rattle.sqlite_trees.specs.declared.store.Store.{Ghosts}
 use Rattle.sqlite.specs.declared.error.Error.{Error}
@@ -15,7 +15,8 @@ use Rattle.rr_rows.specs.Contents.{IsTidy, KeepsOthers}
 use Rattle.rr_rows.specs.Entries.{TreesOf}
 use Rattle.rr_rows.specs.Maps.{AreOldStored, AreStored}
 use Rattle.rr_rows.specs.Tables.{HasTables}
-use Rattle.rr_store.specs.Calls.{IsCaused, IsOpen, IsSettled, OnCleanDisk, WhileOpen, database}
+use Rattle.rr_store.specs.Calls.{IsCaused, IsOpen, IsSettled, OnCleanDisk, WhereOpen, WhileOpen}
+use Rattle.rr_store.specs.Calls.{database}
 use Rattle.rr_store.specs.Faults.{no_tables}
 use Rattle.rr_store.specs.Opening.{HoldNone, SaysNoOther, SaysOther}
 use Rattle.rr_store.specs.declared.version.Version.TheVariants.{Old}
@@ -82,21 +83,28 @@ module _ {S : Type 0} (g : Ghosts S) (root source : List ℕ) (conn : Held S) wh
   FailsOverOldRows left error = IsTidy (database g conn) → OnCleanDisk g left
       (IsCaused (state g conn) (state g left) error ⊎ HasRoot root source (database g conn))
 
-  -- the tables are migrated, and the store of their objects and the block is open
+  -- what a stop may leave beside what it left before: the migrated tables, where the connection was
+  -- open
+  abbrev pub LeavesMigrated : Held S → Type 0
+  LeavesMigrated new = Survives (state g conn) (state g new)
+      (WhereOpen g conn (TreesOf (IsMigrated root source (database g conn))))
+
+  -- the tables are migrated, over a connection that was open, and the store of their objects and
+  -- the block is open
   pub record MigratesStore (store : Held S) : Type 0 where
     pub migrated : OnCleanDisk g store (IsMigrated root source (database g conn) (database g store))
+    pub was_open : OnCleanDisk g store (IsTrue (state g conn).is_open)
     pub is_open : IsOpen g store
     pub settled : IsSettled g store
-    pub crash : Survives (state g conn) (state g store)
-        (TreesOf (IsMigrated root source (database g conn)))
+    pub crash : LeavesMigrated store
 
   -- the rows are as they were, while the connection is open, and a fault of the rows says why they
   -- are not migrated
   pub record FailsToMigrate (left : Held S) (fault : MigrateFault) : Type 0 where
     pub autocommit : left.in_transaction ≡ false
+    pub was_open : WhileOpen g left (IsTrue (state g conn).is_open)
     pub kept : WhileOpen g left (database g left ≡ database g conn)
     pub settled : IsSettled g left
     pub why : OnCleanDisk g left (RefusesOldTables root source (database g conn) fault)
     pub store : (error : Error) → fault ≡ Store error → FailsOverOldRows left error
-    pub crash : Survives (state g conn) (state g left)
-        (TreesOf (IsMigrated root source (database g conn)))
+    pub crash : LeavesMigrated left

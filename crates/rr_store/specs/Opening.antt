@@ -1,5 +1,5 @@
 -- What becomes of a call that opens a store.
-use Rattle.std.specs.Prelude.{◌≡◌, ◌≢◌, ℕ, ◌<◌, ◌^◌, List}
+use Rattle.std.specs.Prelude.{◌≡◌, ◌≢◌, ℕ, ◌<◌, ◌^◌, List, IsTrue}
 use Rattle.std.specs.List.{AllByRecursion}
 use Rattle.sqlite_trees.specs.declared.store.Store.{Ghosts}
 use Rattle.sqlite.specs.declared.error.Error.{Error}
@@ -64,13 +64,14 @@ pub record RefusesTables (version : Version) (source : List ℕ) (db : Database)
   pub untabled : ¬ HasTables db.schema → fault ≡ Store no_tables
 
 module _ {S : Type 0} (g : Ghosts S) (source : List ℕ) (conn : Held S) where
-  -- the store of these objects is open, in order of class and key, with the rows as they were
-  -- (profile)
+  -- the store of these objects is open, in order of class and key, with the rows as they were, over
+  -- a connection that was open (profile)
   pub record OpensStore (store : Held S) (objects : List Obj) : Type 0 where
     pub stored : OnCleanDisk g store (AreStored source objects (database g store))
     pub in_order : AreInOrder objects
     pub of_source : AreObjectsOf source objects
     pub same : OnCleanDisk g store (database g store ≡ database g conn)
+    pub was_open : OnCleanDisk g store (IsTrue (state g conn).is_open)
     pub is_open : IsOpen g store
     pub settled : IsSettled g store
     pub crash : Survives (state g conn) (state g store) (λ _. ⊥)

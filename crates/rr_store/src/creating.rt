@@ -1,10 +1,10 @@
 //! A new store, made in one transaction.
 
-ghost use Rattle.std.specs.Prelude.{◌≡◌, ◌≢◌, false, IfErr, OnOk};
+ghost use Rattle.std.specs.Prelude.{◌≡◌, ◌≢◌, false, IfErr};
 ghost use Rattle.sqlite.specs.declared.error.Error.{Error};
-ghost use Rattle.rr_rows.specs.Made.{HasItsTables, HasSomeRow, IsBare, IsVacant, no_schema};
+ghost use Rattle.rr_rows.specs.Made.{HasSomeRow, IsBare, IsMadeWith, no_schema};
 ghost use Rattle.rr_rows.specs.Tables.{HasTables};
-ghost use Rattle.rr_store.specs.Calls.{OnCleanDisk, Transacts, WhileOpen, database};
+ghost use Rattle.rr_store.specs.Calls.{OnCleanDisk, Transacts, database};
 ghost use Rattle.rr_store.specs.Creating.{FailsOverRow, IsStoreOf};
 ghost use Rattle.rr_store.specs.Faults.{no_tables};
 ghost use Rattle.rr_object.specs.Objects.{lent};
@@ -26,10 +26,9 @@ fn create_in_blank<S: Alter>(
     objects: &[&Object],
 ) -> Result<(), StoreFault>
     requires autocommit { conn.old.in_transaction ≡ false }
-    requires blank { WhileOpen S.Store conn.old (conn.old.schema ≡ no_schema) }
-    ensures makes { Transacts S.Store (λ _. IsStoreOf (lent objects.now))
+    requires blank { conn.old.schema ≡ no_schema }
+    ensures { Transacts S.Store (IsMadeWith (IsStoreOf (lent objects.now)))
         conn.old conn.new result }
-    ensures tables { Transacts S.Store HasItsTables conn.old conn.new result }
 {
     // Called for its contract: outside a transaction the rows are those last committed.
     let _ = conn.is_autocommit();
@@ -45,10 +44,9 @@ fn create_in_bare<S: Alter>(
     objects: &[&Object],
 ) -> Result<(), StoreFault>
     requires autocommit { conn.old.in_transaction ≡ false }
-    requires bare { WhileOpen S.Store conn.old (IsBare (database S.Store conn.old)) }
-    ensures makes { Transacts S.Store (λ _. IsStoreOf (lent objects.now))
+    requires bare { OnCleanDisk S.Store conn.old (IsBare (database S.Store conn.old)) }
+    ensures { Transacts S.Store (IsMadeWith (IsStoreOf (lent objects.now)))
         conn.old conn.new result }
-    ensures tables { Transacts S.Store HasItsTables conn.old conn.new result }
 {
     // Called for its contract: outside a transaction the rows are those last committed.
     let _ = conn.is_autocommit();
@@ -65,11 +63,8 @@ fn create_in_tables<S: Alter>(
 ) -> Result<(), CreateFault>
     requires autocommit { conn.old.in_transaction ≡ false }
     requires tables { OnCleanDisk S.Store conn.old (HasTables conn.old.schema) }
-    ensures makes { Transacts S.Store (λ _. IsStoreOf (lent objects.now))
+    ensures makes { Transacts S.Store (IsMadeWith (IsStoreOf (lent objects.now)))
         conn.old conn.new result }
-    ensures tables { Transacts S.Store HasItsTables conn.old conn.new result }
-    ensures bare { OnCleanDisk S.Store conn.new (OnOk result
-        (IsBare (database S.Store conn.old))) }
     ensures filled { OnCleanDisk S.Store conn.new (IfErr result (λ fault. fault ≡ NotEmpty →
         HasSomeRow (database S.Store conn.old))) }
     ensures memory { OnCleanDisk S.Store conn.new (IfErr result (λ fault. fault ≡ Memory →
@@ -91,11 +86,8 @@ pub(crate) fn create_where_vacant<S: Alter>(
     objects: &[&Object],
 ) -> Result<(), CreateFault>
     requires autocommit { conn.old.in_transaction ≡ false }
-    ensures makes { Transacts S.Store (λ _. IsStoreOf (lent objects.now))
+    ensures makes { Transacts S.Store (IsMadeWith (IsStoreOf (lent objects.now)))
         conn.old conn.new result }
-    ensures tables { Transacts S.Store HasItsTables conn.old conn.new result }
-    ensures vacant { OnCleanDisk S.Store conn.new (OnOk result
-        (IsVacant (database S.Store conn.old))) }
     ensures filled { OnCleanDisk S.Store conn.new (IfErr result (λ fault. fault ≡ NotEmpty →
         HasTables conn.old.schema × HasSomeRow (database S.Store conn.old))) }
     ensures memory { OnCleanDisk S.Store conn.new (IfErr result (λ fault. fault ≡ Memory →

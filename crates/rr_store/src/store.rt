@@ -64,7 +64,8 @@ impl<S: Alter> Store<S> {
     /// given back, and the rows are as they were, while it is open. `NotEmpty` says that one of the
     /// three tables has a row. Unless one has, or other tables stand in place of the three, no
     /// clause says why the call fails. A stop during the call leaves the rows and tables before it
-    /// or those of the store; one after it, while the connection is open, those that stand.
+    /// or, where there was room for them, those of the store; one after it, while the connection is
+    /// open, those that stand.
     pub fn create(
         alloc: Global,
         mut conn: Connection<S>,

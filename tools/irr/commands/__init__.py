@@ -9,7 +9,14 @@ A command is a module of this folder, with
 """
 from typing import NamedTuple
 
-ASK, REGISTER, FILTER, KEEP, ABOUT = GROUPS = ("ask", "register", "filter", "keep", "about")
+ASK, REGISTER, FILTER, KEEP, COPY, ABOUT = GROUPS = (
+    "ask",
+    "register",
+    "filter",
+    "keep",
+    "copy",
+    "about",
+)
 
 
 class Command(NamedTuple):
@@ -25,36 +32,36 @@ class Command(NamedTuple):
 TABLE = (
     Command("query", ASK, "query", "ask a registry"),
     Command("dump", ASK, "dump", "print the public dump"),
-    Command("tree", ASK, "tree", "show who holds what below a prefix"),
-    Command("held", ASK, "held", "say whether anybody else can change a prefix, and mend that"),
+    Command("tree", ASK, "tree", "print who holds what below a prefix"),
+    Command("held", ASK, "held", "report whether anybody else can change a prefix, and mend that"),
     Command("submit", REGISTER, "submit", "send a submission, or look what would be answered"),
     Command("diff", REGISTER, "diff", "compare a submission with what is registered"),
     Command("auth", REGISTER, "auth", "make a password and its auth line"),
     Command(
         "delegate", REGISTER, "delegate", "write the text that hands space and AS numbers over"
     ),
-    Command("explain", REGISTER, "explain", "say what a code of a report means, and what to do"),
+    Command("explain", REGISTER, "explain", "print what a code of a report means, and what to do"),
     Command("filter", FILTER, "filter", "make a filter for BIRD or FRR"),
-    Command("why", FILTER, "why", "say by which references a prefix is in a set"),
+    Command("why", FILTER, "why", "print by which references a prefix is in a set"),
     Command("rov", FILTER, "rov", "compare the registered routes with ROAs"),
     Command("setup", KEEP, "setup", "make a first registry, by questions or by options"),
-    Command("check", KEEP, "check", "say what is wrong with the registry of this machine"),
+    Command("check", KEEP, "check", "report what is wrong with the registry of this machine"),
     Command(
         "door", KEEP, "door", "answer the world: whois in three dialects, HTTP, and submissions"
     ),
-    Command("log", KEEP, "log", "show who submitted what through the door"),
-    Command("import", KEEP, "import_", "make a registry of another one's dump"),
-    Command("export", KEEP, "export", "write the public dump in files of one class each"),
-    Command(
-        "mirror", KEEP, "mirror", "serve replicas: copies of a registry that answer its queries"
-    ),
-    Command("view", KEEP, "view", "serve several registries as one"),
+    Command("log", KEEP, "log", "print who submitted what through the door"),
     Command("backup", KEEP, "backup", "make a verified backup of a registry, served or not"),
     Command("restore", KEEP, "restore", "put a backup in the place of a registry"),
-    Command("history", KEEP, "history", "keep each public state of a registry, and show what was"),
-    Command("nrtm4", KEEP, "nrtm4", "show and change the keys that sign what mirrors take"),
-    Command("notify", KEEP, "notify", "mail what changed and was refused to those concerned"),
     Command("reset", KEEP, "reset", "give a maintainer of a stopped registry another password"),
+    Command("history", KEEP, "history", "keep each public state of a registry, and print what was"),
+    Command("notify", KEEP, "notify", "mail what changed and was refused to those concerned"),
+    Command("import", COPY, "import_", "make a registry of another one's dump"),
+    Command("export", COPY, "export", "write the public dump in files of one class each"),
+    Command(
+        "mirror", COPY, "mirror", "serve replicas: copies of a registry that answer its queries"
+    ),
+    Command("view", COPY, "view", "serve several registries as one"),
+    Command("nrtm4", COPY, "nrtm4", "print and change the keys that sign what mirrors take"),
     Command(
         "completion", ABOUT, "completion", "print what a shell needs to complete the words of irr"
     ),

@@ -11,6 +11,7 @@ from irr.rpsl import keys
 from irr.rpsl.keys import Range
 from irr.system import files
 from irr.terminal import texts
+from irr.views.settings import followed_to
 
 EXAMPLES = """
 irr filter bird CUSTOMERS AS64496:RS-CUSTOMERS /etc/bird/customers.conf
@@ -179,8 +180,8 @@ def comments(mark: str, origin: list[str]) -> Iterator[str]:
 def made_of(view: dict[str, Any]) -> Iterator[str]:
     """The sources of a view, each with its state, and the ROAs by which routes were left out."""
     for one in view.get("sources", []):
-        serial = f", serial {one.get('serial')}" if one.get("serial") is not None else ""
-        yield f"source {one.get('name')}, state {one.get('state')}{serial}"
+        words = [f"source {one.get('name')}", f"state {one.get('state')}", followed_to(one)]
+        yield ", ".join(filter(None, words))
     if view.get("roas"):
         yield f"ROAs, state {view['roas']}"
 

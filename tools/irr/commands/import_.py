@@ -10,7 +10,7 @@ from pathlib import Path
 from typing import Iterable, Iterator
 
 from irr.errors import ARGUMENTS, DONE, REFUSED, Failure
-from irr.migrate import conversion, verification
+from irr.migrate import conversion, passwords, verification
 from irr.migrate.kinds import KINDS
 from irr.migrate.normalisation import MNTNER, PASSWORD, Mender
 from irr.migrate.report import Tally
@@ -25,6 +25,9 @@ irrdesk load irr.toml full.rpsl             the registry of it
 irr import radb.db --source EXAMPLE --root ROOT-MNT --auth @holders.auth --check -o full.rpsl
                                             holders.auth has the root's line and lines
                                             A-MNT=SHA256-PW ...
+irr import old.db --source EXAMPLE --root ROOT-MNT --auth @root.auth --passwords sent -o full.rpsl
+                                            a new password for each other maintainer, in the folder
+                                            sent
 """
 RULE = """What is written is, object by object, the paragraph that was read, but for what is mended
 and reported. A paragraph is not an object if the name of a class comes again after its
@@ -50,6 +53,12 @@ def arguments(parser: argparse.ArgumentParser) -> None:
         metavar="[MNT=]LINE",
         help="give the root this `auth`, as `irr auth` makes it; with MNT= another maintainer; "
         "@FILE for a file of such lines; may be given several times",
+    )
+    parser.add_argument(
+        "--passwords",
+        metavar="FOLDER",
+        help="give each maintainer that nobody has a password of a new one, in a file NAME.password"
+        " of its own there; one that is there already stays",
     )
     parser.add_argument(
         "-o",
@@ -111,6 +120,9 @@ def run(options: argparse.Namespace) -> int:
         stack.callback(made.spool.close)
         made.read(options.files)
         need_some(tally)
+        if options.passwords is not None:
+            lines, new = passwords.lines_for(options.passwords, made.locked_out())
+            made.auths |= {name: [line] for name, line in lines.items()}
         if options.check:
             checked(made, options, root, auths[root][0])
         elif options.output is not None:
@@ -127,6 +139,10 @@ def run(options: argparse.Namespace) -> int:
             )
     for line in [*tally.lines(), *notes(made, root)]:
         texts.note(line)
+    if options.passwords is not None:
+        texts.note(
+            f"{options.passwords}: {texts.counted(len(lines), 'password')}, {new} of them new"
+        )
     return DONE
 
 

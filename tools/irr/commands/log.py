@@ -11,8 +11,9 @@ from irr.rpsl import keys
 from irr.terminal import texts
 
 EXAMPLES = """
-irr log                                  all, out of the journal of irrdesk-door.service
-irr log --file /var/log/irrdesk-door/items.log --key 192.0.2.0/24
+irr log                                  all that the service's door wrote down, as root
+irr log --key 192.0.2.0/24
+irr log --file items.log                 of another door
 irr log --maintainer A-MNT --since 2026-11-01
 irr log --client 192.0.2.7 --json
 """
@@ -22,8 +23,8 @@ def arguments(parser: argparse.ArgumentParser) -> None:
     parser.add_argument(
         "--file",
         metavar="FILE",
-        help="read the file of the setting `log`, and rotated ones; otherwise the journal "
-        "of irrdesk-door.service",
+        help="read this file of a door's setting `log`, and rotated ones; otherwise that of "
+        f"{logs.SETTINGS}, or the journal of {logs.UNIT}",
     )
     parser.add_argument(
         "--key", metavar="KEY", help="print the lines of objects whose key is, or begins with, this"

@@ -51,7 +51,7 @@ def arguments(parser: argparse.ArgumentParser) -> None:
     parser.add_argument(
         "--log",
         metavar="FILE",
-        help="mail refusals, too, from the file of the door's setting `log`",
+        help="mail refusals, too, from the file of the door's setting `log`, if there is one",
     )
     parser.add_argument(
         "--journal",
@@ -189,9 +189,11 @@ class Sender:
     def tell_refusals(self, path: str | None) -> None:
         """Tells what was refused since the last run."""
         self.until = self.until or self.now
+        # A door that never was started has no log.
+        is_there = path is None or os.path.exists(path)
         entries = (
             one
-            for one in journal.entries(logs.lines(path))
+            for one in journal.entries(logs.lines(path) if is_there else iter(()))
             if self.since < (journal.time_of(one) or 0.0) <= self.until
         )
         told = notices.of_refusals(self.repository, self.states[0], entries)

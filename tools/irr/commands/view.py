@@ -76,8 +76,8 @@ class Keeper(replicas.Keeper):
                 if line not in before:
                     texts.note(f"{self.name}: {line}")
         if is_new:
-            for name, told in self.view.told.items():
-                print(texts.shown_line(f"{self.name}: {told.line(name)}"), flush=True)
+            for line in self.view.outcome():
+                print(texts.shown_line(f"{self.name}: {line}"), flush=True)
         return is_new
 
     @property

@@ -11,6 +11,9 @@ from irr.door.sockets import END, FAULT, IN, OUT, Watch
 
 # The first piece is mostly the whole answer; a long one comes in larger ones.
 FIRST, PIECE = 1 << 14, 1 << 18
+# The bytes that come in a second at least, on the average: fewer are no answer of a process that
+# runs.
+SLOWEST = 1 << 14
 
 
 class Exchange:
@@ -26,6 +29,7 @@ class Exchange:
         "take",
         "ended",
         "begun",
+        "since",
         "heard",
         "size",
         "is_over",
@@ -40,7 +44,8 @@ class Exchange:
         ended: Callable[[Optional[str]], None],
     ) -> None:
         self.watch, self.take, self.ended, self.rest = watch, take, ended, data
-        self.begun = self.heard = time.monotonic()
+        # When it was begun, when its first piece came, and when its last one did.
+        self.begun = self.since = self.heard = time.monotonic()
         self.size, self.is_over = 0, False
         family = socket.AF_INET6 if ":" in place.host else socket.AF_INET
         self.socket = socket.socket(family, socket.SOCK_STREAM | socket.SOCK_NONBLOCK)
@@ -90,6 +95,8 @@ class Exchange:
                 self.end(None)
                 return
             self.heard = time.monotonic()
+            if not self.size:
+                self.since = self.heard
             self.size += len(piece)
             try:
                 self.take(piece)
@@ -101,6 +108,11 @@ class Exchange:
                 self.end(None)
             if self.is_over or len(piece) < most:
                 return
+
+    def has_lasted(self, seconds: float, since: float, now: float) -> bool:
+        """Whether more than these seconds have passed since a time, beside those that what came may
+        have taken."""
+        return now - since > seconds + self.size / SLOWEST
 
     def end(self, fault: Optional[str]) -> None:
         """Ends it, once."""

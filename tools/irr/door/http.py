@@ -3,6 +3,7 @@ this machine."""
 
 import time
 import asyncio
+import re
 from typing import Optional
 from urllib.parse import unquote_to_bytes, urlsplit
 
@@ -23,6 +24,8 @@ from irr.rpsl import keys
 
 # The longest head, its most fields, and the bytes of it that name a path.
 HEAD, FIELDS = 8_192, 64
+# A line may end without a carriage return, as for the registry; alone none stands anywhere.
+LINE_END, HEAD_END, BAD_BYTE = re.compile("\r?\n"), re.compile(b"\r?\n\r?\n"), re.compile("[\0\r]")
 IDLE = 60.0
 # The bytes of a dump that a client takes each second at least.
 SLOWEST = 1 << 18
@@ -62,9 +65,13 @@ class Request:
     __slots__ = ("method", "path", "fields", "is_kept", "is_new", "length")
 
     def __init__(self, head: bytes) -> None:
-        lines = head.decode("latin-1").split("\r\n")
+        lines = LINE_END.split(head.decode("latin-1"))
         words = lines[0].split(" ")
-        if len(words) != 3 or not words[2].startswith("HTTP/1."):
+        if (
+            len(words) != 3
+            or not words[2].startswith("HTTP/1.")
+            or any(map(BAD_BYTE.search, lines))
+        ):
             raise Bad(400)
         self.method, self.path = words[0], words[1]
         self.is_new = words[2] != "HTTP/1.0"
@@ -143,8 +150,10 @@ class Http(Connection):
 
     def read_head(self) -> bool:
         """Reads the head of a request, once it is there."""
-        head, mark, rest = self.buffer.partition(b"\r\n\r\n")
-        if not mark or len(head) > HEAD:
+        if self.buffer[:1] in (b"\r", b"\n"):
+            self.buffer = self.buffer.lstrip(b"\r\n")
+        end = HEAD_END.search(self.buffer)
+        if end is None or end.start() > HEAD:
             if len(self.buffer) > HEAD:
                 raise Bad(431)
             if self.has_ended:
@@ -155,9 +164,9 @@ class Http(Connection):
             return False
         self.door.silent.pop(self, None)
         self.deadline = self.late()
-        request = Request(head.lstrip(b"\r\n"))
+        request = Request(self.buffer[: end.start()])
         request.is_kept = request.is_kept and not self.door.is_closing
-        self.buffer = rest
+        rest = self.buffer = self.buffer[end.end() :]
         self.check(request)
         if (
             request.is_new

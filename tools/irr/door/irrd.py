@@ -32,6 +32,7 @@ NOTHING, NOT_FOUND = b"C\n", b"D\n"
 KNOWN = b"F Missing required set name for A query\n"
 # The longest line of a question.
 LONGEST = 1_024
+TOO_LONG = f"a question has at most {LONGEST} bytes"
 # The bytes of an answer that is looked at whole.
 LOOKED_AT = 1 << 15
 EXPANDED = re.compile(rb"(?:(?:" + answers.EXPANSION.pattern + rb")\n)*(?:% missing [^\n]*\n)*")
@@ -113,7 +114,7 @@ class Session:
     async def answer(self, line: bytes) -> Reply:
         """The reply to a line that begins with `!`."""
         if len(line) > LONGEST:
-            return self.wrong(f"a question has at most {LONGEST} bytes")
+            return self.too_long()
         question = line[1:].decode("latin-1").rstrip("\r\n\t ")
         if question.lower() in ("q", "e"):
             return Reply(b"", "answered", False)
@@ -134,6 +135,9 @@ class Session:
         if outcome_of(answer) == "error":
             return self.wrong(answer[2:-1].decode("latin-1"))
         return Reply(answer, outcome_of(answer), self.stays)
+
+    def too_long(self) -> Reply:
+        return self.wrong(TOO_LONG)
 
     def wrong(self, words: str, outcome: str = "error") -> Reply:
         """The reply of a fault in the form in which the client takes it for one; a client that went

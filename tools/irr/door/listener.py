@@ -35,8 +35,8 @@ STATUS, WATCHING = "status", 50
 SLOW = 10.0
 # Of how many clients each may have as much of the answers in memory, where others lack room.
 SHARES = 4
-# An answer that IRRd's clients, RIPE's and all others read.
-LONG_LINE = b"% error 2\n"
+# What the registry answers to a line that is too long, and what stands round one for no reason.
+LONG_LINE, BLANKS = b"% error 2\n", b" \t\r"
 
 
 class Door:
@@ -365,7 +365,7 @@ class Whois(Connection):
             line, mark, rest = self.buffer.partition(b"\n")
             if not mark:
                 if len(line) > LONGEST:
-                    self.end(LONG_LINE, "error")
+                    self.end(self.too_long(line), "error")
                 elif self.has_ended:
                     if line or self.asker is None:
                         # Who ends without a word has asked nothing that is a query.
@@ -408,11 +408,14 @@ class Whois(Connection):
     def answer(self, line: bytes) -> None:
         self.door.silent.pop(self, None)
         if len(line) > LONGEST:
-            self.end(LONG_LINE, "error")
+            self.end(self.too_long(line), "error")
             return
         if self.asker is None:
             self.asker = Asker(self.door.pool.views.default(), self.client, self.address)
+        if line[:1] in b" \t" and line.strip(BLANKS)[:1] == b"!":
+            line = line.strip(BLANKS)
         if line[:1] == b"!":
+            line = line.rstrip(BLANKS)
             if self.session is None:
                 self.session = irrd.Session(self.asker, self.door.settings.strict)
             quick = self.session.at_once(line)
@@ -427,6 +430,12 @@ class Whois(Connection):
             self.ask(self.asker, line)
         else:
             self.task = self.door.loop.create_task(self.work(self.asker, dialect, line))
+
+    def too_long(self, line: bytes) -> bytes:
+        """What is said of a line that is longer than any question, in its dialect."""
+        if line[:1] == b"!":
+            return self.session.too_long().text if self.session else irrd.fault(irrd.TOO_LONG)
+        return ripe.too_long(self.door.pool.source) if line[:1] == b"-" else LONG_LINE
 
     def ask(self, asker: Asker, line: bytes) -> None:
         """Has the registry itself answer a line: no task has to wait for that."""

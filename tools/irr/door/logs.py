@@ -1,23 +1,36 @@
 """The lines that the door wrote of who did what: of the files of its journal, or of systemd's."""
 
+import os
 import subprocess
 from collections.abc import Iterator
 from pathlib import Path
 
 from irr.door import journal
 from irr.errors import Failure, system_words
+from irr.system import tomls
 
-UNIT = "irrdesk-door.service"
+UNIT, SETTINGS = "irrdesk-door.service", "/etc/irrdesk/door.toml"
 
 
 def lines(path: str | None) -> Iterator[bytes]:
-    """The lines of the files of a journal, or of that of systemd."""
-    if path is None:
+    """The lines of the files of a journal: of this one, or of that which the settings of the
+    service name; of systemd's where they name none."""
+    place = path or str(tomls.parsed(SETTINGS, tomls.text_of(SETTINGS)).get("log", "-"))
+    if place == "-":
         yield from lines_of_unit()
         return
-    found = [one for one in journal.files_of(Path(path)) if one.exists()]
+    try:
+        # Of a folder that nobody else may enter, no file is seen.
+        os.listdir(os.path.dirname(place) or ".")
+    except PermissionError as error:
+        raise Failure(
+            place, f"it cannot be read: {system_words(error)}; run this as root"
+        ) from None
+    except OSError:
+        pass
+    found = [one for one in journal.files_of(Path(place)) if one.exists()]
     if not found:
-        raise Failure(path, "there is no such file; give that of the setting `log`")
+        raise Failure(place, "there is no such file; give that of the setting `log`")
     for one in found:
         with open(one, "rb") as file:
             yield from file

@@ -30,7 +30,8 @@ from irr.rpsl.syntax import Paragraph
 
 # How many look why, and how many at the past, at once; and how many of a client wait.
 AT_ONCE, QUEUED = 2, 4
-# The seconds of a slice, and the most that one question has of the door's own time; for all of it.
+# The processor's seconds in a slice, and the most that one question has of them; the seconds for
+# all of it.
 SLICE, MOST_WORK, LASTS = 0.004, 3.0, 60.0
 # The bytes of all answers that one question takes, of which objects make eight times as many at
 # most, and of its own.
@@ -112,11 +113,11 @@ class Slices:
 
     def __init__(self, asker: Asker) -> None:
         self.asker, self.worked, self.read = asker, 0.0, 0
-        self.begun = time.perf_counter()
+        self.begun = time.thread_time()
 
     def end(self) -> None:
         """Ends a slice."""
-        now = time.perf_counter()
+        now = time.thread_time()
         spent, self.begun = now - self.begun, now
         self.worked += spent
         self.asker.pool.clients.charge(self.asker.client, spent, time.monotonic())
@@ -125,10 +126,10 @@ class Slices:
 
     async def rest(self) -> None:
         """Lets others go first, if the slice was long enough."""
-        if time.perf_counter() - self.begun >= SLICE:
+        if time.thread_time() - self.begun >= SLICE:
             self.end()
             await asyncio.sleep(0)
-            self.begun = time.perf_counter()
+            self.begun = time.thread_time()
 
     async def result(self, steps: Steps[Any]) -> Any:
         """What steps come to."""
@@ -147,7 +148,7 @@ class Slices:
         """The objects that are answered to a query."""
         self.end()
         answer = await self.asker.ask(query.encode())
-        self.begun = time.perf_counter()
+        self.begun = time.thread_time()
         self.read += len(answer.text)
         if self.read > MOST_READ:
             raise Refused("long", LONG)

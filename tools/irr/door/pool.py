@@ -201,7 +201,8 @@ class Pool:
         self.source = ""
         self.surprise, self.surprised = SURPRISES, time.monotonic()
         self.seconds: dict[str, float] = {}
-        self.refused: dict[str, int] = {}
+        # Prometheus sees no growth of what it never saw at 0.
+        self.refused = dict.fromkeys(("budget", "busy", "down", "full", "long"), 0)
         # What the agent told last, and whether it was asked.
         self.told: dict[str, Any] = {}
         self.is_told = self.is_held = self.is_closing = False
@@ -486,15 +487,19 @@ class Pool:
         self.source = upstreams.source_in(text) or self.source
 
     def hurry(self, one: Upstream, exchange: Exchange, now: float) -> None:
-        """Ends an exchange that has stalled, and asks a second upstream where the first is silent
-        for a query that is cheap."""
+        """Ends an exchange that has stalled, or has little come of it, and asks a second upstream
+        where the first is silent for a query that is cheap."""
         silence, request = now - exchange.heard, one.request
-        if silence > ANSWERING or (
-            request is None and silence > upstreams.ANSWERING and not one.is_held
-        ):
+        if request is None:
+            # A look; a submission has bounds of its own.
+            if not one.is_held and exchange.has_lasted(upstreams.ANSWERING, exchange.begun, now):
+                exchange.end("ETIMEDOUT")
+            return
+        if silence > ANSWERING or exchange.has_lasted(ANSWERING, exchange.begun, now):
             exchange.end("ETIMEDOUT")
             return
-        if request is None or silence <= STALLED:
+        is_dripping = exchange.has_lasted(STALLED, exchange.since, now)
+        if silence <= STALLED and not (exchange.size and is_dripping):
             return
         if request.is_over:
             # Another one has answered meanwhile: this one is left out until it answers a look.
@@ -525,26 +530,36 @@ class Pool:
                 if told is None:
                     self.told = {}
                 else:
-                    with contextlib.suppress(KeyError, TypeError, ValueError, Failure):
+                    # What none of its agents says is no news.
+                    with contextlib.suppress(
+                        KeyError, TypeError, ValueError, OverflowError, Failure
+                    ):
                         self.heard(told)
             self.is_told = True
             await asyncio.sleep(upstreams.ASKING if self.told else upstreams.ASKING_AGAIN)
 
     def heard(self, told: dict[str, Any]) -> None:
         """Takes in what the agent says."""
+        entries = {
+            place(f"127.0.0.1:{int(entry['port'])}"): (
+                not entry["ready"],
+                str(entry["state"]),
+                float(entry["seen"]),
+            )
+            for entry in told["replicas"]
+        }
         self.told = told
         states = {one.state for one in self.replicas}
-        for entry in told["replicas"]:
-            at = Place("127.0.0.1", int(entry["port"]))
-            one = next((found for found in self.replicas if found.place == at), None)
-            if one is None:
-                if self.settings.replica:
-                    continue
+        if not self.settings.replica:
+            # One that is still asked is forgotten once it has answered.
+            self.replicas = [one for one in self.replicas if one.place in entries or one.exchange]
+            for at in entries.keys() - {one.place for one in self.replicas}:
                 one = Upstream(at)
                 one.is_up = False
                 self.replicas.append(one)
-            one.is_draining = not entry["ready"]
-            one.state = str(entry["state"])
-            one.see(float(entry["seen"]))
+        for one in self.replicas:
+            if one.place in entries:
+                one.is_draining, one.state, seen = entries[one.place]
+                one.see(seen)
         if {one.state for one in self.replicas} != states:
             self.cache.renew()

@@ -1,5 +1,6 @@
 """What comes of an upstream, whole before anybody gets it: in memory, or a dump in a file."""
 
+import contextlib
 import tempfile
 from typing import IO, Optional, Protocol
 
@@ -84,7 +85,7 @@ class Dumped:
     it has."""
 
     def __init__(self) -> None:
-        self.file: IO[bytes] = tempfile.TemporaryFile(prefix="irr-door-")
+        self.file: Optional[IO[bytes]] = None
         self.head, self.tail = b"", b""
         self.is_in_body, self.taken, self.objects = False, 0, 0
 
@@ -103,14 +104,23 @@ class Dumped:
         self.objects += joined.count(b"\n\n")
         self.tail = (self.tail + piece)[-64:]
         self.taken += len(piece)
-        self.file.write(piece)
+        try:
+            self.file = self.file or tempfile.TemporaryFile(prefix="irr-door-")
+            self.file.write(piece)
+            self.file.flush()
+        except OSError:
+            # The disk is full, or there is no room for another file.
+            raise ValueError("full") from None
 
     def whole(self, _: float) -> Optional[Dump]:
         end = answers.DUMP_END.fullmatch(self.tail[self.tail.rfind(b"\n", 0, -1) + 1 :])
-        if not end or int(end[1]) != self.objects:
+        if not end or int(end[1]) != self.objects or self.file is None:
             self.drop()
             return None
         return Dump(self.file, self.taken)
 
     def drop(self) -> None:
-        self.file.close()
+        if self.file is not None:
+            # What could not be written is tried once more, and lost.
+            with contextlib.suppress(OSError):
+                self.file.close()

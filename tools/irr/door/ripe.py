@@ -88,6 +88,11 @@ def refusal(refused: Refused) -> Bad:
     return Bad(208, "the server is busy", f"{refused.sentence[0].upper()}{refused.sentence[1:]}.")
 
 
+def too_long(source: str) -> bytes:
+    """The reply to a line that is longer than any."""
+    return head(source) + error(Bad(107, "input line too long")) + b"\n"
+
+
 def none(source: str) -> Bad:
     return Bad(101, "no entries found", f"No entries found in source {source or 'here'}.")
 
@@ -109,16 +114,12 @@ async def found(asker: Asker, flags: Flags) -> tuple[list[bytes], str, float]:
             raise Bad(102, "unknown source", f"'{wanted}' is not a known source; {views.known()}.")
         asker = Asker(chosen, asker.client, asker.address)
     source = asker.pool.source
-    for kind in flags.listed("T"):
-        if kind not in templates.KNOWN_CLASSES:
-            raise Bad(103, f"unknown object type '{kind}'")
+    chosen_kinds = [templates.class_of(kind) for kind in flags.listed("T")]
     if not flags.key:
         raise Bad(106, "no search key specified")
     if len(flags.key) > 1_000:
         raise Bad(107, "input line too long")
-    kinds = (
-        [kind for kind in flags.listed("T") if kind in keys.CLASSES] if "T" in flags.words else None
-    )
+    kinds = [one for one in chosen_kinds if one in keys.CLASSES] if "T" in flags.words else None
     parts: list[bytes] = []
     cost, count = 0.0, 0
     async for block, seconds in blocks(asker, flags, kinds):
@@ -296,14 +297,7 @@ def own_span(block: bytes) -> Optional[Span]:
 
 async def inverse(asker: Asker, flags: Flags) -> AsyncIterator[tuple[bytes, float]]:
     """`-i`: the objects whose attributes name the key."""
-    wanted = flags.listed("i")
-    for name in wanted:
-        if name not in templates.INVERSE:
-            raise Bad(
-                104,
-                f"unknown attribute '{name}'",
-                f"'{name}' is not an inverse searchable attribute.",
-            )
+    wanted = [templates.inverse_of(name) for name in flags.listed("i")]
     seen: set[bytes] = set()
     for name in dict.fromkeys(wanted):
         async for block, seconds in inversely(asker, name, flags.key):

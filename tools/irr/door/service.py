@@ -22,13 +22,15 @@ from irr.door.status import Counters, Status
 from irr.door.submissions import Submissions
 from irr.door.views import Views
 from irr.door.wire import Peer, Port
-from irr.errors import Failure
+from irr.errors import SETTINGS, Failure
 from irr.system.units import notify
 from irr.terminal import texts
 
 # The first descriptor that systemd hands on.
 FIRST = 3
 BACKLOG = 1_024
+# The files that it opens beside those of connections: for upstreams, dumps, git and the status.
+OTHERS = 256
 # Seconds for upstreams to tell what they are before the door opens, and for what is on its way when
 # it ends.
 KNOWING, ENDING = 3.0, 10.0
@@ -149,6 +151,7 @@ class Service:
                 await asyncio.sleep(1)
                 self.submissions.slow()
                 self.submissions.turn()
+                self.journal.look()
         finally:
             work.cancel()
             await asyncio.wait([work])
@@ -187,9 +190,16 @@ class Service:
 def run(settings: Settings) -> None:
     """Opens the door, and returns when a signal has closed it."""
     soft, hard = resource.getrlimit(resource.RLIMIT_NOFILE)
-    wanted = settings.connections + 256
+    wanted = settings.connections + OTHERS
+    if hard != resource.RLIM_INFINITY and hard < wanted:
+        raise Failure(
+            "connections",
+            f"the door may open {hard:,} files, and needs {wanted:,} for {settings.connections:,} "
+            "connections; set fewer, or raise LimitNOFILE",
+            SETTINGS,
+        )
     if soft < wanted:
-        resource.setrlimit(resource.RLIMIT_NOFILE, (min(wanted, hard), hard))
+        resource.setrlimit(resource.RLIMIT_NOFILE, (wanted, hard))
     watch = Watch()
     asyncio.set_event_loop(watch.loop)
 

@@ -49,14 +49,14 @@ class Settings:
     refill: float = 0.5
     burst: float = 3.0
     # Seconds for a request to come, and for its answer to be taken.
-    patience: float = 120
+    patience: float = 120.0
     connections: int = 1_000
     of_client: int = 50
     largest: int = 32 * MEBIBYTE
     cache: int = 64 * MEBIBYTE
     answers: int = 256 * MEBIBYTE
-    keep: float = 60
-    oldest: float = 600
+    keep: float = 60.0
+    oldest: float = 600.0
     # A submission: its bytes, its items, and its lines of passwords.
     size: int = 262_144
     items: int = 1_000
@@ -69,7 +69,7 @@ class Settings:
     log: str = "-"
     log_size: int = 16 * MEBIBYTE
     log_files: int = 20
-    log_days: float = 180
+    log_days: float = 180.0
     # Who may follow the registry by NRTM, and the history whose serials they are told.
     mirrors: tuple[str, ...] = ()
     history: str = "/var/lib/irrdesk-history"
@@ -135,8 +135,10 @@ def checked(thing: str, name: str, value: Any, default: Any, status: int) -> Any
         return value
     low, high = BOUNDS[name]
     is_number = isinstance(value, (int, float)) and not isinstance(value, bool)
-    if not is_number or not low <= value <= high:
-        raise Failure(thing, f"it takes a number from {low:,g} to {high:,.0f}; correct it", status)
+    is_whole = isinstance(default, int)
+    if not is_number or not low <= value <= high or is_whole and value % 1:
+        kind = "a whole number" if is_whole else "a number"
+        raise Failure(thing, f"it takes {kind} from {low:,g} to {high:,.0f}; correct it", status)
     return type(default)(value)
 
 
@@ -160,8 +162,12 @@ def bad_port() -> int:
 def upstream(text: str) -> Place:
     """The place of a registry or replica on this machine, which is named as
     `http://ADDRESS:PORT`."""
-    parts = urlsplit(text)
-    if parts.scheme != "http" or parts.path.strip("/") or not parts.port:
+    try:
+        parts = urlsplit(text)
+        is_good = parts.scheme == "http" and not parts.path.strip("/") and bool(parts.port)
+    except ValueError:
+        is_good = False
+    if not is_good or "@" in parts.netloc or parts.query or parts.fragment:
         raise Failure(
             text,
             "this is not a registry of this machine; write it as http://127.0.0.1:4343",

@@ -20,7 +20,8 @@ class Counters:
     def __init__(self) -> None:
         self.queries: Counter[tuple[str, str]] = Counter()
         self.connections: Counter[str] = Counter()
-        self.submissions: Counter[str] = Counter()
+        # An alert looks for the first one, which has to be seen at 0 before.
+        self.submissions: Counter[str] = Counter({"E91": 0})
         self.faults = 0
         self.begun = time.monotonic()
 

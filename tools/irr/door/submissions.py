@@ -161,6 +161,7 @@ class Submissions:
             except asyncio.CancelledError:
                 # What was begun goes on to its end, and the journal has it.
                 submission.told = lambda text: None
+                submission.future.add_done_callback(lambda future: future.exception())
                 if not submission.is_begun:
                     self.turns.remove(submission)
                 raise

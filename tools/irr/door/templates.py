@@ -26,17 +26,46 @@ SHORT = dict(
         "last-modified=lm mbrs-by-ref=mr member-of=mo members=ms mnt-by=mb mnt-lower=ml "
         "mnt-nfy=mn mnt-routes=mu mntner=mt mp-default=ma mp-export=me mp-import=my mp-members=mm "
         "netname=na notify=ny org=og origin=or pingable=pa ping-hdl=pc remarks=rm route=rt "
-        "route-set=rs source=so sponsoring-org=sp status=st tech-c=tc upd-to=dt"
+        "route-set=rs source=so sponsoring-org=sp status=st tech-c=tc upd-to=dt "
+        "abuse-mailbox=am author=ah domain=dn filter-set=fs fingerpr=fp ifaddr=if inet-rtr=ir "
+        "inet6num=i6 irt=it irt-nfy=iy key-cert=kc local-as=la mnt-domains=md mnt-irt=mi "
+        "mnt-ref=mz nserver=ns organisation=oa peering-set=ps person=pn poem=po poetic-form=pf "
+        "ref-nfy=rn role=ro route6=r6 rtr-set=is zone-c=zc"
     ).split()
 )
 # The attributes by which this registry finds objects, beside the key.
 FOUND_BY = ("origin", "mnt-by", "mnt-lower", "mnt-routes", "mbrs-by-ref", "member-of")
 
 
+LONG = {short: name for name, short in SHORT.items()}
+
+
+def class_of(word: str) -> str:
+    """The class that a word names, in long or in short; Bad if it is none."""
+    kind = LONG.get(word, word)
+    if kind not in KNOWN_CLASSES:
+        raise Bad(103, f"unknown object type '{word}'")
+    return kind
+
+
+def inverse_of(word: str) -> str:
+    """The attribute that a word names, in long or in short; Bad if no look-up goes by it."""
+    name = LONG.get(word, word)
+    if name in INVERSE:
+        return name
+    if name not in SHORT:
+        raise Bad(104, f"unknown attribute '{word}'", f"'{word}' is not a known attribute.")
+    raise Bad(
+        105,
+        f"attribute '{word}' is not searchable",
+        f"'{word}' is not an inverse searchable attribute.",
+    )
+
+
 def template(word: str) -> bytes:
     """The attributes of a class: how often each is there, and what finds it. Any other attribute is
     kept as text."""
-    kind = word.lower()
+    kind = LONG.get(word.lower(), word.lower())
     if kind not in grammar.TABLE:
         raise Bad(103, f"unknown object type '{kind}'")
     rows = [(kind, grammar.ONCE, "primary/lookup key")]

@@ -16,6 +16,8 @@ PROBE, NOTHING = b"less 0.0.0.0/0\r\n", b"% no entries\n"
 # Seconds between two such looks at one that answers, and at one that does not; and for the answer
 # to come.
 EVERY, AGAIN, ANSWERING = 2.0, 0.5, 2.0
+# The bytes of that answer that are read: more are no reason to think that it does not answer.
+MOST = 1 << 22
 # The most seconds that a look is taken to need.
 MOST_IDLE = 0.05
 # Seconds between two looks at what the agent of the replicas says, and for it to say it.
@@ -78,11 +80,17 @@ class Upstream:
         now = time.monotonic()
         self.looked = now
 
+        def take(piece: bytes) -> None:
+            parts.append(piece)
+            if exchange.size > MOST:
+                raise ValueError("long")
+
         def ended(fault: Optional[str]) -> None:
             self.exchange = None
             text = b"".join(parts)
-            is_whole = answers.looks_like_objects(text) and text.endswith(b"\n\n")
-            if fault is None and (is_whole or text == NOTHING):
+            has_end = text.endswith(b"\n\n") or fault == "long"
+            is_good = has_end and answers.looks_like_objects(text) or text == NOTHING
+            if is_good and fault in (None, "long"):
                 self.is_up, self.why = True, ""
                 self.idle = min(MOST_IDLE, (self.idle + time.monotonic() - now) / 2)
                 found(text)
@@ -90,7 +98,7 @@ class Upstream:
                 self.fall(why_of(fault), time.monotonic())
             done()
 
-        exchange = Exchange(watch, self.place, PROBE, parts.append, ended)
+        exchange = Exchange(watch, self.place, PROBE, take, ended)
         if not exchange.is_over:
             self.exchange = exchange
 
@@ -124,5 +132,5 @@ async def told_by(agent: Place) -> Optional[dict[str, Any]]:
                 writer.close()
         found = json.loads(text)
         return found if isinstance(found, dict) else None
-    except (OSError, ValueError, TimeoutError):
+    except (OSError, ValueError, RecursionError):
         return None

@@ -54,7 +54,7 @@ class ViewPool(Pool):
         ROAs."""
         view = self.told.get("view", {})
         sources = [
-            {name: one.get(name) for name in ("name", "state", "serial")}
+            {name: one.get(name) for name in ("name", "state", "nrtm", "serial")}
             for one in view.get("sources", [])
         ]
         told = {"name": self.name, "sources": sources, "roas": view.get("roas", "")}

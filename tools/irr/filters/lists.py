@@ -26,14 +26,19 @@ LENGTHS = {
     ),
 }
 SLASHED = re.compile(PREFIX)
-# Where a list begins, with its kind and its name: a router's configuration refers to it by these.
+# Where a list begins, with its kind and its name: a router's configuration refers to it by these. A
+# macro of OpenBGPD has no kind.
 BEGINS = {
     "bird": re.compile(r"\b(define)[ \t]+(\w+)"),
-    "frr": re.compile(r"\b(prefix-list|as-path[ \t]+access-list)[ \t]+(\S+)"),
-    "openbgpd": re.compile(r"\b(prefix-set|as-set|origin-set|roa-set)[ \t]+\"?([^\s\"{]+)"),
+    "frr": re.compile(r"\b((?:ip(?:v6)?[ \t]+)?prefix-list|as-path[ \t]+access-list)[ \t]+(\S+)"),
+    "openbgpd": re.compile(
+        r"(?:\b(prefix-set|as-set|origin-set|roa-set)[ \t]+\"?|^[ \t]*(?=\w+[ \t]*=[ \t]*\"))"
+        r"([^\s\"{=]+)",
+        re.M,
+    ),
 }
 # Those that have no AS numbers.
-PREFIX_LISTS = ("prefix-list", "prefix-set")
+PREFIX_LISTS = ("prefix-list", "ip prefix-list", "ipv6 prefix-list", "prefix-set")
 # What is no AS number in a list of these: what stands for any one in a pattern, and the number of a
 # line.
 NO_NUMBER = re.compile(r"\[0-9\]|\bseq[ \t]+[0-9]+")
@@ -143,7 +148,8 @@ def parted(router: str, text: str) -> dict[List, str]:
     """What stands in each list of a filter."""
     meant = meaning(router, text)
     begins = list(BEGINS[router].finditer(meant))
-    names = [List("", ""), *(List(" ".join(one[1].split()), one[2]) for one in begins)]
+    kinds = (" ".join(one[1].split()) if one[1] else "macro" for one in begins)
+    names = [List("", ""), *(List(kind, one[2]) for kind, one in zip(kinds, begins))]
     starts = [0, *(one.end() for one in begins)]
     ends = [*(one.start() for one in begins), len(meant)]
     found: dict[List, list[str]] = {}

@@ -18,13 +18,13 @@ from pathlib import Path
 from typing import Any, Iterable, NamedTuple
 
 from irr.errors import ARGUMENTS, Failure, reading
-from irr.local.changes import ADD, Change
+from irr.local.changes import ADD, DEL, Change
 from irr.local.history import Repository, State
 from irr.local.serials import Serials, Told
 from irr.registry import answers
 from irr.rpsl import keys
 from irr.rpsl.keys import Key
-from irr.system import files
+from irr.system import files, sequences
 from irr.system.signing import Keys, payload_of, public
 
 NOTIFICATION = "update-notification-file.jose"
@@ -196,8 +196,8 @@ class Publisher:
         name = f"nrtm-{'.'.join(map(str, parts))}.{secrets.token_hex(16)}.json.gz"
         with files.written(self.out / name) as file:
             with gzip.GzipFile(filename="", mode="wb", fileobj=file, mtime=0) as out:
-                for record in itertools.chain([head], records):
-                    out.write(b"\x1e" + json.dumps(record).encode() + b"\n")
+                for text in sequences.written(itertools.chain([head], records)):
+                    out.write(text)
         with open(self.out / name, "rb") as file:
             found = hashlib.file_digest(file, "sha256").hexdigest()
         return File(head["version"], name, found, time.time())
@@ -246,6 +246,35 @@ def record(key: Key, change: Change) -> Record:
         return {"action": "add_modify", "object": text_of(change.text)}
     name = key.text.replace(" ", "") if key.kind == "route" else key.text
     return {"action": "delete", "object_class": key.kind, "primary_key": name}
+
+
+def object_in(found: Record) -> list[bytes] | None:
+    """The lines of the object that a record of a snapshot is; None where it is none."""
+    match found:
+        case {"object": str(text)}:
+            return lines_of(text)
+    return None
+
+
+def change_in(found: Record, source: str) -> tuple[str, list[bytes]] | None:
+    """The word and the lines of the change that a record tells; None where it tells none. Of what
+    is deleted there is just what tells it from others."""
+    match found:
+        case {"action": "add_modify", "object": str(text)}:
+            return ADD, lines_of(text)
+        case {"action": "delete", "object_class": str(kind), "primary_key": str(name)}:
+            front, mark, number = name.upper().rpartition("AS")
+            origin = ""
+            if kind.lower() == "route" and mark:
+                name, origin = front, f"\norigin: AS{number}"
+            lines = lines_of(f"{kind}: {name}{origin}\nsource: {source}")
+            return (DEL, lines) if len(lines) == 2 + bool(origin) else None
+    return None
+
+
+def lines_of(text: str) -> list[bytes]:
+    """The lines of a text that was one of JSON."""
+    return text.encode("utf-8", "replace").split(b"\n")
 
 
 def text_of(text: bytes) -> str:

@@ -197,17 +197,13 @@ class Made:
         """A new password, shown once or written into a file of its own; that of the file where an
         earlier run wrote it."""
         if path and os.path.exists(path):
-            found = [
-                line.removeprefix(b"password: ").decode("ascii", "replace")
-                for line in files.read(path).splitlines()
-                if line.startswith(b"password: ")
-            ]
-            if len(found) != 1:
+            found = hashes.password_in(files.read(path))
+            if not found:
                 raise Failure(path, "it has no password of irr setup; move it away")
-            return found[0]
+            return found
         password = hashes.new_password()
         if path:
-            files.put_new(path, b"password: " + password.encode() + b"\n")
+            files.put_new(path, hashes.password_line(password))
             self.done(f"{name}, for you alone", path)
         else:
             self.show(name, password)
@@ -292,7 +288,7 @@ class Made:
             (b"source", plan.source),
         ]
         text = Paragraph([Attribute(name, [value.encode()]) for name, value in attributes]).text()
-        given = b"password: " + password.encode() + b"\n\n" + text
+        given = hashes.password_line(password) + b"\n" + text
         done = self.run("submit", "/dev/stdin", given=given)
         if done.returncode:
             said = (done.stdout or done.stderr).decode("utf-8", "replace").splitlines()

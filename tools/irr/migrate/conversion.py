@@ -19,6 +19,7 @@ from irr.migrate.normalisation import (
     AUT_NUM,
     INETNUM,
     MNTNER,
+    NAMED,
     NO_SOURCE,
     NOBODY,
     ROUTE,
@@ -33,7 +34,7 @@ from irr.migrate.normalisation import (
     unscoped,
 )
 from irr.migrate.report import Place, Tally
-from irr.rpsl import holders, keys, spans, syntax
+from irr.rpsl import grammar, holders, keys, spans, syntax
 from irr.rpsl.syntax import Attribute, Paragraph
 from irr.terminal import texts
 
@@ -48,11 +49,14 @@ NOT_IMPORTED = "a registry that is not imported"
 OF_ANOTHER = "its name is that of a set of another registry"
 ALL_OF_ONE = "all of one registry of several"
 # Why an object is left out whose key was there before: it is the same, or of another registry,
-# whose objects name it.
+# whose objects name it, whether it can be read or not.
 DUPLICATE, NAMESAKE = "duplicate", "a name of another registry"
+UNREAD_THERE = "a name of another registry, where it can't be read"
 # What is odd about a line of an object that is taken.
 COMMENT, CR = "a line with # or % first, which is not kept", "a line with a CR first, which goes on"
 CR_INSIDE = "a line with a CR inside, which may be the end of a line"
+# What is odd about a maintainer that is taken.
+OF_OTHERS = "a mntner that objects of another registry name"
 
 
 class Import:
@@ -75,6 +79,10 @@ class Import:
         self.starts, self.sizes, self.lines = array("Q"), array("I"), array("I")
         self.path_numbers, self.source_numbers = array("I"), array("I")
         self.sources: dict[str, int] = {}
+        # The maintainers and sets that can't be read, each with the first registry that has it.
+        self.withheld: dict[tuple[int, int | str], int] = {}
+        # The registry of the last object of a file that can be read.
+        self.before = ""
         # Of the objects whose lists have lost items, or have scoped ones: the lost ones.
         self.dropped: dict[int, tuple[Dropped, ...]] = {}
         # Of those that have odd lines, which and where; those that have no `source`.
@@ -109,12 +117,11 @@ class Import:
     def read_file(self, path: str) -> None:
         self.paths.append(path)
         self.tally.files += 1
-        self.tail = b""
+        self.tail, self.before = b"", ""
         # The line after the last block: one that begins there was cut off from it.
         after = count = with_source = 0
         waiting: parting.Part | None = None
-        seam = parting.no_seam if "part" in self.off else parting.last_seam
-        for block in syntax.blocks(self.sized(pieces_of(path)), MOST, seam, parting.later):
+        for block in syntax.blocks(self.sized(pieces_of(path)), MOST, self.seam, parting.later):
             for place, part in enumerate(self.parts(block)):
                 if place or block.line == after:
                     self.tally.part(Place(path, part.block.line), part.block.text)
@@ -125,9 +132,15 @@ class Import:
                 count += 1
                 with_source += part.has_source
             after = block.line + block.text.count(b"\n")
+        if not count:
+            self.tally.empty.append(path)
         if waiting:
             is_usual = 2 * with_source > count - 1
             self.take(waiting, path, self.is_cut(waiting, is_usual))
+
+    def seam(self, text: bytes) -> int:
+        """Where a paragraph that is too long can be parted."""
+        return 0 if "part" in self.off else parting.last_seam(text)
 
     def parts(self, block: syntax.Block) -> list[parting.Part]:
         """What a paragraph consists of."""
@@ -160,9 +173,11 @@ class Import:
             self.show_progress()
         place = Place(path, part.block.line)
         try:
-            mended = self.mender.mend(part, is_cut)
-            if mended.key in self.taken[mended.number]:
-                if "duplicate" in self.off:
+            mended = self.mended(part, is_cut)
+            is_there = mended.key in self.taken[mended.number]
+            first = self.first_of(mended.number, mended.key)
+            if is_there or first not in (None, self.number_of(mended.source)):
+                if is_there and "duplicate" in self.off:
                     raise Failure(
                         place.text(),
                         "its key was there before; remove one of the two, or leave out "
@@ -176,12 +191,34 @@ class Import:
             return
         self.keep(mended, part)
 
+    def mended(self, part: parting.Part, is_cut: bool) -> Mended:
+        """The object that a part becomes. Objects refer to maintainers and sets by their names,
+        which mean those of the first registry that has them, also where these can't be read."""
+        try:
+            mended = self.mender.mend(part, is_cut)
+        except LeftOut as cause:
+            name = self.mender.left(part, cause)
+            if name and name.number in NAMED:
+                self.withheld.setdefault(name[:2], self.number_of(name.source or self.before))
+            raise
+        self.before = mended.source or self.before
+        return mended
+
+    def number_of(self, source: str) -> int:
+        return self.sources.setdefault(source, len(self.sources))
+
+    def first_of(self, number: int, key: int | str) -> int | None:
+        """The number of the registry that has an object first; None where none has it."""
+        place = self.taken[number].get(key)
+        return self.withheld.get((number, key)) if place is None else self.source_numbers[place]
+
     def cause_beside(self, mended: Mended) -> str:
-        """Why an object is left out whose key was there before. Objects refer to maintainers and
-        sets by their names, which mean the first one from then on."""
-        first = self.source_numbers[self.taken[mended.number][mended.key]]
-        is_named = mended.number in (MNTNER, AS_SET, ROUTE_SET)
-        return NAMESAKE if is_named and self.sources.get(mended.source) != first else DUPLICATE
+        """Why an object is left out that there is before."""
+        is_there = mended.key in self.taken[mended.number]
+        is_other = self.first_of(mended.number, mended.key) != self.number_of(mended.source)
+        if is_other and mended.number in NAMED:
+            return NAMESAKE if is_there else UNREAD_THERE
+        return DUPLICATE
 
     def keep(self, mended: Mended, part: parting.Part) -> None:
         place = len(self.starts)
@@ -198,7 +235,7 @@ class Import:
         self.end += len(mended.text)
         self.lines.append(part.block.line)
         self.path_numbers.append(len(self.paths) - 1)
-        self.source_numbers.append(self.sources.setdefault(mended.source, len(self.sources)))
+        self.source_numbers.append(self.number_of(mended.source))
         self.names.append(self.shared_names.setdefault(mended.names, mended.names))
         self.kinds.append(self.shared_kinds.setdefault(mended.kinds, mended.kinds))
 
@@ -276,6 +313,21 @@ class Import:
                 self.tally.tell(cause, own, self.text_of(place), line)
         for place in self.bare:
             self.tally.tell(NO_SOURCE, self.place_of(place), self.text_of(place))
+        for place in self.of_others():
+            self.tally.tell(OF_OTHERS, self.place_of(place), self.text_of(place))
+
+    def of_others(self) -> list[int]:
+        """The maintainers that may change objects of another registry than theirs. What has no
+        `source` is told by itself."""
+        mntners, numbers, bare = self.taken[MNTNER], self.source_numbers, self.sources.get("")
+        return sorted(
+            {
+                mntners[name]
+                for place in self.places()
+                for name in self.names[place]
+                if name in mntners and len({numbers[place], numbers[mntners[name]], bare}) == 3
+            }
+        )
 
     def refusal(self, source: str, item: bytes) -> str:
         """Why an item that names a registry is dropped; nothing where it stays without that."""
@@ -290,8 +342,7 @@ class Import:
         if name in ("AS-ANY", "RS-ANY"):
             return ALL_OF_ONE if self.imported != {number} else ""
         kind = AS_SET if keys.set_class(name) == "as-set" else ROUTE_SET
-        place = self.taken[kind].get(name)
-        return OF_ANOTHER if place is not None and self.source_numbers[place] != number else ""
+        return OF_ANOTHER if self.first_of(kind, name) not in (None, number) else ""
 
     def named(self, source: str, item: bytes) -> bytes:
         """What an item becomes that named a registry, and stays."""
@@ -364,6 +415,16 @@ class Import:
 
     def text_of(self, place: int) -> bytes:
         return os.pread(self.spool.fileno(), self.sizes[place], self.starts[place])
+
+    def locked_out(self) -> Iterator[str]:
+        """The maintainers that nobody has a password of: none is given, and none of their own
+        lines lets anybody in."""
+        for name, place in self.taken[MNTNER].items():
+            new = self.new.get(str(name), str(name))
+            own = syntax.read_any(self.text_of(place)).values(b"auth")
+            if new not in self.auths and not any(map(grammar.is_usable, own)):
+                yield new
+        yield from (name for name in self.stubs if name not in self.auths)
 
     # Writing.
 

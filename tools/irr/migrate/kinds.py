@@ -24,7 +24,7 @@ KINDS = {
         Kind("rename", "maintainers whose names the rules refuse get another name"),
         Kind("mnt-by", "an object without `mnt-by` gets the root maintainer"),
         Kind("auth", "an `auth` that is missing, empty or can't be read authorises nobody"),
-        Kind("long", "a text above 65,536 bytes is written with as few blanks as can be"),
+        Kind("long", "blanks and comment lines of a text above 65,536 bytes are dropped"),
         Kind("mntner", "a maintainer without a mntner gets one, which authorises nobody"),
         Kind("duplicate", "of several objects with one key the first stays"),
         Kind("crossing", "of ranges that overlap, neither inside the other, the first stays"),

@@ -25,6 +25,8 @@ from irr.rpsl.syntax import ITEM, Attribute, Paragraph
 NUMBERS = {kind.encode(): number for number, kind in enumerate(keys.CLASSES, 1)}
 MNTNER, AS_BLOCK, AUT_NUM, INETNUM, ROUTE, AS_SET, ROUTE_SET = range(1, 8)
 SETS = (AS_SET, ROUTE_SET)
+# Those that other objects name.
+NAMED = (MNTNER, *SETS)
 SHORT_PREFIX = re.compile(rb"([0-9]{1,3}(?:\.[0-9]{1,3}){0,2})\.?/([0-9]{1,2})")
 # The attributes that are read in each class, by its number, but those of keys and `source`; and
 # what becomes one of them, or is none of an object.
@@ -80,6 +82,15 @@ class Mended(NamedTuple):
     dropped: tuple[Dropped, ...]
 
 
+class Name(NamedTuple):
+    """What tells an object from others, also where it can't be read: its class's number, its key,
+    and the registry that it is of, which has no name where `source` can't be read either."""
+
+    number: int
+    key: int | str
+    source: str
+
+
 class Mender:
     """Mends the objects of foreign registries for the registry of a source and a root maintainer.
     What is in `off` is not mended: an object that needs it is left out."""
@@ -115,12 +126,18 @@ class Mender:
         names, mended = self.listed(number, mended)
         source, mended = self.sourced(mended)
         self.need_one(number, attributes)
+        if block.size > syntax.LARGEST:
+            self.use("long")
         text = self.written(names, mended)
         return Mended(number, key, source, names, text, frozenset(self.kinds), tuple(self.drops))
 
-    def key_in(self, block: syntax.Block) -> tuple[int, int | str] | None:
-        """The class and the key of what may be no object, by the lines that can be read; None where
-        they tell none."""
+    def left(self, part: parting.Part, cause: LeftOut) -> Name | None:
+        """What object was left out; None where it is none of a registry that is asked for."""
+        return self.name_in(part.block)
+
+    def name_in(self, block: syntax.Block) -> Name | None:
+        """Which object it is that may be none, by the lines that can be read; None where they tell
+        none."""
         kind = class_of(block)
         lines = readable(block.text) if kind in NUMBERS else b""
         found = syntax.read_any(lines).attributes if lines else []
@@ -130,8 +147,10 @@ class Mender:
         names = [attribute.name for attribute in found[1:]]
         ends = [one in NUMBERS or one in parting.FOREIGN for one in names] + [True]
         own = found[: ends.index(True) + 1]
+        sources = [source_of(one.meaning()) for one in own if one.name == b"source"]
+        source = next(filter(None, sources), "")
         try:
-            return NUMBERS[kind], self.keyed(NUMBERS[kind], own)[0]
+            return Name(NUMBERS[kind], self.keyed(NUMBERS[kind], own)[0], source)
         except LeftOut:
             return None
 

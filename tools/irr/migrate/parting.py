@@ -142,10 +142,6 @@ def is_source(line: bytes) -> bool:
     return LATER_SOURCE.match(b"\n" + line.lower()) is not None
 
 
-def no_seam(_: bytes) -> int:
-    return 0
-
-
 def last_seam(text: bytes) -> int:
     """The last place at which a text can be parted; nothing where there is none."""
     end = 0

@@ -59,6 +59,8 @@ class Tally:
         self.told = Listed("taken")
         self.mended: Counter[str] = Counter()
         self.parted: list[str] = []
+        # The files without a paragraph.
+        self.empty: list[str] = []
         self.renamed: dict[str, str] = {}
         self.taken = self.made = 0
 
@@ -127,6 +129,11 @@ class Tally:
                 [f"  {self.mended[name]:>{width},}", f"--no-{name}", kind.words]
                 for name, kind in KINDS.items()
                 if self.mended[name]
+            )
+        if self.empty:
+            yield f"without a paragraph: {texts.counted(len(self.empty), 'file')}"
+            yield from shown(
+                [texts.shown_line(path) for path in self.empty[:SHOWN]], len(self.empty)
             )
         if self.parted:
             yield "parted, with no blank line before:"

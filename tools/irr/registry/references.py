@@ -2,22 +2,12 @@
 or to a range that a route-set lists (RFC 2622, 5).
 
 It is found in steps: each is a query, whose objects are sent back, or a pause, so that who serves
-others can let them go first, and end what takes too long.
-"""
+others can let them go first, and end what takes too long."""
+
 import heapq
 from collections import deque
-from typing import (
-    Any,
-    Callable,
-    Collection,
-    Generator,
-    Iterator,
-    NamedTuple,
-    Optional,
-    Protocol,
-    TypeVar,
-    Union,
-)
+from collections.abc import Callable, Collection, Generator, Iterator
+from typing import Any, NamedTuple, Optional, Protocol, TypeVar, Union
 
 from irr.errors import REFUSED, Failure
 from irr.registry import answers
@@ -29,7 +19,7 @@ from irr.rpsl.syntax import Paragraph
 MOST_ASKED, MOST_LINKS, MOST_PARTS = 5_000, 200_000, 20_000
 # So many chains are told, and so much of what is near.
 MOST_CHAINS, MOST_NEAR = 10, 10
-ANY = ("AS-ANY", "RS-ANY")
+ANY, EVERYWHERE = ("AS-ANY", "RS-ANY"), keys.Span(0, keys.TOP)
 # How many items of a set are looked at between two pauses.
 BETWEEN = 200
 # What is reached: a set by its name, or an AS by its number.
@@ -169,8 +159,8 @@ class Reached:
 
     def __init__(self, prefix: Prefix, start: Node, sources: Collection[str] = ()) -> None:
         self.prefix, self.start, self.asked = prefix, start, 0
-        # Those of a view.
-        self.sources = sources
+        # Those of a view, where they are known; whether it is known to be one by its objects.
+        self.sources, self.is_view = sources, False
         self.known: dict[str, Paragraph | None] = {}
         self.routes: list[Paragraph] = []
         # The routes by their origins.
@@ -188,6 +178,8 @@ class Reached:
     def gather(self) -> Steps[None]:
         """Asks for all that is reached."""
         for one in (yield self.around):
+            if is_everywhere(one):
+                self.is_view = yield from self.says_so(one)
             if one.name == b"route":
                 self.routes.append(one)
                 self.origins.setdefault(origin_of(one), []).append(one)
@@ -227,6 +219,14 @@ class Reached:
             found = yield query
             self.known[query] = found[0] if found else None
         return self.known[query]
+
+    def says_so(self, everywhere: Paragraph) -> Steps[bool]:
+        """Whether what is asked is a view, as the inetnum of all addresses has it: it is the view's
+        own, or names its source where the view's own root is registered."""
+        if holders.by(everywhere) == [holders.VIEW_ROOT]:
+            return True
+        root = f"object mntner {holders.VIEW_ROOT}"
+        return bool(source_in(everywhere)) and (yield from self.object(root)) is not None
 
     def too_much(self, what: str) -> Failure:
         words = f"over {what} are on the way; ask of a set that it lists"
@@ -304,7 +304,7 @@ class Reached:
 
     def chaining(self, most: int) -> Steps[Chains]:
         """The first chains by which the prefix is reached, the shortest first. There is one exactly
-        where the prefix is in the set."""
+        where the prefix is in the set: the first one is looked for whatever that takes."""
         start: State = self.start, Wanted(self.prefix.length, True)
         left = yield from self.distances(start)
         found: list[list[Step]] = []
@@ -313,7 +313,7 @@ class Reached:
         waiting: list[tuple[int, int, int, list[State], list[Link]]] = []
         if start in left:
             waiting.append((left[start], 0, 0, [start], []))
-        while waiting and parts < MOST_PARTS:
+        while waiting and (parts < MOST_PARTS or not found):
             _, _, _, states, links = heapq.heappop(waiting)
             for link, wanted in self.onward(states[-1]):
                 yield None
@@ -416,13 +416,10 @@ class Reached:
         return found[::-1]
 
     def source_of(self, found: Paragraph) -> str:
-        """The source that an object of a view is of, which is the comment on its `source`; nothing
-        elsewhere, where anybody may write one."""
-        for one in found.attributes:
-            if one.name == b"source":
-                name = keys.read_source(one.lines[0].partition(b"#")[2].strip()) or ""
-                return name if name in self.sources else ""
-        return ""
+        """The source that an object of a view is of; nothing elsewhere, where anybody may write
+        such a comment."""
+        name = source_in(found)
+        return name if self.is_view or name in self.sources else ""
 
     def there(self, node: Node) -> Paragraph | None:
         """The object that is reached; None where it is not registered, or never is."""
@@ -524,6 +521,17 @@ class References(Reached):
 def query_of(node: Node) -> str:
     """The query for the object of what is reached."""
     return f"object {name_of(node)}"
+
+
+def source_in(found: Paragraph) -> str:
+    """Where a view has an object from: a name, in the comment on its `source`; else nothing."""
+    lines = (one.lines[0] for one in found.attributes if one.name == b"source")
+    return keys.read_source(next(lines, b"").partition(b"#")[2].strip()) or ""
+
+
+def is_everywhere(found: Paragraph) -> bool:
+    """Whether it is the inetnum of all addresses, which the root of a registry alone can change."""
+    return found.name == b"inetnum" and keys.read_span(found.value(b"inetnum")) == EVERYWHERE
 
 
 def origin_of(route: Paragraph) -> int:

@@ -19,6 +19,17 @@ def new_password() -> str:
     return "-".join(text[place : place + 5] for place in range(0, len(text), 5))
 
 
+def password_line(password: str) -> bytes:
+    """The line of a file that has a password, as a submission takes it."""
+    return b"password: " + password.encode() + b"\n"
+
+
+def password_in(text: bytes) -> str:
+    """The password of such a file; nothing where it has none, or several."""
+    found = [line[10:] for line in text.splitlines() if line.startswith(b"password: ")]
+    return found[0].decode("ascii", "replace") if len(found) == 1 else ""
+
+
 def auth_of(secret: bytes, salt: str) -> str:
     """The value of `auth` for a password."""
     return f"SHA256-PW {salt}:{hashlib.sha256(salt.encode() + secret).hexdigest()}"

@@ -8,6 +8,8 @@ from irr.rpsl.syntax import ITEM, Paragraph
 
 LOWER_IN, ROUTES_IN = grammar.classes_with("mnt-lower"), grammar.classes_with("mnt-routes")
 SETS = grammar.classes_with("members")
+# The root of a view, of which nobody has the password.
+VIEW_ROOT = "IRR-VIEW-MNT"
 
 
 class Grant(NamedTuple):

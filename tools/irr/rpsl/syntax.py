@@ -267,6 +267,18 @@ def block_of(
         yield Block(line, len(text) + lost.size, text[:most], tuple(lost.told))
 
 
+def one_block(lines: Iterable[bytes]) -> bytes:
+    """The lines of an object that came by itself, without their ends, as one block: a line of
+    blanks, which would end it in a text, goes on with the attribute before it."""
+    text, blanks = b"", b""
+    for line in lines:
+        if line.strip(BLANKS):
+            text, blanks = text + blanks + line + b"\n", b""
+        elif text:
+            blanks += b"+\n"
+    return text
+
+
 def paragraphs(source: Iterable[bytes]) -> Iterator[Paragraph]:
     """The paragraphs of a dump or an answer, which has no faults and may have paragraphs of any
     size."""

@@ -9,11 +9,12 @@ from irr.errors import Failure
 from irr.local import tables, temporary
 from irr.local.databases import Copy
 from irr.local.replicas import Made
+from irr.rpsl.holders import VIEW_ROOT
 from irr.system import files
 from irr.terminal import texts
 from irr.views import merging, roas, sources
 from irr.views.merging import Merge, Told
-from irr.views.settings import Settings, Source
+from irr.views.settings import Settings, Source, followed_to
 from irr.views.sources import State
 
 # The file that says what a registry is made of.
@@ -81,7 +82,7 @@ class View:
             work,
             temporary.SETTINGS.format(
                 source=self.settings.name,
-                root=merging.ROOT,
+                root=VIEW_ROOT,
                 auth=temporary.AUTH,
                 limit=self.settings.limit,
             ),
@@ -164,8 +165,9 @@ class View:
 
     def label_of(self) -> dict[str, Any]:
         """What is merged: the states of the sources in their order, and the ROAs."""
+        told_by = {one.name: one.told_by() for one in self.settings.sources}
         sources = [
-            {"name": name, "serial": state.serial, "state": state.digest()}
+            {"name": name, "nrtm": told_by[name], "serial": state.serial, "state": state.digest()}
             for name, state in self.wanted().items()
         ]
         made_by = self.roas.state() if self.roas else ""
@@ -199,7 +201,9 @@ class View:
         """What is told of what does not say what it is made of, as that of version 2.0.0, and
         before there is anything."""
         names = (one.name for one in self.settings.sources)
-        sources = [{"name": name, "serial": None, "state": "unknown"} for name in names]
+        sources = [
+            {"name": name, "nrtm": None, "serial": None, "state": "unknown"} for name in names
+        ]
         return {"name": self.settings.name, "sources": sources, "roas": ""}
 
     def status_of(self, source: dict[str, Any]) -> dict[str, Any]:
@@ -212,6 +216,11 @@ class View:
         if name in self.told:
             found |= self.told[name]._asdict()
         return found
+
+    def outcome(self) -> list[str]:
+        """What became of each source, in lines for people."""
+        made_of = {one["name"]: one for one in self.label["sources"]}
+        return [told.line(name) + by(made_of[name]) for name, told in self.told.items()]
 
     def lines(self) -> list[str]:
         """The sources that stand still, in lines for people."""
@@ -242,12 +251,18 @@ def between(old: dict[str, Any], new: dict[str, Any]) -> dict[str, Any]:
     for one in old["sources"]:
         state = either(one["state"], others.get(one["name"], ""))
         serial = one["serial"] if state == one["state"] else None
-        sources.append({"name": one["name"], "serial": serial, "state": state})
+        sources.append({**one, "serial": serial, "state": state})
     return {**old, "sources": sources, "roas": either(old["roas"], new["roas"])}
 
 
 def put_label(made: Path, label: dict[str, Any]) -> None:
     files.put(made / LABEL, json.dumps(label).encode(), files.PRIVATE)
+
+
+def by(source: dict[str, Any]) -> str:
+    """Words for how a source was followed, if it was."""
+    count = followed_to(source)
+    return f"; {count} of NRTM version {source['nrtm']}" if count and source.get("nrtm") else ""
 
 
 def since(state: State | None) -> str:

@@ -16,19 +16,19 @@ from irr.migrate.normalisation import (
     LeftOut,
     Mended,
     Mender,
+    Name,
     source_place,
     unscoped,
 )
-from irr.migrate.parting import Part, parts
+from irr.migrate.parting import Part, part_of
 from irr.migrate.report import Listed, Place, Tally
 from irr.rpsl import keys, syntax
+from irr.rpsl.holders import VIEW_ROOT
 from irr.rpsl.syntax import ITEM, Attribute
 from irr.views import roas
 from irr.views.settings import Settings
 from irr.views.sources import State
 
-# The maintainer of what no source has; nobody has its password.
-ROOT = "IRR-VIEW-MNT"
 # Why an object is left out.
 OTHER_SOURCE, EARLIER = "of another source", "an earlier source has it"
 CHANGED, INVALID = "changed since the dump", "invalid by ROAs"
@@ -62,47 +62,42 @@ class ViewMender(Mender):
     on its `source`, and no password."""
 
     def __init__(self, view: str, table: roas.Table | None, keeps_invalid: bool) -> None:
-        super().__init__(view, ROOT)
+        super().__init__(view, VIEW_ROOT)
         self.table, self.keeps_invalid = table, keeps_invalid
-        self.own, self.is_irrdesk = "", False
+        self.own, self.is_irrdesk, self.is_apart = "", False, False
         # What is of before the changes of the source; how many objects it has of each class; how
         # many of its routes are invalid.
         self.superseded: Collection[tuple[int, int | str]] = ()
-        # The sets that can't be read, each with the first source that has it.
-        self.withheld: dict[tuple[int, int | str], str] = {}
         self.counts = [0] * (len(NUMBERS) + 1)
         self.invalid = 0
 
-    def begin(self, source: str, is_irrdesk: bool) -> None:
-        self.own, self.is_irrdesk = source, is_irrdesk
+    def begin(self, source: str, is_irrdesk: bool, is_apart: bool = False) -> None:
+        """Another source: whether it is an irrdesk, and tells each object by itself."""
+        self.own, self.is_irrdesk, self.is_apart = source, is_irrdesk, is_apart
         self.counts, self.invalid = [0] * (len(NUMBERS) + 1), 0
 
-    def key_of(self, part: Part, cause: LeftOut) -> tuple[int, int | str] | None:
-        """Which object of the source it is that was left out; None where it is none of it."""
-        return None if str(cause) == OTHER_SOURCE else self.key_in(part.block)
+    def left(self, part: Part, cause: LeftOut) -> Name | None:
+        name = super().left(part, cause)
+        is_own = str(cause) != OTHER_SOURCE and name and name.source in ("", self.own)
+        if not name or not is_own or name[:2] in self.superseded:
+            return None
+        return name._replace(source=self.own)
 
     def key_changed(self, part: Part) -> tuple[int, int | str] | None:
         """Which object of the source a change is of."""
         try:
             mended = super().mend(part)
         except LeftOut as cause:
-            return self.key_of(part, cause)
+            name = self.left(part, cause)
+            return name[:2] if name else None
         return mended.number, mended.key
 
     def mend(self, part: Part, is_cut: bool = False) -> Mended:
         """The object, if the source has it still, and ROAs do not say that it is in error."""
-        try:
-            mended = super().mend(part, is_cut)
-        except LeftOut as cause:
-            key = self.key_of(part, cause)
-            if key and key[0] in SETS and key not in self.superseded:
-                self.withheld.setdefault(key, self.own)
-            raise
+        mended = super().mend(part, is_cut)
         if (mended.number, mended.key) in self.superseded:
             raise LeftOut(CHANGED)
         self.counts[mended.number] += 1
-        if self.withheld.get((mended.number, mended.key), self.own) != self.own:
-            raise LeftOut(EARLIER)
         if mended.number == ROUTE and self.table is not None and self.is_invalid(int(mended.key)):
             self.invalid += 1
             if not self.keeps_invalid:
@@ -110,8 +105,8 @@ class ViewMender(Mender):
         return mended
 
     def need_one(self, number: int, attributes: list[Attribute]) -> None:
-        # An irrdesk tells each object by itself, in whatever order its lines are.
-        if not self.is_irrdesk:
+        # What is told by itself is one, in whatever order its lines are.
+        if not self.is_apart:
             super().need_one(number, attributes)
 
     def of_both_families(self, attribute: Attribute) -> Attribute | None:
@@ -161,6 +156,14 @@ class Told(NamedTuple):
         return "; ".join(words)
 
 
+def apart_name(name: str, source: str) -> str:
+    """The name of a set of a source beside one of an earlier source. After an AS number it is a
+    part by itself, since `AS64496--RADB` is none of a set's."""
+    is_number = keys.read_as(name.rpartition(":")[2]) is not None
+    kind = ":AS-" if keys.set_class(name) == "as-set" else ":RS-"
+    return f"{name}{kind if is_number else ''}--{source}"
+
+
 def listed(causes: dict[str, int]) -> str:
     pairs = sorted(causes.items(), key=lambda pair: (-pair[1], pair[0]))
     return ", ".join(f"{cause}: {count:,}" for cause, count in pairs)
@@ -171,7 +174,7 @@ def shrank(old: list[int], new: list[int], most: float) -> str:
     no words where it did not."""
     before, now = sum(old), sum(new)
     if not now:
-        return "it has no object of its name that can be taken; look at `dump`"
+        return "it has no object of its name that can be taken; look at where it is from"
     how = ""
     if (before - now) * 100 > before * most:
         how = f"it has {now:,} objects, and had {before:,}"
@@ -188,6 +191,7 @@ class Merge(conversion.Import):
 
     def __init__(self, view: Settings, table: roas.Table | None) -> None:
         self.irrdesks = {one.name for one in view.sources if one.registry}
+        self.sources_apart = {one.name for one in view.sources if one.is_apart()}
         self.own, self.by_source = ViewMender(view.name, table, view.keep_invalid), Counts()
         super().__init__(self.own, {}, self.by_source)
         self.had: dict[str, tuple[list[int], int]] = {}
@@ -213,12 +217,16 @@ class Merge(conversion.Import):
             ) from None
         self.settle()
 
+    def seam(self, text: bytes) -> int:
+        return 0 if self.own.is_apart else super().seam(text)
+
     def parts(self, block: syntax.Block) -> list[Part]:
-        # An irrdesk tells each object by itself, whose text may have any names.
-        return [Part(block, "", True)] if self.own.is_irrdesk else super().parts(block)
+        # What is told by itself is one object, whose text may have any names.
+        whole = [part_of(block, block.text.lower(), "")]
+        return whole if self.own.is_apart else super().parts(block)
 
     def read_state(self, name: str, state: State) -> None:
-        self.own.begin(name, name in self.irrdesks)
+        self.own.begin(name, name in self.irrdesks, name in self.sources_apart)
         self.sources.setdefault(name, len(self.sources))
         for path in (*state.parts, state.changes):
             self.by_source.source_of[str(path)] = name
@@ -238,7 +246,7 @@ class Merge(conversion.Import):
         unread: list[Part] = []
         for is_there, block in state.told():
             # A change is of one object, whatever stands in its text.
-            for part in parts(block)[:1]:
+            for part in self.parts(block)[:1]:
                 key = self.own.key_changed(part)
                 if key:
                     last[key] = part if is_there else None
@@ -258,8 +266,7 @@ class Merge(conversion.Import):
         super().keep(mended, part)
 
     def cause_beside(self, mended: Mended) -> str:
-        first = self.source_numbers[self.taken[mended.number][mended.key]]
-        if self.sources[mended.source] == first:
+        if self.first_of(mended.number, mended.key) == self.number_of(mended.source):
             return conversion.DUPLICATE
         if mended.number in SETS:
             self.beaten.setdefault((mended.source, str(mended.key)), (mended, *self.at))
@@ -326,7 +333,7 @@ class Merge(conversion.Import):
         """Takes a set under its name and that of its source; where it is, if its items name
         registries."""
         mended, part, path = self.beaten[source, name]
-        new = f"{name}--{source}"
+        new = apart_name(name, source)
         if keys.read_set(new) != new or new in self.taken[mended.number]:
             return None
         first, *rest = syntax.read_any(mended.text).attributes

@@ -68,22 +68,30 @@ def taken(answer: Iterator[bytes], thing: str, name: str, serial: int, out: Bina
         if not change or not before < int(change[2]) <= last:
             raise Failure(thing, f"after serial {before} it tells no change")
         before = int(change[2])
-        out.write(b"%s\n\n" % change[1])
-        text = b""
-        for part in answer:
-            if CHANGE.fullmatch(part):
-                raise Failure(thing, f"serial {before} has no whole object")
-            if part.strip(syntax.BLANKS):
-                text += part + b"\n"
-            elif part and text:
-                # A line of blanks would end the object in a file, and does not here.
-                text += b"+\n"
-            elif text:
-                break
-        if not next(syntax.blocks([text]), None):
+        text = syntax.one_block(object_lines(answer, thing, before))
+        if not put(out, change[1], text):
             raise Failure(thing, f"serial {before} has no whole object")
-        out.write(text + b"\n")
     raise Failure(thing, "its answer is cut off; it is asked again")
+
+
+def object_lines(answer: Iterator[bytes], thing: str, serial: int) -> Iterator[bytes]:
+    """The lines of an object, before which there may be empty ones, up to an empty one after it."""
+    is_begun = False
+    for line in answer:
+        if CHANGE.fullmatch(line):
+            raise Failure(thing, f"serial {serial} has no whole object")
+        if is_begun and not line:
+            return
+        is_begun = is_begun or bool(line.strip(syntax.BLANKS))
+        yield line
+
+
+def put(out: BinaryIO, word: bytes, text: bytes) -> bool:
+    """Writes a change of an object, if the text is one block."""
+    if not next(syntax.blocks([text]), None):
+        return False
+    out.write(b"%s\n\n%s\n" % (word, text))
+    return True
 
 
 def start(answer: Iterator[bytes], thing: str, name: str, serial: int) -> int:

@@ -47,8 +47,9 @@ def judged(prefix: Prefix, number: int, table: Table) -> tuple[str, str]:
         return "not found", ""
     if any(roa.number == number != 0 and prefix.length <= roa.most for roa in covering):
         return "valid", ""
-    own = [roa for roa in covering if roa.number == number]
+    own = [roa for roa in covering if roa.number == number != 0]
     why = "it is longer than the ROA allows" if own else "another AS has the ROA"
+    why = why if number else "AS0 may originate nothing"
     return "invalid", f": {why}: {', '.join(sorted(roa.text() for roa in own or covering))}"
 
 
@@ -95,17 +96,22 @@ def csv_entries(text: bytes, place: str) -> Iterator[dict[str, object]]:
     if not text.endswith(b"\n"):
         raise Failure(place, f"it ends within a line, so it was cut off; {MADE}")
     head, *lines = text.decode("latin-1").splitlines()
-    columns = head.count(",") + 1
+    columns = head.split(",")
     rows = csv.reader(line for line in lines if line.strip())
     while row := next_row(rows, place):
-        if len(row) != columns:
-            raise Failure(place, f"a line has {len(row)} columns in place of {columns}; {MADE}")
-        number, prefix, most, *more = row
-        entry: dict[str, object] = {"asn": number, "prefix": prefix}
-        entry["maxLength"] = int(most) if keys.read_number(most, 0, 128) is not None else most
-        if len(more) > 1 and keys.read_number(more[1], 0, 1 << 62) is not None:
-            entry["expires"] = int(more[1])
+        if len(row) != len(columns):
+            raise Failure(
+                place, f"a line has {len(row)} columns in place of {len(columns)}; {MADE}"
+            )
+        entry: dict[str, object] = {"asn": row[0], "prefix": row[1], "maxLength": whole(row[2])}
+        if "Expires" in columns:
+            entry["expires"] = whole(row[columns.index("Expires")])
         yield entry
+
+
+def whole(text: str) -> int | str:
+    """A number as JSON has it; the text where it is none, which is told as that."""
+    return int(text) if keys.read_number(text, 0, 1 << 62) is not None else text
 
 
 def next_row(rows: Iterator[list[str]], place: str) -> list[str] | None:

@@ -15,13 +15,16 @@ NRTM_PORT = 43
 class Source(NamedTuple):
     """A registry that a view has the objects of: its name; the address of an irrdesk, or dumps,
     each a file or an address; where the serial of these stands, and who tells the changes after it
-    by NRTM; the percentage of its objects that it may lose at once."""
+    by NRTM; or the notification file of NRTM, version 4, and the key that signs it; the percentage
+    of its objects that it may lose at once."""
 
     name: str
     registry: str
     dump: tuple[str, ...]
     serial: str
     nrtm: str
+    nrtm4: str
+    key: str
     plain: bool
     shrink: float
 
@@ -34,7 +37,16 @@ class Source(NamedTuple):
 
     def origin(self) -> str:
         """Where its objects are taken from: what is taken elsewhere is another state."""
-        return json.dumps([self.registry, self.dump, self.serial, self.nrtm])
+        places = [self.registry, self.dump, self.serial, self.nrtm]
+        return json.dumps(places + [self.nrtm4] * bool(self.nrtm4))
+
+    def told_by(self) -> int | None:
+        """The version of NRTM by which it is followed, if it is."""
+        return 4 if self.nrtm4 else 3 if self.nrtm else None
+
+    def is_apart(self) -> bool:
+        """Whether it tells each object by itself, whatever stands in its text."""
+        return bool(self.registry or self.nrtm4)
 
 
 class Settings(NamedTuple):
@@ -72,6 +84,8 @@ SOURCE: dict[str, Any] = {
     "dump": [],
     "serial": "",
     "nrtm": "",
+    "nrtm4": "",
+    "key": "",
     "plain": False,
     "shrink": 10.0,
 }
@@ -116,8 +130,12 @@ def read_source(thing: str, table: dict[str, Any]) -> Source:
     values = checked(thing, table, SOURCE)
     values["name"] = name_of(thing, values["name"])
     one = Source(**values)
-    if bool(one.registry) == bool(one.dump):
-        raise Failure(thing, "give it either `registry` or `dump`", SETTINGS)
+    if sum(map(bool, (one.registry, one.dump, one.nrtm4))) != 1:
+        raise Failure(thing, "give it one of `registry`, `dump` and `nrtm4`", SETTINGS)
+    if bool(one.nrtm4) != bool(one.key):
+        raise Failure(thing, "`nrtm4` needs `key`, the file of the key that signs it", SETTINGS)
+    if one.nrtm4 and (one.serial or one.nrtm):
+        raise Failure(thing, "`nrtm4` takes no `serial` and no `nrtm`; leave them out", SETTINGS)
     if one.nrtm and not one.serial:
         raise Failure(thing, "`nrtm` needs `serial`, where the serial of the dump is", SETTINGS)
     if one.nrtm:
@@ -130,7 +148,7 @@ def read_source(thing: str, table: dict[str, Any]) -> Source:
     if one.registry:
         # It looks at the address, and asks nothing.
         Server(one.registry, True)
-    for text in (one.registry, *one.dump, one.serial):
+    for text in (one.registry, *one.dump, one.serial, one.nrtm4):
         if is_address(text) and not one.plain and not is_safe(text):
             raise Failure(
                 thing,
@@ -142,6 +160,12 @@ def read_source(thing: str, table: dict[str, Any]) -> Source:
             thing, "NRTM can be changed on the way; leave it out, or write `plain = true`", SETTINGS
         )
     return one
+
+
+def followed_to(source: dict[str, Any]) -> str:
+    """How far a source of a view was followed, in words; nothing where it was not."""
+    word = "version" if source.get("nrtm") == 4 else "serial"
+    return f"{word} {source['serial']}" if source.get("serial") is not None else ""
 
 
 def is_address(text: str) -> bool:
@@ -170,7 +194,7 @@ def checked(thing: str, found: dict[str, Any], known: dict[str, Any]) -> dict[st
     values: dict[str, Any] = {}
     for name in found:
         if name not in known:
-            raise Failure(thing, f"there is no key {name}; see irr-keep(1)", SETTINGS)
+            raise Failure(thing, f"there is no key {name}; see irr-copy(1)", SETTINGS)
     for name, default in known.items():
         if name not in found and default is None:
             raise Failure(thing, f"it has no `{name}`; write one", SETTINGS)

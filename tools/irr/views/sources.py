@@ -2,36 +2,34 @@
 how it is renewed."""
 import contextlib
 import hashlib
-import http.client
 import json
 import os
 import shutil
-import urllib.error
-import urllib.request
 from pathlib import Path
 from typing import Any, BinaryIO, Iterator, NamedTuple
 
-from irr.errors import Failure, system_words
+from irr.errors import Failure
 from irr.migrate import dumps
-from irr.registry.connection import whole
 from irr.registry.server import Server
 from irr.rpsl import keys, syntax
 from irr.rpsl.syntax import Block
 from irr.system import files
-from irr.views import nrtm
-from irr.views.settings import Source, is_address, is_safe
+from irr.views import fetching, nrtm
+from irr.views.fetching import Gone
+from irr.views.nrtm4 import Follower, Notification
+from irr.views.settings import Source, is_address
 
-# Seconds for a piece of a file, and the most bytes of one.
-WAITING, MOST = 120, 1 << 32
 # So many bytes of changes are kept beside a dump, until it is taken anew.
 MOST_CHANGES = 1 << 26
-CHUNK = 1 << 20
+# How often a notification file is read where what it names is gone.
+TRIES = 3
 
 
 class State(NamedTuple):
     """What was taken of a source, in a folder: where it was taken from, what told its dumps from
     earlier ones, their digests, the serial of the last change that is in it, and how many objects
-    of each class it had once it was merged."""
+    of each class it had once it was merged. By NRTM, version 4, the serial is the version of a
+    session, whose changes have the hash."""
 
     folder: Path
     origin: str
@@ -39,6 +37,8 @@ class State(NamedTuple):
     digests: list[str]
     serial: int | None
     counts: list[int]
+    session: str = ""
+    hash: str = ""
 
     @property
     def file(self) -> Path:
@@ -52,9 +52,13 @@ class State(NamedTuple):
     def changes(self) -> Path:
         return self.folder / "changes"
 
+    def has_room(self) -> bool:
+        """Whether more changes can be kept."""
+        return not self.changes.exists() or self.changes.stat().st_size < MOST_CHANGES
+
     def mark(self) -> str:
         """What tells it from other states."""
-        return json.dumps([self.digests, self.serial])
+        return json.dumps([self.digests, self.serial, *filter(None, [self.session])])
 
     def digest(self) -> str:
         """A short name of it."""
@@ -101,18 +105,16 @@ def state_in(folder: Path) -> State | None:
     return State(**found)
 
 
-class Unchanged(Exception):
-    """A file is as it was."""
-
-
 def renewed(source: Source, old: State | None, work: Path) -> State | None:
     """What a source has now, in a new folder; None where that is what was taken of it before.
     Nothing is left of what was taken elsewhere."""
     empty(work)
     if old and old.origin != source.origin():
         old = None
+    if source.nrtm4:
+        return published(source, old, work)
     if old and source.nrtm and old.serial is not None:
-        if not old.changes.exists() or old.changes.stat().st_size < MOST_CHANGES:
+        if old.has_room():
             with contextlib.suppress(nrtm.Behind):
                 return followed(source, old, old.serial, work)
             empty(work)
@@ -121,7 +123,7 @@ def renewed(source: Source, old: State | None, work: Path) -> State | None:
         return state
     is_back = old is not None and old.serial is not None and state.serial < old.serial
     try:
-        with open(state.changes, "wb") as out:
+        with appended(state.changes) as out:
             state = state._replace(
                 serial=nrtm.follow(source.place(), source.name, state.serial, out)
             )
@@ -141,17 +143,82 @@ def empty(folder: Path) -> None:
 
 def followed(source: Source, old: State, serial: int, work: Path) -> State | None:
     """The changes since a state, by NRTM."""
-    changes = work / "changes"
-    with open(changes, "wb") as out:
-        if old.changes.exists():
-            with open(old.changes, "rb") as before:
-                shutil.copyfileobj(before, out)
+    state = continued(old, work)
+    with appended(state.changes) as out:
         last = nrtm.follow(source.place(), source.name, serial, out)
     if last == serial:
         return None
+    state = state._replace(serial=last)
+    state.put()
+    return state
+
+
+def continued(old: State, work: Path) -> State:
+    """A state in another folder, to which changes are added."""
     for part in old.parts:
         os.link(part, work / part.name)
-    state = old._replace(folder=work, serial=last)
+    state = old._replace(folder=work)
+    if old.changes.exists():
+        shutil.copyfile(old.changes, state.changes)
+    return state
+
+
+@contextlib.contextmanager
+def appended(path: Path) -> Iterator[BinaryIO]:
+    """A file that grows, and is on the disk before what says so of it."""
+    with open(path, "ab") as out:
+        yield out
+        out.flush()
+        os.fsync(out.fileno())
+
+
+def published(source: Source, old: State | None, work: Path) -> State | None:
+    """What is published by NRTM, version 4. The notification file is read again where a file that
+    it names is no longer there."""
+    follower = Follower(source, work.parent / "trusted.json")
+    said = follower.notification(old.session if old else "")
+    for _ in range(TRIES - 1):
+        try:
+            return noticed(source, old, work, follower, said)
+        except Gone:
+            before, said = said, follower.notification(old.session if old else "")
+            if said == before:
+                raise
+            empty(work)
+    return noticed(source, old, work, follower, said)
+
+
+def noticed(
+    source: Source, old: State | None, work: Path, follower: Follower, said: Notification
+) -> State | None:
+    """The changes since a state, if the notification file names all of them; else all objects, and
+    the changes after these."""
+    if old and old.session == said.session:
+        serial = old.serial or 0
+        if said.version < serial:
+            raise Failure(
+                source.nrtm4,
+                f"it went back from version {serial} to {said.version}; ask its registry, and"
+                f" remove {old.folder} if all of it is to be taken anew",
+            )
+        if said.version == serial:
+            return None
+        # A registry that was restored may tell other changes by the same numbers.
+        is_same = not old.hash or said.hash_of(serial) in ("", old.hash)
+        is_followed = is_same and said.has_all_after(serial) and old.has_room()
+    else:
+        is_followed = False
+    if old and is_followed:
+        state = continued(old, work)
+    else:
+        part = work / "0"
+        follower.snapshot(said, part)
+        serial, counts = said.snapshot.version, old.counts if old else []
+        state = State(work, source.origin(), [""], [digest(part)], serial, counts, said.session)
+    with appended(state.changes) as out:
+        for named in said.after(state.serial or 0):
+            follower.changes(said, named, out)
+    state = state._replace(serial=said.version, hash=said.hash_of(said.version))
     state.put()
     return state
 
@@ -169,11 +236,9 @@ def taken(source: Source, old: State | None, work: Path) -> State | None:
         try:
             if source.registry:
                 files.put(part, Server(place, source.plain).dump(), files.PRIVATE)
-            elif is_address(place):
-                stamp = fetched(place, source.plain, stamp, part)
             else:
-                stamp = copied(place, stamp, part)
-        except Unchanged:
+                stamp = fetching.taken(place, source.plain, stamp, part)
+        except fetching.Unchanged:
             assert old
             os.link(old.parts[number], part)
         else:
@@ -198,7 +263,7 @@ def taken(source: Source, old: State | None, work: Path) -> State | None:
 def serial_of(source: Source) -> int:
     """The serial of the dumps."""
     if is_address(source.serial):
-        with opened(source.serial, source.plain) as reply:
+        with fetching.opened(source.serial, source.plain) as reply:
             text = reply.read(64)
     else:
         text = files.read(source.serial)
@@ -206,79 +271,6 @@ def serial_of(source: Source) -> int:
     if serial is None:
         raise Failure(source.serial, "it has no serial; correct `serial`")
     return serial
-
-
-class Redirects(urllib.request.HTTPRedirectHandler):
-    """Follows no redirection to what can be changed on the way."""
-
-    def __init__(self, is_plain: bool) -> None:
-        self.is_plain = is_plain
-
-    def redirect_request(
-        self, req: Any, fp: Any, code: Any, msg: Any, headers: Any, url: str
-    ) -> Any:
-        if not self.is_plain and not is_safe(url):
-            raise Failure(req.full_url, f"it leads to {url}, which can be changed on the way")
-        return super().redirect_request(req, fp, code, msg, headers, url)
-
-
-@contextlib.contextmanager
-def opened(url: str, is_plain: bool, fields: dict[str, str] | None = None) -> Iterator[Any]:
-    """The reply of an address; a Failure in words."""
-    request = urllib.request.Request(url, headers={"User-Agent": "irr", **(fields or {})})
-    try:
-        secure = urllib.request.HTTPSHandler(context=whole())
-        opener = urllib.request.build_opener(Redirects(is_plain), secure)
-        with opener.open(request, timeout=WAITING) as reply:
-            yield reply
-    except urllib.error.HTTPError as error:
-        if error.code == 304:
-            raise Unchanged from None
-        raise Failure(url, f"status {error.code}; correct the address, or ask later") from None
-    except urllib.error.URLError as error:
-        why = error.reason
-        words = system_words(why) if isinstance(why, OSError) else str(why)
-        raise Failure(url, f"it cannot be fetched: {words}") from None
-    except (OSError, http.client.HTTPException) as error:
-        raise Failure(url, f"it cannot be fetched: {str(error) or type(error).__name__}") from None
-
-
-def fetched(url: str, is_plain: bool, stamp: str, part: Path) -> str:
-    """Fetches a file, and gives what tells it from a later one; Unchanged if it is as it was."""
-    fields = dict(json.loads(stamp)) if stamp else {}
-    with opened(url, is_plain, fields) as reply, open(part, "wb") as out:
-        length = keys.read_number(reply.headers.get("Content-Length", ""), 0, 1 << 62)
-        size = written(reply, out, url)
-        if length is not None and size != length:
-            raise Failure(url, f"it was cut off after {size:,} of {length:,} bytes")
-        names = {"ETag": "If-None-Match", "Last-Modified": "If-Modified-Since"}
-        fields = {names[name]: reply.headers[name] for name in names if reply.headers.get(name)}
-    return json.dumps(fields) if fields else ""
-
-
-def written(source: BinaryIO, out: BinaryIO, name: str) -> int:
-    size = 0
-    while piece := source.read(CHUNK):
-        size += len(piece)
-        if size > MOST:
-            raise Failure(name, f"it has over {MOST >> 30} GiB; give another file")
-        out.write(piece)
-    out.flush()
-    # What its state says of it is on the disk later.
-    os.fsync(out.fileno())
-    return size
-
-
-def copied(path: str, stamp: str, part: Path) -> str:
-    """Copies a file of this machine; Unchanged if it is as it was."""
-    with files.opened(path) as file:
-        found = os.fstat(file.fileno())
-        new = json.dumps([found.st_mtime_ns, found.st_size, found.st_ino])
-        if new == stamp:
-            raise Unchanged
-        with open(part, "wb") as out:
-            written(file, out, path)
-    return new
 
 
 def digest(part: Path) -> str:

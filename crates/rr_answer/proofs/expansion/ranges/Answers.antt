@@ -1,10 +1,8 @@
-use Rattle.std.proofs.Common.{◌∙◌, inl}
-use Rattle.rr_number.specs.Applied.{range_text}
-use Rattle.rr_answer.specs.Texts.{members_text}
+use Rattle.std.proofs.Common.{inl, refl}
 use Rattle.rr_answer.proofs.expansion.ranges.Goals as goal
 
-pub returns-in_ok-ranges_text-in-Ok-clause-ok : goal.returns-in_ok-ranges_text-in-Ok-clause-ok
-returns-in_ok-ranges_text-in-Ok-clause-ok g c = inl (record {
+pub returns-in-Ok-clause-ok : goal.returns-in-Ok-clause-ok
+returns-in-Ok-clause-ok g c = inl (record {
   known = c.in-Ok.ensures.known;
   few = c.in-Ok.ensures.few;
   found = c.in-Ok.members.found.items;
@@ -13,5 +11,5 @@ returns-in_ok-ranges_text-in-Ok-clause-ok g c = inl (record {
   lacks = c.in-Ok.ensures.missing;
   found_sorted = c.in-Ok.ensures.found_sorted;
   missing_sorted = c.in-Ok.ensures.missing_sorted;
-  text_is = c.in_ok-ranges_text-in-Ok.ensures ∙ (λ i. members_text range_text (c.deref.ensures.value i) (c.deref-in-Ok.ensures.value i));
+  text_is = refl;
 })

@@ -12,11 +12,8 @@ returns-in-Ok-clause-asked g c =
       writes = made.writes;
       status = c.answered_status.ensures ∙ (ap error_status made.told ∙ error_status-told made.answer);
       trouble = tt;
-      registry = c.in-Ok.ensures.registry;
-      settings = c.in-Ok.ensures.settings;
+      same = refl;
       keeps = c.in-Ok.ensures.keeps c.requires;
-      commits_nothing = c.in-Ok.ensures.commits_nothing;
-      lasts = c.in-Ok.ensures.lasts;
     }
 
 pub returns-in-Err-clause-asked : goal.returns-in-Err-clause-asked
@@ -28,9 +25,6 @@ returns-in-Err-clause-asked g c =
       writes = made.writes;
       status = tt;
       trouble = refl;
-      registry = c.in-Err.ensures.registry;
-      settings = c.in-Err.ensures.settings;
+      same = refl;
       keeps = c.in-Err.ensures.keeps c.requires;
-      commits_nothing = c.in-Err.ensures.commits_nothing;
-      lasts = c.in-Err.ensures.lasts;
     }

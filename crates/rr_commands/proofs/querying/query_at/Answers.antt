@@ -4,7 +4,7 @@ use Rattle.rr_commands.proofs.querying.query_at.Goals as goal
 pub returns : goal.returns
 returns g c = inr (record {
   before = c.in_ok-desk.desk;
-  after = c.answer_to-end.new.desk;
+  after = c.in_ok-desk.desk;
   between = _;
   opens = c.in_ok-desk.ensures.opens;
   did = c.answer_to-end.ensures.asked;

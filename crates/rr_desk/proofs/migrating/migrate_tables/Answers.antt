@@ -1,6 +1,6 @@
 use Rattle.std.proofs.Common.{arith, inl, inr}
 use Rattle.std.specs.FinMap.{values}
-use Rattle.rr_desk.proofs.Migrated.{is_rootless, migrated_rows}
+use Rattle.rr_desk.proofs.Migrated.{grown_commits, is_rootless, migrated_rows}
 use Rattle.rr_desk.proofs.migrating.migrate_tables.Goals as goal
 
 pub migrate-requires : goal.migrate-requires
@@ -30,9 +30,10 @@ returns-in-Ok-clause-holds g c = c.of.ensures.held
 pub returns-in-Ok-clause-migrates : goal.returns-in-Ok-clause-migrates
 returns-in-Ok-clause-migrates g c =
     let kept = c.in-Ok.ensures.migrates.crash.clean in record {
+      was_open = rw c.of.ensures.store c.in-Ok.ensures.migrates.was_open;
       grown = rw (c.of.ensures.registry, c.of.ensures.store) (λ clean. c.requires.grown (omega (arith, kept)));
       migrated = rw (c.of.ensures.store, ← c.root.ensures.root, ← c.source.ensures.source) c.in-Ok.ensures.migrates.migrated;
-      crash = rw (c.of.ensures.store, ← c.root.ensures.root, ← c.source.ensures.source) c.in-Ok.ensures.migrates.crash;
+      crash = rw c.of.ensures.store (grown_commits g.S.Store c.args.settings.now c.args.registry c.args.conn c.in-Ok.store c.requires.grown (rw (c.root.ensures.root, c.source.ensures.source) at c.in-Ok.ensures.migrates.crash));
     }
 
 pub returns-in-Err-clause-fails : goal.returns-in-Err-clause-fails
@@ -40,8 +41,9 @@ returns-in-Err-clause-fails g c =
     let fails = c.in-Err.ensures.fails in record {
       none = record {
         autocommit = fails.autocommit;
+        was_open = fails.was_open;
         kept = fails.kept;
-        crash = rw (← c.root.ensures.root, ← c.source.ensures.source) fails.crash;
+        crash = grown_commits g.S.Store c.args.settings.now c.args.registry c.args.conn c.in-Err.unmade.1 c.requires.grown (rw (c.root.ensures.root, c.source.ensures.source) at fails.crash);
       };
       why = λ clean.
           let kept = fails.crash.clean in

@@ -31,6 +31,7 @@ returns-in-Ok-from_objects-clause-holds g c = c.of.ensures.held
 pub returns-in-Ok-from_objects-clause-opens : goal.returns-in-Ok-from_objects-clause-opens
 returns-in-Ok-from_objects-clause-opens g c =
     let opens = c.in-Ok.ensures.opens in record {
+      was_open = rw c.of.ensures.store opens.was_open;
       rows = rw (c.of.ensures.registry, c.of.ensures.store)
           (λ clean. subst (HasRows c.in-Ok-from_objects.registry) (opens.same clean) (opened_rows c.args.source.now _ _ _ (opens.stored clean) c.in-Ok-from_objects.ensures.taken));
       same = rw c.of.ensures.store opens.same;
@@ -42,6 +43,7 @@ returns-in-Err-from_objects-clause-fails g c =
     let opens = c.in-Ok.ensures.opens in record {
       none = record {
         autocommit = c.close.ensures.autocommit;
+        was_open = rw c.close.ensures.same (λ clean on. opens.was_open clean);
         kept = rw c.close.ensures.same (λ clean on. opens.same clean);
         crash = rw c.close.ensures.same opens.crash;
       };
@@ -60,7 +62,7 @@ returns-in-Err-from_objects-clause-fails g c =
 pub returns-in-Err-clause-fails : goal.returns-in-Err-clause-fails
 returns-in-Err-clause-fails g c =
     let fails = c.in-Err.ensures.fails in record {
-      none = record { autocommit = fails.rests.autocommit; kept = fails.rests.same; crash = fails.rests.crash };
+      none = record { autocommit = fails.rests.autocommit; was_open = fails.rests.opened; kept = fails.rests.same; crash = fails.rests.crash };
       why = λ clean.
           let why = fails.why clean in record {
             wrong_version = why.wrong_version;

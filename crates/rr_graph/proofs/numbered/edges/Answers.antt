@@ -1,5 +1,5 @@
-use Rattle.std.proofs.Common.{ℕ, List, Contains, subst, ap, ◌∙◌, arith}
-use Rattle.std.specs.BTreeMap.{get}
+use Rattle.std.proofs.Common.{◌≡◌, ℕ, List, Some, Contains, cond, subst, ap, ◌∙◌, arith}
+use Rattle.std.specs.BTreeMap.{get, is_at}
 use Rattle.std.specs.List.{filter_map}
 use Rattle.std.specs.Ordering.{nat_cmp}
 use Rattle.std.proofs.lemmas.Cmp.{nat_cmp_total}
@@ -22,7 +22,8 @@ loop-place-preserved g c =
     c.loop-place-test.true c.index-nodes-place.is c.in_ok-edges.ensures
     (c.in_ok-placed.ensures ∙ ap (filter_map (placed_edge (get g.G.Node.Ord.cmp c.args.places.now))) c.deref.ensures.value)
     c.loop-place.invariant
-    (edges_entered nat_cmp c.loop-place.all c.insert.new.self c.loop-place.place c.in_ok-placed.field-0 c.in_ok-insert.ensures.updates.0)
+    (edges_entered nat_cmp c.loop-place.all c.insert.new.self c.loop-place.place c.in_ok-placed.field-0
+    (subst (λ (place : ℕ). (q : ℕ) → get nat_cmp c.insert.new.self q ≡ cond (is_at (nat_cmp place) q) (Some c.in_ok-placed.field-0) (get nat_cmp c.loop-place.all q)) c.in_ok-narrow.ensures c.in_ok-insert.ensures.updates.0))
 
 pub returns : goal.returns
 returns g c = λ from to label. (

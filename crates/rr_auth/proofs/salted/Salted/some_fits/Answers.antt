@@ -1,4 +1,4 @@
-use Rattle.std.proofs.Common.{◌≡◌, ℕ, true, List, Option, ap, sym, subst, ◌∙◌}
+use Rattle.std.proofs.Common.{ℕ, List, Option, ap, sym, subst, ◌∙◌}
 use Rattle.std.specs.Prelude.{IfSome}
 use Rattle.std.specs.BTreeSet.{BTreeSet, contains}
 use Rattle.std.specs.Cmp.Lexicographic.{slice_cmp}
@@ -13,10 +13,8 @@ returns-in-Some-clause-answer c =
     let line = c.args.line.now in
     let salt : List ℕ = c.in_ok-salt.salt.items in
     let has : HasDigests salt c.args.wanted.now c.args.secrets.now c.in-Some.digests.now =
-    subst (λ (o : Option (BTreeSet (List ℕ))). IfSome o (HasDigests salt c.args.wanted.now c.args.secrets.now)) (sym c.in-Some.ensures.value) (c.requires c.in_ok-salt.salt) in
-    let wanted : contains (slice_cmp nat_cmp) c.args.wanted.now line.digest ≡ true =
-    ap (contains (slice_cmp nat_cmp) c.args.wanted.now) (sym c.digest.ensures) ∙ sym c.contains.ensures ∙ c.if-not-contains.false in
-    c.contains-in-Some.ensures
-    ∙ ap (contains (slice_cmp nat_cmp) c.in-Some.digests.now) c.digest-in-Some.ensures
-    ∙ has line.digest wanted
+    subst (λ (o : Option (BTreeSet (List ℕ))). IfSome o (HasDigests salt c.args.wanted.now c.args.secrets.now)) (sym c.in-Some.ensures.value) (c.requires.remembered c.in_ok-salt.salt) in
+    c.contains.ensures
+    ∙ ap (contains (slice_cmp nat_cmp) c.in-Some.digests.now) c.digest.ensures
+    ∙ has line.digest c.requires.wanted
     ∙ ap (λ (s : List ℕ). list_any (fits_line (record { salt = s; digest = line.digest })) c.args.secrets.now) (c.in_ok-salt.ensures.items ∙ c.salt.ensures)

@@ -1,4 +1,5 @@
 use Rattle.std.proofs.Common.{refl}
+use Rattle.rr_desk.specs.Histories.Happens.{opening, no_opening}
 use Rattle.rr_desk.proofs.desk.Desk.open.Goals as goal
 
 pub open_stored-requires : goal.open_stored-requires
@@ -20,3 +21,9 @@ returns-in-Ok-clause-opens g c = c.in-Ok.ensures.opens
 
 pub returns-in-Err-clause-fails : goal.returns-in-Err-clause-fails
 returns-in-Err-clause-fails g c = rw (← c.source.ensures.source) c.in-Err.ensures.fails
+
+pub returns-in-Ok-clause-event : goal.returns-in-Ok-clause-event
+returns-in-Ok-clause-event g c = opening _ _ _ (returns-in-Ok-clause-runs g c) (returns-in-Ok-clause-opens g c)
+
+pub returns-in-Err-clause-event : goal.returns-in-Err-clause-event
+returns-in-Err-clause-event g c = no_opening _ _ _ _ (returns-in-Err-clause-fails g c)

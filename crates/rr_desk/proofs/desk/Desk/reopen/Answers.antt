@@ -1,3 +1,5 @@
+use Rattle.std.proofs.Common.{refl}
+use Rattle.rr_desk.specs.Histories.Happens.{closing}
 use Rattle.rr_desk.proofs.desk.Desk.reopen.Goals as goal
 
 pub open-requires : goal.open-requires
@@ -11,3 +13,6 @@ returns-clause-opens g c = rw (← c.close.ensures.same) c.open.ensures.opens
 
 pub returns-clause-fails : goal.returns-clause-fails
 returns-clause-fails g c = rw (← c.close.ensures.same) c.open.ensures.fails
+
+pub returns-clause-events : goal.returns-clause-events
+returns-clause-events g c = (closing _ _ refl, rw (← c.close.ensures.same) c.open.ensures.event)

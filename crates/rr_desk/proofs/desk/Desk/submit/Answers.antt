@@ -1,4 +1,6 @@
 use Rattle.rr_desk.proofs.Sources.{same_desk, submitted_of_source}
+use Rattle.std.proofs.Common.{ap, refl}
+use Rattle.rr_desk.specs.Histories.Happens.{submission}
 use Rattle.rr_desk.proofs.desk.Desk.submit.Goals as goal
 
 pub returns-clause-stopped : goal.returns-clause-stopped
@@ -17,3 +19,16 @@ returns-clause-of_source g c =
 
 pub returns-clause-lasts : goal.returns-clause-lasts
 returns-clause-lasts g c = c.submit-submitted.ensures.lasts
+
+pub returns-clause-event : goal.returns-clause-event
+returns-clause-event g c = submission _ _ _ _ _ _ _ (record {
+  refuses = λ halted.
+      let refused = returns-clause-stopped g c halted in
+      (refused.0, refused.1, ap (λ r. g.R.Source.told r) refused.2, ap (λ w. g.W.Sink.told w) refused.3);
+  submits = returns-clause-submits g c;
+  runs_on = c.submit-submitted.ensures.running;
+  lasts = c.submit-submitted.ensures.lasts;
+  rows = c.stopped.ensures.held;
+  settings = refl;
+  of_source = returns-clause-of_source g c;
+})

@@ -14,7 +14,7 @@ returns-in-Some g c = λ all same known.
     let cmp : Key → Key → Ordering = λ x y. ordering_then (g.G.Node.Ord.cmp x.0 y.0) (g.G.Kind.Ord.cmp x.1 y.1) in
     let held : get cmp c.args.self.now.map (c.args.node.now, g.G.Labelled.kind_of c.args.value) ≡ Some c.in-Some.choice.now =
     subst (λ (key : Key). get cmp c.args.self.now.map key ≡ Some c.in-Some.choice.now) (λ j. (c.in_ok-copy.ensures j, c.kind.ensures j)) (sym c.in-Some.ensures.value) in
-    c.carried.ensures c.args.edges.now (subst (λ (l : List (Edge g.row.G-Node.Denot g.row.G-Label.Denot)). IsChoice g.G.Labelled.keeps g.G.Labelled.passed l c.args.value c.in-Some.choice.now) same (known c.args.node.now c.args.value c.in-Some.choice.now held))
+    c.carried.ensures (subst (λ (l : List (Edge g.row.G-Node.Denot g.row.G-Label.Denot)). IsChoice g.G.Labelled.keeps g.G.Labelled.passed l c.args.value c.in-Some.choice.now) same (known c.args.node.now c.args.value c.in-Some.choice.now held))
 
 pub returns : goal.returns
 returns g c = λ all same known.

@@ -1,4 +1,5 @@
 use Rattle.std.proofs.Common.{refl}
+use Rattle.rr_desk.specs.Lasting.{database_still}
 use Rattle.rr_http.proofs.desk_registrar.DeskRegistrar.answer.Goals as goal
 
 pub returns-in-Ok-clause-answers : goal.returns-in-Ok-clause-answers
@@ -9,10 +10,8 @@ returns-in-Ok-clause-answers g c =
         answer = made.answer;
         answered = made.answered;
         is = refl;
-        same = c.answer.ensures.registry;
+        same = refl;
         keeps = c.answer.ensures.keeps;
-        still = c.answer.ensures.stopped;
-        commits_nothing = c.answer.ensures.commits_nothing;
       },
       made.writes,
     )
@@ -25,16 +24,14 @@ returns-in-Err-clause-answers g c =
         answer = made.answer;
         answered = made.answered;
         is = refl;
-        same = c.answer.ensures.registry;
+        same = refl;
         keeps = c.answer.ensures.keeps;
-        still = c.answer.ensures.stopped;
-        commits_nothing = c.answer.ensures.commits_nothing;
       },
       made.writes,
     )
 
 pub returns-in-Ok-clause-lasts : goal.returns-in-Ok-clause-lasts
-returns-in-Ok-clause-lasts g c = c.answer.ensures.lasts
+returns-in-Ok-clause-lasts g c = database_still _
 
 pub returns-in-Err-clause-lasts : goal.returns-in-Err-clause-lasts
-returns-in-Err-clause-lasts g c = c.answer.ensures.lasts
+returns-in-Err-clause-lasts g c = database_still _

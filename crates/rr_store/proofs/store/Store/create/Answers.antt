@@ -9,32 +9,31 @@ pub invariant_of-result : goal.invariant_of-result
 invariant_of-result g c = record {
   autocommit = c.create_where_vacant-made.ensures.makes.autocommit c.requires.autocommit;
   held = λ clean on.
-      let store = c.in-Ok.ensures.makes.done clean in
+      let store = (c.in-Ok.ensures.makes.done clean).rows in
       filled_held (lent c.args.objects.now) (state g.S.Store c.create_where_vacant-made.new.conn).now store.read store.filled;
 }
 
 pub returns-in-Ok-clause-makes : goal.returns-in-Ok-clause-makes
 returns-in-Ok-clause-makes g c =
-    let made = c.in-Ok.ensures.makes in
-    let tables = c.in-Ok.ensures.tables in record {
-      filled = made.done;
-      tables = tables.done;
+    let made = c.in-Ok.ensures.makes in record {
+      filled = λ clean. (made.done clean).rows;
+      tables = λ clean. (made.done clean).tables;
+      was_open = λ clean. made.opened clean (made.is_open clean);
       is_open = made.is_open;
       settled = settles g.S.Store g.met.S.Store.settled c.create_where_vacant-made.new.conn (c.is_autocommit.ensures.settled (c.is_autocommit.ensures.value ∙ ap not (made.autocommit c.requires.autocommit)));
-      vacant = c.in-Ok.ensures.vacant;
+      vacant = λ clean. (made.done clean).vacant;
       crash = made.crash;
-      crash_tables = tables.crash;
     }
 
 pub returns-in-Err-clause-fails : goal.returns-in-Err-clause-fails
 returns-in-Err-clause-fails g c =
     let made = c.in-Err.ensures.makes in record {
       autocommit = made.autocommit c.requires.autocommit;
+      was_open = made.opened;
       kept = made.kept;
       settled = settles g.S.Store g.met.S.Store.settled c.create_where_vacant-made.new.conn (c.is_autocommit.ensures.settled (c.is_autocommit.ensures.value ∙ ap not (made.autocommit c.requires.autocommit)));
       not_empty = λ is clean. c.in-Err.ensures.filled clean is;
       crash = made.crash;
-      crash_tables = c.in-Err.ensures.tables.crash;
       store = c.in-Err.ensures.cause;
       memory = c.in-Err.ensures.memory;
       untabled = c.in-Err.ensures.untabled;

@@ -16,6 +16,7 @@ pub returns-in-Ok-clause-migrates : goal.returns-in-Ok-clause-migrates
 returns-in-Ok-clause-migrates g c =
     let migrated = c.in-Ok.ensures.migrates in record {
       migrated = migrated.done;
+      was_open = λ clean. migrated.opened clean (migrated.is_open clean);
       is_open = migrated.is_open;
       settled = settles g.S.Store g.met.S.Store.settled c.migrate_rows-migrated.new.conn (c.is_autocommit.ensures.settled (c.is_autocommit.ensures.value ∙ ap not (migrated.autocommit c.requires.autocommit)));
       crash = migrated.crash;
@@ -25,6 +26,7 @@ pub returns-in-Err-clause-fails : goal.returns-in-Err-clause-fails
 returns-in-Err-clause-fails g c =
     let migrated = c.in-Err.ensures.migrates in record {
       autocommit = migrated.autocommit c.requires.autocommit;
+      was_open = migrated.opened;
       kept = migrated.kept;
       settled = settles g.S.Store g.met.S.Store.settled c.migrate_rows-migrated.new.conn (c.is_autocommit.ensures.settled (c.is_autocommit.ensures.value ∙ ap not (migrated.autocommit c.requires.autocommit)));
       why = c.in-Err.ensures.why;

@@ -17,6 +17,7 @@ returns-in-Ok-clause-opens g c = record {
   in_order = c.in-Ok.ensures.in_order;
   of_source = c.in-Ok.ensures.of_source;
   same = search rules;
+  was_open = λ clean. (c.in-Ok.ensures.looks.same clean).0.was_open;
   is_open = search rules;
   settled = settles g.S.Store g.met.S.Store.settled c.stored_objects-stored.new.conn (c.is_autocommit.ensures.settled (c.is_autocommit.ensures.value ∙ ap not c.in-Ok.ensures.looks.rests.autocommit));
   crash = c.in-Ok.ensures.looks.rests.crash;

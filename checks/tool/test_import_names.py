@@ -1,0 +1,89 @@
+"""What an import makes of names that two of its registries have."""
+
+import re
+
+import pytest
+
+from checks.tool.importing import left_out, made, obj, texts_of
+
+SET = ("as-set: AS-X", "mnt-by: A-MNT", "source: RIPE")
+UNREAD = "a name of another registry, where it can't be read"
+
+
+def test_all_of_one_registry_of_several_is_dropped() -> None:
+    """`AS-ANY` here is the aut-nums of all registries that are imported."""
+    sets = obj("route-set: RS-X", "members: RADB::AS-ANY^+, RADB::rs-any, AS1", *SET[1:])
+    other = obj("as-set: AS-Z", "mnt-by: A-MNT", "source: RADB")
+    cause = "all of one registry of several"
+    assert [line.split("\t")[0] for line in left_out(sets + other)] == [cause] * 2
+    assert texts_of(made(sets + other)[0], "route-set")[0].split("\n")[1].split()[1:] == ["AS1"]
+    assert left_out(sets + other, keeps_scoped=True) == []
+    alone = sets.replace(b"RIPE", b"RADB") + other
+    assert left_out(alone) == []
+    assert b"AS-ANY^+, rs-any, AS1" in made(alone)[0]
+
+
+def test_names_of_two_registries() -> None:
+    """What of another registry has the name of a maintainer or a set is no mere duplicate."""
+    for kind in "mntner: A-MNT", "as-set: AS-X", "route-set: RS-X":
+        one = obj(kind, "mnt-by: A-MNT", "source: RIPE")
+        other = one.replace(b"RIPE", b"RADB")
+        for texts, causes in [
+            ((one, other), ["a name of another registry"]),
+            ((one, one), ["duplicate"]),
+            ((one, other, one), ["a name of another registry", "duplicate"]),
+        ]:
+            _, tally = made(b"".join(texts))
+            assert sorted(tally.causes.elements()) == causes
+            assert tally.mended["duplicate"] == len(causes)
+    route = obj("route: 10.0.0.0/8", "origin: AS1", "mnt-by: A-MNT", "source: RIPE")
+    _, tally = made(route + route.replace(b"RIPE", b"RADB"))
+    assert dict(tally.causes) == {"duplicate": 1}
+
+
+@pytest.mark.parametrize("kind", ["mntner: A-MNT", "as-set: AS-X", "route-set: RS-X"])
+@pytest.mark.parametrize(
+    "broken",
+    [
+        ("mnt-by: A-MNT (x)", "source: RIPE"),
+        ("descr: \x01", "mnt-by: A-MNT", "source: RIPE"),
+        ("mnt-by: A-MNT", "no colon"),
+        ("mnt-by: A-MNT", "source: RI PE"),
+        ("mnt-by: A-MNT", "source: RIPE", "source: RADB"),
+        ("mnt-by: A-MNT", "source: RIPE", "descr: " + "x" * 66_000),
+    ],
+)
+def test_a_name_that_cannot_be_read_is_of_no_other_registry(
+    kind: str, broken: tuple[str, ...]
+) -> None:
+    """Its name means that one, and strangers may register it at a later one. What has no `source`
+    that can be read is of the registry of the object before."""
+    before = obj("aut-num: AS1", "mnt-by: A-MNT", "source: RIPE")
+    first, other = before + obj(kind, *broken), obj(kind, "mnt-by: B-MNT", "source: RADB")
+    text, tally = made(first, other)
+    assert tally.causes[UNREAD] == 1 and b"B-MNT" not in text
+    assert UNREAD not in made(other, first)[1].causes
+    own = other.replace(b"RADB", b"RIPE")
+    for texts, taken in ((first, own), 2), ((first, own, other), 2), ((first, other, own), 2):
+        text, tally = made(*texts)
+        assert (tally.taken, b"B-MNT" in text) == (taken, True)
+    assert left_out(first, other)[-1].startswith(f"{UNREAD}\t")
+
+
+def test_an_item_of_a_registry_whose_name_another_one_has_that_cannot_be_read() -> None:
+    first = obj("as-set: AS-X", "members: AS1 EXCEPT AS2", "mnt-by: A-MNT", "source: RIPE")
+    items = "members: RADB::AS-X, RIPE::AS-X, AS1"
+    rest = [obj(f"as-set: AS-{name}", items, f"source: {name}") for name in ("RIPE", "RADB")]
+    text, tally = made(first, *rest, obj("as-set: AS-X", "members: AS6", "source: RADB"))
+    assert [re.findall("members: *(.*)", one)[0] for one in texts_of(text, "as-set")] == [
+        "AS-X, AS1",
+        "AS-X, AS1",
+    ]
+    assert dict(tally.items.causes) == {"its name is that of a set of another registry": 2}
+
+
+def test_a_piece_of_text_takes_no_name_of_its_own_registry() -> None:
+    """What an object has after its `source`, which may look like another one."""
+    text = obj(*SET, "route-set: RS-X", "members: AS666")
+    own = obj("route-set: RS-X", "members: AS1", "source: RIPE")
+    assert b"members:        AS1\n" in made(text + own)[0]

@@ -1,0 +1,28 @@
+-- What queries find, as it is answered.
+use Rattle.std.specs.Prelude.{ℕ, List}
+use Rattle.std.specs.List.{flat_map}
+use Rattle.rr_number.specs.Applied.{range_text}
+use Rattle.rr_number.specs.AsNumbers.{as_number_text}
+use Rattle.rr_text.specs.CanonicalText.{canonical, ended}
+use Rattle.rr_text.specs.Fields.{Field}
+use Rattle.rr_answer.specs.declared.found.Found.{Found}
+use Rattle.rr_answer.specs.declared.found.Found.TheVariants.{Objects, Numbers, Ranges}
+use Rattle.rr_answer.specs.declared.place.Place.{Place}
+use Rattle.rr_answer.specs.declared.place.Place.TheVariants.{Kept, Made}
+use Rattle.rr_answer.specs.Texts.{members_text, no_entries, or_else}
+
+-- The paragraph that is answered where an object stands (profile).
+abbrev pub shown : Place → List Field
+shown (Kept paragraph) = paragraph.now
+shown (Made paragraph) = paragraph.value
+
+-- Its text and an empty line (profile).
+abbrev pub place_text : Place → List ℕ
+place_text place = ended (canonical (shown place))
+
+-- The text of what was found (profile).
+abbrev pub found_text : Found → List ℕ
+found_text (Objects places) = or_else no_entries (flat_map place_text places.items)
+found_text (Numbers members) =
+    members_text as_number_text members.found.items members.missing.items
+found_text (Ranges members) = members_text range_text members.found.items members.missing.items

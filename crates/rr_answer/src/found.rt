@@ -1,0 +1,82 @@
+//! What queries find.
+
+ghost use Rattle.std.specs.Prelude.{◌≡◌, IfOk};
+ghost use Rattle.rr_io.specs.Sending.{Writes};
+ghost use Rattle.rr_sets.specs.Lists.{lent};
+ghost use Rattle.rr_answer.specs.Founds.{found_text};
+ghost use Rattle.rr_answer.specs.Texts as texts;
+
+use crate::place::{Place, places};
+use crate::writing::{members_text, write_members};
+use rr_io::Sink;
+use rr_number::{AsNumber, Range};
+use rr_object::Object;
+use rr_sets::Members;
+use std::alloc::{AllocError, Global};
+use std::io;
+
+/// The answer that there is no object, or no set.
+const NO_ENTRIES: &[u8] = b"% no entries\n";
+
+/// The answer that nothing is in a set.
+const EMPTY: &[u8] = b"% empty\n";
+
+/// What a query found: objects where they stand, or the members of a set. Its text is that of the
+/// answer (profile), which is never made whole to be written.
+#[derive(Drop)]
+pub enum Found<'a> {
+    /// Objects, by class and key.
+    Objects(Vec<Place<'a>>),
+    /// The AS numbers of an as-set.
+    Numbers(Members<AsNumber>),
+    /// The ranges of a set of either kind.
+    Ranges(Members<Range>),
+}
+
+impl<'a> Found<'a> {
+    /// The objects as they are answered: the public canonical text of each and an empty line, or
+    /// `% no entries` where there is none (profile). The error is that memory ran out.
+    #[tactic(auto, unfolding(crate::specs::Texts::objects_text))]
+    pub fn of(alloc: Global, objects: &[&'a Object]) -> Result<Found<'a>, AllocError>
+        ensures { IfOk result (λ found. found_text found
+            ≡ texts.objects_text (lent objects.now)) }
+    {
+        Ok(Found::Objects(places(alloc, objects)?))
+    }
+
+    /// Writes the text part by part. Memory is asked for to gather parts, and nothing fails where
+    /// there is none. After a fault the writer has taken the beginning of the text, and what would
+    /// have come is not made.
+    #[tactic(auto, unfolding(crate::specs::Texts::members_text))]
+    pub fn write<W: Sink>(&self, alloc: Global, writer: &mut W) -> io::Result<()>
+        ensures writes { Writes (W.told writer.old) (W.told writer.new)
+            (found_text self.now) result }
+        ensures aside { W.aside writer.new ≡ W.aside writer.old }
+    {
+        match self {
+            Found::Objects(places) => write_members(alloc, writer, places, &[], NO_ENTRIES),
+            Found::Numbers(members) => {
+                write_members(alloc, writer, &members.found, &members.missing, EMPTY)
+            }
+            Found::Ranges(members) => {
+                write_members(alloc, writer, &members.found, &members.missing, EMPTY)
+            }
+        }
+    }
+
+    /// The text in memory. The error is that memory ran out.
+    #[tactic(auto, unfolding(crate::specs::Texts::members_text))]
+    pub fn text(&self, alloc: Global) -> Result<Vec<u8>, AllocError>
+        ensures { IfOk result (λ text. text.items ≡ found_text self.now) }
+    {
+        match self {
+            Found::Objects(places) => members_text(alloc, places, &[], NO_ENTRIES),
+            Found::Numbers(members) => {
+                members_text(alloc, &members.found, &members.missing, EMPTY)
+            }
+            Found::Ranges(members) => {
+                members_text(alloc, &members.found, &members.missing, EMPTY)
+            }
+        }
+    }
+}

@@ -1,0 +1,85 @@
+//! The parts of answers: objects, lines of expansions, and names that are missing.
+
+ghost use Rattle.std.specs.Prelude.{◌≡◌, ◌++◌, ◌<◌, length, ℕ, List, OnOk, OnErr};
+ghost use Rattle.std.specs.Io.{StartsWith};
+ghost use Rattle.rr_io.specs.Sending.{Writes};
+
+use crate::text::push_line;
+use rr_io::{Sink, write_pieces};
+use rr_number::{AsNumber, Range, SetName};
+use std::alloc::AllocError;
+use std::io;
+
+/// A part of an answer, which is written by itself.
+pub(crate) trait Part {
+    // Its bytes.
+    ghost bytes: { Self → List ℕ };
+
+    /// Appends its bytes. The error is that memory ran out: then some may have been appended.
+    fn push_onto(&self, out: &mut Vec<u8>) -> Result<(), AllocError>
+        ensures ok { OnOk result (out.new.items ≡ out.old.items ++ bytes self.now) }
+        ensures err { OnErr result (StartsWith out.new.items out.old.items) };
+
+    /// Writes its bytes, for which no memory is asked.
+    fn write<W: Sink>(&self, writer: &mut W) -> io::Result<()>
+        ensures writes { Writes (W.told writer.old) (W.told writer.new) (bytes self.now) result }
+        ensures aside { W.aside writer.new ≡ W.aside writer.old };
+
+    // It has bytes.
+    ghost has_bytes: { (part : Self) → 0 < length (bytes part) };
+}
+
+/// An AS number in an expansion.
+impl Part for AsNumber {
+    ghost use Rattle.rr_answer.specs.Texts.{number_line};
+    ghost use Rattle.rr_answer.specs.HasBytes.{number_has_bytes};
+
+    ghost bytes = { number_line };
+
+    ghost has_bytes = { number_has_bytes };
+
+    fn push_onto(&self, out: &mut Vec<u8>) -> Result<(), AllocError> {
+        push_line(out, self.text().as_bytes())
+    }
+
+    fn write<W: Sink>(&self, writer: &mut W) -> io::Result<()> {
+        write_pieces(writer, &[self.text().as_bytes(), b"\n"])
+    }
+}
+
+/// A range in an expansion.
+impl Part for Range {
+    ghost use Rattle.rr_answer.specs.Texts.{range_line};
+    ghost use Rattle.rr_answer.specs.HasBytes.{range_has_bytes};
+
+    ghost bytes = { range_line };
+
+    ghost has_bytes = { range_has_bytes };
+
+    fn push_onto(&self, out: &mut Vec<u8>) -> Result<(), AllocError> {
+        push_line(out, self.text().as_bytes())
+    }
+
+    fn write<W: Sink>(&self, writer: &mut W) -> io::Result<()> {
+        write_pieces(writer, &[self.text().as_bytes(), b"\n"])
+    }
+}
+
+/// A name that an expansion misses.
+impl Part for SetName {
+    ghost use Rattle.rr_answer.specs.Texts.{missing_line};
+    ghost use Rattle.rr_answer.specs.HasBytes.{missing_has_bytes};
+
+    ghost bytes = { missing_line };
+
+    ghost has_bytes = { missing_has_bytes };
+
+    fn push_onto(&self, out: &mut Vec<u8>) -> Result<(), AllocError> {
+        out.extend_from_slice(b"% missing ")?;
+        push_line(out, self.as_bytes())
+    }
+
+    fn write<W: Sink>(&self, writer: &mut W) -> io::Result<()> {
+        write_pieces(writer, &[b"% missing ", self.as_bytes(), b"\n"])
+    }
+}

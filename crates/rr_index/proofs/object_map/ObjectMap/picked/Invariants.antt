@@ -1,0 +1,14 @@
+use Rattle.std.proofs.Common.{◌≡◌, ◌++◌}
+use Rattle.std.specs.FinMap.{entries}
+use Rattle.std.specs.List.{filter}
+use Rattle.std.specs.Map.{values_of}
+use Rattle.rr_book.specs.Listings.{lies_in}
+use Rattle.rr_sets.specs.Lists.{lent}
+use Rattle.rr_index.specs.KeyRangeParts.{lies_between}
+use Rattle.rr_index.proofs.object_map.ObjectMap.picked.Given as goal
+
+-- the objects found and those to come that lie in the span are all that do
+abbrev pub invariant-loop-placed : goal.invariant-loop-placed
+invariant-loop-placed l =
+    lent l.found.items ++ filter (lies_in l.fn.span) (values_of l.placed-iterator)
+    ≡ filter (lies_in l.fn.span) (values_of (filter (λ e. lies_between l.fn.first l.fn.last e.0) (entries l.self)))

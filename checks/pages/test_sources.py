@@ -147,6 +147,10 @@ def test_no_line_of_the_crates_is_too_wide() -> None:
     assert not long_lines(sorted(paths))
 
 
+def test_no_line_of_the_proofs_can_be_broken_to_be_narrower() -> None:
+    assert not judged(TOP / "scripts/wrap", "--check")
+
+
 def test_the_crates_use_what_they_import_for_contracts_and_proofs() -> None:
     assert not unused_imports()
 

@@ -8,6 +8,7 @@ use Rattle.rr_object.specs.Objects.{Obj}
 use Rattle.rr_object.specs.Readings.{public_of}
 
 -- an object without `auth` is answered as it is
-pub nothing_hidden : (o : Obj) → list_any (has_name (codes "auth")) o.paragraph ≡ false → o.paragraph ≡ public_of o
+pub nothing_hidden : (o : Obj) → list_any (has_name (codes "auth")) o.paragraph ≡ false →
+    o.paragraph ≡ public_of o
 unfolding public_of
 nothing_hidden o none = sym (none_valued _ _ o.paragraph none)

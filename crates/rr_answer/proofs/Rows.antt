@@ -24,13 +24,15 @@ use Rattle.rr_answer.specs.Queries.{query_of, query_of_more}
 use Rattle.rr_answer.specs.Texts.{members_text, objects_text}
 
 -- a key in any letter case, with a CR after it
-object_read : query_of (codes "object mntner a-mnt" ++ 13 ∷ []) ≡ Ok (Object (Mntner (codes "A-MNT")))
+object_read : query_of (codes "object mntner a-mnt" ++ 13 ∷ [])
+    ≡ Ok (Object (Mntner (codes "A-MNT")))
 unfolding query_of query_of_more words is_keyword key_of_text is_name is_reserved
 object_read = refl
 
 -- a name alone is a maintainer's
 name_read : query_of (codes "a-mnt") ≡ Ok (Object (Mntner (codes "A-MNT")))
-unfolding query_of words key_of_text as_number_of prefix_of cut_at address_of is_set_name is_name is_reserved
+unfolding query_of words key_of_text as_number_of prefix_of cut_at address_of is_set_name is_name
+    is_reserved
 name_read = refl
 
 -- an AS number alone is an aut-num's
@@ -39,13 +41,16 @@ unfolding query_of words key_of_text as_number_of number_of
 number_read = refl
 
 -- an address stands for the prefix of it alone
-place_read : query_of (codes "Less 10.1.2.3") ≡ Ok (Less (record { address = 167838211; length = 32 }))
+place_read : query_of (codes "Less 10.1.2.3")
+    ≡ Ok (Less (record { address = 167838211; length = 32 }))
 unfolding query_of words is_keyword prefix_of cut_at address_of joined_of number_of
 place_read = refl
 
 -- a prefix alone asks for the closest
-closest_read : query_of (codes "10.0.0.5/8") ≡ Ok (Closest (record { address = 167772160; length = 8 }))
-unfolding query_of words key_of_text as_number_of prefix_of masked_of cut_at address_of joined_of number_of
+closest_read : query_of (codes "10.0.0.5/8")
+    ≡ Ok (Closest (record { address = 167772160; length = 8 }))
+unfolding query_of words key_of_text as_number_of prefix_of masked_of cut_at address_of joined_of
+    number_of
 closest_read = refl
 
 -- a maintainer's name alone can be named
@@ -63,7 +68,8 @@ unfolding query_of words is_keyword is_set_name set_text as_number_of number_of
 any_expanded = refl
 
 any_is_no_object : query_of (codes "AS-ANY") ≡ Err Bad
-unfolding query_of words key_of_text as_number_of number_of prefix_of cut_at address_of is_set_name set_text is_name is_reserved
+unfolding query_of words key_of_text as_number_of number_of prefix_of cut_at address_of is_set_name
+    set_text is_name is_reserved
 any_is_no_object = refl
 
 -- no words, and a word that is no name
@@ -72,7 +78,8 @@ unfolding query_of words
 nothing_refused = refl
 
 dot_refused : query_of (codes ".") ≡ Err Bad
-unfolding query_of words key_of_text as_number_of prefix_of cut_at address_of joined_of number_of is_set_name is_name is_reserved
+unfolding query_of words key_of_text as_number_of prefix_of cut_at address_of joined_of number_of
+    is_set_name is_name is_reserved
 dot_refused = refl
 
 -- an LF, even after a good query
@@ -85,8 +92,12 @@ maintainer : Obj
 maintainer = record {
   key = Mntner (codes "A-MNT");
   paragraph =
-      record { name = codes "mntner"; lines = codes "A-MNT" ∷ [] } ∷ record { name = codes "auth"; lines = codes "SHA256-PW ab:0f" ∷ [] }
-      ∷ record { name = codes "mnt-by"; lines = codes "A-MNT" ∷ [] } ∷ record { name = codes "source"; lines = codes "TEST" ∷ [] } ∷ [];
+      record { name = codes "mntner"; lines = codes "A-MNT" ∷ [] } ∷ record {
+        name = codes "auth";
+        lines = codes "SHA256-PW ab:0f" ∷ [];
+      }
+      ∷ record { name = codes "mnt-by"; lines = codes "A-MNT" ∷ [] }
+      ∷ record { name = codes "source"; lines = codes "TEST" ∷ [] } ∷ [];
   maintainers = codes "A-MNT" ∷ [];
   lower = [];
   routes = [];
@@ -97,13 +108,15 @@ maintainer = record {
 }
 
 maintainer_shown : objects_text (maintainer ∷ []) ≡
-    ended (codes "mntner:         A-MNT") ++ ended (codes "auth:           # filtered") ++ ended (codes "mnt-by:         A-MNT")
+    ended (codes "mntner:         A-MNT") ++ ended (codes "auth:           # filtered") ++ ended
+    (codes "mnt-by:         A-MNT")
     ++ ended (codes "source:         TEST") ++ ended []
 unfolding objects_text public_of canonical maintainer
 maintainer_shown = refl
 
 maintainer_dumped : dumped true maintainer ≡
-    ended (codes "mntner:         A-MNT") ++ ended (codes "auth:           SHA256-PW ab:0f") ++ ended (codes "mnt-by:         A-MNT")
+    ended (codes "mntner:         A-MNT") ++ ended (codes "auth:           SHA256-PW ab:0f") ++
+    ended (codes "mnt-by:         A-MNT")
     ++ ended (codes "source:         TEST") ++ ended []
 unfolding canonical maintainer
 maintainer_dumped = refl
@@ -113,7 +126,8 @@ unfolding objects_text
 none_shown = refl
 
 -- a missing name after what is found
-numbers_shown : members_text (λ (name : List ℕ). name) (codes "AS1" ∷ codes "AS2" ∷ []) (codes "AS-GONE" ∷ []) ≡
+numbers_shown : members_text (λ (name : List ℕ). name) (codes "AS1" ∷ codes "AS2" ∷ [])
+    (codes "AS-GONE" ∷ []) ≡
     ended (codes "AS1") ++ ended (codes "AS2") ++ ended (codes "% missing AS-GONE")
 unfolding members_text
 numbers_shown = refl

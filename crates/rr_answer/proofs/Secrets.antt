@@ -10,7 +10,8 @@ use Rattle.rr_text.specs.Fields.{Field}
 use Rattle.rr_auth.specs.Registries.{Reg}
 use Rattle.rr_answer.specs.declared.fault.QueryFault.{QueryFault}
 use Rattle.rr_answer.specs.declared.query.Query.{Query}
-use Rattle.rr_answer.specs.declared.query.Query.TheVariants.{Object, Exact, Closest, Less, More, Naming, Originated, Expand, Prefixes}
+use Rattle.rr_answer.specs.declared.query.Query.TheVariants.{Object, Exact, Closest, Less, More}
+use Rattle.rr_answer.specs.declared.query.Query.TheVariants.{Naming, Originated, Expand, Prefixes}
 use Rattle.rr_answer.specs.Answers.{IsAnswer, IsAnswerOf}
 use Rattle.rr_answer.specs.Queries.{query_of}
 use Rattle.rr_answer.specs.Secrecy.{AnswersKeepSecrets, DumpsKeepSecrets, SourcesAreRead}
@@ -25,7 +26,8 @@ text_answers : (query : Query) (r s : Reg) (a b : Result (List ℕ) QueryFault) 
 text_answers query r s a b alike p q =
     p ∙ ap Ok (objects_alike (asked query r) (asked query s) (asked_alike query r s alike)) ∙ sym q
 
-answers_alike : (query : Query) (r s : Reg) (limit : ℕ) (a b : Result (List ℕ) QueryFault) → Alike r s
+answers_alike : (query : Query) (r s : Reg) (limit : ℕ) (a b : Result (List ℕ) QueryFault) →
+    Alike r s
     → IsAnswer r limit query a → IsAnswer s limit query b → a ≡ b
 answers_alike (Object k) r s limit a b alike p q = text_answers (Object k) r s a b alike p q
 answers_alike (Exact x) r s limit a b alike p q = text_answers (Exact x) r s a b alike p q
@@ -34,16 +36,19 @@ answers_alike (Less x) r s limit a b alike p q = text_answers (Less x) r s a b a
 answers_alike (More x) r s limit a b alike p q = text_answers (More x) r s a b alike p q
 answers_alike (Naming n) r s limit a b alike p q = text_answers (Naming n) r s a b alike p q
 answers_alike (Originated n) r s limit a b alike p q = text_answers (Originated n) r s a b alike p q
-answers_alike (Expand n) r s limit a b alike p q = expanded_answers (kind_of n) r s limit n a b alike p q
+answers_alike (Expand n) r s limit a b alike p q = expanded_answers (kind_of n) r s limit n a b
+    alike p q
 answers_alike (Prefixes n) r s limit a b alike p q = range_answers r s limit n a b alike p q
 
-read_alike : (read : Result Query QueryFault) (r s : Reg) (limit : ℕ) (a b : Result (List ℕ) QueryFault) → Alike r s
+read_alike : (read : Result Query QueryFault) (r s : Reg) (limit : ℕ)
+    (a b : Result (List ℕ) QueryFault) → Alike r s
     → IsAnswerOf r limit read a → IsAnswerOf s limit read b → a ≡ b
 read_alike (Ok query) r s limit a b alike p q = answers_alike query r s limit a b alike p q
 read_alike (Err fault) r s limit a b alike p q = p ∙ sym q
 
 pub answers_keep : AnswersKeepSecrets
-answers_keep r s p q look limit text a b first second = read_alike (query_of text) r s limit a b (seen_alike_at r s p q look) first second
+answers_keep r s p q look limit text a b first second = read_alike (query_of text) r s limit a b
+    (seen_alike_at r s p q look) first second
 
 pub dumps_keep : DumpsKeepSecrets
 dumps_keep r s p q look = dumps_alike r s (seen_alike_at r s p q look)
@@ -55,7 +60,8 @@ read_before (Ok x) true o e = e
 read_before (Ok x) false o e = cc
 read_before (Err fault) b o e = cc
 
-read_anywhere : (fields : List Field) (source : List ℕ) (o : Obj) → object_of fields source ≡ Ok o → obj_of fields ≡ Ok o
+read_anywhere : (fields : List Field) (source : List ℕ) (o : Obj) → object_of fields source
+    ≡ Ok o → obj_of fields ≡ Ok o
 unfolding object_of
 read_anywhere fields source o e = read_before (obj_of fields) (is_from source fields) o e
 

@@ -12,8 +12,10 @@ use Rattle.rr_auth.proofs.Members.{both_or_none}
 with_keys : {K : Type 0} → List K → BTreeSet K
 with_keys keys = record { keys = keys }
 
-pub same_sorted : {K : Type 0} {R : K → K → Ordering} → IsTotalOrder R → CmpEqualImpliesEq R → (xs ys : List K)
-    → IsStrictlySortedBy R xs → IsStrictlySortedBy R ys → ((k : K) → Contains xs k ↔ Contains ys k) → xs ≡ ys
+pub same_sorted : {K : Type 0} {R : K → K → Ordering} → IsTotalOrder R → CmpEqualImpliesEq R →
+    (xs ys : List K)
+    → IsStrictlySortedBy R xs → IsStrictlySortedBy R ys → ((k : K) → Contains xs k ↔ Contains ys k)
+    → xs ≡ ys
 unfolding with_keys
 same_sorted {K} {R} total exact xs ys p q same =
     btree_set_from_contains total (with_keys xs) (with_keys ys) p q (λ k.

@@ -3,7 +3,8 @@ use Rattle.std.proofs.Common.{◌≡◌, false, refl, arith}
 use Rattle.std.proofs.lemmas.Grind.{common_steps}
 use Rattle.rr_number.specs.Spans.{Ends, crosses}
 use Rattle.rr_object.specs.declared.key.Key.{Key}
-use Rattle.rr_object.specs.declared.key.Key.TheVariants.{Mntner, AsBlock, AutNum, Inetnum, Route, AsSet, RouteSet}
+use Rattle.rr_object.specs.declared.key.Key.TheVariants.{Mntner, AsBlock, AutNum, Inetnum, Route}
+use Rattle.rr_object.specs.declared.key.Key.TheVariants.{AsSet, RouteSet}
 use Rattle.rr_auth.specs.Registries.{keys_cross}
 
 crosses_back : (s t : Ends) → crosses s t ≡ crosses t s

@@ -11,7 +11,8 @@ pub covers_on : (s t u : Ends) → covers s t ≡ true → covers t u ≡ true �
 covers_on s t u e f = grind (arith, nat_tests)
 
 -- of two spans round s that do not cross the smaller lies inside the other
-pub inside_of : (s t p : Ends) → s.first ≤ s.last → covers t s ≡ true → covers p s ≡ true → size t ≤ size p → crosses t p ≡ false → covers p t ≡ true
+pub inside_of : (s t p : Ends) → s.first ≤ s.last → covers t s ≡ true → covers p s ≡ true →
+    size t ≤ size p → crosses t p ≡ false → covers p t ≡ true
 inside_of s t p ordered e f smaller apart = grind (arith, nat_tests)
 
 ends : ℕ → ℕ → Ends
@@ -29,6 +30,8 @@ unfolding ends
 cover_both s t e f = λ i. ends (same_first s t e f i) (same_last s t e f i)
 
 -- two spans round s of one size that do not cross are one
-pub one_span : (s t u : Ends) → s.first ≤ s.last → covers t s ≡ true → covers u s ≡ true → size t ≤ size u → size u ≤ size t → crosses t u ≡ false → crosses u t ≡ false → t ≡ u
+pub one_span : (s t u : Ends) → s.first ≤ s.last → covers t s ≡ true → covers u s ≡ true →
+    size t ≤ size u → size u ≤ size t → crosses t u ≡ false → crosses u t ≡ false → t ≡ u
 one_span s t u ordered e f smaller larger apart back =
-    cover_both t u (inside_of s u t ordered f e larger back) (inside_of s t u ordered e f smaller apart)
+    cover_both t u (inside_of s u t ordered f e larger back)
+    (inside_of s t u ordered e f smaller apart)

@@ -3,7 +3,8 @@ use Rattle.std.proofs.Common.{◌≡◌, false, ◌||◌, List, [], ◌∷◌, r
 use Rattle.std.specs.List.{list_any}
 use Rattle.rr_object.specs.Objects.{Obj}
 use Rattle.rr_object.specs.declared.key.Key.{Key}
-use Rattle.rr_object.specs.declared.key.Key.TheVariants.{Mntner, AsBlock, AutNum, Inetnum, Route, AsSet, RouteSet}
+use Rattle.rr_object.specs.declared.key.Key.TheVariants.{Mntner, AsBlock, AutNum, Inetnum, Route}
+use Rattle.rr_object.specs.declared.key.Key.TheVariants.{AsSet, RouteSet}
 use Rattle.rr_auth.specs.Registries.{keys_cross}
 use Rattle.rr_auth.proofs.Crossing.{keys_cross_back}
 use Rattle.rr_book.specs.Private.{is_span}
@@ -17,7 +18,8 @@ crosses_none (Route p n) l e = refl
 crosses_none (AsSet n) l e = refl
 crosses_none (RouteSet n) l e = refl
 
-pub none_crosses : (k : Key) (os : List Obj) → is_span k ≡ false → list_any (λ o. keys_cross o.key k) os ≡ false
+pub none_crosses : (k : Key) (os : List Obj) → is_span k ≡ false →
+    list_any (λ o. keys_cross o.key k) os ≡ false
 none_crosses k [] e = refl
 none_crosses k (o ∷ os) e =
     let apart = keys_cross_back o.key k ∙ crosses_none k o.key e in

@@ -22,13 +22,19 @@ lower-upper [] = refl
 lower-upper (b ∷ bs) = λ i. lower_byte-upper b i ∷ lower-upper bs i
 
 -- equal in lower case is equal in upper case
-pub same_letters : (xs ys : List ℕ) (r : Bool) → (IsTrue r ↔ (lowered xs ≡ lowered ys)) → r ≡ bytes_eq (upper xs) (upper ys)
+pub same_letters : (xs ys : List ℕ) (r : Bool) → (IsTrue r ↔ (lowered xs ≡ lowered ys)) →
+    r ≡ bytes_eq (upper xs) (upper ys)
 same_letters xs ys r same =
-    same_from_decides r (bytes_eq (upper xs) (upper ys))
-    (λ yes. sym (upper-lower xs) ∙ ap upper (same.0 yes) ∙ upper-lower ys, λ e. same.1 (sym (lower-upper xs) ∙ ap (lowered) e ∙ lower-upper ys))
+    same_from_decides r (bytes_eq (upper xs) (upper ys)) (
+      λ yes. sym (upper-lower xs) ∙ ap upper (same.0 yes) ∙ upper-lower ys,
+      λ e.
+          same.1 (sym (lower-upper xs) ∙ ap (lowered) e ∙ lower-upper ys),
+    )
     (bytes_decides (upper xs) (upper ys))
 
 -- equal in lower case is the same word
-pub same_in_lower_case : (text word : List ℕ) (r : Bool) → (IsTrue r ↔ (lowered text ≡ lowered word)) → r ≡ is_keyword word text
+pub same_in_lower_case : (text word : List ℕ) (r : Bool) →
+    (IsTrue r ↔ (lowered text ≡ lowered word)) → r ≡ is_keyword word text
 unfolding is_keyword
-same_in_lower_case text word r same = same_from_decides r (bytes_eq (lowered text) (lowered word)) same (bytes_decides (lowered text) (lowered word))
+same_in_lower_case text word r same = same_from_decides r (bytes_eq (lowered text) (lowered word))
+    same (bytes_decides (lowered text) (lowered word))

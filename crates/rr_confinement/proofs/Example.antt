@@ -1,5 +1,6 @@
 -- The registry of the worked example is sound, and the prefix is held in it.
-use Rattle.std.proofs.Common.{◌≡◌, ℕ, Bool, true, false, cond, not, ◌||◌, inl, inr, List, [], ◌∷◌, refl, sym, ap, subst, ◌∙◌, lit≤, lit<}
+use Rattle.std.proofs.Common.{◌≡◌, ℕ, Bool, true, false, cond, not, ◌||◌, inl, inr, List, [], ◌∷◌}
+use Rattle.std.proofs.Common.{refl, sym, ap, subst, ◌∙◌, lit≤, lit<}
 use Rattle.std.specs.Prelude.{Option, None, Some, is_none, is_some, map, ◌==◌}
 use Rattle.std.specs.List.{list_all}
 use Rattle.std.specs.Ordering.{eq_by_cmp}
@@ -18,7 +19,8 @@ use Rattle.rr_auth.proofs.Members.{all_fail, each_passes}
 use Rattle.rr_bytes.specs.LetterCase.{upper as upper_of}
 use Rattle.rr_bytes.specs.NameBytes.{is_name}
 use Rattle.rr_number.specs.Names.{IsUpperName}
-use Rattle.rr_confinement.specs.Example.{a_mnt, b_mnt, root_mnt, example_holding, example_objects, example_registry}
+use Rattle.rr_confinement.specs.Example.{a_mnt, b_mnt, root_mnt, example_holding, example_objects}
+use Rattle.rr_confinement.specs.Example.{example_registry}
 use Rattle.rr_confinement.specs.Holdings.{Holding, IsHeld, is_held, names_holders, space_of}
 
 -- what stands in the registry of a list is an entry of it
@@ -28,20 +30,35 @@ record IsEntry (es : List (Key × Obj)) (k : Key) (o : Obj) : Type 0 where
   key_is : k ≡ entry.0
   object_is : o ≡ entry.1
 
-found_entry : (k : Key) (o : Obj) (es : List (Key × Obj)) → find key_cmp k es ≡ Some o → IsEntry es k o
+found_entry : (k : Key) (o : Obj) (es : List (Key × Obj)) → find key_cmp k es ≡ Some o →
+    IsEntry es k o
 found_entry k o [] f = cc
 found_entry k o (e ∷ es) f =
-    elim (eq_by_cmp key_cmp k e.0) as (λ b. eq_by_cmp key_cmp k e.0 ≡ b → cond b (Some e.1) (find key_cmp k es) ≡ Some o → IsEntry (e ∷ es) k o) [
-      | true ↦ λ t g. record { entry = e; member = inl refl; key_is = same_key k e.0 t; object_is = cc }
+    elim (eq_by_cmp key_cmp k e.0) as (λ b. eq_by_cmp key_cmp k e.0 ≡ b →
+    cond b (Some e.1) (find key_cmp k es) ≡ Some o → IsEntry (e ∷ es) k o) [
+      | true ↦ λ t g. record {
+        entry = e;
+        member = inl refl;
+        key_is = same_key k e.0 t;
+        object_is =
+            cc;
+      }
       | false ↦ λ t g.
           let rest = found_entry k o es g in
-          record { entry = rest.entry; member = inr rest.member; key_is = rest.key_is; object_is = rest.object_is }
+          record {
+            entry = rest.entry;
+            member = inr rest.member;
+            key_is = rest.key_is;
+            object_is =
+                rest.object_is;
+          }
     ] refl f
 
 -- an object stands under its own key
 own_key : (e : Key × Obj) (os : List Obj) → IsIn e (map (λ o. (o.key, o)) os) → e.1.key ≡ e.0
 own_key e [] i = absurd i
-own_key e (o ∷ os) (inl same) = ap (λ (x : Key × Obj). x.1.key) same ∙ sym (ap (λ (x : Key × Obj). x.0) same)
+own_key e (o ∷ os) (inl same) = ap (λ (x : Key × Obj). x.1.key) same
+    ∙ sym (ap (λ (x : Key × Obj). x.0) same)
 own_key e (o ∷ os) (inr i) = own_key e os i
 
 -- the keys of a list are well formed
@@ -49,9 +66,11 @@ abbrev AllFormed : List Obj → Type 0
 AllFormed [] = Unit {0}
 AllFormed (o ∷ os) = IsKeyValue o.key × AllFormed os
 
-formed_key : (e : Key × Obj) (os : List Obj) → AllFormed os → IsIn e (map (λ o. (o.key, o)) os) → IsKeyValue e.0
+formed_key : (e : Key × Obj) (os : List Obj) → AllFormed os → IsIn e (map (λ o. (o.key, o)) os) →
+    IsKeyValue e.0
 formed_key e [] all i = absurd i
-formed_key e (o ∷ os) all (inl same) = subst IsKeyValue (sym (ap (λ (x : Key × Obj). x.0) same)) all.0
+formed_key e (o ∷ os) all (inl same) = subst IsKeyValue (sym (ap (λ (x : Key × Obj). x.0) same))
+    all.0
 formed_key e (o ∷ os) all (inr i) = formed_key e os all.1 i
 
 -- what is there is not nothing
@@ -65,7 +84,8 @@ either false b e f = cc
 
 -- a list of objects whose names are known to it and whose spans do not cross
 abbrev are_named : List (Key × Obj) → Bool
-are_named es = list_all (λ e. list_all (λ n. is_some (find key_cmp (Mntner n) es)) (names_of e.1)) es
+are_named es = list_all (λ e. list_all (λ n. is_some (find key_cmp (Mntner n) es)) (names_of e.1))
+    es
 
 abbrev are_apart : List (Key × Obj) → Bool
 are_apart es = list_all (λ e. list_all (λ f. not (keys_cross e.0 f.0)) es) es
@@ -73,16 +93,25 @@ are_apart es = list_all (λ e. list_all (λ f. not (keys_cross e.0 f.0)) es) es
 abbrev are_theirs : Holding → List (Key × Obj) → Bool
 are_theirs h es = list_all (λ e. not (is_held h e.0) || names_holders h e.0 e.1) es
 
-module _ (os : List Obj) (named : are_named (map (λ o. (o.key, o)) os) ≡ true) (apart : are_apart (map (λ o. (o.key, o)) os) ≡ true) (formed : AllFormed os) where
-  entry_at : (k : Key) (o : Obj) → get (from_entries {R = key_cmp} (map (λ o. (o.key, o)) os)) k ≡ Some o → IsEntry (map (λ o. (o.key, o)) os) k o
-  entry_at k o f = found_entry k o (map (λ o. (o.key, o)) os) (sym (get-from_entries keys_total (map (λ o. (o.key, o)) os) k) ∙ f)
+module _ (os : List Obj) (named : are_named (map (λ o. (o.key, o)) os) ≡ true)
+    (apart : are_apart (map (λ o. (o.key, o)) os) ≡ true) (formed : AllFormed os) where
+  entry_at : (k : Key) (o : Obj) → get (from_entries {R = key_cmp} (map (λ o. (o.key, o)) os)) k
+      ≡ Some o → IsEntry (map (λ o. (o.key, o)) os) k o
+  entry_at k o f = found_entry k o (map (λ o. (o.key, o)) os)
+      (sym (get-from_entries keys_total (map (λ o. (o.key, o)) os) k) ∙ f)
 
-  known : (e : Key × Obj) → IsIn e (map (λ o. (o.key, o)) os) → some_is_unknown (from_entries (map (λ o. (o.key, o)) os)) (names_of e.1) ≡ false
+  known : (e : Key × Obj) → IsIn e (map (λ o. (o.key, o)) os) →
+      some_is_unknown (from_entries (map (λ o. (o.key, o)) os)) (names_of e.1) ≡ false
   known e i =
-      all_fail (λ n. is_none (maintainer (from_entries (map (λ o. (o.key, o)) os)) n)) (names_of e.1) (λ n m.
-      let found = each_passes (λ n. is_some (find key_cmp (Mntner n) (map (λ o. (o.key, o)) os))) n (names_of e.1)
-      (each_passes (λ e. list_all (λ n. is_some (find key_cmp (Mntner n) (map (λ o. (o.key, o)) os))) (names_of e.1)) e (map (λ o. (o.key, o)) os) named i) m in
-      ap is_none (get-from_entries keys_total (map (λ o. (o.key, o)) os) (Mntner n)) ∙ there (find key_cmp (Mntner n) (map (λ o. (o.key, o)) os)) found)
+      all_fail (λ n. is_none (maintainer (from_entries (map (λ o. (o.key, o)) os)) n))
+      (names_of e.1) (λ n m.
+      let found = each_passes (λ n. is_some (find key_cmp (Mntner n) (map (λ o. (o.key, o)) os))) n
+      (names_of e.1)
+      (each_passes
+      (λ e. list_all (λ n. is_some (find key_cmp (Mntner n) (map (λ o. (o.key, o)) os)))
+      (names_of e.1)) e (map (λ o. (o.key, o)) os) named i) m in
+      ap is_none (get-from_entries keys_total (map (λ o. (o.key, o)) os) (Mntner n))
+      ∙ there (find key_cmp (Mntner n) (map (λ o. (o.key, o)) os)) found)
 
   -- the registry of such a list is sound
   sound_list : Sound (from_entries (map (λ o. (o.key, o)) os))
@@ -90,25 +119,32 @@ module _ (os : List Obj) (named : are_named (map (λ o. (o.key, o)) os) ≡ true
     keyed = λ k o f.
         let e = entry_at k o f in
         ap (λ (x : Obj). x.key) e.object_is ∙ own_key e.entry os e.member ∙ sym e.key_is;
-    formed = λ k o f. let e = entry_at k o f in subst IsKeyValue (sym e.key_is) (formed_key e.entry os formed e.member);
+    formed = λ k o f. let e = entry_at k o f in subst IsKeyValue (sym e.key_is)
+        (formed_key e.entry os formed e.member);
     named = λ k o f.
         let e = entry_at k o f in
-        ap (λ (x : Obj). some_is_unknown (from_entries (map (λ o. (o.key, o)) os)) (names_of x)) e.object_is ∙ known e.entry e.member;
+        ap (λ (x : Obj). some_is_unknown (from_entries (map (λ o. (o.key, o)) os)) (names_of x))
+        e.object_is ∙ known e.entry e.member;
     apart = λ k l o x f g.
         let e = entry_at k o f in
         let d = entry_at l x g in
         (λ i. keys_cross (e.key_is i) (d.key_is i))
-        ∙ not-true _ (each_passes (λ d. not (keys_cross e.entry.0 d.0)) d.entry (map (λ o. (o.key, o)) os)
-        (each_passes (λ e. list_all (λ d. not (keys_cross e.0 d.0)) (map (λ o. (o.key, o)) os)) e.entry (map (λ o. (o.key, o)) os) apart e.member) d.member);
+        ∙ not-true _ (each_passes (λ d. not (keys_cross e.entry.0 d.0)) d.entry
+        (map (λ o. (o.key, o)) os)
+        (each_passes (λ e. list_all (λ d. not (keys_cross e.0 d.0)) (map (λ o. (o.key, o)) os))
+        e.entry (map (λ o. (o.key, o)) os) apart e.member) d.member);
   }
 
   -- what of it is held names holders
-  theirs_list : (h : Holding) → are_theirs h (map (λ o. (o.key, o)) os) ≡ true → (k : Key) (o : Obj) → is_held h k ≡ true
-      → get (from_entries {R = key_cmp} (map (λ o. (o.key, o)) os)) k ≡ Some o → names_holders h k o ≡ true
+  theirs_list : (h : Holding) → are_theirs h (map (λ o. (o.key, o)) os) ≡ true →
+      (k : Key) (o : Obj) → is_held h k ≡ true
+      → get (from_entries {R = key_cmp} (map (λ o. (o.key, o)) os)) k ≡ Some o →
+      names_holders h k o ≡ true
   theirs_list h all k o held f =
       let e = entry_at k o f in
       (λ i. names_holders h (e.key_is i) (e.object_is i))
-      ∙ either _ _ (each_passes (λ e. not (is_held h e.0) || names_holders h e.0 e.1) e.entry (map (λ o. (o.key, o)) os) all e.member)
+      ∙ either _ _ (each_passes (λ e. not (is_held h e.0) || names_holders h e.0 e.1) e.entry
+      (map (λ o. (o.key, o)) os) all e.member)
       (ap (is_held h) (sym e.key_is) ∙ held)
 
 upper : (name : List ℕ) → is_name name ≡ true → upper_of name ≡ name → IsUpperName name
@@ -137,7 +173,10 @@ all_formed = (
                   (
                     record { ordered = lit≤ tt; fits = lit< tt },
                     (
-                      record { masked = record { short = lit≤ tt; fits = lit< tt; aligned = refl }; numbered = lit≤ tt },
+                      record {
+                        masked = record { short = lit≤ tt; fits = lit< tt; aligned = refl };
+                        numbered = lit≤ tt;
+                      },
                       tt,
                     ),
                   ),
@@ -152,7 +191,8 @@ all_formed = (
 )
 
 -- what is found in the list stands in the registry
-stands : (k : Key) → is_some (find key_cmp k (map (λ o. (o.key, o)) example_objects)) ≡ true → is_some (get example_registry k) ≡ true
+stands : (k : Key) → is_some (find key_cmp k (map (λ o. (o.key, o)) example_objects)) ≡ true →
+    is_some (get example_registry k) ≡ true
 stands k e = ap is_some (get-from_entries keys_total (map (λ o. (o.key, o)) example_objects) k) ∙ e
 
 one_of : (a : Bool) → (a || false) ≡ true → a ≡ true

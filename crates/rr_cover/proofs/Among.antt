@@ -1,5 +1,6 @@
 -- The entries of a list in order, and what is found at their spans.
-use Rattle.std.proofs.Common.{◌≡◌, Bool, true, false, cond, ◌⊎◌, List, [], ◌∷◌, Option, Some, None, is_some, refl, sym, ap, subst, ◌∙◌, inl, inr}
+use Rattle.std.proofs.Common.{◌≡◌, Bool, true, false, cond, ◌⊎◌, List, [], ◌∷◌, Option, Some, None}
+use Rattle.std.proofs.Common.{is_some, refl, sym, ap, subst, ◌∙◌, inl, inr}
 use Rattle.std.specs.declared.cmp.Ordering.{Ordering}
 use Rattle.std.specs.declared.cmp.Ordering.TheVariants.{Less, Equal, Greater}
 use Rattle.std.specs.Ordering.{is_eq, is_lt, eq_by_cmp}
@@ -36,28 +37,40 @@ module _ {T : Type 0} where
   Among (e ∷ es) s value = (e ≡ (s, value)) ⊎ Among es s value
 
   -- the entry of a list that follows x is above x
-  above_first : (x : Ends) (es : List (Ends × T)) (s : Ends) (value : T) → B.T (below_all span_cmp x es) → Among es s value → span_cmp x s ≡ Less
+  above_first : (x : Ends) (es : List (Ends × T)) (s : Ends) (value : T) →
+      B.T (below_all span_cmp x es) → Among es s value → span_cmp x s ≡ Less
   above_first x [] s value h among = absurd among
-  above_first x (e ∷ es) s value h (inl is) = is_less (span_cmp x s) (subst (λ (y : Ends × T). B.T (is_lt (span_cmp x y.0))) is (and_first _ _ h))
-  above_first x (e ∷ es) s value h (inr rest) = above_first x es s value (and_second (is_lt (span_cmp x e.0)) _ h) rest
+  above_first x (e ∷ es) s value h (inl is) = is_less (span_cmp x s)
+      (subst (λ (y : Ends × T). B.T (is_lt (span_cmp x y.0))) is (and_first _ _ h))
+  above_first x (e ∷ es) s value h (inr rest) = above_first x es s value
+      (and_second (is_lt (span_cmp x e.0)) _ h) rest
 
   -- what stands in a list in order is found there
-  pub found_among : (es : List (Ends × T)) (s : Ends) (value : T) → B.T (is_sorted span_cmp es) → Among es s value → find span_cmp s es ≡ Some value
+  pub found_among : (es : List (Ends × T)) (s : Ends) (value : T) → B.T (is_sorted span_cmp es) →
+      Among es s value → find span_cmp s es ≡ Some value
   found_among [] s value sorted among = absurd among
   found_among (e ∷ es) s value sorted (inl is) =
-      ap (λ b. cond b (Some e.1) (find span_cmp s es)) (same_tied s e.0 (sym (ap (λ (y : Ends × T). y.0) is))) ∙ ap (λ (y : Ends × T). Some y.1) is
+      ap (λ b. cond b (Some e.1) (find span_cmp s es))
+      (same_tied s e.0 (sym (ap (λ (y : Ends × T). y.0) is))) ∙ ap (λ (y : Ends × T). Some y.1)
+      is
   found_among (e ∷ es) s value sorted (inr rest) =
-      ap (λ r. cond (is_eq r) (Some e.1) (find span_cmp s es)) (turned e.0 s Less (above_first e.0 es s value (and_first _ _ sorted) rest))
+      ap (λ r. cond (is_eq r) (Some e.1) (find span_cmp s es))
+      (turned e.0 s Less (above_first e.0 es s value (and_first _ _ sorted) rest))
       ∙ found_among es s value (and_second (below_all span_cmp e.0 es) _ sorted) rest
 
-  tied_case : (e : Ends × T) (es : List (Ends × T)) (s : Ends) (value : T) (b : Bool) → eq_by_cmp span_cmp s e.0 ≡ b → (find span_cmp s es ≡ Some value → Among es s value) → cond b (Some e.1) (find span_cmp s es) ≡ Some value → Among (e ∷ es) s value
-  tied_case e es s value true is rest found = inl (λ i. (sym (tied_same s e.0 is) i, some_same found i))
+  tied_case : (e : Ends × T) (es : List (Ends × T)) (s : Ends) (value : T) (b : Bool) →
+      eq_by_cmp span_cmp s e.0 ≡ b → (find span_cmp s es ≡ Some value → Among es s value) →
+      cond b (Some e.1) (find span_cmp s es) ≡ Some value → Among (e ∷ es) s value
+  tied_case e es s value true is rest found =
+      inl (λ i. (sym (tied_same s e.0 is) i, some_same found i))
   tied_case e es s value false is rest found = inr (rest found)
 
   -- what is found in a list stands there
-  pub among_found : (es : List (Ends × T)) (s : Ends) (value : T) → find span_cmp s es ≡ Some value → Among es s value
+  pub among_found : (es : List (Ends × T)) (s : Ends) (value : T) → find span_cmp s es ≡ Some value
+      → Among es s value
   among_found [] s value found = absurd (none_some found)
-  among_found (e ∷ es) s value found = tied_case e es s value (eq_by_cmp span_cmp s e.0) refl (among_found es s value) found
+  among_found (e ∷ es) s value found = tied_case e es s value (eq_by_cmp span_cmp s e.0) refl
+      (among_found es s value) found
 
   -- a span of the list has a value
   pub some_value : (o : Option T) → is_some o ≡ true → (value : T) × (o ≡ Some value)

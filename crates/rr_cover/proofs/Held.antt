@@ -1,5 +1,6 @@
 -- The spans that a map holds: which is closest, and what the lists of them have.
-use Rattle.std.proofs.Common.{◌≡◌, ◌≤◌, ◌&&◌, ◌||◌, Bool, true, false, cond, List, [], ◌∷◌, map, Some, is_some, refl, sym, ap, ◌∙◌, arith}
+use Rattle.std.proofs.Common.{◌≡◌, ◌≤◌, ◌&&◌, ◌||◌, Bool, true, false, cond, List, [], ◌∷◌, map}
+use Rattle.std.proofs.Common.{Some, is_some, refl, sym, ap, ◌∙◌, arith}
 use Rattle.std.proofs.lemmas.Bool.Decides.{nat_tests}
 use Rattle.std.proofs.lemmas.List.Kept.{IsStrictlySortedBy-filter}
 use Rattle.std.proofs.lemmas.Map.Views.{Contains-from_any, list_any-from_Contains}
@@ -8,7 +9,8 @@ use Rattle.std.specs.List.{filter, list_any, Contains, AllByRecursion}
 use Rattle.std.specs.List.Sorted.{IsStrictlySortedBy}
 use Rattle.std.specs.Ordering.{eq_by_cmp, is_lt}
 use Rattle.std.specs.declared.cmp.Ordering.TheVariants.{Less}
-use Rattle.std.specs.FinMap.{get, contains_key, keys, entries, entries_sorted, is_sorted, contains_key-keys}
+use Rattle.std.specs.FinMap.{get, contains_key, keys, entries, entries_sorted, is_sorted}
+use Rattle.std.specs.FinMap.{contains_key-keys}
 use Rattle.std.specs.FinMap.Entries.{below_all}
 use Rattle.std.proofs.Math.Dec as B
 use Rattle.rr_number.specs.Spans.{Ends, IsSpan, covers, crosses, size, span_cmp}
@@ -19,7 +21,8 @@ use Rattle.rr_cover.proofs.Among.{tied_same}
 use Rattle.rr_cover.proofs.Places.{is_less, and_first, and_second}
 
 -- two covers of a span that do not cross and are equally large are equal
-same_cover : (s t u : Ends) → IsSpan s → covers t s ≡ true → covers u s ≡ true → crosses t u ≡ false → size t ≡ size u → t ≡ u
+same_cover : (s t u : Ends) → IsSpan s → covers t s ≡ true → covers u s ≡ true → crosses t u
+    ≡ false → size t ≡ size u → t ≡ u
 same_cover s t u is over_t over_u apart same =
     let some : s.first ≤ s.last = is.ordered in
     let first : t.first ≡ u.first = grind (arith, nat_tests) in
@@ -39,10 +42,18 @@ closest_is_one m s t u v w apart is at_t at_u =
     let same = same_cover s t u is at_t.above at_u.above (apart.apart t u held_t held_u) sizes in
     (same, some_same (sym at_t.held ∙ ap (get m) same ∙ at_u.held))
 
-kept_case : (p : Ends → Bool) (t k : Ends) (ks : List Ends) (a b : Bool) → p k ≡ a → eq_by_cmp span_cmp t k ≡ b → list_any (eq_by_cmp span_cmp t) (filter p ks) ≡ (list_any (eq_by_cmp span_cmp t) ks && p t) → list_any (eq_by_cmp span_cmp t) (cond a (k ∷ filter p ks) (filter p ks)) ≡ ((b || list_any (eq_by_cmp span_cmp t) ks) && p t)
-kept_case p t k ks true true passes tied rest = ap (λ x. x || list_any (eq_by_cmp span_cmp t) (filter p ks)) tied ∙ sym (ap p (tied_same t k tied) ∙ passes)
-kept_case p t k ks true false passes tied rest = ap (λ x. x || list_any (eq_by_cmp span_cmp t) (filter p ks)) tied ∙ rest
-kept_case p t k ks false true passes tied rest = rest ∙ ap (λ x. list_any (eq_by_cmp span_cmp t) ks && x) fails ∙ none_passes (list_any (eq_by_cmp span_cmp t) ks) ∙ sym fails
+kept_case : (p : Ends → Bool) (t k : Ends) (ks : List Ends) (a b : Bool) → p k ≡ a →
+    eq_by_cmp span_cmp t k ≡ b → list_any (eq_by_cmp span_cmp t) (filter p ks)
+    ≡ (list_any (eq_by_cmp span_cmp t) ks && p t) → list_any (eq_by_cmp span_cmp t)
+    (cond a (k ∷ filter p ks) (filter p ks)) ≡ ((b || list_any (eq_by_cmp span_cmp t) ks) && p t)
+kept_case p t k ks true true passes tied rest =
+    ap (λ x. x || list_any (eq_by_cmp span_cmp t) (filter p ks)) tied
+    ∙ sym (ap p (tied_same t k tied) ∙ passes)
+kept_case p t k ks true false passes tied rest =
+    ap (λ x. x || list_any (eq_by_cmp span_cmp t) (filter p ks)) tied ∙ rest
+kept_case p t k ks false true passes tied rest =
+    rest ∙ ap (λ x. list_any (eq_by_cmp span_cmp t) ks && x) fails ∙ none_passes
+    (list_any (eq_by_cmp span_cmp t) ks) ∙ sym fails
   where
     fails : p t ≡ false
     fails = ap p (tied_same t k tied) ∙ passes
@@ -53,9 +64,11 @@ kept_case p t k ks false true passes tied rest = rest ∙ ap (λ x. list_any (eq
 kept_case p t k ks false false passes tied rest = rest
 
 -- a span is among those that pass exactly where it is in the list and passes
-pub any_filter : (p : Ends → Bool) (ks : List Ends) (t : Ends) → list_any (eq_by_cmp span_cmp t) (filter p ks) ≡ (list_any (eq_by_cmp span_cmp t) ks && p t)
+pub any_filter : (p : Ends → Bool) (ks : List Ends) (t : Ends) → list_any (eq_by_cmp span_cmp t)
+    (filter p ks) ≡ (list_any (eq_by_cmp span_cmp t) ks && p t)
 any_filter p [] t = refl
-any_filter p (k ∷ ks) t = kept_case p t k ks (p k) (eq_by_cmp span_cmp t k) refl refl (any_filter p ks t)
+any_filter p (k ∷ ks) t = kept_case p t k ks (p k) (eq_by_cmp span_cmp t k) refl refl
+    (any_filter p ks t)
 
 both_true : (a b : Bool) → (a && b) ≡ true → (a ≡ true) × (b ≡ true)
 both_true true b e = (refl, e)
@@ -83,17 +96,31 @@ pub inside_is_whole : {T : Type 0} → InsideIsWhole T
 inside_is_whole m s t = (listed_passes m (λ u. covers s u) t, passes_listed m (λ u. covers s u) t)
 
 module _ {T : Type 0} where
-  below_rise : (x : Ends) (es : List (Ends × T)) → B.T (below_all span_cmp x es) → AllByRecursion (λ y. span_cmp x y ≡ Less) (map (λ e. e.0) es)
+  below_rise : (x : Ends) (es : List (Ends × T)) → B.T (below_all span_cmp x es) →
+      AllByRecursion (λ y. span_cmp x y ≡ Less) (map (λ e. e.0) es)
   below_rise x [] h = tt
-  below_rise x (e ∷ es) h = (is_less (span_cmp x e.0) (and_first _ _ h), below_rise x es (and_second (is_lt (span_cmp x e.0)) _ h))
+  below_rise x (e ∷ es) h = (
+    is_less (span_cmp x e.0) (and_first _ _ h),
+    below_rise x es (and_second (is_lt (span_cmp x e.0)) _ h),
+  )
 
-  entries_rise : (es : List (Ends × T)) → B.T (is_sorted span_cmp es) → IsStrictlySortedBy span_cmp (map (λ e. e.0) es)
+  entries_rise : (es : List (Ends × T)) → B.T (is_sorted span_cmp es) → IsStrictlySortedBy span_cmp
+      (map (λ e. e.0) es)
   unfolding IsStrictlySortedBy
   entries_rise [] h = tt
-  entries_rise (e ∷ es) h = (below_rise e.0 es (and_first _ _ h), entries_rise es (and_second (below_all span_cmp e.0 es) _ h))
+  entries_rise (e ∷ es) h = (
+    below_rise e.0 es (and_first _ _ h),
+    entries_rise es (and_second (below_all span_cmp e.0 es) _ h),
+  )
 
-  pub keys_rise : (m : SpanMap T) (p : Ends → Bool) → IsStrictlySortedBy span_cmp (filter p (keys m))
-  keys_rise m p = IsStrictlySortedBy-filter span_cmp p (keys m) (entries_rise (entries m) (entries_sorted m))
+  pub keys_rise : (m : SpanMap T) (p : Ends → Bool) → IsStrictlySortedBy span_cmp
+      (filter p (keys m))
+  keys_rise m p = IsStrictlySortedBy-filter span_cmp p (keys m)
+      (entries_rise (entries m) (entries_sorted m))
 
 pub lists_rise : {T : Type 0} → ListsRise T
-lists_rise = record { covering_rise = λ m s. keys_rise m (λ u. covers u s); inside_rise = λ m s. keys_rise m (λ u. covers s u) }
+lists_rise = record {
+  covering_rise = λ m s. keys_rise m (λ u. covers u s);
+  inside_rise = λ m s.
+      keys_rise m (λ u. covers s u);
+}

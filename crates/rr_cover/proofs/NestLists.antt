@@ -1,5 +1,6 @@
 -- What a walk of a search tree lists.
-use Rattle.std.proofs.Common.{◌≡◌, ◌<◌, ◌≤◌, Bool, true, false, ◌&&◌, is_some, refl, sym, ap, ◌∙◌, arith, inl, inr, subst}
+use Rattle.std.proofs.Common.{◌≡◌, ◌<◌, ◌≤◌, Bool, true, false, ◌&&◌, is_some, refl, sym, ap, ◌∙◌}
+use Rattle.std.proofs.Common.{arith, inl, inr, subst}
 use Rattle.std.proofs.lemmas.Bool.Decides.{nat_tests}
 use Rattle.rr_number.specs.Spans.{Ends, covers}
 use Rattle.rr_cover.specs.SpanNests.{is_ahead, standing, Fits, IsNest}
@@ -29,19 +30,24 @@ same_bool false false to from = refl
 
 module _ {T : Type 0} where
   -- a span held does not end before it begins
-  held_ordered : (nest : Nest T) → IsNest nest → (u : Ends) → is_some (standing nest u) ≡ true → u.first ≤ u.last
+  held_ordered : (nest : Nest T) → IsNest nest → (u : Ends) → is_some (standing nest u) ≡ true →
+      u.first ≤ u.last
   held_ordered Empty is u held = absurd (contradicted _ refl held)
   held_ordered (Fork' p span value height bounds before after) is u held =
       let low = held_ordered before is.1.0 u in
       let high = held_ordered after is.1.1 u in
-      elim (held_where (Fork' p span value height bounds before after) span value before after (record { all = λ s. refl }) u held) [
+      elim (held_where (Fork' p span value height bounds before after) span value before after
+      (record { all = λ s. refl }) u held) [
         | inl in_low ↦ low in_low
         | inr (inl same) ↦ subst (λ (w : Ends). w.first ≤ w.last) (sym same) is.0.0.ordered.ordered
         | inr (inr in_high) ↦ high in_high
       ]
 
   -- where a span ends before the root begins, the side before alone has spans inside it
-  pub inside_low : (nest : Nest T) (span : Ends) (value : T) (before after : Nest T) (s : Ends) → Made nest span value before after → Fits span before after → IsNest after → s.last < span.first → (u : Ends) → (is_some (standing nest u) && covers s u) ≡ (is_some (standing before u) && covers s u)
+  pub inside_low : (nest : Nest T) (span : Ends) (value : T) (before after : Nest T) (s : Ends) →
+      Made nest span value before after → Fits span before after → IsNest after →
+      s.last < span.first → (u : Ends) → (is_some (standing nest u) && covers s u)
+      ≡ (is_some (standing before u) && covers s u)
   inside_low nest span value before after s made fits order far u =
       pick _ _ (covers s u) (λ over. same_bool _ _ (to over) from)
     where
@@ -54,8 +60,12 @@ module _ {T : Type 0} where
       to over held =
           elim (held_where nest span value before after made u held) [
             | inl in_low ↦ in_low
-            | inr (inl same) ↦ absurd (contradicted _ (ap (covers s) same ∙ beyond s span far fits.ordered.ordered) over)
+            | inr (inl same) ↦
+                absurd
+                (contradicted _ (ap (covers s) same ∙ beyond s span far fits.ordered.ordered) over)
             | inr (inr in_high) ↦
                 let later = first_ahead span u (fits.after.each u in_high) in
-                absurd (contradicted _ (beyond s u (omega (arith, later, far)) (held_ordered after order u in_high)) over)
+                absurd
+                (contradicted _ (beyond s u (omega (arith, later, far))
+                (held_ordered after order u in_high)) over)
           ]

@@ -15,5 +15,6 @@ pub ahead_chain : (s t u : Ends) → is_ahead s t ≡ true → is_ahead t u ≡ 
 ahead_chain s t u first second = grind (arith, nat_tests)
 
 -- of two spans one is ahead, or they are one
-pub ahead_other : (s t : Ends) → eq_by_cmp span_cmp s t ≡ false → is_ahead s t ≡ false → is_ahead t s ≡ true
+pub ahead_other : (s t : Ends) → eq_by_cmp span_cmp s t ≡ false → is_ahead s t ≡ false →
+    is_ahead t s ≡ true
 ahead_other s t apart after = grind (arith, nat_tests)

@@ -25,50 +25,78 @@ greatest_kept : (g n x : ℕ) → nat_le x g ≡ true → nat_le x (max g n) ≡
 greatest_kept g n x below = grind (arith, nat_tests)
 
 module _ {T : Type 0} where
-  least_of : (nest : Nest T) (l n : ℕ) → Only (λ s. nat_le l s.last) nest → Only (λ s. nat_le (min l n) s.last) nest
+  least_of : (nest : Nest T) (l n : ℕ) → Only (λ s. nat_le l s.last) nest →
+      Only (λ s. nat_le (min l n) s.last) nest
   least_of nest l n only = record { each = λ s held. least_kept l n s.last (only.each s held) }
 
-  greatest_of : (nest : Nest T) (g n : ℕ) → Only (λ s. nat_le s.last g) nest → Only (λ s. nat_le s.last (max g n)) nest
-  greatest_of nest g n only = record { each = λ s held. greatest_kept g n s.last (only.each s held) }
+  greatest_of : (nest : Nest T) (g n : ℕ) → Only (λ s. nat_le s.last g) nest →
+      Only (λ s. nat_le s.last (max g n)) nest
+  greatest_of nest g n only = record {
+    each = λ s held. greatest_kept g n s.last (only.each s held);
+  }
 
   -- a node whose bounds let a span in, with that span put in on a side
-  pub node_low : (span : Ends) (bounds : Bounds) (before after new : Nest T) (k : Ends) (v : T) → IsNode span bounds before after → is_ahead k span ≡ true → Changed before new k (Some v) → IsNest new → IsNode span (with_before bounds k.last) new after
+  pub node_low : (span : Ends) (bounds : Bounds) (before after new : Nest T) (k : Ends) (v : T) →
+      IsNode span bounds before after → is_ahead k span ≡ true → Changed before new k (Some v) →
+      IsNest new → IsNode span (with_before bounds k.last) new after
   node_low span bounds before after new k v is ahead changed order =
       let least_own = is.0.1.least_own in
       let before_own = is.0.1.before_own in (
         (
-          record { ordered = is.0.0.ordered; ahead = only_changed (λ s. is_ahead s span) before new k (Some v) changed ahead is.0.0.ahead; after = is.0.0.after },
+          record {
+            ordered = is.0.0.ordered;
+            ahead = only_changed (λ s. is_ahead s span) before new
+                k (Some v) changed ahead is.0.0.ahead;
+            after = is.0.0.after;
+          },
           record {
             least_own = omega arith;
-            least_low = only_changed (λ s. nat_le (min bounds.least k.last) s.last) before new k (Some v) changed (least_lets bounds.least k.last) (least_of before bounds.least k.last is.0.1.least_low);
+            least_low = only_changed (λ s. nat_le (min bounds.least k.last) s.last) before new k
+                (Some v) changed (least_lets bounds.least k.last)
+                (least_of before bounds.least k.last is.0.1.least_low);
             least_high = least_of after bounds.least k.last is.0.1.least_high;
             before_own = omega arith;
-            before_low = only_changed (λ s. nat_le s.last (max bounds.before k.last)) before new k (Some v) changed (greatest_lets bounds.before k.last) (greatest_of before bounds.before k.last is.0.1.before_low);
+            before_low = only_changed (λ s. nat_le s.last (max bounds.before k.last)) before new k
+                (Some v) changed (greatest_lets bounds.before k.last)
+                (greatest_of before bounds.before k.last is.0.1.before_low);
             after_high = is.0.1.after_high;
           },
         ),
         (order, is.1.1),
       )
 
-  pub node_high : (span : Ends) (bounds : Bounds) (before after new : Nest T) (k : Ends) (v : T) → IsNode span bounds before after → is_ahead span k ≡ true → Changed after new k (Some v) → IsNest new → IsNode span (with_after bounds k.last) before new
+  pub node_high : (span : Ends) (bounds : Bounds) (before after new : Nest T) (k : Ends) (v : T) →
+      IsNode span bounds before after → is_ahead span k ≡ true → Changed after new k (Some v) →
+      IsNest new → IsNode span (with_after bounds k.last) before new
   node_high span bounds before after new k v is later changed order =
       let least_own = is.0.1.least_own in (
         (
-          record { ordered = is.0.0.ordered; ahead = is.0.0.ahead; after = only_changed (λ s. is_ahead span s) after new k (Some v) changed later is.0.0.after },
+          record {
+            ordered = is.0.0.ordered;
+            ahead = is.0.0.ahead;
+            after =
+                only_changed (λ s. is_ahead span s) after new k (Some v) changed later is.0.0.after;
+          },
           record {
             least_own = omega arith;
             least_low = least_of before bounds.least k.last is.0.1.least_low;
-            least_high = only_changed (λ s. nat_le (min bounds.least k.last) s.last) after new k (Some v) changed (least_lets bounds.least k.last) (least_of after bounds.least k.last is.0.1.least_high);
+            least_high = only_changed (λ s. nat_le (min bounds.least k.last) s.last) after new k
+                (Some v) changed (least_lets bounds.least k.last)
+                (least_of after bounds.least k.last is.0.1.least_high);
             before_own = is.0.1.before_own;
             before_low = is.0.1.before_low;
-            after_high = only_changed (λ s. nat_le s.last (max bounds.after k.last)) after new k (Some v) changed (greatest_lets bounds.after k.last) (greatest_of after bounds.after k.last is.0.1.after_high);
+            after_high = only_changed (λ s. nat_le s.last (max bounds.after k.last)) after new k
+                (Some v) changed (greatest_lets bounds.after k.last)
+                (greatest_of after bounds.after k.last is.0.1.after_high);
           },
         ),
         (is.1.0, order),
       )
 
   -- a tree seen at its root
-  pub opened_of : (nest : Nest T) (span : Ends) (value : T) (bounds : Bounds) (before after : Nest T) → Made nest span value before after → IsNode span bounds before after → count nest ≡ count before + count after + 1 → IsTakenApart nest span value before after
+  pub opened_of : (nest : Nest T) (span : Ends) (value : T) (bounds : Bounds)
+      (before after : Nest T) → Made nest span value before after → IsNode span bounds before after
+      → count nest ≡ count before + count after + 1 → IsTakenApart nest span value before after
   opened_of nest span value bounds before after made is counted = record {
     fits = is.0.0;
     low = is.1.0;
@@ -79,10 +107,20 @@ module _ {T : Type 0} where
   }
 
   -- what the tree holds then
-  pub all_low : (nest : Nest T) (span : Ends) (value : T) (before after : Nest T) → IsTakenApart nest span value before after → (k : Ends) (v : T) (new : Nest T) → is_ahead k span ≡ true → Changed before new k (Some v) → (s : Ends) → option_or (standing new s) (option_or (at_span span value s) (standing after s)) ≡ cond (eq_by_cmp span_cmp s k) (Some v) (standing nest s)
+  pub all_low : (nest : Nest T) (span : Ends) (value : T) (before after : Nest T) →
+      IsTakenApart nest span value before after → (k : Ends) (v : T) (new : Nest T) →
+      is_ahead k span ≡ true → Changed before new k (Some v) → (s : Ends) →
+      option_or (standing new s) (option_or (at_span span value s) (standing after s))
+      ≡ cond (eq_by_cmp span_cmp s k) (Some v) (standing nest s)
   all_low nest span value before after opened k v new ahead changed s =
-      low_case nest span value before after opened k (Some v) new s (eq_by_cmp span_cmp s k) refl ahead (changed.all s)
+      low_case nest span value before after opened k (Some v) new s (eq_by_cmp span_cmp s k) refl
+      ahead (changed.all s)
 
-  pub all_high : (nest : Nest T) (span : Ends) (value : T) (before after : Nest T) → IsTakenApart nest span value before after → (k : Ends) (v : T) (new : Nest T) → is_ahead span k ≡ true → Changed after new k (Some v) → (s : Ends) → option_or (standing before s) (option_or (at_span span value s) (standing new s)) ≡ cond (eq_by_cmp span_cmp s k) (Some v) (standing nest s)
+  pub all_high : (nest : Nest T) (span : Ends) (value : T) (before after : Nest T) →
+      IsTakenApart nest span value before after → (k : Ends) (v : T) (new : Nest T) →
+      is_ahead span k ≡ true → Changed after new k (Some v) → (s : Ends) →
+      option_or (standing before s) (option_or (at_span span value s) (standing new s))
+      ≡ cond (eq_by_cmp span_cmp s k) (Some v) (standing nest s)
   all_high nest span value before after opened k v new later changed s =
-      high_case nest span value before after opened k (Some v) new s (eq_by_cmp span_cmp s k) refl later (changed.all s)
+      high_case nest span value before after opened k (Some v) new s (eq_by_cmp span_cmp s k) refl
+      later (changed.all s)

@@ -1,5 +1,6 @@
 -- Halves of prefixes as prefixes, and the prefix at which two others part.
-use Rattle.std.proofs.Common.{◌≡◌, ℕ, ◌+◌, ◌-◌, ◌*◌, ◌/◌, ◌%◌, ◌^◌, ◌<◌, ◌≤◌, Bool, true, false, not, refl, sym, ap, ◌∙◌, inl, inr, arith}
+use Rattle.std.proofs.Common.{◌≡◌, ℕ, ◌+◌, ◌-◌, ◌*◌, ◌/◌, ◌%◌, ◌^◌, ◌<◌, ◌≤◌, Bool, true, false}
+use Rattle.std.proofs.Common.{not, refl, sym, ap, ◌∙◌, inl, inr, arith}
 use Rattle.std.proofs.Math.Nat.{mul-mod_right}
 use Rattle.std.proofs.lemmas.Nat.{pow-add}
 use Rattle.std.proofs.lemmas.Bool.{cases_lt}
@@ -7,7 +8,8 @@ use Rattle.std.proofs.lemmas.Bool.Decides.{nat_tests}
 use Rattle.rr_number.specs.Prefixes.{PrefixParts, IsMasked, masked, count_of, span_of}
 use Rattle.rr_number.specs.Spans.{Ends, covers, meets, crosses}
 use Rattle.rr_number.proofs.Multiples.{multiple_of}
-use Rattle.rr_number.proofs.PrefixSpans.{count_of-positive, IsMasked-masked, last_fits, never_cross, covers_longer}
+use Rattle.rr_number.proofs.PrefixSpans.{count_of-positive, IsMasked-masked, last_fits, never_cross}
+use Rattle.rr_number.proofs.PrefixSpans.{covers_longer}
 use Rattle.rr_cover.specs.PrefixTrees.{lies_on}
 use Rattle.rr_cover.specs.TreeParts.{IsParting}
 use Rattle.rr_cover.proofs.Nearest.{contradicted}
@@ -23,19 +25,23 @@ abbrev half_at : PrefixParts → Bool → PrefixParts
 half_at p false = record { address = p.address; length = p.length + 1 }
 half_at p true = record { address = p.address + count_of (p.length + 1); length = p.length + 1 }
 
-half_place : (p : PrefixParts) → IsMasked p → p.length < 32 → p.address ≡ count_of (p.length + 1) * (2 * (p.address / count_of p.length))
+half_place : (p : PrefixParts) → IsMasked p → p.length < 32 → p.address ≡ count_of (p.length + 1) *
+    (2 * (p.address / count_of p.length))
 half_place p is short =
     let c : ℕ = count_of (p.length + 1) in
     let i : ℕ = p.address / count_of p.length in
-    let at : p.address ≡ count_of p.length * i = multiple_of p.address (count_of p.length) is.aligned in
+    let at : p.address ≡ count_of p.length * i = multiple_of p.address (count_of p.length)
+    is.aligned in
     let moved : c * 2 * i ≡ c * (2 * i) = omega arith in
     at ∙ ap (λ n. n * i) (count_halves p.length short) ∙ moved
 
-masked_half : (p : PrefixParts) → IsMasked p → p.length < 32 → (side : Bool) → IsMasked (half_at p side)
+masked_half : (p : PrefixParts) → IsMasked p → p.length < 32 → (side : Bool) →
+    IsMasked (half_at p side)
 masked_half p is short false = record {
   short = omega arith;
   fits = is.fits;
-  aligned = ap (λ n. n % count_of (p.length + 1)) (half_place p is short) ∙ mul-mod_right (count_of (p.length + 1)) (2 * (p.address / count_of p.length));
+  aligned = ap (λ n. n % count_of (p.length + 1)) (half_place p is short) ∙ mul-mod_right
+      (count_of (p.length + 1)) (2 * (p.address / count_of p.length));
 }
 masked_half p is short true =
     let c : ℕ = count_of (p.length + 1) in
@@ -43,11 +49,17 @@ masked_half p is short true =
     let next : p.address + c ≡ c * (2 * i + 1) = omega (arith, half_place p is short) in
     record {
       short = omega arith;
-      fits = omega (arith, last_fits p is, count_halves p.length short, count_of-positive (p.length + 1));
+      fits = omega (
+        arith,
+        last_fits p is,
+        count_halves p.length short,
+        count_of-positive (p.length + 1),
+      );
       aligned = ap (λ n. n % c) next ∙ mul-mod_right c (2 * i + 1);
     }
 
-half_lies : (p : PrefixParts) → p.length < 32 → (side : Bool) (s : Ends) → lies_on p side s ≡ covers (span_of (half_at p side)) s
+half_lies : (p : PrefixParts) → p.length < 32 → (side : Bool) (s : Ends) → lies_on p side s
+    ≡ covers (span_of (half_at p side)) s
 half_lies p short false s =
     let whole = count_halves p.length short in
     let some = count_of-positive (p.length + 1) in
@@ -57,14 +69,17 @@ half_lies p short true s =
     let some = count_of-positive (p.length + 1) in
     grind (arith, nat_tests)
 
-nested_in : (h q : Ends) → crosses h q ≡ false → meets h q ≡ true → covers q h ≡ false → covers h q ≡ true
+nested_in : (h q : Ends) → crosses h q ≡ false → meets h q ≡ true → covers q h ≡ false → covers h q
+    ≡ true
 nested_in h q apart meet short = grind (arith, nat_tests)
 
-meets_over : (h r a : Ends) → a.first ≤ a.last → covers h a ≡ true → covers r a ≡ true → meets h r ≡ true
+meets_over : (h r a : Ends) → a.first ≤ a.last → covers h a ≡ true → covers r a ≡ true →
+    meets h r ≡ true
 meets_over h r a some one other = grind (arith, nat_tests)
 
 -- equally long prefixes of which one covers the other are one
-same_length : (p q : PrefixParts) → covers (span_of p) (span_of q) ≡ true → p.length ≡ q.length → p ≡ q
+same_length : (p q : PrefixParts) → covers (span_of p) (span_of q) ≡ true → p.length ≡ q.length →
+    p ≡ q
 same_length p q over same =
     let counts : count_of p.length ≡ count_of q.length = ap count_of same in
     let some = count_of-positive p.length in
@@ -78,7 +93,9 @@ covers_same p q same = ap (λ r. covers (span_of r) (span_of q)) same ∙ itself
     itself s = grind (arith, nat_tests)
 
 -- a prefix that is covered by a shorter one lies in a half of it
-pub splits : (p q : PrefixParts) → IsMasked p → IsMasked q → covers (span_of p) (span_of q) ≡ true → p.length < q.length → lies_on p true (span_of q) ≡ false → lies_on p false (span_of q) ≡ true
+pub splits : (p q : PrefixParts) → IsMasked p → IsMasked q → covers (span_of p) (span_of q)
+    ≡ true → p.length < q.length → lies_on p true (span_of q) ≡ false → lies_on p false (span_of q)
+    ≡ true
 splits p q is_p is_q over longer apart =
     half_lies p short false (span_of q) ∙ case (covers (span_of q) (span_of h)) refl
   where
@@ -95,7 +112,8 @@ splits p q is_p is_q over longer apart =
         grind (arith, nat_tests)
 
     case : (b : Bool) → covers (span_of q) (span_of h) ≡ b → covers (span_of h) (span_of q) ≡ true
-    case false is = nested_in (span_of h) (span_of q) (never_cross h q (masked_half p is_p short false) is_q) meet is
+    case false is = nested_in (span_of h) (span_of q)
+        (never_cross h q (masked_half p is_p short false) is_q) meet is
     case true is =
         let least = covers_longer q h is_q (masked_half p is_p short false) is in
         let same : q.length ≡ p.length + 1 = omega (arith, least, longer) in
@@ -106,7 +124,8 @@ pub record Half (p : PrefixParts) (s : Ends) : Type 0 where
   pub side : Bool
   pub lies : lies_on p side s ≡ true
 
-pub half_of : (p q : PrefixParts) → IsMasked p → IsMasked q → covers (span_of p) (span_of q) ≡ true → p.length < q.length → Half p (span_of q)
+pub half_of : (p q : PrefixParts) → IsMasked p → IsMasked q → covers (span_of p) (span_of q)
+    ≡ true → p.length < q.length → Half p (span_of q)
 half_of p q is_p is_q over longer = case (lies_on p true (span_of q)) refl
   where
     case : (b : Bool) → lies_on p true (span_of q) ≡ b → Half p (span_of q)
@@ -114,7 +133,8 @@ half_of p q is_p is_q over longer = case (lies_on p true (span_of q)) refl
     case false is = record { side = false; lies = splits p q is_p is_q over longer is }
 
 -- a prefix that covers another one is shorter
-pub strictly : (p q : PrefixParts) → IsMasked p → IsMasked q → covers (span_of p) (span_of q) ≡ true → (p ≡ q → ⊥) → p.length < q.length
+pub strictly : (p q : PrefixParts) → IsMasked p → IsMasked q → covers (span_of p) (span_of q)
+    ≡ true → (p ≡ q → ⊥) → p.length < q.length
 strictly p q is_p is_q over other =
     elim (cases_lt p.length q.length) [
       | inl shorter ↦ shorter
@@ -124,11 +144,13 @@ strictly p q is_p is_q over other =
           absurd (other (same_length p q over same))
     ]
 
-pub lies_covered : (p : PrefixParts) (side : Bool) (s t : Ends) → lies_on p side s ≡ true → covers s t ≡ true → lies_on p side t ≡ true
+pub lies_covered : (p : PrefixParts) (side : Bool) (s t : Ends) → lies_on p side s ≡ true →
+    covers s t ≡ true → lies_on p side t ≡ true
 lies_covered p false s t lies over = grind (arith, nat_tests)
 lies_covered p true s t lies over = grind (arith, nat_tests)
 
-short_of : (p : PrefixParts) (side : Bool) (s : Ends) → IsMasked p → s.first ≤ s.last → lies_on p side s ≡ true → p.length < 32
+short_of : (p : PrefixParts) (side : Bool) (s : Ends) → IsMasked p → s.first ≤ s.last →
+    lies_on p side s ≡ true → p.length < 32
 short_of p side s is some lies =
     elim (cases_lt p.length 32) [
       | inl short ↦ short
@@ -144,7 +166,9 @@ short_of p side s is some lies =
     never true one lies = grind (arith, nat_tests)
 
 -- where two prefixes part lies in the half in which both lie
-pub parting_lies : (p r a b : PrefixParts) (side : Bool) → IsMasked p → IsParting r a b → lies_on p side (span_of a) ≡ true → lies_on p side (span_of b) ≡ true → lies_on p side (span_of r) ≡ true
+pub parting_lies : (p r a b : PrefixParts) (side : Bool) → IsMasked p → IsParting r a b →
+    lies_on p side (span_of a) ≡ true → lies_on p side (span_of b) ≡ true →
+    lies_on p side (span_of r) ≡ true
 parting_lies p r a b side is_p parting on_a on_b =
     half_lies p short side (span_of r) ∙ case (covers (span_of r) (span_of h)) refl
   where
@@ -163,7 +187,8 @@ parting_lies p r a b side is_p parting on_a on_b =
     over_b : covers (span_of h) (span_of b) ≡ true
     over_b = sym (half_lies p short side (span_of b)) ∙ on_b
 
-    both : (s t : Bool) → lies_on r s (span_of a) ≡ true → lies_on r (not s) (span_of b) ≡ true → lies_on r t (span_of a) ≡ true → lies_on r t (span_of b) ≡ true → ⊥
+    both : (s t : Bool) → lies_on r s (span_of a) ≡ true → lies_on r (not s) (span_of b) ≡ true →
+        lies_on r t (span_of a) ≡ true → lies_on r t (span_of b) ≡ true → ⊥
     both false false one other in_a in_b = halves_apart r (span_of b) (ends_ordered b) in_b other
     both false true one other in_a in_b = halves_apart r (span_of a) (ends_ordered a) one in_a
     both true false one other in_a in_b = halves_apart r (span_of a) (ends_ordered a) in_a one
@@ -171,12 +196,16 @@ parting_lies p r a b side is_p parting on_a on_b =
 
     case : (c : Bool) → covers (span_of r) (span_of h) ≡ c → covers (span_of h) (span_of r) ≡ true
     case false is =
-        nested_in (span_of h) (span_of r) (never_cross h r is_h parting.masked) (meets_over (span_of h) (span_of r) (span_of a) (ends_ordered a) over_a (covers_half r parting.side (span_of a) parting.one)) is
+        nested_in (span_of h) (span_of r) (never_cross h r is_h parting.masked)
+        (meets_over (span_of h) (span_of r) (span_of a) (ends_ordered a) over_a
+        (covers_half r parting.side (span_of a) parting.one)) is
     case true is =
         elim (cases_lt r.length h.length) [
           | inl shorter ↦
               let there = half_of r h parting.masked is_h is shorter in
-              absurd (both parting.side there.side parting.one parting.other (lies_covered r there.side (span_of h) (span_of a) there.lies over_a) (lies_covered r there.side (span_of h) (span_of b) there.lies over_b))
+              absurd (both parting.side there.side parting.one parting.other
+              (lies_covered r there.side (span_of h) (span_of a) there.lies over_a)
+              (lies_covered r there.side (span_of h) (span_of b) there.lies over_b))
           | inr longer ↦
               let least = covers_longer r h parting.masked is_h is in
               let same : r.length ≡ h.length = omega (arith, least, longer) in
@@ -184,7 +213,8 @@ parting_lies p r a b side is_p parting on_a on_b =
         ]
 
 -- a prefix that does not cover another one is longer than no bit
-pub some_bits : (p q : PrefixParts) → IsMasked p → IsMasked q → covers (span_of p) (span_of q) ≡ false → 0 < p.length
+pub some_bits : (p q : PrefixParts) → IsMasked p → IsMasked q → covers (span_of p) (span_of q)
+    ≡ false → 0 < p.length
 some_bits p q is_p is_q short =
     elim (cases_lt 0 p.length) [
       | inl some ↦ some
@@ -202,30 +232,42 @@ abbrev pub shortened : PrefixParts → PrefixParts
 shortened p = masked p.address (p.length - 1)
 
 pub masked_shortened : (p : PrefixParts) → IsMasked p → IsMasked (shortened p)
-masked_shortened p is = let most = is.short in IsMasked-masked p.address (p.length - 1) is.fits (omega arith)
+masked_shortened p is = let most = is.short in IsMasked-masked p.address (p.length - 1) is.fits
+    (omega arith)
 
-pub shortened_covers : (p : PrefixParts) → IsMasked p → 0 < p.length → covers (span_of (shortened p)) (span_of p) ≡ true
+pub shortened_covers : (p : PrefixParts) → IsMasked p → 0 < p.length →
+    covers (span_of (shortened p)) (span_of p) ≡ true
 shortened_covers p is some = case (covers (span_of p) (span_of (shortened p))) refl
   where
     is_next : IsMasked (shortened p)
     is_next = masked_shortened p is
 
     meet : meets (span_of (shortened p)) (span_of p) ≡ true
-    meet = remainder p.address (p.address % count_of (p.length - 1)) (count_of (p.length - 1)) (count_of p.length) (below p.address (count_of (p.length - 1)) (count_of-positive (p.length - 1)))
+    meet = remainder p.address (p.address % count_of (p.length - 1)) (count_of (p.length - 1))
+        (count_of p.length) (below p.address (count_of (p.length - 1))
+        (count_of-positive (p.length - 1)))
       where
         below : (n m : ℕ) → 0 < m → n % m < m
         below n m some = omega arith
 
-        remainder : (n r m c : ℕ) → r < m → meets (record { first = n - r; last = n - r + (m - 1) }) (record { first = n; last = n + (c - 1) }) ≡ true
+        remainder : (n r m c : ℕ) → r < m →
+            meets (record { first = n - r; last = n - r + (m - 1) })
+            (record { first = n; last = n + (c - 1) }) ≡ true
         remainder n r m c less = grind (arith, nat_tests)
 
-    case : (b : Bool) → covers (span_of p) (span_of (shortened p)) ≡ b → covers (span_of (shortened p)) (span_of p) ≡ true
-    case false is_short = nested_in (span_of (shortened p)) (span_of p) (never_cross (shortened p) p is_next is) meet is_short
-    case true over = let least = covers_longer p (shortened p) is is_next over in absurd (omega (arith, least, some))
+    case : (b : Bool) → covers (span_of p) (span_of (shortened p)) ≡ b →
+        covers (span_of (shortened p)) (span_of p) ≡ true
+    case false is_short = nested_in (span_of (shortened p)) (span_of p)
+        (never_cross (shortened p) p is_next is) meet is_short
+    case true over = let least = covers_longer p (shortened p) is is_next over in
+        absurd (omega (arith, least, some))
 
 -- where a prefix is first shortened so far that it covers another one, the two part
-pub parted : (c a b : PrefixParts) → IsMasked c → IsMasked b → covers (span_of c) (span_of a) ≡ true → covers (span_of c) (span_of b) ≡ false → covers (span_of b) (span_of a) ≡ false → covers (span_of (shortened c)) (span_of b) ≡ true → IsParting (shortened c) a b
-parted c a b is_c is_b over_a not_b apart over_b = from (half_of n c is_n is_c (shortened_covers c is_c some) (omega (arith, some)))
+pub parted : (c a b : PrefixParts) → IsMasked c → IsMasked b → covers (span_of c) (span_of a)
+    ≡ true → covers (span_of c) (span_of b) ≡ false → covers (span_of b) (span_of a) ≡ false →
+    covers (span_of (shortened c)) (span_of b) ≡ true → IsParting (shortened c) a b
+parted c a b is_c is_b over_a not_b apart over_b =
+    from (half_of n c is_n is_c (shortened_covers c is_c some) (omega (arith, some)))
   where
     some : 0 < c.length
     some = some_bits c b is_c is_b not_b
@@ -237,7 +279,10 @@ parted c a b is_c is_b over_a not_b apart over_b = from (half_of n c is_n is_c (
     is_n = masked_shortened c is_c
 
     b_longer : n.length < b.length
-    b_longer = strictly n b is_n is_b over_b (λ same. contradicted _ apart (covers_further (span_of b) (span_of c) (span_of a) (ap (λ r. covers (span_of r) (span_of c)) (sym same) ∙ shortened_covers c is_c some) over_a))
+    b_longer = strictly n b is_n is_b over_b
+        (λ same. contradicted _ apart (covers_further (span_of b) (span_of c) (span_of a)
+        (ap (λ r. covers (span_of r) (span_of c)) (sym same) ∙ shortened_covers c is_c some)
+        over_a))
 
     short : n.length < 32
     short = let most = is_c.short in omega (arith, some)
@@ -252,10 +297,13 @@ parted c a b is_c is_b over_a not_b apart over_b = from (half_of n c is_n is_c (
         one_more false = omega (arith, some)
         one_more true = omega (arith, some)
 
-    not_there : (side : Bool) → lies_on n side (span_of c) ≡ true → lies_on n side (span_of b) ≡ true → ⊥
-    not_there side lies other = contradicted _ not_b (ap (λ r. covers (span_of r) (span_of b)) (sym (whole_half side lies)) ∙ sym (half_lies n short side (span_of b)) ∙ other)
+    not_there : (side : Bool) → lies_on n side (span_of c) ≡ true → lies_on n side (span_of b)
+        ≡ true → ⊥
+    not_there side lies other = contradicted _ not_b (ap (λ r. covers (span_of r) (span_of b))
+        (sym (whole_half side lies)) ∙ sym (half_lies n short side (span_of b)) ∙ other)
 
-    across : (side : Bool) → lies_on n side (span_of c) ≡ true → (t : Bool) → lies_on n t (span_of b) ≡ true → lies_on n (not side) (span_of b) ≡ true
+    across : (side : Bool) → lies_on n side (span_of c) ≡ true → (t : Bool) →
+        lies_on n t (span_of b) ≡ true → lies_on n (not side) (span_of b) ≡ true
     across false lies false there = absurd (not_there false lies there)
     across false lies true there = there
     across true lies false there = there

@@ -1,22 +1,27 @@
 -- What a desk answers, by what its registry found.
-use Rattle.std.proofs.Common.{◌≡◌, ◌≢◌, ℕ, Bool, false, List, Ok, Err, Result, inl, inr, refl, sym, subst}
+use Rattle.std.proofs.Common.{◌≡◌, ◌≢◌, ℕ, Bool, false, List, Ok, Err, Result, inl, inr, refl, sym}
+use Rattle.std.proofs.Common.{subst}
 use Rattle.std.specs.Prelude.{IfErr, IfOk}
 use Rattle.rr_io.specs.Sending.{Writes}
 use Rattle.rr_io.specs.Told.{Told}
 use Rattle.rr_auth.specs.Registries.{Reg}
 use Rattle.rr_answer.specs.declared.fault.QueryFault.{QueryFault}
-use Rattle.rr_answer.specs.declared.fault.QueryFault.TheVariants.{Bad, TooLong, TooMany, Memory, Stopped}
+use Rattle.rr_answer.specs.declared.fault.QueryFault.TheVariants.{Bad, TooLong, TooMany, Memory}
+use Rattle.rr_answer.specs.declared.fault.QueryFault.TheVariants.{Stopped}
 use Rattle.rr_answer.specs.declared.found.Found.{Found}
 use Rattle.rr_answer.specs.Answers.{IsAnswerTo, answer_bytes}
 use Rattle.rr_answer.specs.Founds.{found_text}
 use Rattle.rr_answer.specs.Queries.{is_too_long}
 use Rattle.rr_desk.specs.declared.answering.Answered.{Answered}
 use Rattle.rr_desk.specs.declared.answering.WriteFault.{WriteFault}
-use Rattle.rr_desk.specs.Answering.{Answers, IsAnswered, IsAnswerWhere, IsRunningAnswer, made_answer, told_number}
+use Rattle.rr_desk.specs.Answering.{Answers, IsAnswered, IsAnswerWhere, IsRunningAnswer}
+use Rattle.rr_desk.specs.Answering.{made_answer, told_number}
 
 -- what a registry found is its answer, or memory ran out
-registry_answers : (r : Reg) (limit : ℕ) (text : List ℕ) (found : Result Found QueryFault) → IfOk found (λ f. IsAnswerTo r limit text (Ok (found_text f)))
-    → IfErr found (λ fault. fault ≢ Memory → IsAnswerTo r limit text (Err fault)) → IsRunningAnswer r limit text (made_answer found)
+registry_answers : (r : Reg) (limit : ℕ) (text : List ℕ) (found : Result Found QueryFault) →
+    IfOk found (λ f. IsAnswerTo r limit text (Ok (found_text f)))
+    → IfErr found (λ fault. fault ≢ Memory → IsAnswerTo r limit text (Err fault)) →
+    IsRunningAnswer r limit text (made_answer found)
 registry_answers r limit text (Ok f) ok fault = inl ok
 registry_answers r limit text (Err Memory) ok fault = inr refl
 registry_answers r limit text (Err Bad) ok fault = inl (fault (λ same. cc))
@@ -25,13 +30,22 @@ registry_answers r limit text (Err TooMany) ok fault = inl (fault (λ same. cc))
 registry_answers r limit text (Err Stopped) ok fault = inl (fault (λ same. cc))
 
 -- a text that is not too long, where the desk runs
-pub running : (r : Reg) (limit : ℕ) (text : List ℕ) (stopped : Bool) (found : Result Found QueryFault) → is_too_long text ≡ false → stopped ≡ false → IfOk found (λ f. IsAnswerTo r limit text (Ok (found_text f)))
-    → IfErr found (λ fault. fault ≢ Memory → IsAnswerTo r limit text (Err fault)) → IsAnswered r limit text stopped (made_answer found)
+pub running : (r : Reg) (limit : ℕ) (text : List ℕ) (stopped : Bool)
+    (found : Result Found QueryFault) → is_too_long text ≡ false → stopped ≡ false →
+    IfOk found (λ f. IsAnswerTo r limit text (Ok (found_text f)))
+    → IfErr found (λ fault. fault ≢ Memory → IsAnswerTo r limit text (Err fault)) →
+    IsAnswered r limit text stopped (made_answer found)
 running r limit text stopped found short was ok fault =
     subst (λ b. IsAnswerWhere b stopped r limit text (made_answer found)) (sym short)
-    (subst (λ b. IsAnswerWhere false b r limit text (made_answer found)) (sym was) (registry_answers r limit text found ok fault))
+    (subst (λ b. IsAnswerWhere false b r limit text (made_answer found)) (sym was)
+    (registry_answers r limit text found ok fault))
 
 -- what was found was written
-pub written : (r : Reg) (limit : ℕ) (text : List ℕ) (stopped : Bool) (found : Result Found QueryFault) {old new : Told} {result : Result Answered WriteFault} → IsAnswered r limit text stopped (made_answer found)
-    → Writes old new (answer_bytes (made_answer found)) result → IfOk result (λ done. done.error ≡ told_number (made_answer found)) → Answers r limit text stopped old new result
-written r limit text stopped found answered writes told = record { answer = made_answer found; answered = answered; writes = writes; told = told }
+pub written : (r : Reg) (limit : ℕ) (text : List ℕ) (stopped : Bool)
+    (found : Result Found QueryFault) {old new : Told} {result : Result Answered WriteFault} →
+    IsAnswered r limit text stopped (made_answer found)
+    → Writes old new (answer_bytes (made_answer found)) result →
+    IfOk result (λ done. done.error ≡ told_number (made_answer found)) → Answers r limit text
+    stopped old new result
+written r limit text stopped found answered writes told =
+    record { answer = made_answer found; answered = answered; writes = writes; told = told }

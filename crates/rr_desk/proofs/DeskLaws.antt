@@ -1,5 +1,6 @@
 -- Full dumps that are loaded.
-use Rattle.std.proofs.Common.{◌≡◌, true, ℕ, List, ◌++◌, None, Some, Result, Ok, Err, sym, ap, subst, ◌∙◌}
+use Rattle.std.proofs.Common.{◌≡◌, true, ℕ, List, ◌++◌, None, Some, Result, Ok, Err, sym, ap, subst}
+use Rattle.std.proofs.Common.{◌∙◌}
 use Rattle.std.proofs.lemmas.List.{append-nil}
 use Rattle.rr_io.specs.Told.{Told}
 use Rattle.rr_io.specs.Receiving.{Reads}
@@ -17,35 +18,45 @@ use Rattle.rr_load.specs.declared.fault.DumpReadFault.{DumpReadFault}
 use Rattle.rr_load.specs.declared.fault.DumpReadFault.TheVariants as unread
 use Rattle.rr_load.proofs.ReadAgain.{full_dumps_read}
 use Rattle.rr_desk.specs.declared.loading.DeskLoadFault.{DeskLoadFault}
-use Rattle.rr_desk.specs.declared.loading.DeskLoadFault.TheVariants.{NotEmpty, Read, Endless, Text, Object, Duplicate, Overlap, Unnamed, Store, Memory}
+use Rattle.rr_desk.specs.declared.loading.DeskLoadFault.TheVariants.{NotEmpty, Read, Endless, Text}
+use Rattle.rr_desk.specs.declared.loading.DeskLoadFault.TheVariants.{Object, Duplicate, Overlap}
+use Rattle.rr_desk.specs.declared.loading.DeskLoadFault.TheVariants.{Unnamed, Store, Memory}
 use Rattle.rr_desk.specs.Loaded.{FailsToLoad, IsLoaded, IsUntaken}
 use Rattle.rr_desk.specs.Laws.{FullDumpsAreLoaded, IsNotOfText, RowsAreDumpable}
 
 -- what was read to its end is what the reader had
-whole_is : (start now : Told) (text bytes : List ℕ) → Reads start now text Whole → start.bytes ≡ Some bytes → text ≡ bytes
+whole_is : (start now : Told) (text bytes : List ℕ) → Reads start now text Whole → start.bytes
+    ≡ Some bytes → text ≡ bytes
 whole_is start now text bytes reads had =
     let left = reads.0.consumed bytes had in
     sym (left.2 ∙ (ap (λ rest. text ++ rest) (reads.1.none_left left.0 left.1) ∙ append-nil text))
 
-module _ (source : List ℕ) (registry : Reg) (start now : Told) (again : IsReadAgain source registry) (had : start.bytes ≡ Some (dump true registry)) where
+module _ (source : List ℕ) (registry : Reg) (start now : Told)
+    (again : IsReadAgain source registry) (had : start.bytes ≡ Some (dump true registry)) where
   is_dump : (text : List ℕ) → Reads start now text Whole → text ≡ dump true registry
   is_dump text reads = whole_is start now text (dump true registry) reads had
 
   only_itself : (other : Reg) → IsLoaded source start now other → other ≡ registry
-  only_itself other loaded = again.alone other (subst (λ text. IsDumpOf source text other) (is_dump loaded.text loaded.reads) loaded.dump)
+  only_itself other loaded = again.alone other (subst (λ text. IsDumpOf source text other)
+      (is_dump loaded.text loaded.reads) loaded.dump)
 
   -- none of its entries has a fault
   no_entry : (fault : DumpReadFault) → HasFault source start now fault → ⊥
   no_entry fault has =
-      let first : dump_objects source (dump true registry) ≡ Err fault = subst (λ text. dump_objects source text ≡ Err fault) (is_dump has.text has.reads) has.first in
+      let first : dump_objects source (dump true registry) ≡ Err fault =
+      subst (λ text. dump_objects source text ≡ Err fault) (is_dump has.text has.reads)
+      has.first in
       let whole = again.objects in
       absurd (cc)
 
   -- nor have its objects
   no_list : (fault : LoadFault) → IsUntaken source start now fault → ⊥
   no_list fault has =
-      let are : dump_objects source (dump true registry) ≡ Ok has.objects = subst (λ text. dump_objects source text ≡ Ok has.objects) (is_dump has.text has.reads) has.are in
-      let both : ◌≡◌ {A = Result (List Obj) DumpReadFault} (Ok has.objects) (Ok again.same.objects) = sym are ∙ again.same.are in
+      let are : dump_objects source (dump true registry) ≡ Ok has.objects =
+      subst (λ text. dump_objects source text ≡ Ok has.objects) (is_dump has.text has.reads)
+      has.are in
+      let both : ◌≡◌ {A = Result (List Obj) DumpReadFault} (Ok has.objects) (Ok again.same.objects)
+      = sym are ∙ again.same.are in
       let same : has.objects ≡ again.same.objects = cc in
       let none : load_fault has.objects ≡ None = ap load_fault same ∙ again.same.taken.faultless in
       let some = has.is_fault in
@@ -66,7 +77,11 @@ module _ (source : List ℕ) (registry : Reg) (start now : Told) (again : IsRead
 pub full_dumps_load : FullDumpsAreLoaded
 full_dumps_load source registry start now dumpable had =
     let again = full_dumps_read source registry dumpable in
-    record { loaded = only_itself source registry start now again had; fails = not_of_text source registry start now again had }
+    record {
+      loaded = only_itself source registry start now again had;
+      fails =
+          not_of_text source registry start now again had;
+    }
 
 pub rows_dumpable : RowsAreDumpable
 rows_dumpable source registry db of rows small = record {

@@ -1,5 +1,6 @@
 -- Texts of plain bytes: no blanks, commas, comments or control bytes stand in them.
-use Rattle.std.proofs.Common.{◌≡◌, ℕ, ◌<◌, ◌==◌, Bool, true, false, not, ◌&&◌, length, List, [], ◌∷◌, ◌++◌, refl, sym, ap, ◌∙◌, arith, nat_lt, append_assoc}
+use Rattle.std.proofs.Common.{◌≡◌, ℕ, ◌<◌, ◌==◌, Bool, true, false, not, ◌&&◌, length, List, []}
+use Rattle.std.proofs.Common.{◌∷◌, ◌++◌, refl, sym, ap, ◌∙◌, arith, nat_lt, append_assoc}
 use Rattle.std.proofs.lemmas.Bool.Decides.{nat_tests}
 use Rattle.std.proofs.lemmas.List.{append-nil}
 use Rattle.std.proofs.lemmas.List.Folds.{list_all-append}
@@ -25,28 +26,32 @@ both_true true false e = absurd (cc)
 both_true false b e = absurd (cc)
 
 -- where each byte passes a test, each passes one that follows from it
-pub all_follow : (p q : ℕ → Bool) → ((b : ℕ) → p b ≡ true → q b ≡ true) → (bs : List ℕ) → list_all p bs ≡ true → list_all q bs ≡ true
+pub all_follow : (p q : ℕ → Bool) → ((b : ℕ) → p b ≡ true → q b ≡ true) → (bs : List ℕ) →
+    list_all p bs ≡ true → list_all q bs ≡ true
 all_follow p q follows [] all = refl
 all_follow p q follows (b ∷ bs) all =
     let parts = both_true (p b) (list_all p bs) all in
     rw (follows b parts.0, all_follow p q follows bs parts.1) refl
 
 -- and none passes one that is apart from it
-pub none_follows : (p q : ℕ → Bool) → ((b : ℕ) → p b ≡ true → q b ≡ false) → (bs : List ℕ) → list_all p bs ≡ true → list_any q bs ≡ false
+pub none_follows : (p q : ℕ → Bool) → ((b : ℕ) → p b ≡ true → q b ≡ false) → (bs : List ℕ) →
+    list_all p bs ≡ true → list_any q bs ≡ false
 none_follows p q apart [] all = refl
 none_follows p q apart (b ∷ bs) all =
     let parts = both_true (p b) (list_all p bs) all in
     rw (apart b parts.0, none_follows p q apart bs parts.1) refl
 
 -- a text of which no byte separates is one part
-pub split_whole : (p q : ℕ → Bool) → ((b : ℕ) → p b ≡ true → q b ≡ false) → (bs : List ℕ) → list_all p bs ≡ true → slice_split q bs ≡ bs ∷ []
+pub split_whole : (p q : ℕ → Bool) → ((b : ℕ) → p b ≡ true → q b ≡ false) → (bs : List ℕ) →
+    list_all p bs ≡ true → slice_split q bs ≡ bs ∷ []
 split_whole p q apart [] all = refl
 split_whole p q apart (b ∷ bs) all =
     let parts = both_true (p b) (list_all p bs) all in
     rw (apart b parts.0, split_whole p q apart bs parts.1) refl
 
 -- and the first part of one that goes on after a separator
-pub split_after : (p q : ℕ → Bool) → ((b : ℕ) → p b ≡ true → q b ≡ false) → (bs : List ℕ) (s : ℕ) (further : List ℕ) → list_all p bs ≡ true → q s ≡ true
+pub split_after : (p q : ℕ → Bool) → ((b : ℕ) → p b ≡ true → q b ≡ false) → (bs : List ℕ) (s : ℕ)
+    (further : List ℕ) → list_all p bs ≡ true → q s ≡ true
     → slice_split q (bs ++ (s ∷ further)) ≡ bs ∷ slice_split q further
 split_after p q apart [] s further all is = rw is refl
 split_after p q apart (b ∷ bs) s further all is =
@@ -54,7 +59,8 @@ split_after p q apart (b ∷ bs) s further all is =
     rw (apart b parts.0, split_after p q apart bs s further parts.1 is) refl
 
 -- no byte of it passes the test, so the whole stands before the first that does
-place_none : (p q : ℕ → Bool) → ((b : ℕ) → p b ≡ true → q b ≡ false) → (bs : List ℕ) → list_all p bs ≡ true → position_or_len q bs ≡ length bs
+place_none : (p q : ℕ → Bool) → ((b : ℕ) → p b ≡ true → q b ≡ false) → (bs : List ℕ) →
+    list_all p bs ≡ true → position_or_len q bs ≡ length bs
 place_none p q apart [] all = refl
 place_none p q apart (b ∷ bs) all =
     let parts = both_true (p b) (list_all p bs) all in
@@ -62,23 +68,28 @@ place_none p q apart (b ∷ bs) all =
     let here = apart b parts.0 in
     grind (arith, nat_tests)
 
-pub whole_before : (p q : ℕ → Bool) → ((b : ℕ) → p b ≡ true → q b ≡ false) → (bs : List ℕ) → list_all p bs ≡ true → before_first q bs ≡ bs
+pub whole_before : (p q : ℕ → Bool) → ((b : ℕ) → p b ≡ true → q b ≡ false) → (bs : List ℕ) →
+    list_all p bs ≡ true → before_first q bs ≡ bs
 whole_before p q apart bs all = rw (place_none p q apart bs all) (take-length bs)
 
 -- nothing is trimmed off its start
-pub start_kept : (p q : ℕ → Bool) → ((b : ℕ) → p b ≡ true → q b ≡ false) → (bs further : List ℕ) → list_all p bs ≡ true → 0 < length bs
+pub start_kept : (p q : ℕ → Bool) → ((b : ℕ) → p b ≡ true → q b ≡ false) → (bs further : List ℕ) →
+    list_all p bs ≡ true → 0 < length bs
     → trim_start q (bs ++ further) ≡ bs ++ further
 unfolding trim_start
 start_kept p q apart [] further all some = absurd (omega arith)
-start_kept p q apart (b ∷ bs) further all some = rw (apart b (both_true (p b) (list_all p bs) all).0) refl
+start_kept p q apart (b ∷ bs) further all some =
+    rw (apart b (both_true (p b) (list_all p bs) all).0) refl
 
 -- nor off its end
-end_kept : (p q : ℕ → Bool) → ((b : ℕ) → p b ≡ true → q b ≡ false) → (bs : List ℕ) → list_all p bs ≡ true → trim_end q bs ≡ bs
+end_kept : (p q : ℕ → Bool) → ((b : ℕ) → p b ≡ true → q b ≡ false) → (bs : List ℕ) → list_all p bs
+    ≡ true → trim_end q bs ≡ bs
 unfolding trim_end
 end_kept p q apart [] all = refl
 end_kept p q apart (b ∷ []) all = rw (apart b (both_true (p b) true all).0) refl
 end_kept p q apart (b ∷ (c ∷ cs)) all =
-    ap (before_trimmed q b) (end_kept p q apart (c ∷ cs) (both_true (p b) (list_all p (c ∷ cs)) all).1)
+    ap (before_trimmed q b)
+    (end_kept p q apart (c ∷ cs) (both_true (p b) (list_all p (c ∷ cs)) all).1)
 
 before_some : (q : ℕ → Bool) (b : ℕ) (bs : List ℕ) → 0 < length bs → before_trimmed q b bs ≡ b ∷ bs
 before_some q b [] some = absurd (omega arith)
@@ -88,12 +99,14 @@ some_after : (bs further : List ℕ) → 0 < length further → 0 < length (bs +
 some_after [] further some = some
 some_after (b ∷ bs) further some = omega arith
 
-pub after_kept : (p q : ℕ → Bool) → ((b : ℕ) → p b ≡ true → q b ≡ false) → (prefix bs : List ℕ) → list_all p bs ≡ true → 0 < length bs
+pub after_kept : (p q : ℕ → Bool) → ((b : ℕ) → p b ≡ true → q b ≡ false) → (prefix bs : List ℕ) →
+    list_all p bs ≡ true → 0 < length bs
     → trim_end q (prefix ++ bs) ≡ prefix ++ bs
 unfolding trim_end
 after_kept p q apart [] bs all some = end_kept p q apart bs all
 after_kept p q apart (f ∷ prefix) bs all some =
-    ap (before_trimmed q f) (after_kept p q apart prefix bs all some) ∙ before_some q f (prefix ++ bs) (some_after prefix bs some)
+    ap (before_trimmed q f) (after_kept p q apart prefix bs all some) ∙ before_some q f
+    (prefix ++ bs) (some_after prefix bs some)
 
 -- what plain and printed bytes are apart from
 plain_unblank : (b : ℕ) → is_plain b ≡ true → is_blank_or_line_feed b ≡ false
@@ -133,20 +146,31 @@ pub shown_meaning : (line : List ℕ) → IsShown line → value_meaning (line �
 unfolding value_meaning
 shown_meaning line is =
     let bare : uncommented line ≡ line =
-    ap (trim is_blank_or_line_feed) (whole_before is_shown is_hash shown_hash line is.all) ∙ is.trimmed in
+    ap (trim is_blank_or_line_feed) (whole_before is_shown is_hash shown_hash line is.all)
+    ∙ is.trimmed in
     ap (trim is_blank_or_line_feed) bare ∙ is.trimmed
 
 -- a text that begins and ends in plain bytes, with printed ones between them
-pub shown_between : (prefix middle back : List ℕ) → list_all is_plain prefix ≡ true → 0 < length prefix → list_all is_shown middle ≡ true
+pub shown_between : (prefix middle back : List ℕ) → list_all is_plain prefix ≡ true →
+    0 < length prefix → list_all is_shown middle ≡ true
     → list_all is_plain back ≡ true → 0 < length back → IsShown (prefix ++ (middle ++ back))
 shown_between prefix middle back head_plain prefix_some middle_shown back_plain back_some =
     let prefix_shown = all_follow is_plain is_shown plain_shown prefix head_plain in
     let back_shown = all_follow is_plain is_shown plain_shown back back_plain in
-    let started = start_kept is_plain is_blank_or_line_feed plain_unblank prefix (middle ++ back) head_plain prefix_some in
-    let ended = after_kept is_plain is_blank_or_line_feed plain_unblank (prefix ++ middle) back back_plain back_some in
+    let started = start_kept is_plain is_blank_or_line_feed plain_unblank prefix (middle ++ back)
+    head_plain prefix_some in
+    let ended = after_kept is_plain is_blank_or_line_feed plain_unblank (prefix ++ middle) back
+    back_plain back_some in
     record {
-      all = rw (list_all-append is_shown prefix (middle ++ back), prefix_shown, list_all-append is_shown middle back, middle_shown, back_shown) refl;
-      trimmed = ap (trim_end is_blank_or_line_feed) started ∙ (rw (← append_assoc prefix middle back) ended);
+      all = rw (
+        list_all-append is_shown prefix (middle ++ back),
+        prefix_shown,
+        list_all-append is_shown middle back,
+        middle_shown,
+        back_shown,
+      ) refl;
+      trimmed = ap (trim_end is_blank_or_line_feed) started
+          ∙ (rw (← append_assoc prefix middle back) ended);
     }
 
 -- a plain text is a line
@@ -154,6 +178,8 @@ pub shown_plain : (text : List ℕ) → list_all is_plain text ≡ true → 0 < 
 shown_plain text plain some = record {
   all = all_follow is_plain is_shown plain_shown text plain;
   trimmed =
-      ap (trim_end is_blank_or_line_feed) (ap (trim_start is_blank_or_line_feed) (sym (append-nil text)) ∙ start_kept is_plain is_blank_or_line_feed plain_unblank text [] plain some ∙ append-nil text)
+      ap (trim_end is_blank_or_line_feed) (ap (trim_start is_blank_or_line_feed)
+      (sym (append-nil text)) ∙ start_kept is_plain is_blank_or_line_feed plain_unblank text []
+      plain some ∙ append-nil text)
       ∙ end_kept is_plain is_blank_or_line_feed plain_unblank text plain;
 }

@@ -1,5 +1,6 @@
 -- Turns that are of the connections to come, in order.
-use Rattle.std.proofs.Common.{◌≡◌, ℕ, zero, suc, List, [], ◌∷◌, Option, None, Some, arith, refl, subst, ◌∙◌}
+use Rattle.std.proofs.Common.{◌≡◌, ℕ, zero, suc, List, [], ◌∷◌, Option, None, Some, arith, refl}
+use Rattle.std.proofs.Common.{subst, ◌∙◌}
 use Rattle.rr_desk.specs.Laws.{TurnsAreInOrder}
 use Rattle.rr_desk.specs.Turns.{InOrder}
 
@@ -13,5 +14,6 @@ in_order (None ∷ visits) (next ∷ waiting) after all place bytes within is = 
 in_order (Some visit ∷ visits) (next ∷ waiting) after all zero bytes within is =
     record { visit = visit; is = refl; given = all.1.0 ∙ is }
 in_order (Some visit ∷ visits) (next ∷ waiting) after all (suc place) bytes within is =
-    let rest = in_order visits waiting after (subst (λ between. InOrder visits between after) all.1.1 all.2) place bytes (omega (arith, within)) is in
+    let rest = in_order visits waiting after (subst (λ between. InOrder visits between after)
+    all.1.1 all.2) place bytes (omega (arith, within)) is in
     record { visit = rest.visit; is = rest.is; given = rest.given }

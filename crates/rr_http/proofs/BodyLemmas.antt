@@ -1,5 +1,7 @@
 -- Lemmas on submissions of a body: what is said of its reader is said of its bytes.
-use Rattle.std.proofs.Common.{◌≡◌, ◌≢◌, ℕ, ◌+◌, ◌<◌, ◌≤◌, inl, inr, List, [], ◌∷◌, ◌++◌, length, length-append, append_assoc, Some, Ok, Err, arith, refl, ap, sym, ◌∙◌, subst}
+use Rattle.std.proofs.Common.{◌≡◌, ◌≢◌, ℕ, ◌+◌, ◌<◌, ◌≤◌, inl, inr, List, [], ◌∷◌, ◌++◌, length}
+use Rattle.std.proofs.Common.{length-append, append_assoc, Some, Ok, Err, arith, refl, ap, sym, ◌∙◌}
+use Rattle.std.proofs.Common.{subst}
 use Rattle.std.specs.Prelude.{Result, replicate}
 use Rattle.std.proofs.lemmas.List.{append_cancel_right, length-replicate}
 use Rattle.rr_io.specs.Told.{Told}
@@ -13,7 +15,8 @@ use Rattle.rr_submission.specs.declared.submission.DeskFault.TheVariants as faul
 use Rattle.rr_submission.specs.Handled.{ReadsItems}
 use Rattle.rr_submission.specs.Submissions.{Sides, Submits}
 use Rattle.rr_http.specs.declared.body.Body.{Body}
-use Rattle.rr_http.specs.BodyParts.{body_aside, body_failed, body_missing, body_reads, body_rest, body_told}
+use Rattle.rr_http.specs.BodyParts.{body_aside, body_failed, body_missing, body_reads, body_rest}
+use Rattle.rr_http.specs.BodyParts.{body_told}
 use Rattle.rr_http.specs.Answering.{EndsWhole, SubmitsBody, TellsMissing, in_memory}
 
 module _ (body rest : List ℕ) (missing faults reads : ℕ) where
@@ -30,14 +33,17 @@ module _ (body rest : List ℕ) (missing faults reads : ℕ) where
   abbrev plain_end : Told
   plain_end = in_memory rest faults reads
 
-  given : (bytes : List ℕ) → body ++ replicate missing 0 ≡ bytes ++ (rest ++ replicate missing 0) → body ≡ bytes ++ rest
-  given bytes e = append_cancel_right _ _ _ (e ∙ sym (append_assoc bytes rest (replicate missing 0)))
+  given : (bytes : List ℕ) → body ++ replicate missing 0 ≡ bytes ++ (rest ++ replicate missing 0) →
+      body ≡ bytes ++ rest
+  given bytes e = append_cancel_right _ _ _
+      (e ∙ sym (append_assoc bytes rest (replicate missing 0)))
 
   gives_plain : (bytes : List ℕ) → Gives start end bytes → Gives plain_start plain_end bytes
   gives_plain bytes p =
       let all = p.consumed (body ++ replicate missing 0) refl in
       let left : rest ++ replicate missing 0 ≡ all.0 = cc in
-      let is : body ≡ bytes ++ rest = given bytes (all.2 ∙ ap (λ xs. bytes ++ xs) (sym left)) in record {
+      let is : body ≡ bytes ++ rest = given bytes (all.2 ∙ ap (λ xs. bytes ++ xs) (sym left)) in
+      record {
         consumed = λ xs e. (rest, refl, (let same : xs ≡ body = cc in same ∙ is));
         no_fault = p.no_fault;
       }
@@ -47,7 +53,8 @@ module _ (body rest : List ℕ) (missing faults reads : ℕ) where
 
   none_missing : IsSpent end → missing ≡ 0
   none_missing p =
-      let none : length (rest ++ replicate missing 0) ≡ 0 = ap (λ (xs : List ℕ). length xs) (none_left p) in
+      let none : length (rest ++ replicate missing 0) ≡ 0 = ap (λ (xs : List ℕ). length xs)
+      (none_left p) in
       omega (arith, length-append rest (replicate missing 0), length-replicate {A = ℕ} missing 0)
 
   no_rest : (xs ys : List ℕ) → xs ++ ys ≡ [] → xs ≡ []
@@ -55,38 +62,62 @@ module _ (body rest : List ℕ) (missing faults reads : ℕ) where
   no_rest (x ∷ xs) ys e = cc
 
   spent_plain : IsSpent end → IsSpent plain_end
-  spent_plain p = record { none_left = λ xs e. let same : xs ≡ rest = cc in same ∙ no_rest rest (replicate missing 0) (none_left p) }
+  spent_plain p = record {
+    none_left = λ xs e. let same : xs ≡ rest = cc in same ∙ no_rest rest
+        (replicate missing 0) (none_left p);
+  }
 
-  breaks_plain : (bytes : List ℕ) → BreaksOff start end bytes → BreaksOff plain_start plain_end bytes
+  breaks_plain : (bytes : List ℕ) → BreaksOff start end bytes → BreaksOff plain_start plain_end
+      bytes
   breaks_plain bytes p =
       let all = p.gives.consumed (body ++ replicate missing 0) refl in
       let stay : Some (rest ++ replicate missing 0) ≡ Some all.0 = p.fails.bytes_stay all.0 all.1 in
       let left : rest ++ replicate missing 0 ≡ all.0 = cc in
-      let is : body ≡ bytes ++ rest = given bytes (all.2 ∙ ap (λ xs. bytes ++ xs) (sym left)) in record {
+      let is : body ≡ bytes ++ rest = given bytes (all.2 ∙ ap (λ xs. bytes ++ xs) (sym left)) in
+      record {
         between = in_memory rest p.between.faults p.between.reads;
-        gives = record { consumed = λ xs e. (rest, refl, (let same : xs ≡ body = cc in same ∙ is)); no_fault = p.gives.no_fault };
-        fails = record { bytes_stay = λ xs e. e; counted = p.fails.counted; no_read = p.fails.no_read };
+        gives = record {
+          consumed = λ xs e. (rest, refl, (let same : xs ≡ body = cc in same ∙ is));
+          no_fault = p.gives.no_fault;
+        };
+        fails = record {
+          bytes_stay = λ xs e. e;
+          counted = p.fails.counted;
+          no_read =
+              p.fails.no_read;
+        };
       }
 
-  reads_plain : (bytes : List ℕ) (by : ReadEnd) → Reads start end bytes by → Reads plain_start plain_end bytes by
+  reads_plain : (bytes : List ℕ) (by : ReadEnd) → Reads start end bytes by →
+      Reads plain_start plain_end bytes by
   reads_plain bytes Whole p = (gives_plain bytes p.0, spent_plain p.1, p.2)
   reads_plain bytes Broken p = (breaks_plain bytes p.0, p.1)
   reads_plain bytes Endless p = (gives_plain bytes p.0, p.1, p.2)
 
-  prefix_plain : (prefix : List ℕ) → ReadsItems start end prefix → ReadsItems plain_start plain_end prefix
+  prefix_plain : (prefix : List ℕ) → ReadsItems start end prefix → ReadsItems plain_start plain_end
+      prefix
   prefix_plain prefix p = record {
     left = p.left;
     gives = gives_plain (prefix ++ p.left) p.gives;
     short = p.short;
-    apart = elim p.apart [ inl whole ↦ inl whole | inr at_end ↦ inr (at_end.0, spent_plain at_end.1) ];
+    apart = elim p.apart [
+      | inl whole ↦ inl whole
+      | inr at_end ↦
+          inr (at_end.0, spent_plain at_end.1)
+    ];
     few = p.few;
   }
 
   prefix_whole : (prefix : List ℕ) → ReadsItems start end prefix → EndsWhole prefix missing
-  prefix_whole prefix p = elim p.apart [ inl whole ↦ inl whole | inr at_end ↦ inr (none_missing at_end.1) ]
+  prefix_whole prefix p = elim p.apart [
+    | inl whole ↦ inl whole
+    | inr at_end ↦
+        inr (none_missing at_end.1)
+  ]
 
   -- a reading that did not come to the end ended with a failed read after the bytes
-  falls_short : (bytes : List ℕ) (by : ReadEnd) → length body ≤ 1048576 → (0 < faults → (0 < missing) × (rest ≡ [])) → by ≢ Whole → Reads start end bytes by →
+  falls_short : (bytes : List ℕ) (by : ReadEnd) → length body ≤ 1048576 →
+      (0 < faults → (0 < missing) × (rest ≡ [])) → by ≢ Whole → Reads start end bytes by →
       (missing ≢ 0) × (rest ≡ [])
   falls_short bytes Whole small fails unended p = absurd (unended refl)
   falls_short bytes Broken small fails unended p =
@@ -102,7 +133,8 @@ module _ (body rest : List ℕ) (missing faults reads : ℕ) where
 
   same_plain : end ≡ start → plain_end ≡ plain_start
   same_plain e =
-      let bytes : rest ++ replicate missing 0 ≡ body ++ replicate missing 0 = (let some = ap (λ (told : Told). told.bytes) e in cc) in
+      let bytes : rest ++ replicate missing 0 ≡ body ++ replicate missing 0 =
+      (let some = ap (λ (told : Told). told.bytes) e in cc) in
       let same : rest ≡ body = append_cancel_right _ _ _ bytes in
       let no_fault : faults ≡ 0 = ap (λ (told : Told). told.faults) e in
       let no_read : reads ≡ 0 = ap (λ (told : Told). told.reads) e in
@@ -110,15 +142,32 @@ module _ (body rest : List ℕ) (missing faults reads : ℕ) where
 
   module _ {D : Type 0} (g : Ghosts D) (source : List ℕ) (before after : D) (old new : Told) where
     abbrev sides : Told → Told → Sides
-    sides from to = record { reader_before = from; reader_after = to; writer_before = old; writer_after = new; before = g.registry before; after = g.registry after }
+    sides from to = record {
+      reader_before = from;
+      reader_after = to;
+      writer_before = old;
+      writer_after = new;
+      before = g.registry before;
+      after = g.registry after;
+    }
 
-    made : (result : Result Done DeskFault) (p : Submits g before after source (sides plain_start plain_end) result) →
-        TellsMissing g source (sides plain_start plain_end) before after rest missing result p → SubmitsBody g source body missing before after old new result
-    made result p tells = record { rest = rest; faults = faults; reads = reads; submits = p; tells = tells }
+    made : (result : Result Done DeskFault)
+        (p : Submits g before after source (sides plain_start plain_end) result) →
+        TellsMissing g source (sides plain_start plain_end) before after rest missing result p →
+        SubmitsBody g source body missing before after old new result
+    made result p tells = record {
+      rest = rest;
+      faults = faults;
+      reads = reads;
+      submits = p;
+      tells = tells;
+    }
 
     -- what is submitted is a body
-    pub submits_body : (result : Result Done DeskFault) → length body ≤ 1048576 → (0 < faults → (0 < missing) × (rest ≡ [])) →
-        Submits g before after source (sides start end) result → SubmitsBody g source body missing before after old new result
+    pub submits_body : (result : Result Done DeskFault) → length body ≤ 1048576 →
+        (0 < faults → (0 < missing) × (rest ≡ [])) →
+        Submits g before after source (sides start end) result → SubmitsBody g source body missing
+        before after old new result
     submits_body (Ok done) small fails p = made (Ok done) (record {
       text = p.text;
       items = p.items;
@@ -131,44 +180,48 @@ module _ (body rest : List ℕ) (missing faults reads : ℕ) where
       counted = p.counted;
       refused = p.refused;
     }) (none_missing p.reads.1)
-    submits_body (Err (fault.ReadFault items)) small fails p = made (Err (fault.ReadFault items)) (record {
-      text = p.text;
-      end = p.end;
-      items = p.items;
-      outcomes = p.outcomes;
-      between = p.between;
-      reads = reads_plain p.text p.end p.reads;
-      unended = p.unended;
-      are_items = p.are_items;
-      runs = p.runs;
-      confined = p.confined;
-      writes = p.writes;
-      ends = p.ends;
-      counted = p.counted;
-    }) (falls_short p.text p.end small fails p.unended p.reads)
-    submits_body (Err (fault.WriteFault items)) small fails (inl p) = made (Err (fault.WriteFault items)) (inl (record {
-      prefix = p.prefix;
-      reads = prefix_plain p.prefix p.reads;
-      handles = p.handles;
-    })) (prefix_whole p.prefix p.reads)
-    submits_body (Err (fault.WriteFault items)) small fails (inr p) = made (Err (fault.WriteFault items)) (inr (record {
-      text = p.text;
-      items = p.items;
-      outcomes = p.outcomes;
-      between = p.between;
-      reads = reads_plain p.text Whole p.reads;
-      are_items = p.are_items;
-      runs = p.runs;
-      confined = p.confined;
-      writes = p.writes;
-      cut = p.cut;
-      counted = p.counted;
-    })) (none_missing p.reads.1)
-    submits_body (Err (fault.StoreFault items)) small fails p = made (Err (fault.StoreFault items)) (record {
-      prefix = p.prefix;
-      reads = prefix_plain p.prefix p.reads;
-      handles = p.handles;
-    }) (prefix_whole p.prefix p.reads)
+    submits_body (Err (fault.ReadFault items)) small fails p = made (Err (fault.ReadFault items))
+        (record {
+          text = p.text;
+          end = p.end;
+          items = p.items;
+          outcomes = p.outcomes;
+          between = p.between;
+          reads = reads_plain p.text p.end p.reads;
+          unended = p.unended;
+          are_items = p.are_items;
+          runs = p.runs;
+          confined = p.confined;
+          writes = p.writes;
+          ends = p.ends;
+          counted = p.counted;
+        }) (falls_short p.text p.end small fails p.unended p.reads)
+    submits_body (Err (fault.WriteFault items)) small fails (inl p) =
+        made (Err (fault.WriteFault items)) (inl (record {
+          prefix = p.prefix;
+          reads = prefix_plain p.prefix p.reads;
+          handles = p.handles;
+        })) (prefix_whole p.prefix p.reads)
+    submits_body (Err (fault.WriteFault items)) small fails (inr p) =
+        made (Err (fault.WriteFault items)) (inr (record {
+          text = p.text;
+          items = p.items;
+          outcomes = p.outcomes;
+          between = p.between;
+          reads = reads_plain p.text Whole p.reads;
+          are_items = p.are_items;
+          runs = p.runs;
+          confined = p.confined;
+          writes = p.writes;
+          cut = p.cut;
+          counted = p.counted;
+        })) (none_missing p.reads.1)
+    submits_body (Err (fault.StoreFault items)) small fails p = made (Err (fault.StoreFault items))
+        (record {
+          prefix = p.prefix;
+          reads = prefix_plain p.prefix p.reads;
+          handles = p.handles;
+        }) (prefix_whole p.prefix p.reads)
     submits_body (Err fault.Memory) small fails p = made (Err fault.Memory) (record {
       unread = same_plain p.unread;
       same = p.same;
@@ -177,22 +230,62 @@ module _ (body rest : List ℕ) (missing faults reads : ℕ) where
     submits_body (Err fault.Stopped) small fails p = absurd p
 
 abbrev told_with : List ℕ → ℕ → ℕ → ℕ → Told
-told_with bytes missing faults reads = record { bytes = Some (bytes ++ replicate missing 0); faults = faults; reads = reads }
+told_with bytes missing faults reads = record {
+  bytes = Some (bytes ++ replicate missing 0);
+  faults = faults;
+  reads = reads;
+}
 
-same_told : (xs ys : List ℕ) (m n f h r s : ℕ) → xs ≡ ys → m ≡ n → f ≡ h → r ≡ s → told_with xs m f r ≡ told_with ys n h s
+same_told : (xs ys : List ℕ) (m n f h r s : ℕ) → xs ≡ ys → m ≡ n → f ≡ h → r ≡ s →
+    told_with xs m f r ≡ told_with ys n h s
 same_told xs ys m n f h r s a b c d =
-    ap (λ zs. told_with zs m f r) a ∙ (ap (λ k. told_with ys k f r) b ∙ (ap (λ k. told_with ys n k r) c ∙ ap (told_with ys n h) d))
+    ap (λ zs. told_with zs m f r) a
+    ∙ (ap (λ k. told_with ys k f r) b ∙ (ap (λ k. told_with ys n k r) c ∙ ap (told_with ys n h)
+    d))
 
 -- what is submitted by this reader is a body
-pub body_submitted : {D : Type 0} (g : Ghosts D) (source bytes : List ℕ) (missing : ℕ) (before after : D) (old new : Told) (result : Result Done DeskFault) (fresh used : Body) →
-    length bytes ≤ 1048576 → body_rest fresh ≡ bytes → body_missing fresh ≡ missing → body_failed fresh ≡ 0 → body_reads fresh ≡ 0 → body_aside used ≡ body_aside fresh →
-    Submits g before after source (record { reader_before = body_told fresh; reader_after = body_told used; writer_before = old; writer_after = new; before = g.registry before; after = g.registry after }) result →
+pub body_submitted : {D : Type 0} (g : Ghosts D) (source bytes : List ℕ) (missing : ℕ)
+    (before after : D) (old new : Told) (result : Result Done DeskFault) (fresh used : Body) →
+    length bytes ≤ 1048576 → body_rest fresh ≡ bytes → body_missing fresh ≡ missing →
+    body_failed fresh ≡ 0 → body_reads fresh ≡ 0 → body_aside used ≡ body_aside fresh →
+    Submits g before after source (record {
+      reader_before = body_told fresh;
+      reader_after =
+          body_told used;
+      writer_before = old;
+      writer_after = new;
+      before = g.registry before;
+      after = g.registry after;
+    }) result →
     SubmitsBody g source bytes missing before after old new result
-body_submitted g source bytes missing before after old new result fresh used small rest lacks failed reads aside p =
+body_submitted g source bytes missing before after old new result fresh used small rest lacks
+    failed reads aside p =
     let still : body_missing used ≡ missing = ap (λ (told : Told). told.faults) aside ∙ lacks in
-    let first : body_told fresh ≡ told_with bytes missing 0 0 = same_told _ _ _ _ _ _ _ _ rest lacks failed reads in
-    let last : body_told used ≡ told_with (body_rest used) missing (body_failed used) (body_reads used) = same_told _ _ _ _ _ _ _ _ refl still refl refl in
-    submits_body bytes (body_rest used) missing (body_failed used) (body_reads used) g source before after old new result small
-    (λ some. let at_end = used.fails_at_end some in ((let lacking : 0 < body_missing used = at_end.0 in omega arith), at_end.1))
-    (subst (λ told. Submits g before after source (record { reader_before = told; reader_after = told_with (body_rest used) missing (body_failed used) (body_reads used); writer_before = old; writer_after = new; before = g.registry before; after = g.registry after }) result) first
-    (subst (λ told. Submits g before after source (record { reader_before = body_told fresh; reader_after = told; writer_before = old; writer_after = new; before = g.registry before; after = g.registry after }) result) last p))
+    let first : body_told fresh ≡ told_with bytes missing 0 0 = same_told _ _ _ _ _ _ _ _ rest
+    lacks failed reads in
+    let last : body_told used ≡ told_with (body_rest used) missing (body_failed used)
+    (body_reads used) = same_told _ _ _ _ _ _ _ _ refl still refl refl in
+    submits_body bytes (body_rest used) missing (body_failed used) (body_reads used) g source
+    before after old new result small
+    (λ some. let at_end = used.fails_at_end some in
+    ((let lacking : 0 < body_missing used = at_end.0 in omega arith), at_end.1))
+    (subst (λ told. Submits g before after source
+    (record {
+      reader_before = told;
+      reader_after = told_with (body_rest used) missing
+          (body_failed used) (body_reads used);
+      writer_before = old;
+      writer_after = new;
+      before =
+          g.registry before;
+      after = g.registry after;
+    }) result) first
+    (subst (λ told. Submits g before after source
+    (record {
+      reader_before = body_told fresh;
+      reader_after = told;
+      writer_before = old;
+      writer_after = new;
+      before = g.registry before;
+      after = g.registry after;
+    }) result) last p))

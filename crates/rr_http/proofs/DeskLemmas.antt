@@ -19,13 +19,18 @@ use Rattle.rr_desk.specs.Dumping.{RefusesDump}
 use Rattle.rr_desk.specs.Stocks.{stock_ledger}
 use Rattle.rr_http.specs.DeskRegistrars.{desk_ledger}
 
-stops_whole : {S : Type 0} (g : store.Ghosts S) (middle new : Desk S) (secrets : List (List ℕ)) (action : Result Item Code) →
-    StopsAt (stock_ledger g) middle.stored secrets action new.stored → StopsAt (desk_ledger g) middle secrets action new
+stops_whole : {S : Type 0} (g : store.Ghosts S) (middle new : Desk S) (secrets : List (List ℕ))
+    (action : Result Item Code) →
+    StopsAt (stock_ledger g) middle.stored secrets action new.stored → StopsAt (desk_ledger g)
+    middle secrets action new
 stops_whole g middle new secrets (Ok item) stops = stops
 stops_whole g middle new secrets (Err code) stops = stops
 
-stopped_whole : {S : Type 0} (g : store.Ghosts S) (source : List ℕ) (entries : List (Result (List Field) TextFault)) (old new : Desk S) (before after : Told) (count : ℕ) →
-    HandlesThenStops (stock_ledger g) source entries old.stored new.stored before after count → HandlesThenStops (desk_ledger g) source entries old new before after count
+stopped_whole : {S : Type 0} (g : store.Ghosts S) (source : List ℕ)
+    (entries : List (Result (List Field) TextFault)) (old new : Desk S) (before after : Told)
+    (count : ℕ) →
+    HandlesThenStops (stock_ledger g) source entries old.stored new.stored before after count →
+    HandlesThenStops (desk_ledger g) source entries old new before after count
 stopped_whole {S} g source entries old new before after count stopped =
     let middle : Desk S = record { settings = old.settings; stored = stopped.middle } in record {
       told = stopped.told;
@@ -37,15 +42,18 @@ stopped_whole {S} g source entries old new before after count stopped =
       runs = stopped.runs;
       confined = stopped.confined;
       running = stopped.running;
-      stops = stops_whole g middle new stopped.last.secrets stopped.last.request.action stopped.stops;
+      stops = stops_whole g middle new stopped.last.secrets stopped.last.request.action
+          stopped.stops;
       writes = stopped.writes;
       ends = stopped.ends;
       counted = stopped.counted;
     }
 
 -- what a submission does to the registry and the store of a desk, it does to the desk
-pub submits_whole : {S : Type 0} (g : store.Ghosts S) (old new : Desk S) (source : List ℕ) (sides : Sides) (result : Result Done DeskFault) →
-    Submits (stock_ledger g) old.stored new.stored source sides result → Submits (desk_ledger g) old new source sides result
+pub submits_whole : {S : Type 0} (g : store.Ghosts S) (old new : Desk S) (source : List ℕ)
+    (sides : Sides) (result : Result Done DeskFault) →
+    Submits (stock_ledger g) old.stored new.stored source sides result → Submits (desk_ledger g)
+    old new source sides result
 submits_whole g old new source sides (Ok done) submits = submits
 submits_whole g old new source sides (Err (fault.ReadFault items)) submits = submits
 submits_whole g old new source sides (Err (fault.WriteFault items)) submits = submits
@@ -62,7 +70,9 @@ pub no_count : {W P : Type 0} (old new : W) (count : ℕ) → RefusesDump old ne
 no_count old new count refused = let wrong = refused.0 in absurd (cc)
 
 -- a dump that is refused is refused also where no count is to be answered
-pub refused_whole : {W : Type 0} (old new : W) (fault : DeskDumpFault) (counted : Result ℕ DeskDumpFault) (done : Result (Unit {0}) DeskDumpFault) → counted ≡ Err fault → done ≡ Err fault →
+pub refused_whole : {W : Type 0} (old new : W) (fault : DeskDumpFault)
+    (counted : Result ℕ DeskDumpFault) (done : Result (Unit {0}) DeskDumpFault) →
+    counted ≡ Err fault → done ≡ Err fault →
     RefusesDump old new counted → RefusesDump old new done
 refused_whole old new fault counted done first second refused =
     let same : fault ≡ Stopped = (let is = refused.0 in cc) in

@@ -18,23 +18,32 @@ use Rattle.rr_index.specs.Private.{IsApart}
 use Rattle.rr_index.specs.SpanIndexes.{HasSpans}
 
 -- the keys stay
-pub keys_stay : (r : Reg) (o x : Obj) → get r o.key ≡ Some x → (q : Key) → contains_key (insert r o.key o) q ≡ contains_key r q
+pub keys_stay : (r : Reg) (o x : Obj) → get r o.key ≡ Some x → (q : Key) →
+    contains_key (insert r o.key o) q ≡ contains_key r q
 keys_stay r o x stood q =
     keys_in r o.key o q
-    ∙ elim (eq_by_cmp key_cmp q o.key) as (λ b. eq_by_cmp key_cmp q o.key ≡ b → (b || contains_key r q) ≡ contains_key r q) [
+    ∙ elim (eq_by_cmp key_cmp q o.key) as (λ b. eq_by_cmp key_cmp q o.key ≡ b →
+    (b || contains_key r q) ≡ contains_key r q) [
       | true ↦ λ e. sym (ap is_some (ap (λ k. get r k) (same_key q o.key e) ∙ stood))
       | false ↦ λ e. refl
     ] refl
 
 module _ (r s : Reg) (same : (q : Key) → contains_key s q ≡ contains_key r q) where
   -- spans and names depend on the keys alone
-  pub spans_stay : (inetnums blocks routes : SpanMap (Unit {0})) → HasSpans r inetnums blocks routes → HasSpans s inetnums blocks routes
+  pub spans_stay : (inetnums blocks routes : SpanMap (Unit {0})) → HasSpans r inetnums blocks
+      routes → HasSpans s inetnums blocks routes
   spans_stay inetnums blocks routes has = record {
     inetnums_are = λ t. has.inetnums_are t ∙ sym (same (Inetnum t));
     blocks_are = λ t. has.blocks_are t ∙ sym (same (AsBlock t));
     routed = λ t at.
         let is = has.routed t at in
-        record { prefix = is.prefix; span_is = is.span_is; origin = is.origin; there = same (Route is.prefix is.origin) ∙ is.there };
+        record {
+          prefix = is.prefix;
+          span_is = is.span_is;
+          origin = is.origin;
+          there =
+              same (Route is.prefix is.origin) ∙ is.there;
+        };
     routes_are = λ p n there. has.routes_are p n (sym (same (Route p n)) ∙ there);
     masked = λ p n there. has.masked p n (sym (same (Route p n)) ∙ there);
   }
@@ -47,7 +56,8 @@ pub apart_of : (r : Reg) (o : Obj) → Sound (insert r o.key o) → IsApart r o.
 apart_of r o sound = record {
   apart = λ l x at.
       let own = put_there r o.key o in
-      elim (eq_by_cmp key_cmp l o.key) as (λ b. get (insert r o.key o) l ≡ cond b (Some o) (get r l) → keys_cross l o.key ≡ false) [
+      elim (eq_by_cmp key_cmp l o.key) as (λ b. get (insert r o.key o) l ≡ cond b (Some o)
+      (get r l) → keys_cross l o.key ≡ false) [
         | true ↦ λ e. sound.apart l o.key o o e own
         | false ↦ λ e. sound.apart l o.key x o (e ∙ at) own
       ] (get-insert keys_total r o.key o l);

@@ -1,5 +1,6 @@
 -- Readings and writings joined one after the other.
-use Rattle.std.proofs.Common.{◌≡◌, ℕ, ◌+◌, ◌<◌, List, [], ◌++◌, length, refl, ap, sym, ◌∙◌, append_assoc, length-append, arith, add-one, get_or, drop, drop-cons}
+use Rattle.std.proofs.Common.{◌≡◌, ℕ, ◌+◌, ◌<◌, List, [], ◌++◌, length, refl, ap, sym, ◌∙◌}
+use Rattle.std.proofs.Common.{append_assoc, length-append, arith, add-one, get_or, drop, drop-cons}
 use Rattle.std.specs.List.{flat_map}
 use Rattle.std.proofs.lemmas.List.{append-nil}
 use Rattle.rr_io.specs.Told.{Told, Fails}
@@ -15,7 +16,8 @@ Takes-none told = record {
 }
 
 -- one writing and then another
-pub Takes-then : {start middle end : Told} (xs ys : List ℕ) → Takes start middle xs → Takes middle end ys → Takes start end (xs ++ ys)
+pub Takes-then : {start middle end : Told} (xs ys : List ℕ) → Takes start middle xs →
+    Takes middle end ys → Takes start end (xs ++ ys)
 Takes-then xs ys p q = record {
   appended = λ zs e. rw (← append_assoc) (q.appended _ (p.appended zs e));
   no_fault = q.no_fault ∙ p.no_fault;
@@ -23,7 +25,8 @@ Takes-then xs ys p q = record {
 }
 
 -- one writing, and then another that a fault cut short
-pub TakesPrefix-then : {start middle end : Told} (xs ys : List ℕ) → Takes start middle xs → TakesPrefix middle end ys → TakesPrefix start end (xs ++ ys)
+pub TakesPrefix-then : {start middle end : Told} (xs ys : List ℕ) → Takes start middle xs →
+    TakesPrefix middle end ys → TakesPrefix start end (xs ++ ys)
 TakesPrefix-then xs ys p q = record {
   prefix = xs ++ q.prefix;
   rest = q.rest;
@@ -35,7 +38,8 @@ TakesPrefix-then xs ys p q = record {
 }
 
 -- what would have been written next is not taken either
-pub TakesPrefix-more : {start end : Told} (xs ys : List ℕ) → TakesPrefix start end xs → TakesPrefix start end (xs ++ ys)
+pub TakesPrefix-more : {start end : Told} (xs ys : List ℕ) → TakesPrefix start end xs →
+    TakesPrefix start end (xs ++ ys)
 TakesPrefix-more xs ys p = record {
   prefix = p.prefix;
   rest = p.rest ++ ys;
@@ -47,7 +51,8 @@ TakesPrefix-more xs ys p = record {
 }
 
 -- a writing that failed before its first byte
-pub TakesPrefix-fails : {start end : Told} (xs : List ℕ) → 0 < length xs → Fails start end → TakesPrefix start end xs
+pub TakesPrefix-fails : {start end : Told} (xs : List ℕ) → 0 < length xs → Fails start end →
+    TakesPrefix start end xs
 TakesPrefix-fails {start} xs h p = record {
   prefix = [];
   rest = xs;
@@ -66,7 +71,8 @@ Gives-none told = record {
 }
 
 -- one reading and then another
-pub Gives-then : {start middle end : Told} (xs ys : List ℕ) → Gives start middle xs → Gives middle end ys → Gives start end (xs ++ ys)
+pub Gives-then : {start middle end : Told} (xs ys : List ℕ) → Gives start middle xs →
+    Gives middle end ys → Gives start end (xs ++ ys)
 Gives-then xs ys p q = record {
   consumed = λ zs e. let a = p.consumed zs e in let b = q.consumed a.0 a.1 in
       (b.0, b.1, a.2 ∙ (ap (λ r. xs ++ r) b.2 ∙ sym (append_assoc xs ys b.0)));

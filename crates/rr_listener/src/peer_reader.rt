@@ -1,6 +1,9 @@
 //! What a peer sends.
 
+ghost use Rattle.std.specs.Prelude.{OnOk};
+ghost use Rattle.std.specs.Duration.{as_nanos};
 ghost use Rattle.std.specs.Io.{ReadsAtMost};
+ghost use Rattle.rr_listener.specs.ServingTimes.{WaitsFor, next_wait};
 
 use crate::deadline::Deadline;
 use rr_io::READ_SIZE;
@@ -57,7 +60,9 @@ impl<'a> PeerReader<'a> {
     /// Reads some bytes by one call, of a peer that has so many seconds in all. The error is the
     /// system's, or that the time is over.
     fn receive(&mut self, buf: &mut [u8], seconds: u64) -> io::Result<usize>
-        ensures { ReadsAtMost result buf.new }
+        ensures bound { ReadsAtMost result buf.new }
+        ensures waits { OnOk result (WaitsFor
+            (next_wait seconds (as_nanos self.old.deadline.taken)) self.new.deadline.timeout) }
     {
         if let Some(timeout) = self.deadline.next_timeout(seconds)? {
             self.socket.set_read_timeout(Some(timeout))?;

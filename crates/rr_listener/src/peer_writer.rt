@@ -1,8 +1,9 @@
 //! What a peer is sent.
 
-ghost use Rattle.std.specs.Prelude.{◌≡◌};
+ghost use Rattle.std.specs.Prelude.{◌≡◌, ◌+◌, ◌-◌, ◌^◌, IfOk, OnErr, OnOk, min, nat_lt};
+ghost use Rattle.std.specs.Duration.{as_nanos};
 ghost use Rattle.std.specs.Io.{WritesAtMost};
-ghost use Rattle.rr_listener.specs.ServingTimes.{reply_time};
+ghost use Rattle.rr_listener.specs.ServingTimes.{WaitsFor, next_wait, reply_time};
 
 use crate::deadline::Deadline;
 use std::io;
@@ -44,7 +45,9 @@ impl<'a> PeerWriter<'a> {
     }
 
     /// Whether some of its bytes went out.
-    pub fn has_written(&self) -> bool {
+    pub fn has_written(&self) -> bool
+        ensures { result ≡ nat_lt 0 self.now.written }
+    {
         self.written > 0
     }
 
@@ -55,7 +58,13 @@ impl<'a> PeerWriter<'a> {
 
     /// Sends some of the bytes by one call. The error is the system's, or that the time is over.
     fn send(&mut self, buf: &[u8]) -> io::Result<usize>
-        ensures { WritesAtMost result buf.now }
+        ensures bound { WritesAtMost result buf.now }
+        ensures waits { OnOk result (WaitsFor
+            (next_wait (reply_time self.old.written) (as_nanos self.old.deadline.taken))
+            self.new.deadline.timeout) }
+        ensures counts { IfOk result
+            (λ count. self.new.written ≡ min (self.old.written + count) (2 ^ 64 - 1)) }
+        ensures stays { OnErr result (self.new.written ≡ self.old.written) }
     {
         let seconds = reply_time(self.written);
         if let Some(timeout) = self.deadline.next_timeout(seconds)? {

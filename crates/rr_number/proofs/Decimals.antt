@@ -2,7 +2,8 @@
 use Rattle.std.proofs.Common.{length, ◌≡◌, ℕ, ◌^◌, ◌<◌, ◌≤◌, true, List, Some, arith}
 use Rattle.std.proofs.Math.Nat.{pow-le-pow_right}
 use Rattle.std.proofs.lemmas.Bool.Decides.{nat_tests}
-use Rattle.std.proofs.lemmas.Fmt.{digits_decimal, digits_value-decimal, length-decimal-le, decimal_nonempty}
+use Rattle.std.proofs.lemmas.Fmt.{digits_decimal, digits_value-decimal, length-decimal-le}
+use Rattle.std.proofs.lemmas.Fmt.{decimal_nonempty}
 use Rattle.std.proofs.lemmas.Str.Parse.{IsNumeralModel, numerals_by_value, tells_all_ascii_digits}
 use Rattle.std.specs.Fmt.{decimal}
 use Rattle.std.specs.Str.{all_ascii_digits}
@@ -16,7 +17,8 @@ few_digits n i few short =
     omega arith
 
 -- what is read is spelled
-pub number_of-spelled : (most limit : ℕ) (text : List ℕ) (n : ℕ) → number_of most limit text ≡ Some n → IsNumber most limit text n
+pub number_of-spelled : (most limit : ℕ) (text : List ℕ) (n : ℕ) → number_of most limit text
+    ≡ Some n → IsNumber most limit text n
 unfolding number_of
 number_of-spelled most limit text n read = record {
   digits = grind (arith, nat_tests);
@@ -27,7 +29,8 @@ number_of-spelled most limit text n read = record {
 }
 
 -- what is spelled is read
-pub number_of-read : (most limit : ℕ) (text : List ℕ) (n : ℕ) → IsNumber most limit text n → number_of most limit text ≡ Some n
+pub number_of-read : (most limit : ℕ) (text : List ℕ) (n : ℕ) → IsNumber most limit text n →
+    number_of most limit text ≡ Some n
 unfolding number_of
 number_of-read most limit text n spelled = grind (arith, nat_tests)
 
@@ -36,7 +39,8 @@ own : IsNumeralModel (λ ds. all_ascii_digits ds ≡ true) (digits_value 10)
 own = numerals_by_value _ tells_all_ascii_digits
 
 -- what is printed spells the number
-pub IsNumber-decimal : (most limit n : ℕ) → 0 < most → n < 10 ^ most → n < limit → n < 2 ^ 64 → IsNumber most limit (decimal n) n
+pub IsNumber-decimal : (most limit n : ℕ) → 0 < most → n < 10 ^ most → n < limit → n < 2 ^ 64 →
+    IsNumber most limit (decimal n) n
 IsNumber-decimal most limit n one few fits wide = record {
   digits = digits_decimal own n wide;
   some = decimal_nonempty n wide;

@@ -1,5 +1,7 @@
--- Letter case makes no difference to AS numbers, and an AS number is printed no longer than it is spelled.
-use Rattle.std.proofs.Common.{◌≡◌, ℕ, ◌+◌, ◌*◌, ◌^◌, ◌<◌, ◌≤◌, true, ◌&&◌, List, [], ◌∷◌, Some, take, drop, length, refl, ap, ◌∙◌, arith, length-drop}
+-- Letter case makes no difference to AS numbers, and an AS number is printed no longer than it is
+-- spelled.
+use Rattle.std.proofs.Common.{◌≡◌, ℕ, ◌+◌, ◌*◌, ◌^◌, ◌<◌, ◌≤◌, true, ◌&&◌, List, [], ◌∷◌, Some}
+use Rattle.std.proofs.Common.{take, drop, length, refl, ap, ◌∙◌, arith, length-drop}
 use Rattle.std.proofs.lemmas.Bool.Decides.{nat_tests}
 use Rattle.std.proofs.lemmas.Fmt.{length-decimal-le}
 use Rattle.std.proofs.lemmas.Int.Digits.{digits_value-lt}
@@ -25,11 +27,14 @@ digits-upper : (ds : List ℕ) → all_ascii_digits (upper ds) ≡ all_ascii_dig
 digits-upper [] = refl
 digits-upper (d ∷ ds) = λ i. digit_byte-upper d i && digits-upper ds i
 
-value-upper : (n : ℕ) (ds : List ℕ) → digits_value_after 10 n (upper ds) ≡ digits_value_after 10 n ds
+value-upper : (n : ℕ) (ds : List ℕ) → digits_value_after 10 n (upper ds) ≡ digits_value_after 10 n
+    ds
 value-upper n [] = refl
-value-upper n (d ∷ ds) = ap (λ v. digits_value_after 10 (n * 10 + v) (upper ds)) (digit_value-upper d) ∙ value-upper (n * 10 + digit_value d) ds
+value-upper n (d ∷ ds) = ap (λ v. digits_value_after 10 (n * 10 + v) (upper ds))
+    (digit_value-upper d) ∙ value-upper (n * 10 + digit_value d) ds
 
-number_of-upper : (most limit : ℕ) (ds : List ℕ) → number_of most limit (upper ds) ≡ number_of most limit ds
+number_of-upper : (most limit : ℕ) (ds : List ℕ) → number_of most limit (upper ds) ≡ number_of most
+    limit ds
 unfolding number_of
 number_of-upper most limit ds = rw (digits-upper ds, value-upper 0 ds, length-map) refl
 
@@ -46,22 +51,31 @@ back-upper (a ∷ b ∷ bs) = refl
 pub as_number_of-upper : (text : List ℕ) → as_number_of (upper text) ≡ as_number_of text
 unfolding as_number_of
 as_number_of-upper text =
-    rw (prefix-upper text, upper-upper (take 2 text), back-upper text, number_of-upper 10 (greatest_as_number + 1) (drop 2 text)) refl
+    rw (
+      prefix-upper text,
+      upper-upper (take 2 text),
+      back-upper text,
+      number_of-upper 10 (greatest_as_number + 1) (drop 2 text),
+    ) refl
 
 own : IsNumeralModel (λ ds. all_ascii_digits ds ≡ true) (digits_value 10)
 own = numerals_by_value _ tells_all_ascii_digits
 
-length_of_number : (digits : List ℕ) (n : ℕ) → IsNumber 10 (greatest_as_number + 1) digits n → length (decimal n) ≤ length digits
+length_of_number : (digits : List ℕ) (n : ℕ) → IsNumber 10 (greatest_as_number + 1) digits n →
+    length (decimal n) ≤ length digits
 length_of_number digits n is =
-    let small : digits_value 10 digits < 10 ^ length digits = digits_value-lt 10 digits (own.to digits is.digits) in
+    let small : digits_value 10 digits < 10 ^ length digits = digits_value-lt 10 digits
+    (own.to digits is.digits) in
     let below : n < 10 ^ length digits = rw is.value at small in
     let fits : n < greatest_as_number + 1 = is.fits in
     length-decimal-le (length digits) n is.some below (omega arith)
 
 -- the printed text is no longer than a spelling
-pub length-as_number_text : (text : List ℕ) (n : ℕ) → as_number_of text ≡ Some n → length (as_number_text n) ≤ length text
+pub length-as_number_text : (text : List ℕ) (n : ℕ) → as_number_of text ≡ Some n →
+    length (as_number_text n) ≤ length text
 length-as_number_text text n read =
-    let is : IsNumber 10 (greatest_as_number + 1) (drop 2 text) n = (as_number_of-spelled text n read).number in
+    let is : IsNumber 10 (greatest_as_number + 1) (drop 2 text) n =
+    (as_number_of-spelled text n read).number in
     let short : length (decimal n) ≤ length (drop 2 text) = length_of_number (drop 2 text) n is in
     let some : 0 < length (drop 2 text) = is.some in
     omega (arith, length-drop 2 text)

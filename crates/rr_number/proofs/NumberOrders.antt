@@ -24,7 +24,8 @@ ties Greater b tie = (cc, cc)
 
 -- prefixes
 prefix_total : IsTotalOrder prefix_cmp
-prefix_total = then_total (on_total (λ (p : PrefixParts). p.address) nat_cmp_total) (on_total (λ (p : PrefixParts). p.length) nat_cmp_total)
+prefix_total = then_total (on_total (λ (p : PrefixParts). p.address) nat_cmp_total)
+    (on_total (λ (p : PrefixParts). p.length) nat_cmp_total)
 
 prefix_exact : IsAntisymmetric prefix_cmp
 prefix_exact p q tie =
@@ -40,11 +41,13 @@ prefixes_ordered = record { total = prefix_total; exact = prefix_exact }
 range_total : IsTotalOrder range_cmp
 range_total =
     then_total (on_total (λ (r : RangeParts). r.prefix) prefix_total)
-    (then_total (on_total (λ (r : RangeParts). r.low) nat_cmp_total) (on_total (λ (r : RangeParts). r.high) nat_cmp_total))
+    (then_total (on_total (λ (r : RangeParts). r.low) nat_cmp_total)
+    (on_total (λ (r : RangeParts). r.high) nat_cmp_total))
 
 range_exact : IsAntisymmetric range_cmp
 range_exact r s tie =
-    let first = ties (prefix_cmp r.prefix s.prefix) (ordering_then (nat_cmp r.low s.low) (nat_cmp r.high s.high)) tie in
+    let first = ties (prefix_cmp r.prefix s.prefix)
+    (ordering_then (nat_cmp r.low s.low) (nat_cmp r.high s.high)) tie in
     let rest = ties (nat_cmp r.low s.low) (nat_cmp r.high s.high) first.1 in
     let prefix : r.prefix ≡ s.prefix = prefix_exact r.prefix s.prefix first.0 in
     let low : r.low ≡ s.low = nat_cmp-IsAntisymmetric r.low s.low rest.0 in
@@ -56,7 +59,8 @@ ranges_ordered = record { total = range_total; exact = range_exact }
 
 -- operators
 bounds_total : IsTotalOrder bounds_cmp
-bounds_total = then_total (on_total (λ (b : Bounds). b.low) nat_cmp_total) (on_total (λ (b : Bounds). b.high) nat_cmp_total)
+bounds_total = then_total (on_total (λ (b : Bounds). b.low) nat_cmp_total)
+    (on_total (λ (b : Bounds). b.high) nat_cmp_total)
 
 bounds_exact : IsAntisymmetric bounds_cmp
 bounds_exact b c tie =
@@ -67,7 +71,8 @@ bounds_exact b c tie =
 
 -- an operator is given back by its place and its bounds
 operator_at : ℕ → Bounds → Operator
-operator_at n b = if n == 0 then Plain else (if n == 1 then Plus else (if n == 2 then Minus else Lengths b))
+operator_at n b = if n == 0 then Plain else
+    (if n == 1 then Plus else (if n == 2 then Minus else Lengths b))
 
 operator_back : (o : Operator) → operator_at (operator_place o) (operator_bounds o) ≡ o
 unfolding operator_at
@@ -78,10 +83,15 @@ operator_back (Lengths b) = refl
 
 operator_exact : IsAntisymmetric operator_cmp
 operator_exact o p tie =
-    let both = ties (nat_cmp (operator_place o) (operator_place p)) (bounds_cmp (operator_bounds o) (operator_bounds p)) tie in
+    let both = ties (nat_cmp (operator_place o) (operator_place p))
+    (bounds_cmp (operator_bounds o) (operator_bounds p)) tie in
     let place = nat_cmp-IsAntisymmetric (operator_place o) (operator_place p) both.0 in
     let bounds = bounds_exact (operator_bounds o) (operator_bounds p) both.1 in
     sym (operator_back o) ∙ (λ i. operator_at (place i) (bounds i)) ∙ operator_back p
 
 pub operators_ordered : OperatorsAreOrdered
-operators_ordered = record { total = then_total (on_total operator_place nat_cmp_total) (on_total operator_bounds bounds_total); exact = operator_exact }
+operators_ordered = record {
+  total = then_total (on_total operator_place nat_cmp_total)
+      (on_total operator_bounds bounds_total);
+  exact = operator_exact;
+}

@@ -1,5 +1,6 @@
 -- Lemmas on the texts of prefixes with operators.
-use Rattle.std.proofs.Common.{◌≡◌, ℕ, ◌==◌, ◌⊎◌, true, List, [], ◌∷◌, ◌++◌, length, Some, refl, subst, sym, inl, inr, take-append-drop}
+use Rattle.std.proofs.Common.{◌≡◌, ℕ, ◌==◌, ◌⊎◌, true, List, [], ◌∷◌, ◌++◌, length, Some, refl}
+use Rattle.std.proofs.Common.{subst, sym, inl, inr, take-append-drop}
 use Rattle.std.proofs.lemmas.List.{take_at, drop_at}
 use Rattle.std.proofs.lemmas.Option.{option_and_then_some}
 use Rattle.std.specs.List.{before_first, position_or_len}
@@ -18,11 +19,14 @@ use Rattle.rr_number.proofs.PrefixLemmas.{IsPrefix-text, prefix_of-read, prefix_
 use Rattle.rr_number.proofs.RangeLemmas.{IsOperatorValue-for}
 
 -- what is read is spelled
-pub ranged_of-spelled : (text : List ℕ) (ranged : PrefixParts × Operator) → ranged_of text ≡ Some ranged → IsRanged text ranged.0 ranged.1
+pub ranged_of-spelled : (text : List ℕ) (ranged : PrefixParts × Operator) → ranged_of text
+    ≡ Some ranged → IsRanged text ranged.0 ranged.1
 unfolding ranged_of ranged_from
 ranged_of-spelled text ranged read =
-    option_and_then_some _ (prefix_of (before_first (λ b. b == caret) text)) ranged read (λ prefix is_prefix rest.
-    option_map-some _ (operator_of (from_first caret text)) ranged rest (λ operator is_operator value.
+    option_and_then_some _ (prefix_of (before_first (λ b. b == caret) text)) ranged read
+    (λ prefix is_prefix rest.
+    option_map-some _ (operator_of (from_first caret text)) ranged rest
+    (λ operator is_operator value.
     subst (λ (r : PrefixParts × Operator). IsRanged text r.0 r.1) value (record {
       before = before_first (λ b. b == caret) text;
       rest = from_first caret text;
@@ -32,7 +36,8 @@ ranged_of-spelled text ranged read =
     })))
 
 -- an operator's text is empty or begins with a caret
-begins : (text : List ℕ) (o : Operator) → IsOperator text o → (text ≡ []) ⊎ ((rest : List ℕ) × (text ≡ caret ∷ rest))
+begins : (text : List ℕ) (o : Operator) → IsOperator text o → (text ≡ [])
+    ⊎ ((rest : List ℕ) × (text ≡ caret ∷ rest))
 begins text Plain spelled = inl spelled
 begins text Plus spelled = inr (_, spelled)
 begins text Minus spelled = inr (_, spelled)
@@ -47,11 +52,14 @@ lacks-prefix text p spelled =
     (lacks-digits caret spelled.length_text refl spelled.second.digits))
 
 -- what is spelled is read
-pub ranged_of-read : (text : List ℕ) (p : PrefixParts) (o : Operator) → IsRanged text p o → ranged_of text ≡ Some (p, o)
+pub ranged_of-read : (text : List ℕ) (p : PrefixParts) (o : Operator) → IsRanged text p o →
+    ranged_of text ≡ Some (p, o)
 unfolding ranged_of ranged_from
 ranged_of-read text p o spelled =
-    let place : position_or_len (λ b. b == caret) (spelled.before ++ spelled.rest) ≡ length spelled.before =
-    place_after caret spelled.before spelled.rest (lacks-prefix _ p spelled.first) (begins _ o spelled.second) in
+    let place : position_or_len (λ b. b == caret) (spelled.before ++ spelled.rest)
+    ≡ length spelled.before =
+    place_after caret spelled.before spelled.rest (lacks-prefix _ p spelled.first)
+    (begins _ o spelled.second) in
     let before : before_first (λ b. b == caret) (spelled.before ++ spelled.rest) ≡ spelled.before =
     take_at spelled.before spelled.rest _ (sym place) in
     let rest : from_first caret (spelled.before ++ spelled.rest) ≡ spelled.rest =

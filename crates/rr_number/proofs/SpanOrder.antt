@@ -10,7 +10,8 @@ use Rattle.rr_number.specs.Spans.{Ends, span_cmp}
 use Rattle.rr_number.specs.contracts.span.SpanOrd.TheImpl as derived
 
 pub span_cmp_total : IsTotalOrder span_cmp
-span_cmp_total = then_total (on_total (λ (s : Ends). s.first) nat_cmp_total) (on_total (λ (s : Ends). s.last) nat_cmp_total)
+span_cmp_total = then_total (on_total (λ (s : Ends). s.first) nat_cmp_total)
+    (on_total (λ (s : Ends). s.last) nat_cmp_total)
 
 both_equal : (a b : Ordering) → ordering_then a b ≡ Equal → (a ≡ Equal) × (b ≡ Equal)
 both_equal Less b e = (cc, cc)

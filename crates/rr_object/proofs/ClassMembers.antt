@@ -1,7 +1,8 @@
 -- Which items the members of a set are, by the class of the set.
 use Rattle.std.proofs.Common.{◌≡◌, refl}
 use Rattle.rr_object.specs.declared.class.Class.{Class}
-use Rattle.rr_object.specs.declared.class.Class.TheVariants.{Mntner, AsBlock, AutNum, Inetnum, Route, AsSet, RouteSet}
+use Rattle.rr_object.specs.declared.class.Class.TheVariants.{Mntner, AsBlock, AutNum, Inetnum}
+use Rattle.rr_object.specs.declared.class.Class.TheVariants.{Route, AsSet, RouteSet}
 use Rattle.rr_object.specs.Members.{as_set_item, route_set_item}
 use Rattle.rr_object.specs.Readings.{member_item}
 

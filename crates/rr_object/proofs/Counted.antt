@@ -10,7 +10,8 @@ use Rattle.rr_object.specs.Kinds.{kind_name}
 use Rattle.rr_object.specs.Readings.{count_named, items_of}
 
 -- an attribute has as many values as it stands times
-values_counted : (name : List ℕ) (fields : List Field) → length (values_of name fields) ≡ count_named name fields
+values_counted : (name : List ℕ) (fields : List Field) → length (values_of name fields)
+    ≡ count_named name fields
 values_counted name fields = length-map _ _ ∙ length-filter (has_name name) fields
 
 twice_not : (b : Bool) → not (not b) ≡ b
@@ -18,7 +19,9 @@ twice_not true = refl
 twice_not false = refl
 
 -- a maintainer has no `auth` where no attribute has that name
-pub no_auth : (fields : List Field) → not (is_filled (items_of Auth fields)) ≡ (count_named (kind_name Auth) fields == 0)
+pub no_auth : (fields : List Field) → not (is_filled (items_of Auth fields))
+    ≡ (count_named (kind_name Auth) fields == 0)
 unfolding items_of
 no_auth fields =
-    twice_not (length (values_of (kind_name Auth) fields) == 0) ∙ ap (λ n. n == 0) (values_counted (kind_name Auth) fields)
+    twice_not (length (values_of (kind_name Auth) fields) == 0) ∙ ap (λ n. n == 0)
+    (values_counted (kind_name Auth) fields)

@@ -9,11 +9,13 @@ use Rattle.rr_number.proofs.NumberOrders.{ties}
 use Rattle.rr_object.specs.Classes.{class_number}
 use Rattle.rr_object.specs.Keys.{class_of}
 use Rattle.rr_object.specs.declared.key.Key.{Key}
-use Rattle.rr_object.specs.declared.key.Key.TheVariants.{Mntner, AsBlock, AutNum, Inetnum, Route, AsSet, RouteSet}
+use Rattle.rr_object.specs.declared.key.Key.TheVariants.{Mntner, AsBlock, AutNum, Inetnum, Route}
+use Rattle.rr_object.specs.declared.key.Key.TheVariants.{AsSet, RouteSet}
 use Rattle.rr_object.specs.KeyOrders.{key_cmp, words_of}
 
 pub keys_total : IsTotalOrder key_cmp
-keys_total = then_total (on_total (λ k. class_number (class_of k)) nat_cmp_total) (on_total words_of nat_list_cmp_total)
+keys_total = then_total (on_total (λ k. class_number (class_of k)) nat_cmp_total)
+    (on_total words_of nat_list_cmp_total)
 
 head : List ℕ → ℕ
 head [] = 0
@@ -30,7 +32,8 @@ key_at n ws =
     if n == 2 then AsBlock (record { first = head ws; last = head (tail ws) }) else (
     if n == 3 then AutNum (head ws) else (
     if n == 4 then Inetnum (record { first = head ws; last = head (tail ws) }) else (
-    if n == 5 then Route (record { address = head ws; length = head (tail ws) }) (head (tail (tail ws))) else (
+    if n == 5 then Route (record { address = head ws; length = head (tail ws) })
+    (head (tail (tail ws))) else (
     if n == 6 then AsSet ws else RouteSet ws)))))
 
 key_back : (k : Key) → key_at (class_number (class_of k)) (words_of k) ≡ k
@@ -46,8 +49,10 @@ key_back (RouteSet n) = refl
 -- only equal keys tie
 pub keys_exact : IsAntisymmetric key_cmp
 keys_exact a b e =
-    let same_class = nat_cmp-IsAntisymmetric (class_number (class_of a)) (class_number (class_of b)) ((ties _ _ e).0) in
-    let same_words = slice_cmp-IsAntisymmetric nat_cmp-IsAntisymmetric (words_of a) (words_of b) ((ties _ _ e).1) in
+    let same_class = nat_cmp-IsAntisymmetric (class_number (class_of a))
+    (class_number (class_of b)) ((ties _ _ e).0) in
+    let same_words = slice_cmp-IsAntisymmetric nat_cmp-IsAntisymmetric (words_of a) (words_of b)
+    ((ties _ _ e).1) in
     sym (key_back a) ∙ (λ i. key_at (same_class i) (same_words i)) ∙ key_back b
 
 pub tied_key : (k : Key) → eq_by_cmp key_cmp k k ≡ true

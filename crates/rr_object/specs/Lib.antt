@@ -1,6 +1,7 @@
 pub mod Auths
 pub mod Classes
 pub mod Codes
+pub mod Extras
 pub mod Faults
 pub mod FirstFaults
 pub mod GrantTexts

@@ -1,5 +1,6 @@
 -- What an object keeps, as plain data.
 use Rattle.rr_object.specs.declared.object.Object.TheInside.{Inside}
+use Rattle.rr_object.specs.Extras.{kept_extra}
 use Rattle.rr_object.specs.Objects.{Obj}
 
 -- the parts of what an object keeps
@@ -8,10 +9,10 @@ parts_of o = record {
   key = o.key;
   paragraph = o.paragraph;
   maintainers = o.maintainers.items;
-  lower = o.lower.items;
-  routes = o.routes.items;
-  auths = o.auths.items;
-  members = o.members.items;
-  by_ref = o.by_ref;
-  member_of = o.member_of.items;
+  lower = (kept_extra o.extra).lower;
+  routes = (kept_extra o.extra).routes;
+  auths = (kept_extra o.extra).auths;
+  members = (kept_extra o.extra).members;
+  by_ref = (kept_extra o.extra).by_ref;
+  member_of = (kept_extra o.extra).member_of;
 }

@@ -4,10 +4,11 @@
 
 pub mod auth;
 pub mod auths;
-pub mod by_ref;
+mod by_ref;
 pub mod class;
 pub mod code;
 mod counts;
+mod extra;
 pub mod fault;
 pub mod grant;
 mod grants;
@@ -28,7 +29,6 @@ mod reading;
 
 pub use auth::Auth;
 pub use auths::read_auth;
-pub use by_ref::ByRef;
 pub use class::Class;
 pub use code::Code;
 pub use fault::ObjectFault;

@@ -37,7 +37,7 @@ impl Object {
             maintainers: self.maintainers(),
             lower: self.lower(),
             routes: self.routes(),
-            by_ref: self.by_ref().names(),
+            by_ref: self.by_ref(),
         }
     }
 

@@ -8,8 +8,8 @@ ghost use Rattle.rr_object.specs.Readings.{obj_of, object_of, source_of};
 ghost use Rattle.rr_object.specs.declared.fault.ObjectFault.TheVariants.{Memory};
 
 use crate::auth::Auth;
-use crate::by_ref::ByRef;
 use crate::counts::is_miscounted;
+use crate::extra::Extra;
 use crate::fault::ObjectFault;
 use crate::grant::Grant;
 use crate::key::Key;
@@ -32,12 +32,7 @@ pub struct Object {
     key: Key,
     paragraph: Paragraph,
     maintainers: Vec<Name>,
-    lower: Vec<Name>,
-    routes: Vec<Grant>,
-    auths: Vec<Auth>,
-    members: Vec<Member>,
-    by_ref: ByRef,
-    member_of: Vec<SetName>,
+    extra: Option<Box<Extra>>,
 }
 
 impl Model for Object {
@@ -131,42 +126,70 @@ impl Object {
     pub fn lower(&self) -> &[Name]
         ensures { result.now ≡ self.now.lower }
     {
-        self.lower.as_slice()
+        match &self.extra {
+            Some(extra) => extra.lower.as_slice(),
+            None => &[],
+        }
     }
 
     /// The entries of `mnt-routes`.
     pub fn routes(&self) -> &[Grant]
         ensures { result.now ≡ self.now.routes }
     {
-        self.routes.as_slice()
+        match &self.extra {
+            Some(extra) => extra.routes.as_slice(),
+            None => &[],
+        }
     }
 
     /// The digests of secrets in `auth`.
     pub fn auths(&self) -> &[Auth]
         ensures { result.now ≡ self.now.auths }
     {
-        self.auths.as_slice()
+        match &self.extra {
+            Some(extra) => extra.auths.as_slice(),
+            None => &[],
+        }
     }
 
     /// The items of `members`.
     pub fn members(&self) -> &[Member]
         ensures { result.now ≡ self.now.members }
     {
-        self.members.as_slice()
+        match &self.extra {
+            Some(extra) => extra.members.as_slice(),
+            None => &[],
+        }
     }
 
-    /// Whose objects may say that they belong to the set.
-    pub fn by_ref(&self) -> &ByRef
-        ensures { result.now ≡ self.now.by_ref }
+    /// Whether anybody's objects may say that they belong to the set.
+    pub fn by_ref_any(&self) -> bool
+        ensures { result ≡ self.now.by_ref.any }
     {
-        &self.by_ref
+        match &self.extra {
+            Some(extra) => extra.by_ref.any(),
+            None => false,
+        }
+    }
+
+    /// The maintainers whose objects may say that they belong to the set.
+    pub fn by_ref(&self) -> &[Name]
+        ensures { result.now ≡ self.now.by_ref.names }
+    {
+        match &self.extra {
+            Some(extra) => extra.by_ref.names(),
+            None => &[],
+        }
     }
 
     /// The sets in `member-of`.
     pub fn member_of(&self) -> &[SetName]
         ensures { result.now ≡ self.now.member_of }
     {
-        self.member_of.as_slice()
+        match &self.extra {
+            Some(extra) => extra.member_of.as_slice(),
+            None => &[],
+        }
     }
 }
 
@@ -186,7 +209,7 @@ fn read_of_any_source(alloc: Global, key: Key, paragraph: Paragraph) -> Result<S
     ensures fault { IfErr result (λ fault. fault ≢ Memory → obj_of paragraph ≡ Err fault) }
 {
     let said = read_said(alloc, &key, &paragraph)?;
-    let object = object_with(key, paragraph, said.authority, said.membership);
+    let object = object_with(alloc, key, paragraph, said.authority, said.membership)?;
     let source = said.source;
     Ok(Sourced { object, source })
 }
@@ -225,15 +248,17 @@ fn read_said(alloc: Global, key: &Key, paragraph: &Paragraph) -> Result<Said, Ob
     })
 }
 
-/// The object of this key and paragraph, with what the paragraph says of authority and of sets.
+/// The object of this key and paragraph, with what the paragraph says of authority and of sets. The
+/// error is that memory ran out.
 fn object_with(
+    alloc: Global,
     key: Key,
     paragraph: Paragraph,
     authority: Authority,
     membership: Membership,
-) -> Object
+) -> Result<Object, AllocError>
     requires { obj_of paragraph ≡ Ok (said key paragraph authority membership) }
-    ensures { obj_of paragraph ≡ Ok result }
+    ensures { IfOk result (λ object. obj_of paragraph ≡ Ok object) }
 {
     let Authority {
         maintainers,
@@ -246,15 +271,19 @@ fn object_with(
         by_ref,
         member_of,
     } = membership;
-    Object {
-        key,
-        paragraph,
-        maintainers,
+    let extra = Extra {
         lower,
         routes,
         auths,
         members,
         by_ref,
         member_of,
-    }
+    };
+    let extra = extra.kept(alloc)?;
+    Ok(Object {
+        key,
+        paragraph,
+        maintainers,
+        extra,
+    })
 }

@@ -8,7 +8,8 @@ use Rattle.rr_object.specs.Objects.{Obj}
 
 none : {A : Type 0} (r : Reg) (k : Key) (o : Obj) → r ≡ empty → get r k ≡ Some o → A
 none r k o is held =
-    let wrong : None ≡ Some o = sym (get-empty key_cmp k) ∙ ap (λ (s : Reg). get s k) (sym is) ∙ held in
+    let wrong : None ≡ Some o = sym (get-empty key_cmp k) ∙ ap (λ (s : Reg). get s k) (sym is)
+    ∙ held in
     absurd (cc)
 
 pub empty_is_sound : (r : Reg) → r ≡ empty → Sound r

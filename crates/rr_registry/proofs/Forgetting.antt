@@ -13,7 +13,8 @@ use Rattle.rr_auth.specs.Registries.{Reg, Sound}
 use Rattle.rr_registry.specs.Private.{IsKept}
 
 module _ (r s : Reg) (k : Key) (old new : Known) (was : IsKept r old)
-    (forgets : (before after : Reg) → IsSameBut k before after → IsKnown before old → IsKnown after new) where
+    (forgets : (before after : Reg) → IsSameBut k before after → IsKnown before old →
+    IsKnown after new) where
   -- nothing changes
   pub kept_still : s ≡ r → IsKept s new
   kept_still is = record {
@@ -22,12 +23,14 @@ module _ (r s : Reg) (k : Key) (old new : Known) (was : IsKept r old)
   }
 
   -- an object is put under its key
-  pub kept_put : (o : Obj) → k ≡ o.key → s ≡ insert r o.key o → Sound (insert r o.key o) → IsKept s new
+  pub kept_put : (o : Obj) → k ≡ o.key → s ≡ insert r o.key o → Sound (insert r o.key o) →
+      IsKept s new
   kept_put o own is sound = record {
     sound = subst Sound (sym is) sound;
     remembered = forgets r s
         (λ l apart. ap (λ (t : Reg). get t l) is ∙ get-insert keys_total r o.key o l
-        ∙ ap (λ b. cond b (Some o) (get r l)) (ap (λ m. eq_by_cmp key_cmp l m) (sym own) ∙ apart)) was.remembered;
+        ∙ ap (λ b. cond b (Some o) (get r l)) (ap (λ m. eq_by_cmp key_cmp l m) (sym own) ∙ apart))
+        was.remembered;
   }
 
   -- the object of the key is taken out
@@ -35,5 +38,6 @@ module _ (r s : Reg) (k : Key) (old new : Known) (was : IsKept r old)
   kept_without is sound = record {
     sound = subst Sound (sym is) sound;
     remembered = forgets r s
-        (λ l apart. ap (λ (t : Reg). get t l) is ∙ get-remove keys_total r k l ∙ ap (λ b. cond b None (get r l)) apart) was.remembered;
+        (λ l apart. ap (λ (t : Reg). get t l) is ∙ get-remove keys_total r k l
+        ∙ ap (λ b. cond b None (get r l)) apart) was.remembered;
   }

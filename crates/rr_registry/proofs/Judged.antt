@@ -26,22 +26,42 @@ module _ (r : Reg) (secrets : List (List ℕ)) (judged : Verdict) where
   judged_is_met i (inl is) = ap (is_met_by i) is ∙ verdicts_are_met r secrets i
   judged_is_met i (inr refused) = ap (is_met_by i) refused ∙ refusal_met i
 
-  pub added_is_sound : (o : Obj) → Sound r → IsKeyValue o.key → IsJudged r secrets (Submit o) judged → judged ≡ Add → Sound (insert r o.key o)
+  pub added_is_sound : (o : Obj) → Sound r → IsKeyValue o.key → IsJudged r secrets (Submit o)
+      judged → judged ≡ Add → Sound (insert r o.key o)
   added_is_sound o sound formed (inl is) add = sound_added r secrets o sound formed (sym is ∙ add)
-  added_is_sound o sound formed (inr refused) add = let wrong : Refuse E90 ≡ Add = sym refused ∙ add in cc
+  added_is_sound o sound formed (inr refused) add = let wrong : Refuse E90 ≡ Add = sym refused
+      ∙ add in cc
 
-  pub changed_is_sound : (o : Obj) → Sound r → IsKeyValue o.key → IsJudged r secrets (Submit o) judged → judged ≡ Change → Sound (insert r o.key o)
-  changed_is_sound o sound formed (inl is) change = sound_changed r secrets o sound formed (sym is ∙ change)
-  changed_is_sound o sound formed (inr refused) change = let wrong : Refuse E90 ≡ Change = sym refused ∙ change in cc
+  pub changed_is_sound : (o : Obj) → Sound r → IsKeyValue o.key → IsJudged r secrets (Submit o)
+      judged → judged ≡ Change → Sound (insert r o.key o)
+  changed_is_sound o sound formed (inl is) change = sound_changed r secrets o sound formed
+      (sym is ∙ change)
+  changed_is_sound o sound formed (inr refused) change = let wrong : Refuse E90 ≡ Change =
+      sym refused ∙ change in cc
 
-  pub removed_is_sound : (k : Key) → Sound r → IsJudged r secrets (DeleteItem k) judged → judged ≡ Delete → Sound (remove r k)
+  pub removed_is_sound : (k : Key) → Sound r → IsJudged r secrets (DeleteItem k) judged →
+      judged ≡ Delete → Sound (remove r k)
   removed_is_sound k sound (inl is) delete = sound_removed r secrets k sound (sym is ∙ delete)
-  removed_is_sound k sound (inr refused) delete = let wrong : Refuse E90 ≡ Delete = sym refused ∙ delete in cc
+  removed_is_sound k sound (inr refused) delete = let wrong : Refuse E90 ≡ Delete = sym refused
+      ∙ delete in cc
 
   -- what is carried out is the item's step
-  pub judged_step : (i : Item) (outcome : Outcome) (then : Reg) → IsJudged r secrets i judged → IsCarriedOut r judged i outcome then → IsStep r secrets i outcome then
-  judged_step i outcome then (inl is) done = subst (λ (v : Verdict). IsCarriedOut r v i outcome then) is done
-  judged_step i outcome then (inr refused) (inl done) = inr (record { outcome_is = done.outcome_is ∙ ap outcome_of refused; effect = done.effect ∙ ap (λ v. after v r i) refused })
+  pub judged_step : (i : Item) (outcome : Outcome) (then : Reg) → IsJudged r secrets i judged →
+      IsCarriedOut r judged i outcome then → IsStep r secrets i outcome then
+  judged_step i outcome then (inl is) done =
+      subst (λ (v : Verdict). IsCarriedOut r v i outcome then) is done
+  judged_step i outcome then (inr refused) (inl done) =
+      inr (record {
+        outcome_is = done.outcome_is ∙ ap outcome_of refused;
+        effect = done.effect
+            ∙ ap (λ v. after v r i) refused;
+      })
   judged_step i outcome then (inr refused) (inr out) = inr out
 
-pub ruleset carried_out = (added_is_sound, changed_is_sound, removed_is_sound, judged_is_met, judged_step)
+pub ruleset carried_out = (
+  added_is_sound,
+  changed_is_sound,
+  removed_is_sound,
+  judged_is_met,
+  judged_step,
+)

@@ -15,7 +15,8 @@ use Rattle.sqlite_tied.specs.Compute.{everything}
 use Rattle.rr_rows.specs.Tables.{rules_of, HasTables}
 use Rattle.rr_rows.specs.Contents.{AreNumbered}
 use Rattle.rr_rows.specs.Texts.{create_meta, create_object, create_named}
-use Rattle.rr_rows.specs.Made.{no_schema, meta_table, object_table, named_table, with_meta, with_object, with_named, Creates, IsBare}
+use Rattle.rr_rows.specs.Made.{no_schema, meta_table, object_table, named_table, with_meta}
+use Rattle.rr_rows.specs.Made.{with_object, with_named, Creates, IsBare}
 use Rattle.rr_rows.proofs.ChangeLemmas.{went}
 
 same_value : {B E : Type 0} {a b : B} → ◌≡◌ {A = Result B E} (Ok a) (Ok b) → a ≡ b
@@ -34,50 +35,88 @@ meta_is = record { is = refl; whole = refl; plain = (refl, refl); defined = refl
 
 object_is : MeansTable with_meta create_object object_table
 unfolding understood everything
-object_is = record { is = refl; whole = refl; plain = (refl, refl); defined = refl; uncounted = refl }
+object_is = record {
+  is = refl;
+  whole = refl;
+  plain = (refl, refl);
+  defined = refl;
+  uncounted =
+      refl;
+}
 
 named_is : MeansTable with_object create_named named_table
 unfolding understood everything
-named_is = record { is = refl; whole = refl; plain = (refl, refl); defined = refl; uncounted = refl }
+named_is = record {
+  is = refl;
+  whole = refl;
+  plain = (refl, refl);
+  defined = refl;
+  uncounted =
+      refl;
+}
 
 -- a table is made, which has no row, and the others stay
-creates : (schema : Schema) (text : List ℕ) (table : Table) → MeansTable schema text table → (old new : State) → old.now.schema ≡ schema → (count : ℕ) → Executes text [] old new (Ok count)
+creates : (schema : Schema) (text : List ℕ) (table : Table) → MeansTable schema text table →
+    (old new : State) → old.now.schema ≡ schema → (count : ℕ) → Executes text [] old new (Ok count)
     → Creates schema table old.now new.now
 creates schema text table means old new has count h =
-    let w = subst (λ t. Writes old new None CreateTable t [] count) means.whole (runs_as text [] old new schema has CreateTable means.is means.plain count h) in
+    let w = subst (λ t. Writes old new None CreateTable t [] count) means.whole
+    (runs_as text [] old new schema has CreateTable means.is means.plain count h) in
     let all = went w.changed in
     let first = went all.1 in
     let made = first.1 in
     let both : Ok made.table ≡ Ok table = sym made.defined ∙ means.defined in
     let same : made.table ≡ table = cc in
-    let is : first.0.schema ≡ created schema table = made.is ∙ ap (λ s. created s made.table) has ∙ ap (created schema) same in
+    let is : first.0.schema ≡ created schema table = made.is ∙ ap (λ s. created s made.table) has
+    ∙ ap (created schema) same in
     let plain : lacks_sequence first.0.schema ≡ false = ap lacks_sequence is ∙ means.uncounted in
-    let now : new.now ≡ first.0 = ap (λ (p : Tally × Database). p.1) (same_value all.2) ∙ same_value (rw plain at first.2) in
+    let now : new.now ≡ first.0 = ap (λ (p : Tally × Database). p.1) (same_value all.2)
+    ∙ same_value (rw plain at first.2) in
     let back : (P : Database → Type 0) → P first.0 → P new.now = λ P p. subst P (sym now) p in
     record {
       schema_is = back (λ d. d.schema ≡ created schema table) is;
-      empty = back (λ d. d.trees (next_tree schema) ≡ []) (subst (λ s. first.0.trees (next_tree s) ≡ []) has made.empty);
-      others = back (λ d. AllByRecursion (λ t. d.trees t.tree ≡ old.now.trees t.tree) schema.tables) (subst (λ (s : Schema). AllByRecursion (λ t. first.0.trees t.tree ≡ old.now.trees t.tree) s.tables) has made.others);
+      empty = back (λ d. d.trees (next_tree schema) ≡ [])
+          (subst (λ s. first.0.trees (next_tree s) ≡ []) has made.empty);
+      others = back (λ d. AllByRecursion (λ t. d.trees t.tree ≡ old.now.trees t.tree)
+          schema.tables)
+          (subst (λ (s : Schema). AllByRecursion (λ t. first.0.trees t.tree ≡ old.now.trees t.tree)
+          s.tables) has made.others);
     }
 
-pub creates_meta : (old new : State) → old.now.schema ≡ no_schema → (count : ℕ) → Executes create_meta [] old new (Ok count) → Creates no_schema meta_table old.now new.now
+pub creates_meta : (old new : State) → old.now.schema ≡ no_schema → (count : ℕ) →
+    Executes create_meta [] old new (Ok count) → Creates no_schema meta_table old.now new.now
 creates_meta = creates no_schema create_meta meta_table meta_is
 
-pub creates_object : (old new : State) → old.now.schema ≡ with_meta → (count : ℕ) → Executes create_object [] old new (Ok count) → Creates with_meta object_table old.now new.now
+pub creates_object : (old new : State) → old.now.schema ≡ with_meta → (count : ℕ) →
+    Executes create_object [] old new (Ok count) → Creates with_meta object_table old.now new.now
 creates_object = creates with_meta create_object object_table object_is
 
-pub creates_named : (old new : State) → old.now.schema ≡ with_object → (count : ℕ) → Executes create_named [] old new (Ok count) → Creates with_object named_table old.now new.now
+pub creates_named : (old new : State) → old.now.schema ≡ with_object → (count : ℕ) →
+    Executes create_named [] old new (Ok count) → Creates with_object named_table old.now new.now
 creates_named = creates with_object create_named named_table named_is
 
 has_named : HasTables with_named
 unfolding everything
-has_named = record { layout = record { meta = rules_of meta_table; object = rules_of object_table; named = rules_of named_table; others = []; indexes = with_named.indexes; views = [] }; is = refl; apart = refl }
+has_named = record {
+  layout = record {
+    meta = rules_of meta_table;
+    object = rules_of object_table;
+    named = rules_of named_table;
+    others = [];
+    indexes = with_named.indexes;
+    views = [];
+  };
+  is =
+      refl;
+  apart = refl;
+}
 
 no_row_keyed : AreNumbered []
 no_row_keyed = record { apart = tt; numbered = tt }
 
 -- the three tables that are made have no row
-pub bare : (a b c d : Database) → Creates no_schema meta_table a b → Creates with_meta object_table b c → Creates with_object named_table c d → IsBare d
+pub bare : (a b c d : Database) → Creates no_schema meta_table a b → Creates with_meta object_table
+    b c → Creates with_object named_table c d → IsBare d
 unfolding everything
 bare a b c d first second third =
     let meta_is : d.trees 0 ≡ [] = third.others.0 ∙ second.others.0 ∙ first.empty in

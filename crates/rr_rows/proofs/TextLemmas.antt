@@ -4,8 +4,13 @@ use Rattle.sqlite_schema.specs.declared.command.Command.TheVariants.{Delete, Sel
 use Rattle.sqlite.specs.Listing.{understood}
 use Rattle.sqlite_tied.specs.Compute.{everything}
 use Rattle.rr_rows.specs.Tables.{Layout}
-use Rattle.rr_rows.specs.Texts.{clear_meta, clear_named, clear_object, delete_name, delete_object, insert_meta, insert_named, insert_object, meta_numbers, named_numbers, object_numbers, select_meta, select_named, select_naming, select_object, select_of_key, select_sorted_named}
-use Rattle.rr_rows.specs.Queries.{Means, insert_into, alone, rowids_of, numbers_of, numbered_of, object_tests, name_tests, meta_query, of_key_query, sorted_named_query, naming_query}
+use Rattle.rr_rows.specs.Texts.{clear_meta, clear_named, clear_object, delete_name, delete_object}
+use Rattle.rr_rows.specs.Texts.{insert_meta, insert_named, insert_object, meta_numbers}
+use Rattle.rr_rows.specs.Texts.{named_numbers, object_numbers, select_meta, select_named}
+use Rattle.rr_rows.specs.Texts.{select_naming, select_object, select_of_key, select_sorted_named}
+use Rattle.rr_rows.specs.Queries.{Means, insert_into, alone, rowids_of, numbers_of, numbered_of}
+use Rattle.rr_rows.specs.Queries.{object_tests, name_tests, meta_query, of_key_query}
+use Rattle.rr_rows.specs.Queries.{sorted_named_query, naming_query}
 
 pub insert_meta_is : (l : Layout) → Means l insert_meta (insert_into 0 2)
 unfolding understood everything
@@ -19,7 +24,8 @@ pub insert_named_is : (l : Layout) → Means l insert_named (insert_into 2 3)
 unfolding understood everything
 insert_named_is l = record { is = refl; plain = (refl, refl); unlisted = refl }
 
-pub delete_object_is : (l : Layout) → Means l delete_object (Delete 1 (alone (rowids_of 2 object_tests)))
+pub delete_object_is : (l : Layout) → Means l delete_object
+    (Delete 1 (alone (rowids_of 2 object_tests)))
 unfolding understood everything
 delete_object_is l = record { is = refl; plain = (refl, refl); unlisted = refl }
 
@@ -39,38 +45,50 @@ pub clear_named_is : (l : Layout) → Means l clear_named (Delete 2 (alone (rowi
 unfolding understood everything
 clear_named_is l = record { is = refl; plain = (refl, refl); unlisted = refl }
 
-pub select_meta_is : (l : Layout) → Means l select_meta (Select (alone (meta_query)) (codes "name" ∷ codes "value" ∷ []))
+pub select_meta_is : (l : Layout) → Means l select_meta
+    (Select (alone (meta_query)) (codes "name" ∷ codes "value" ∷ []))
 unfolding understood everything
 select_meta_is l = record { is = refl; plain = (refl, refl); unlisted = refl }
 
-pub select_object_is : (l : Layout) → Means l select_object (Select (alone (numbered_of 2)) (codes "rowid" ∷ codes "class" ∷ codes "okey" ∷ codes "body" ∷ []))
+pub select_object_is : (l : Layout) → Means l select_object
+    (Select (alone (numbered_of 2)) (codes "rowid" ∷ codes "class" ∷ codes "okey" ∷ codes "body"
+    ∷ []))
 unfolding understood everything
 select_object_is l = record { is = refl; plain = (refl, refl); unlisted = refl }
 
-pub select_of_key_is : (l : Layout) → Means l select_of_key (Select (alone (of_key_query)) (codes "class" ∷ codes "okey" ∷ codes "body" ∷ []))
+pub select_of_key_is : (l : Layout) → Means l select_of_key
+    (Select (alone (of_key_query)) (codes "class" ∷ codes "okey" ∷ codes "body" ∷ []))
 unfolding understood everything
 select_of_key_is l = record { is = refl; plain = (refl, refl); unlisted = refl }
 
-pub select_named_is : (l : Layout) → Means l select_named (Select (alone (numbered_of 4)) (codes "rowid" ∷ codes "maintainer" ∷ codes "class" ∷ codes "okey" ∷ []))
+pub select_named_is : (l : Layout) → Means l select_named
+    (Select (alone (numbered_of 4)) (codes "rowid" ∷ codes "maintainer" ∷ codes "class"
+    ∷ codes "okey" ∷ []))
 unfolding understood everything
 select_named_is l = record { is = refl; plain = (refl, refl); unlisted = refl }
 
-pub select_sorted_named_is : (l : Layout) → Means l select_sorted_named (Select (alone (sorted_named_query)) (codes "maintainer" ∷ codes "class" ∷ codes "okey" ∷ []))
+pub select_sorted_named_is : (l : Layout) → Means l select_sorted_named
+    (Select (alone (sorted_named_query)) (codes "maintainer" ∷ codes "class" ∷ codes "okey" ∷ []))
 unfolding understood everything
 select_sorted_named_is l = record { is = refl; plain = (refl, refl); unlisted = refl }
 
-pub select_naming_is : (l : Layout) → Means l select_naming (Select (alone (naming_query)) (codes "rowid" ∷ codes "class" ∷ codes "okey" ∷ codes "body" ∷ []))
+pub select_naming_is : (l : Layout) → Means l select_naming
+    (Select (alone (naming_query)) (codes "rowid" ∷ codes "class" ∷ codes "okey" ∷ codes "body"
+    ∷ []))
 unfolding understood everything
 select_naming_is l = record { is = refl; plain = (refl, refl); unlisted = refl }
 
-pub meta_numbers_is : (l : Layout) → Means l meta_numbers (Select (alone (numbers_of 0)) (codes "rowid" ∷ []))
+pub meta_numbers_is : (l : Layout) → Means l meta_numbers
+    (Select (alone (numbers_of 0)) (codes "rowid" ∷ []))
 unfolding understood everything
 meta_numbers_is l = record { is = refl; plain = (refl, refl); unlisted = refl }
 
-pub object_numbers_is : (l : Layout) → Means l object_numbers (Select (alone (numbers_of 2)) (codes "rowid" ∷ []))
+pub object_numbers_is : (l : Layout) → Means l object_numbers
+    (Select (alone (numbers_of 2)) (codes "rowid" ∷ []))
 unfolding understood everything
 object_numbers_is l = record { is = refl; plain = (refl, refl); unlisted = refl }
 
-pub named_numbers_is : (l : Layout) → Means l named_numbers (Select (alone (numbers_of 4)) (codes "rowid" ∷ []))
+pub named_numbers_is : (l : Layout) → Means l named_numbers
+    (Select (alone (numbers_of 4)) (codes "rowid" ∷ []))
 unfolding understood everything
 named_numbers_is l = record { is = refl; plain = (refl, refl); unlisted = refl }

@@ -35,7 +35,8 @@ exact_operators (Lengths b) (Lengths c) tie =
     λ i. Lengths (record { low = low i; high = high i })
 
 -- references that compare as equal are the same reference
-pub exact_references : CmpEqualImpliesEq (λ (a b : Edge MemberSet Operator). ordering_then ((sets.ghosts).cmp a.to b.to) ((operators.ghosts).cmp a.label b.label))
+pub exact_references : CmpEqualImpliesEq (λ (a b : Edge MemberSet Operator).
+    ordering_then ((sets.ghosts).cmp a.to b.to) ((operators.ghosts).cmp a.label b.label))
 exact_references a b tie =
     let both = ties ((sets.ghosts).cmp a.to b.to) ((operators.ghosts).cmp a.label b.label) tie in
     let to = exact_member_sets a.to b.to both.0 in

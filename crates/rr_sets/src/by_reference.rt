@@ -14,47 +14,47 @@ ghost use Rattle.rr_sets.specs.SetObjects.{takes};
 
 use crate::book::SetBook;
 use rr_number::{Name, SetName};
-use rr_object::{ByRef, Object};
+use rr_object::Object;
 use std::alloc::{AllocError, Global};
 use std::collections::BTreeSet;
 
-/// The objects that belong to the set of the name by their own word, where `by_ref` is its
-/// `mbrs-by-ref`. The registry is not asked where that is empty, and else once for `referrers`. The
-/// steps outside the book are O(n log n) for n names in `by_ref` and in `mnt-by` of the referrers.
+/// The objects that belong to the set of the name by their own word, where `set` is its object. The
+/// registry is not asked where its `mbrs-by-ref` is empty, and else once for `referrers`. The steps
+/// outside the book are O(n log n) for n names there and in `mnt-by` of the referrers.
 pub fn belonging<'a, B: SetBook>(
     alloc: Global,
     book: &'a B,
     name: &SetName,
-    by_ref: &ByRef,
+    set: &Object,
 ) -> Result<Vec<&'a Object>, AllocError>
     ensures { IfOk result (λ objects. (o : Obj) → Contains (lent objects.items) o
-        ↔ (IsReferrer (B.contents book.now) name.now o × IsTrue (takes by_ref.now o))) }
+        ↔ (IsReferrer (B.contents book.now) name.now o × IsTrue (takes set.now.by_ref o))) }
 {
-    if !may_take(by_ref) {
+    if !may_take(set) {
         return Ok(Vec::new(alloc));
     }
     let referrers = book.referrers(alloc, name)?;
-    taken(alloc, by_ref, &referrers)
+    taken(alloc, set, &referrers)
 }
 
 /// Whether there is an object whose word could be taken.
-fn may_take(by_ref: &ByRef) -> bool
-    ensures { result ≡ (by_ref.now.any || not (length by_ref.now.names == 0)) }
+fn may_take(set: &Object) -> bool
+    ensures { result ≡ (set.now.by_ref.any || not (length set.now.by_ref.names == 0)) }
 {
-    by_ref.any() || !by_ref.names().is_empty()
+    set.by_ref_any() || !set.by_ref().is_empty()
 }
 
 /// Those of the objects whose word is taken.
 fn taken<'a>(
     alloc: Global,
-    by_ref: &ByRef,
+    set: &Object,
     objects: &[&'a Object],
 ) -> Result<Vec<&'a Object>, AllocError>
     ensures { IfOk result
-        (λ taken. taken.items ≡ filter (λ o. takes by_ref.now o.now) objects.now) }
+        (λ taken. taken.items ≡ filter (λ o. takes set.now.by_ref o.now) objects.now) }
 {
-    let names = in_order(alloc, by_ref.names())?;
-    maintained(alloc, by_ref.any(), &names, objects)
+    let names = in_order(alloc, set.by_ref())?;
+    maintained(alloc, set.by_ref_any(), &names, objects)
 }
 
 /// The names, in order.

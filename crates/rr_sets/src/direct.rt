@@ -42,7 +42,7 @@ fn registered_numbers<B: SetBook>(
     match as_set(alloc, book, name)? {
         Some(object) => {
             let mut numbers = numbers_listed(alloc, object.members())?;
-            let objects = belonging(alloc, book, name, object.by_ref())?;
+            let objects = belonging(alloc, book, name, object)?;
             numbers.extend_from_slice(&numbers_of(alloc, &objects)?)?;
             Ok(numbers)
         }

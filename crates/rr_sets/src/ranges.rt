@@ -56,7 +56,7 @@ fn registered_ranges<B: SetBook>(
     match registered_set(alloc, book, name)? {
         Some(object) => {
             let mut ranges = ranges_listed(alloc, object.members())?;
-            let objects = belonging(alloc, book, name, object.by_ref())?;
+            let objects = belonging(alloc, book, name, object)?;
             ranges.extend_from_slice(&ranges_of(alloc, &objects)?)?;
             Ok(ranges)
         }

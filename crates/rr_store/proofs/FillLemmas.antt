@@ -15,13 +15,18 @@ use Rattle.rr_rows.proofs.AddedLemmas.{none_added, added_then}
 use Rattle.rr_store.proofs.AddingLemmas.{keeps_itself, survives_itself, keeps_then}
 
 -- the rows of these were added in a transaction that goes on
-pub record HasFilled {S : Type 0} (g : Ghosts S) (old new : Held S) (entries : List Entry) : Type 0 where
-  pub done : HasCleanDisk (state g new) → IsTrue (state g old).is_open → IsAdded entries (state g old).now (state g new).now
-  pub step : HasCleanDisk (state g new) → IsTrue (state g old).is_open → RunsOn (state g old) (state g new)
+pub record HasFilled {S : Type 0} (g : Ghosts S) (old new : Held S) (entries : List Entry) :
+    Type 0 where
+  pub done : HasCleanDisk (state g new) → IsTrue (state g old).is_open →
+      IsAdded entries (state g old).now (state g new).now
+  pub step : HasCleanDisk (state g new) → IsTrue (state g old).is_open → RunsOn (state g old)
+      (state g new)
   pub kept : HasCleanDisk (state g new) → KeepsCommit (state g old) (state g new)
   pub survives : Survives (state g old) (state g new) (λ _. ⊥)
 
-pub none_filled : {S : Type 0} (g : Ghosts S) (old : Held S) → (HasCleanDisk (state g old) → IsTrue (state g old).is_open → IsTidy (state g old).now) → HasFilled g old old []
+pub none_filled : {S : Type 0} (g : Ghosts S) (old : Held S) →
+    (HasCleanDisk (state g old) → IsTrue (state g old).is_open → IsTidy (state g old).now) →
+    HasFilled g old old []
 none_filled g old tidy = record {
   done = λ clean on. none_added _ (tidy clean on);
   step = λ clean on. record { is_open = on; mode = refl; committed = refl };
@@ -29,27 +34,46 @@ none_filled g old tidy = record {
   survives = survives_itself (state g old);
 }
 
-pub filled_more : {S : Type 0} (g : Ghosts S) (old mid new : Held S) (entries : List Entry) (entry : Entry) → HasFilled g old mid entries
-    → (HasCleanDisk (state g new) → IsAdded (entry ∷ []) (state g mid).now (state g new).now) → (HasCleanDisk (state g new) → RunsOn (state g mid) (state g new))
-    → (HasCleanDisk (state g new) → KeepsCommit (state g mid) (state g new)) → Survives (state g mid) (state g new) (λ _. ⊥) → HasFilled g old new (entries ++ entry ∷ [])
+pub filled_more : {S : Type 0} (g : Ghosts S) (old mid new : Held S) (entries : List Entry)
+    (entry : Entry) → HasFilled g old mid entries
+    → (HasCleanDisk (state g new) → IsAdded (entry ∷ []) (state g mid).now (state g new).now) →
+    (HasCleanDisk (state g new) → RunsOn (state g mid) (state g new))
+    → (HasCleanDisk (state g new) → KeepsCommit (state g mid) (state g new)) →
+    Survives (state g mid) (state g new) (λ _. ⊥) → HasFilled g old new (entries ++ entry ∷ [])
 filled_more g old mid new entries entry had added step kept survives =
-    let earlier : HasCleanDisk (state g new) → HasCleanDisk (state g mid) = λ clean. omega (arith, survives.clean) in
+    let earlier : HasCleanDisk (state g new) → HasCleanDisk (state g mid) = λ clean.
+    omega (arith, survives.clean) in
     record {
-      done = λ clean on. added_then entries (entry ∷ []) _ _ _ (had.done (earlier clean) on) (added clean);
-      step = λ clean on. let one = had.step (earlier clean) on in let two = step clean in record { is_open = two.is_open; mode = two.mode ∙ one.mode; committed = two.committed ∙ one.committed };
-      kept = λ clean. keeps_then (state g old) (state g mid) (state g new) (had.kept (earlier clean)) (kept clean);
-      survives = survives_then (state g old) (state g mid) (state g new) (λ _. ⊥) (λ _. ⊥) (λ _. ⊥) (λ _ db h. h) (λ _ db h. h) had.survives survives;
+      done = λ clean on. added_then entries (entry ∷ []) _ _ _ (had.done (earlier clean) on)
+          (added clean);
+      step = λ clean on. let one = had.step (earlier clean) on in let two = step clean in
+          record {
+            is_open = two.is_open;
+            mode = two.mode ∙ one.mode;
+            committed = two.committed
+                ∙ one.committed;
+          };
+      kept = λ clean. keeps_then (state g old) (state g mid) (state g new)
+          (had.kept (earlier clean)) (kept clean);
+      survives = survives_then (state g old) (state g mid) (state g new) (λ _. ⊥) (λ _. ⊥) (λ _. ⊥)
+          (λ _ db h. h) (λ _ db h. h) had.survives survives;
     }
 
 -- and these are the rows of objects that are such as readers make
-pub record AreFilled {S : Type 0} (g : Ghosts S) (old new : Held S) (objects : List Obj) : Type 0 where
+pub record AreFilled {S : Type 0} (g : Ghosts S) (old new : Held S) (objects : List Obj) :
+    Type 0 where
   pub read : AllByRecursion IsObject objects
   pub filled : HasFilled g old new (map entry_of objects)
 
-pub object_filled : {S : Type 0} (g : Ghosts S) (old mid new : Held S) (objects : List Obj) (object : Obj) → IsObject object → AreFilled g old mid objects
-    → (HasCleanDisk (state g new) → IsAdded (entry_of object ∷ []) (state g mid).now (state g new).now) → (HasCleanDisk (state g new) → RunsOn (state g mid) (state g new))
-    → (HasCleanDisk (state g new) → KeepsCommit (state g mid) (state g new)) → Survives (state g mid) (state g new) (λ _. ⊥) → AreFilled g old new (objects ++ object ∷ [])
+pub object_filled : {S : Type 0} (g : Ghosts S) (old mid new : Held S) (objects : List Obj)
+    (object : Obj) → IsObject object → AreFilled g old mid objects
+    → (HasCleanDisk (state g new) → IsAdded (entry_of object ∷ []) (state g mid).now
+    (state g new).now) → (HasCleanDisk (state g new) → RunsOn (state g mid) (state g new))
+    → (HasCleanDisk (state g new) → KeepsCommit (state g mid) (state g new)) →
+    Survives (state g mid) (state g new) (λ _. ⊥) → AreFilled g old new (objects ++ object ∷ [])
 object_filled g old mid new objects object is had added step kept survives = record {
   read = all-append IsObject objects (object ∷ []) had.read (is, tt);
-  filled = subst (HasFilled g old new) (sym (map-append entry_of objects (object ∷ []))) (filled_more g old mid new (map entry_of objects) (entry_of object) had.filled added step kept survives);
+  filled = subst (HasFilled g old new) (sym (map-append entry_of objects (object ∷ [])))
+      (filled_more g old mid new (map entry_of objects) (entry_of object) had.filled added step
+      kept survives);
 }

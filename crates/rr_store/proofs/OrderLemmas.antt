@@ -1,10 +1,12 @@
 -- Objects whose keys rise from one to the next are in order.
-use Rattle.std.proofs.Common.{◌≡◌, ◌≢◌, false, List, [], ◌∷◌, IsTrue, Ordering, Less, Equal, Greater, is_gt, refl, sym, ap, subst, IsPermutation, IsSorted}
+use Rattle.std.proofs.Common.{◌≡◌, ◌≢◌, false, List, [], ◌∷◌, IsTrue, Ordering, Less, Equal}
+use Rattle.std.proofs.Common.{Greater, is_gt, refl, sym, ap, subst, IsPermutation, IsSorted}
 use Rattle.std.specs.Prelude.{⊤}
 use Rattle.std.specs.Cmp.{IsStrictWeakOrder, IsTotalOrder}
 use Rattle.std.specs.Ordering.{is_lt}
 use Rattle.std.specs.List.{AllByRecursion}
-use Rattle.std.proofs.lemmas.List.Sorted.{IsPermutation-cons, IsPermutation-middle, IsPermutation-refl, IsPermutation-trans, ranks_by}
+use Rattle.std.proofs.lemmas.List.Sorted.{IsPermutation-cons, IsPermutation-middle}
+use Rattle.std.proofs.lemmas.List.Sorted.{IsPermutation-refl, IsPermutation-trans, ranks_by}
 use Rattle.sqlite_trees.specs.Tree.{IsAscending}
 use Rattle.sqlite_trees.proofs.ListLemmas.{all_weaker, all-permutation, along_permutation}
 use Rattle.rr_object.specs.Objects.{Obj}
@@ -29,18 +31,28 @@ chain_rises [] chained = tt
 chain_rises (x ∷ []) chained = (tt, tt)
 chain_rises (x ∷ y ∷ ys) chained =
     let up = chain_rises (y ∷ ys) chained.1 in
-    let first : key_cmp x.key y.key ≡ Less = less _ chained.0 in
-    ((first, all_weaker (λ z. key_cmp y.key z.key ≡ Less) (λ z. key_cmp x.key z.key ≡ Less) (λ z h. keys_total.trans x.key y.key z.key first h) ys up.0), up)
+    let first : key_cmp x.key y.key ≡ Less = less _ chained.0 in (
+      (
+        first,
+        all_weaker (λ z. key_cmp y.key z.key ≡ Less) (λ z. key_cmp x.key z.key ≡ Less)
+            (λ z h. keys_total.trans x.key y.key z.key first h) ys up.0,
+      ),
+      up,
+    )
 
-pub head_below : (object : Obj) (objects : List Obj) → AreInOrder (object ∷ objects) → IsTrue (is_below object objects)
+pub head_below : (object : Obj) (objects : List Obj) → AreInOrder (object ∷ objects) →
+    IsTrue (is_below object objects)
 head_below x [] up = refl
 head_below x (y ∷ ys) up = ap is_lt up.0.0
 
 -- a step along the list
-pub step_down : (objects rest later : List Obj) (first : Obj) → rest ≡ first ∷ later → IsTrue (is_below first later) → (AreChained rest → AreChained objects) × (AreInOrder objects → AreInOrder rest)
+pub step_down : (objects rest later : List Obj) (first : Obj) → rest ≡ first ∷ later →
+    IsTrue (is_below first later) → (AreChained rest → AreChained objects)
+    × (AreInOrder objects → AreInOrder rest)
     → (AreChained later → AreChained objects) × (AreInOrder objects → AreInOrder later)
 step_down objects rest later first is below h =
-    let both = subst (λ (l : List Obj). (AreChained l → AreChained objects) × (AreInOrder objects → AreInOrder l)) is h in
+    let both = subst (λ (l : List Obj). (AreChained l → AreChained objects)
+    × (AreInOrder objects → AreInOrder l)) is h in
     ((λ chained. both.0 (below, chained)), λ up. (both.1 up).1)
 
 abbrev pub StaysApart : List Obj → List Obj → Type 0
@@ -50,8 +62,16 @@ StaysApart xs ys = IsPermutation xs ys × (AreApart xs → AreApart ys)
 pub apart_permutes : (xs ys : List Obj) → IsPermutation xs ys → StaysApart xs ys
 apart_permutes = along_permutation StaysApart
     (λ xs. (IsPermutation-refl xs, λ up. up))
-    (λ x xs ys h. (IsPermutation-cons x xs ys h.0, λ up. (all-permutation (λ y. x.key ≢ y.key) xs ys h.0 up.0, h.1 up.1)))
-    (λ x y xs. (IsPermutation-middle (x ∷ []) y xs, λ up. ((λ same. up.0.0 (sym same), up.1.0), (up.0.1, up.1.1))))
+    (λ x xs ys h. (
+      IsPermutation-cons x xs ys h.0,
+      λ up.
+          (all-permutation (λ y. x.key ≢ y.key) xs ys h.0 up.0, h.1 up.1),
+    ))
+    (λ x y xs. (
+      IsPermutation-middle (x ∷ []) y xs,
+      λ up.
+          ((λ same. up.0.0 (sym same), up.1.0), (up.0.1, up.1.1)),
+    ))
     (λ xs ys zs h k. (IsPermutation-trans xs ys zs h.0 k.0, λ up. k.1 (h.1 up)))
 
 by_key_total : IsTotalOrder by_key
@@ -70,14 +90,21 @@ below Less h k = refl
 below Equal h k = absurd (k refl)
 below Greater h k = absurd (cc)
 
-all_below : (o : Obj) (os : List Obj) → AllByRecursion (λ x. is_gt (by_key o x) ≡ false) os → AllByRecursion (λ x. o.key ≢ x.key) os → AllByRecursion (λ x. key_cmp o.key x.key ≡ Less) os
+all_below : (o : Obj) (os : List Obj) → AllByRecursion (λ x. is_gt (by_key o x) ≡ false) os →
+    AllByRecursion (λ x. o.key ≢ x.key) os → AllByRecursion (λ x. key_cmp o.key x.key ≡ Less) os
 all_below o [] up apart = tt
-all_below o (x ∷ os) up apart = (below (key_cmp o.key x.key) up.0 (λ tie. apart.0 (keys_exact o.key x.key tie)), all_below o os up.1 apart.1)
+all_below o (x ∷ os) up apart = (
+  below (key_cmp o.key x.key) up.0 (λ tie. apart.0 (keys_exact o.key x.key tie)),
+  all_below o os up.1 apart.1,
+)
 
-rising : (os : List Obj) → IsAscending (λ a b. is_gt (by_key a b) ≡ false) os → AreApart os → AreInOrder os
+rising : (os : List Obj) → IsAscending (λ a b. is_gt (by_key a b) ≡ false) os → AreApart os →
+    AreInOrder os
 rising [] up apart = tt
 rising (o ∷ os) up apart = (all_below o os up.0 apart.0, rising os up.1 apart.1)
 
 -- objects that are sorted by their keys, no two the same, are in order
-pub sorted_in_order : (objects : List Obj) → IsSorted by_key objects → AreApart objects → AreInOrder objects
-sorted_in_order objects sorted apart = rising objects (rises by_key by_key_total objects sorted) apart
+pub sorted_in_order : (objects : List Obj) → IsSorted by_key objects → AreApart objects →
+    AreInOrder objects
+sorted_in_order objects sorted apart = rising objects (rises by_key by_key_total objects sorted)
+    apart

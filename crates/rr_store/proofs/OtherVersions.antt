@@ -1,5 +1,6 @@
 -- What rows that are stored in tables of a version say of it, and which faults are of rows.
-use Rattle.std.proofs.Common.{◌≡◌, inl, inr, ℕ, ◌<◌, ◌^◌, List, [], ◌∷◌, codes, refl, sym, ap, subst, ◌∙◌, arith}
+use Rattle.std.proofs.Common.{◌≡◌, inl, inr, ℕ, ◌<◌, ◌^◌, List, [], ◌∷◌, codes, refl, sym, ap}
+use Rattle.std.proofs.Common.{subst, ◌∙◌, arith}
 use Rattle.std.specs.Prelude.{decimal, Contains}
 use Rattle.std.proofs.lemmas.Fmt.{decimal_digit, decimal_injective}
 use Rattle.std.proofs.lemmas.List.Elements.{Contains-push_cases}
@@ -40,15 +41,20 @@ one_value name a b h =
       | inr same ↦ cc
     ]
 
-pub stored_says_it : (version : Version) (source : List ℕ) (objects : List Obj) (db : Database) → AreStoredIn (form_of version) (version_text version) source objects db → SaysNoOther version db
+pub stored_says_it : (version : Version) (source : List ℕ) (objects : List Obj) (db : Database) →
+    AreStoredIn (form_of version) (version_text version) source objects db → SaysNoOther version db
 stored_says_it version source objects db stored = record {
   only = λ n low says.
-      let is = one_value (codes "version") (version_text version) (decimal n) (subst (λ rows. Contains rows (meta_row (codes "version") (decimal n))) stored.version says) in
-      decimal_injective n (version_number version) (omega (arith, low)) (is_low version) (is ∙ text_is version);
+      let is = one_value (codes "version") (version_text version) (decimal n)
+      (subst (λ rows. Contains rows (meta_row (codes "version") (decimal n))) stored.version
+      says) in
+      decimal_injective n (version_number version) (omega (arith, low)) (is_low version)
+      (is ∙ text_is version);
 }
 
 -- they are stored in the three tables
-pub stored_tables : (version : Version) (source : List ℕ) (objects : List Obj) (db : Database) → AreStoredIn (form_of version) (version_text version) source objects db → HasTables db.schema
+pub stored_tables : (version : Version) (source : List ℕ) (objects : List Obj) (db : Database) →
+    AreStoredIn (form_of version) (version_text version) source objects db → HasTables db.schema
 stored_tables version source objects db stored = stored.rows.tidy.has
 
 -- which fault of a migration is of the rows
@@ -63,16 +69,19 @@ database_fault (store.Store error) h = h
 database_fault store.Memory h = h
 
 -- the database's error is reported as it is
-pub unread_store : (fault : OpenFault) (error : Error) → unread_fault fault ≡ migrated.Store error → fault ≡ opened.Store error
+pub unread_store : (fault : OpenFault) (error : Error) → unread_fault fault ≡ migrated.Store error
+    → fault ≡ opened.Store error
 unread_store (opened.WrongVersion n) error is = absurd (cc)
 unread_store opened.BadRow error is = absurd (cc)
 unread_store (opened.Store e) error is = let same : e ≡ error = cc in ap opened.Store same
 unread_store opened.Memory error is = absurd (cc)
 
 -- tables of version 1 that are not read are not migrated, and for the same reason
-pub unread_refuses : (root source : List ℕ) (db : Database) (fault : OpenFault) → RefusesTables Old source db fault → RefusesOldTables root source db (unread_fault fault)
+pub unread_refuses : (root source : List ℕ) (db : Database) (fault : OpenFault) →
+    RefusesTables Old source db fault → RefusesOldTables root source db (unread_fault fault)
 unread_refuses root source db (opened.WrongVersion n) h = record {
-  wrong_version = λ number is. h.wrong_version number (let same : n ≡ number = cc in ap opened.WrongVersion same);
+  wrong_version = λ number is. h.wrong_version number (let same : n ≡ number = cc in
+      ap opened.WrongVersion same);
   bad_row = λ is. absurd (cc);
   no_other_said = λ is. absurd (cc);
   tables = λ rows. h.tables tt;
@@ -92,7 +101,8 @@ unread_refuses root source db (opened.Store error) h = record {
   bad_row = λ is. absurd (cc);
   no_other_said = λ is. absurd (cc);
   tables = λ none. absurd none;
-  untabled = λ none. let told = h.untabled none in let same : error ≡ no_tables = cc in ap migrated.Store same;
+  untabled = λ none. let told = h.untabled none in let same : error ≡ no_tables = cc in
+      ap migrated.Store same;
   no_root = λ is. absurd (cc);
 }
 unread_refuses root source db opened.Memory h = record {

@@ -20,55 +20,95 @@ on_any : {X E P : Type 0} (r : Result X E) → P → OnOk r P
 on_any (Ok x) p = p
 on_any (Err e) p = tt
 
-both_survive : (a b c : State) → Survives a b (λ _. ⊥) → Survives b c (λ _. ⊥) → Survives a c (λ _. ⊥)
+both_survive : (a b c : State) → Survives a b (λ _. ⊥) → Survives b c (λ _. ⊥) →
+    Survives a c (λ _. ⊥)
 both_survive a b c = survives_then a b c (λ _. ⊥) (λ _. ⊥) (λ _. ⊥) (λ _ db h. h) (λ _ db h. h)
 
 both_go_on : (a b c : State) → RunsOn a b → RunsOn b c → RunsOn a c
-both_go_on a b c one two = record { is_open = two.is_open; mode = two.mode ∙ one.mode; committed = two.committed ∙ one.committed }
+both_go_on a b c one two = record {
+  is_open = two.is_open;
+  mode = two.mode ∙ one.mode;
+  committed =
+      two.committed ∙ one.committed;
+}
 
 -- a change and then another
-abbrev pub Then : (Database → Database → Type 0) → (Database → Database → Type 0) → Database → Database → Type 0
+abbrev pub Then : (Database → Database → Type 0) → (Database → Database → Type 0) → Database →
+    Database → Type 0
 Then First Second a c = (b : Database) × First a b × Second b c
 
 module _ {S : Type 0} (g : Ghosts S) where
   -- a statement is a step
-  pub statement_steps : (old new : Held S) (sql : List ℕ) (params : Row) (r : Result ℕ Error) → (old.in_transaction ≡ false → (r ≡ Err (SqliteFailure TransactionState)) × (new ≡ old))
-      → (HasCleanDisk (state g new) → IsTrue old.in_transaction → ExecutesInside 0 sql params (state g old) (state g new) r) → Survives (state g old) (state g new) (λ _. ⊥) → (Change : Database → Database → Type 0)
-      → (HasCleanDisk (state g new) → (count : ℕ) → Executes sql params (state g old) (state g new) (Ok count) → IsTrue (state g old).is_open → Change (state g old).now (state g new).now) → Steps g Change old new r
+  pub statement_steps : (old new : Held S) (sql : List ℕ) (params : Row) (r : Result ℕ Error) →
+      (old.in_transaction ≡ false → (r ≡ Err (SqliteFailure TransactionState)) × (new ≡ old))
+      → (HasCleanDisk (state g new) → IsTrue old.in_transaction → ExecutesInside 0 sql params
+      (state g old) (state g new) r) → Survives (state g old) (state g new) (λ _. ⊥) →
+      (Change : Database → Database → Type 0)
+      → (HasCleanDisk (state g new) → (count : ℕ) → Executes sql params (state g old) (state g new)
+      (Ok count) → IsTrue (state g old).is_open → Change (state g old).now (state g new).now) →
+      Steps g Change old new r
   statement_steps old new sql params r ended runs survives Change each = record {
-    made = λ clean. did g old new sql params r ended (runs clean) (Change (state g old).now (state g new).now) (each clean);
+    made = λ clean. did g old new sql params r ended (runs clean)
+        (Change (state g old).now (state g new).now) (each clean);
     goes_on = λ clean. steps g old new sql params r ended (runs clean);
     kept = λ clean. keeps g old new sql params r ended (runs clean);
     survives = survives;
   }
 
   -- a step that succeeded is one, whatever it is called
-  pub steps_ok : {a b : Held S} {Change : Database → Database → Type 0} {X E Y F : Type 0} {p : Result X E} (q : Result Y F) → Steps g Change a b p → IsOk p → Steps g Change a b q
-  steps_ok {p = p} q h is = record { made = λ clean. on_any q (done_so p is (h.made clean)); goes_on = λ clean. on_any q (done_so p is (h.goes_on clean)); kept = h.kept; survives = h.survives }
+  pub steps_ok : {a b : Held S} {Change : Database → Database → Type 0} {X E Y F : Type 0}
+      {p : Result X E} (q : Result Y F) → Steps g Change a b p → IsOk p → Steps g Change a b q
+  steps_ok {p = p} q h is = record {
+    made = λ clean. on_any q (done_so p is (h.made clean));
+    goes_on = λ clean. on_any q (done_so p is (h.goes_on clean));
+    kept = h.kept;
+    survives =
+        h.survives;
+  }
 
   -- a step after one that succeeded
-  pub steps_then : {a b c : Held S} {First Second Both : Database → Database → Type 0} {X E Y F : Type 0} {p : Result X E} {q : Result Y F} → Steps g First a b p → Steps g Second b c q → IsOk p
-      → (HasCleanDisk (state g c) → First (state g a).now (state g b).now → Second (state g b).now (state g c).now → Both (state g a).now (state g c).now) → Steps g Both a c q
+  pub steps_then : {a b c : Held S} {First Second Both : Database → Database → Type 0}
+      {X E Y F : Type 0} {p : Result X E} {q : Result Y F} → Steps g First a b p →
+      Steps g Second b c q → IsOk p
+      → (HasCleanDisk (state g c) → First (state g a).now (state g b).now → Second (state g b).now
+      (state g c).now → Both (state g a).now (state g c).now) → Steps g Both a c q
   steps_then {a = a} {b = b} {c = c} {p = p} {q = q} one two is both =
-      let earlier : HasCleanDisk (state g c) → HasCleanDisk (state g b) = λ clean. omega (arith, two.survives.clean) in
+      let earlier : HasCleanDisk (state g c) → HasCleanDisk (state g b) = λ clean.
+      omega (arith, two.survives.clean) in
       record {
-        made = λ clean. then_ok q (two.made clean) (both clean (done_so p is (one.made (earlier clean))));
-        goes_on = λ clean. then_ok q (two.goes_on clean) (both_go_on (state g a) (state g b) (state g c) (done_so p is (one.goes_on (earlier clean))));
-        kept = λ clean. keeps_then (state g a) (state g b) (state g c) (one.kept (earlier clean)) (two.kept clean);
+        made = λ clean. then_ok q (two.made clean)
+            (both clean (done_so p is (one.made (earlier clean))));
+        goes_on = λ clean. then_ok q (two.goes_on clean)
+            (both_go_on (state g a) (state g b) (state g c)
+            (done_so p is (one.goes_on (earlier clean))));
+        kept = λ clean. keeps_then (state g a) (state g b) (state g c) (one.kept (earlier clean))
+            (two.kept clean);
         survives = both_survive (state g a) (state g b) (state g c) one.survives two.survives;
       }
 
-  pub steps_both : {a b c : Held S} {First Second : Database → Database → Type 0} {X E Y F : Type 0} {p : Result X E} {q : Result Y F} → Steps g First a b p → Steps g Second b c q → IsOk p → Steps g (Then First Second) a c q
-  steps_both {b = b} one two is = steps_then one two is (λ clean first second. ((state g b).now, first, second))
+  pub steps_both : {a b c : Held S} {First Second : Database → Database → Type 0}
+      {X E Y F : Type 0} {p : Result X E} {q : Result Y F} → Steps g First a b p →
+      Steps g Second b c q → IsOk p → Steps g (Then First Second) a c q
+  steps_both {b = b} one two is = steps_then one two is (λ clean first second.
+      ((state g b).now, first, second))
 
   -- and some after it, which find the connection open
-  pub steps_more : {a b c : Held S} {First Second Both : Database → Database → Type 0} {X E Y F : Type 0} {p : Result X E} {q : Result Y F} → Steps g First a b p → StepsWhereOpen g Second b c q → IsOk p
-      → (HasCleanDisk (state g c) → First (state g a).now (state g b).now → Second (state g b).now (state g c).now → Both (state g a).now (state g c).now) → Steps g Both a c q
+  pub steps_more : {a b c : Held S} {First Second Both : Database → Database → Type 0}
+      {X E Y F : Type 0} {p : Result X E} {q : Result Y F} → Steps g First a b p →
+      StepsWhereOpen g Second b c q → IsOk p
+      → (HasCleanDisk (state g c) → First (state g a).now (state g b).now → Second (state g b).now
+      (state g c).now → Both (state g a).now (state g c).now) → Steps g Both a c q
   steps_more {a = a} {b = b} {c = c} {p = p} {q = q} one two is both =
-      let earlier : HasCleanDisk (state g c) → HasCleanDisk (state g b) = λ clean. omega (arith, two.survives.clean) in
+      let earlier : HasCleanDisk (state g c) → HasCleanDisk (state g b) = λ clean.
+      omega (arith, two.survives.clean) in
       record {
-        made = λ clean. then_ok q (two.made clean (done_so p is (one.goes_on (earlier clean))).is_open) (both clean (done_so p is (one.made (earlier clean))));
-        goes_on = λ clean. let on = done_so p is (one.goes_on (earlier clean)) in then_ok q (two.goes_on clean on.is_open) (both_go_on (state g a) (state g b) (state g c) on);
-        kept = λ clean. keeps_then (state g a) (state g b) (state g c) (one.kept (earlier clean)) (two.kept clean);
+        made = λ clean.
+            then_ok q (two.made clean (done_so p is (one.goes_on (earlier clean))).is_open)
+            (both clean (done_so p is (one.made (earlier clean))));
+        goes_on = λ clean. let on = done_so p is (one.goes_on (earlier clean)) in
+            then_ok q (two.goes_on clean on.is_open) (both_go_on (state g a) (state g b)
+            (state g c) on);
+        kept = λ clean. keeps_then (state g a) (state g b) (state g c) (one.kept (earlier clean))
+            (two.kept clean);
         survives = both_survive (state g a) (state g b) (state g c) one.survives two.survives;
       }

@@ -1,12 +1,14 @@
 -- What is read of a paragraph is what it asks.
-use Rattle.std.proofs.Common.{◌≡◌, ◌≢◌, ℕ, Bool, true, false, List, Option, refl, sym, ap, subst, ◌∙◌, inl, inr, Some, Ok, Err}
+use Rattle.std.proofs.Common.{◌≡◌, ◌≢◌, ℕ, Bool, true, false, List, Option, refl, sym, ap, subst}
+use Rattle.std.proofs.Common.{◌∙◌, inl, inr, Some, Ok, Err}
 use Rattle.std.specs.Prelude.{◌⊎◌, Result, IfOk, map}
 use Rattle.rr_text.specs.declared.fault.TextFault.{TextFault}
 use Rattle.rr_text.specs.Fields.{Field}
 use Rattle.rr_object.specs.declared.code.Code.{Code}
 use Rattle.rr_object.specs.declared.code.Code.TheVariants.{E90}
 use Rattle.rr_object.specs.declared.fault.ObjectFault.{ObjectFault}
-use Rattle.rr_object.specs.declared.fault.ObjectFault.TheVariants.{UnknownClass, BadKey, BadCount, BadValue, OtherSource, Memory}
+use Rattle.rr_object.specs.declared.fault.ObjectFault.TheVariants.{UnknownClass, BadKey, BadCount}
+use Rattle.rr_object.specs.declared.fault.ObjectFault.TheVariants.{BadValue, OtherSource, Memory}
 use Rattle.rr_object.specs.declared.key.Key.{Key}
 use Rattle.rr_object.specs.Faults.{code_of}
 use Rattle.rr_object.specs.KeySpellings.{key_of}
@@ -21,50 +23,67 @@ use Rattle.rr_auth.specs.Sources.{IsReadIn, IsReadObject}
 use Rattle.rr_registry.specs.RunLaws.{AreReadIn}
 use Rattle.rr_submission.specs.declared.request.Request.{Request}
 use Rattle.rr_submission.specs.SubmissionItems.{AreItems, ItemRequest, submitted}
-use Rattle.rr_submission.specs.SubmissionItems.AreItems.{at_end, secrets_alone, requested, faulty, unread_for_memory}
+use Rattle.rr_submission.specs.SubmissionItems.AreItems.{at_end, secrets_alone, requested, faulty}
+use Rattle.rr_submission.specs.SubmissionItems.AreItems.{unread_for_memory}
 use Rattle.rr_submission.specs.ItemParts.{IsTied}
-use Rattle.rr_submission.specs.Requests.{IsRequest, action_of, request_of, request_of_key, submitted_object, unread}
+use Rattle.rr_submission.specs.Requests.{IsRequest, action_of, request_of, request_of_key}
+use Rattle.rr_submission.specs.Requests.{submitted_object, unread}
 
 -- with a key that was read
-pub IsRequest-at_key : (source : List ℕ) (fields own : List Field) (key : Key) (action : Result Item Code) → own ≡ own_fields fields → key_of own ≡ Ok key →
+pub IsRequest-at_key : (source : List ℕ) (fields own : List Field) (key : Key)
+    (action : Result Item Code) → own ≡ own_fields fields → key_of own ≡ Ok key →
     (action ≡ action_of source own key (asks_deletion fields)) ⊎ (action ≡ Err E90) →
     IsRequest source fields (record { key = Some key; action = action })
 unfolding request_of
 IsRequest-at_key source fields own key action e k (inl a) =
     let there : key_of (own_fields fields) ≡ Ok key = rw (← e) k in
     inl (rw (there, ← e, a) refl)
-IsRequest-at_key source fields own key action e k (inr a) = inr (record { refused = a; shown = rw (← e) k })
+IsRequest-at_key source fields own key action e k (inr a) =
+    inr (record { refused = a; shown = rw (← e) k })
 
 -- and as that was put together
-pub IsRequest-about : (source : List ℕ) (fields own : List Field) (key : Key) (request : Request) → own ≡ own_fields fields → key_of own ≡ Ok key →
-    (request ≡ record { key = Some key; action = action_of source own key (asks_deletion fields) }) ⊎ (request ≡ record { key = Some key; action = Err E90 }) →
+pub IsRequest-about : (source : List ℕ) (fields own : List Field) (key : Key) (request : Request) →
+    own ≡ own_fields fields → key_of own ≡ Ok key →
+    (request ≡ record { key = Some key; action = action_of source own key (asks_deletion fields) })
+    ⊎ (request ≡ record { key = Some key; action = Err E90 }) →
     IsRequest source fields request
 IsRequest-about source fields own key request e k (inl a) =
-    subst (IsRequest source fields) (sym a) (IsRequest-at_key source fields own key (action_of source own key (asks_deletion fields)) e k (inl refl))
+    subst (IsRequest source fields) (sym a) (IsRequest-at_key source fields own key
+    (action_of source own key (asks_deletion fields)) e k (inl refl))
 IsRequest-about source fields own key request e k (inr a) =
-    subst (IsRequest source fields) (sym a) (IsRequest-at_key source fields own key (Err E90) e k (inr refl))
+    subst (IsRequest source fields) (sym a) (IsRequest-at_key source fields own key (Err E90) e k
+    (inr refl))
 
-fault_read : (source : List ℕ) (fields own : List Field) (fault : ObjectFault) → own ≡ own_fields fields → key_of own ≡ Err fault →
+fault_read : (source : List ℕ) (fields own : List Field) (fault : ObjectFault) →
+    own ≡ own_fields fields → key_of own ≡ Err fault →
     unread (code_of fault) ≡ request_of source fields
 unfolding request_of
 fault_read source fields own fault e k =
     let there : key_of (own_fields fields) ≡ Err fault = rw (← e) k in rw there refl
 
 -- with no key
-pub IsRequest-at_fault : (source : List ℕ) (fields own : List Field) (fault : ObjectFault) → own ≡ own_fields fields →
+pub IsRequest-at_fault : (source : List ℕ) (fields own : List Field) (fault : ObjectFault) →
+    own ≡ own_fields fields →
     (fault ≢ Memory → key_of own ≡ Err fault) → IsRequest source fields (unread (code_of fault))
 IsRequest-at_fault source fields own Memory e k = inr (record { refused = refl; shown = tt })
-IsRequest-at_fault source fields own UnknownClass e k = inl (fault_read source fields own _ e (k (λ p. cc)))
-IsRequest-at_fault source fields own BadKey e k = inl (fault_read source fields own _ e (k (λ p. cc)))
-IsRequest-at_fault source fields own BadCount e k = inl (fault_read source fields own _ e (k (λ p. cc)))
-IsRequest-at_fault source fields own BadValue e k = inl (fault_read source fields own _ e (k (λ p. cc)))
-IsRequest-at_fault source fields own OtherSource e k = inl (fault_read source fields own _ e (k (λ p. cc)))
+IsRequest-at_fault source fields own UnknownClass e k =
+    inl (fault_read source fields own _ e (k (λ p. cc)))
+IsRequest-at_fault source fields own BadKey e k =
+    inl (fault_read source fields own _ e (k (λ p. cc)))
+IsRequest-at_fault source fields own BadCount e k =
+    inl (fault_read source fields own _ e (k (λ p. cc)))
+IsRequest-at_fault source fields own BadValue e k =
+    inl (fault_read source fields own _ e (k (λ p. cc)))
+IsRequest-at_fault source fields own OtherSource e k =
+    inl (fault_read source fields own _ e (k (λ p. cc)))
 
-one_key : (key other : Key) (read : Result Key ObjectFault) → read ≡ Ok key → read ≡ Ok other → key ≡ other
+one_key : (key other : Key) (read : Result Key ObjectFault) → read ≡ Ok key → read ≡ Ok other →
+    key ≡ other
 one_key key other read p q = cc
 
 -- an object is what its own paragraph reads as, and stands under the key of that
-read_object : (source : List ℕ) (own : List Field) (key : Key) (object : Obj) → key_of own ≡ Ok key → object_of own source ≡ Ok object →
+read_object : (source : List ℕ) (own : List Field) (key : Key) (object : Obj) → key_of own
+    ≡ Ok key → object_of own source ≡ Ok object →
     (Some key ≡ Some object.key) × IsReadObject source object
 read_object source own key object k e =
     let read = of_any_source own source object e in
@@ -76,41 +95,52 @@ read_object source own key object k e =
       },
     )
 
-tied_object : (source : List ℕ) (own : List Field) (key : Key) (read : Result Obj ObjectFault) → key_of own ≡ Ok key → object_of own source ≡ read →
+tied_object : (source : List ℕ) (own : List Field) (key : Key) (read : Result Obj ObjectFault) →
+    key_of own ≡ Ok key → object_of own source ≡ read →
     IsTied source (record { key = Some key; action = submitted_object read })
 tied_object source own key (Ok object) k e = read_object source own key object k e
 tied_object source own key (Err fault) k e = tt
 
-tied_action : (source : List ℕ) (own : List Field) (key : Key) (deletes : Bool) → key_of own ≡ Ok key →
+tied_action : (source : List ℕ) (own : List Field) (key : Key) (deletes : Bool) → key_of own
+    ≡ Ok key →
     IsTied source (record { key = Some key; action = action_of source own key deletes })
 tied_action source own key true k = (refl, key_formed own key k)
 tied_action source own key false k = tied_object source own key (object_of own source) k refl
 
-tied_key : (source : List ℕ) (own : List Field) (deletes : Bool) (read : Result Key ObjectFault) → key_of own ≡ read →
+tied_key : (source : List ℕ) (own : List Field) (deletes : Bool) (read : Result Key ObjectFault) →
+    key_of own ≡ read →
     IsTied source (request_of_key source own deletes read)
 tied_key source own deletes (Ok key) e = tied_action source own key deletes e
 tied_key source own deletes (Err fault) e = tt
 
 tied_request : (source : List ℕ) (fields : List Field) → IsTied source (request_of source fields)
 unfolding request_of
-tied_request source fields = tied_key source (own_fields fields) (asks_deletion fields) (key_of (own_fields fields)) refl
+tied_request source fields = tied_key source (own_fields fields) (asks_deletion fields)
+    (key_of (own_fields fields)) refl
 
 -- what a paragraph asks is about the key that is shown, as it is read in the source
-pub IsTied-request : (source : List ℕ) (fields : List Field) (request : Request) → IsRequest source fields request → IsTied source request
-IsTied-request source fields request (inl e) = subst (IsTied source) (sym e) (tied_request source fields)
+pub IsTied-request : (source : List ℕ) (fields : List Field) (request : Request) →
+    IsRequest source fields request → IsTied source request
+IsTied-request source fields request (inl e) = subst (IsTied source) (sym e)
+    (tied_request source fields)
 IsTied-request source fields request (inr lacks) =
-    subst (λ action. IfOk action (λ item. (request.key ≡ Some (key_about item)) × IsReadIn source item)) (sym lacks.refused) tt
+    subst (λ action. IfOk action (λ item. (request.key ≡ Some (key_about item)) × IsReadIn source
+    item)) (sym lacks.refused) tt
 
-read_item : (source : List ℕ) (key : Option Key) (action : Result Item Code) → IsTied source (record { key = key; action = action }) → IfOk action (IsReadIn source)
+read_item : (source : List ℕ) (key : Option Key) (action : Result Item Code) →
+    IsTied source (record { key = key; action = action }) → IfOk action (IsReadIn source)
 read_item source key (Ok item) h = h.1
 read_item source key (Err code) h = tt
 
 -- so the items of a text are as they are read in the source
-pub AreItems-read : (source : List ℕ) {secrets : List (List ℕ)} {es : List (Result (List Field) TextFault)} {items : List ItemRequest} →
+pub AreItems-read : (source : List ℕ) {secrets : List (List ℕ)}
+    {es : List (Result (List Field) TextFault)} {items : List ItemRequest} →
     AreItems source secrets es items → AreReadIn source (map submitted items)
 AreItems-read source at_end = tt
 AreItems-read source (secrets_alone alone rest) = AreItems-read source rest
-AreItems-read source (requested request other is rest) =
-    (read_item source request.key request.action (IsTied-request source _ request is), AreItems-read source rest)
+AreItems-read source (requested request other is rest) = (
+  read_item source request.key request.action (IsTied-request source _ request is),
+  AreItems-read source rest,
+)
 AreItems-read source (faulty fault code is rest) = (tt, AreItems-read source rest)
 AreItems-read source (unread_for_memory entry rest) = (tt, AreItems-read source rest)

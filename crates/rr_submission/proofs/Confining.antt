@@ -19,27 +19,39 @@ use Rattle.rr_submission.specs.SubmissionItems.{AreItems, ItemRequest, submitted
 use Rattle.rr_submission.specs.SubmissionLaws.{ConfinesItems, ConfinesTexts}
 
 -- an item that is read is well formed
-formed_action : (source : List ℕ) (action : Result Item Code) → IfOk action (IsReadIn source) → IfOk action IsItem
+formed_action : (source : List ℕ) (action : Result Item Code) → IfOk action (IsReadIn source) →
+    IfOk action IsItem
 formed_action source (Ok item) read = read_item source item read
 formed_action source (Err code) read = tt
 
 -- so are the first ones of a list that is read
-formed_items : (source : List ℕ) (items later : List ItemRequest) → AreReadIn source (map submitted (items ++ later)) → AreFormed (map submitted items)
+formed_items : (source : List ℕ) (items later : List ItemRequest) →
+    AreReadIn source (map submitted (items ++ later)) → AreFormed (map submitted items)
 formed_items source [] later read = tt
-formed_items source (i ∷ is) later read = (formed_action source i.request.action read.0, formed_items source is later read.1)
+formed_items source (i ∷ is) later read = (
+  formed_action source i.request.action read.0,
+  formed_items source is later read.1,
+)
 
 -- from a sound registry a run of the first items of a text confines what is foreign
 pub items_are_confined : (source : List ℕ) (r : Reg) → Sound r → ConfinesTexts source r
 items_are_confined source r sound entries items later s outcomes are run =
-    λ h held listed. runs_confine r s (map submitted items) outcomes sound (formed_items source items later (AreItems-read source are)) run h held listed
+    λ h held listed. runs_confine r s (map submitted items) outcomes sound
+    (formed_items source items later (AreItems-read source are)) run h held listed
 
 -- which is said of the run alone
-pub items_confined : (source : List ℕ) (entries : List (Result (List Field) TextFault)) (items later : List ItemRequest) (r s : Reg) (outcomes : List Outcome)
-    → Sound r → AreItems source [] entries (items ++ later) → Run r (map submitted items) outcomes s → ConfinesItems r items outcomes s
-items_confined source entries items later r s outcomes sound are run = record { confines = items_are_confined source r sound entries items later s outcomes are run }
+pub items_confined : (source : List ℕ) (entries : List (Result (List Field) TextFault))
+    (items later : List ItemRequest) (r s : Reg) (outcomes : List Outcome)
+    → Sound r → AreItems source [] entries (items ++ later) → Run r (map submitted items) outcomes
+    s → ConfinesItems r items outcomes s
+items_confined source entries items later r s outcomes sound are run =
+    record { confines = items_are_confined source r sound entries items later s outcomes are run }
 
 -- and of a run of all items
-pub all_items_confined : (source : List ℕ) (entries : List (Result (List Field) TextFault)) (items : List ItemRequest) (r s : Reg) (outcomes : List Outcome)
-    → Sound r → AreItems source [] entries items → Run r (map submitted items) outcomes s → ConfinesItems r items outcomes s
+pub all_items_confined : (source : List ℕ) (entries : List (Result (List Field) TextFault))
+    (items : List ItemRequest) (r s : Reg) (outcomes : List Outcome)
+    → Sound r → AreItems source [] entries items → Run r (map submitted items) outcomes s →
+    ConfinesItems r items outcomes s
 all_items_confined source entries items r s outcomes sound are run =
-    items_confined source entries items [] r s outcomes sound (subst (λ is. AreItems source [] entries is) (sym (append-nil items)) are) run
+    items_confined source entries items [] r s outcomes sound
+    (subst (λ is. AreItems source [] entries is) (sym (append-nil items)) are) run

@@ -13,7 +13,8 @@ use Rattle.rr_submission.specs.Submissions.{Sides, IsDone}
 
 -- the report was written whole
 pub IsDone-whole : (source : List ℕ) (sides : Sides) (middle : Told) (done : Done) →
-    HandlesRead source sides.reader_before sides.reader_after Whole sides.before sides.after sides.writer_before middle done →
+    HandlesRead source sides.reader_before sides.reader_after Whole sides.before sides.after
+    sides.writer_before middle done →
     Takes middle sides.writer_after (last_line Complete done.items) → IsDone source sides done
 unfolding report
 IsDone-whole source sides middle done handled line = record {

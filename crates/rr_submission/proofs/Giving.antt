@@ -10,5 +10,6 @@ given_or_not true x xs = refl
 given_or_not false x xs = refl
 
 -- an attribute and those after it
-pub secrets_of-prefix : (x : Field) (xs : List Field) → secrets_of (x ∷ xs) ≡ secrets_of (x ∷ []) ++ secrets_of xs
+pub secrets_of-prefix : (x : Field) (xs : List Field) → secrets_of (x ∷ xs) ≡ secrets_of (x ∷ [])
+    ++ secrets_of xs
 secrets_of-prefix x xs = given_or_not (is_password x) x _

@@ -7,13 +7,18 @@ use Rattle.rr_number.specs.SetNames.{IsSetText, is_set_name}
 use Rattle.rr_object.specs.Classes.{class_name}
 use Rattle.rr_object.specs.Codes.{code_name}
 use Rattle.rr_object.specs.declared.class.Class.{Class}
-use Rattle.rr_object.specs.declared.class.Class.TheVariants.{Mntner, AsBlock, AutNum, Inetnum, Route, AsSet, RouteSet}
+use Rattle.rr_object.specs.declared.class.Class.TheVariants.{Mntner, AsBlock, AutNum, Inetnum}
+use Rattle.rr_object.specs.declared.class.Class.TheVariants.{Route, AsSet, RouteSet}
 use Rattle.rr_object.specs.declared.code.Code.{Code}
-use Rattle.rr_object.specs.declared.code.Code.TheVariants.{E01, E02, E03, E04, E05, E06, E07, E10, E11, E12, E13, E14, E15, E16, E17, E18, E90, E91, E92}
+use Rattle.rr_object.specs.declared.code.Code.TheVariants.{E01, E02, E03, E04, E05, E06, E07, E10}
+use Rattle.rr_object.specs.declared.code.Code.TheVariants.{E11, E12, E13, E14, E15, E16, E17, E18}
+use Rattle.rr_object.specs.declared.code.Code.TheVariants.{E90, E91, E92}
 use Rattle.rr_registry.specs.declared.outcome.Outcome.{Outcome}
-use Rattle.rr_registry.specs.declared.outcome.Outcome.TheVariants.{Added, Changed, Unchanged, Deleted, Refused}
+use Rattle.rr_registry.specs.declared.outcome.Outcome.TheVariants.{Added, Changed, Unchanged}
+use Rattle.rr_registry.specs.declared.outcome.Outcome.TheVariants.{Deleted, Refused}
 use Rattle.rr_submission.specs.declared.ending.Ending.{Ending}
-use Rattle.rr_submission.specs.declared.ending.Ending.TheVariants.{Complete, ReadFault, Memory, Stopped}
+use Rattle.rr_submission.specs.declared.ending.Ending.TheVariants.{Complete, ReadFault, Memory}
+use Rattle.rr_submission.specs.declared.ending.Ending.TheVariants.{Stopped}
 use Rattle.rr_submission.specs.Endings.{before_count, after_count}
 use Rattle.rr_submission.specs.Reports.{outcome_word, refusal_code}
 

@@ -1,5 +1,7 @@
 -- How far a submission has come.
-use Rattle.std.proofs.Common.{◌≡◌, ℕ, ◌+◌, ◌≤◌, Bool, true, false, List, [], ◌∷◌, ◌++◌, length, cond, refl, ap, sym, subst, ◌∙◌, inl, inr, append_assoc, length-append, Err, arith, suc, zero-add}
+use Rattle.std.proofs.Common.{◌≡◌, ℕ, ◌+◌, ◌≤◌, Bool, true, false, List, [], ◌∷◌, ◌++◌, length}
+use Rattle.std.proofs.Common.{cond, refl, ap, sym, subst, ◌∙◌, inl, inr, append_assoc}
+use Rattle.std.proofs.Common.{length-append, Err, arith, suc, zero-add}
 use Rattle.std.specs.Prelude.{map, ◌^◌, ◌⊎◌}
 use Rattle.std.proofs.lemmas.List.Sums.{sum_by-append}
 use Rattle.std.proofs.lemmas.List.{append-nil}
@@ -20,7 +22,8 @@ use Rattle.rr_registry.specs.declared.outcome.Outcome.{Outcome}
 use Rattle.rr_registry.specs.Runs.{Decides, Run}
 use Rattle.rr_submission.specs.declared.ledger.Ledger.{Ghosts}
 use Rattle.rr_submission.specs.declared.handling_fault.HandlingFault.{HandlingFault}
-use Rattle.rr_submission.specs.declared.handling_fault.HandlingFault.TheVariants.{Unwritten, LedgerStopped}
+use Rattle.rr_submission.specs.declared.handling_fault.HandlingFault.TheVariants.{Unwritten}
+use Rattle.rr_submission.specs.declared.handling_fault.HandlingFault.TheVariants.{LedgerStopped}
 use Rattle.rr_submission.specs.declared.submission.Done.{Done}
 use Rattle.rr_submission.specs.declared.request.Request.{Request}
 use Rattle.rr_submission.specs.SubmissionItems.{AreItems, ItemRequest, submitted}
@@ -32,20 +35,26 @@ use Rattle.rr_submission.specs.HandledParts.{HandlesItems, HandlesAll, HandlesOn
 use Rattle.rr_submission.proofs.Confining.{all_items_confined, items_confined}
 
 -- one item more is decided
-pub Run-more : (old between new : Reg) (items : List ItemRequest) (outcomes : List Outcome) (item : ItemRequest) (outcome : Outcome) →
-    Run old (map submitted items) outcomes between → Decides between item.secrets item.request.action outcome new →
+pub Run-more : (old between new : Reg) (items : List ItemRequest) (outcomes : List Outcome)
+    (item : ItemRequest) (outcome : Outcome) →
+    Run old (map submitted items) outcomes between → Decides between item.secrets
+    item.request.action outcome new →
     Run old (map submitted (items ++ item ∷ [])) (outcomes ++ outcome ∷ []) new
 Run-more old between new [] [] item outcome e d = (new, rw (← e) d, refl)
 Run-more old between new [] (o ∷ os) item outcome e d = absurd e
 Run-more old between new (i ∷ is) [] item outcome e d = absurd e
-Run-more old between new (i ∷ is) (o ∷ os) item outcome r d = (r.0, r.1, Run-more r.0 between new is os item outcome r.2 d)
+Run-more old between new (i ∷ is) (o ∷ os) item outcome r d =
+    (r.0, r.1, Run-more r.0 between new is os item outcome r.2 d)
 
 -- and has the next line
-pub lines_from-more : (number : ℕ) (old new : Reg) (items : List ItemRequest) (outcomes : List Outcome) (item : ItemRequest) (outcome : Outcome) →
+pub lines_from-more : (number : ℕ) (old new : Reg) (items : List ItemRequest)
+    (outcomes : List Outcome) (item : ItemRequest) (outcome : Outcome) →
     Run old (map submitted items) outcomes new →
-    lines_from number (items ++ item ∷ []) (outcomes ++ outcome ∷ []) ≡ lines_from number items outcomes ++ item_line (number + length items) item.request.key outcome
+    lines_from number (items ++ item ∷ []) (outcomes ++ outcome ∷ []) ≡ lines_from number items
+    outcomes ++ item_line (number + length items) item.request.key outcome
 unfolding lines_from
-lines_from-more number old new [] [] item outcome e = rw append-nil (ap (λ n. item_line n item.request.key outcome) (omega arith))
+lines_from-more number old new [] [] item outcome e =
+    rw append-nil (ap (λ n. item_line n item.request.key outcome) (omega arith))
 lines_from-more number old new [] (o ∷ os) item outcome e = absurd e
 lines_from-more number old new (i ∷ is) [] item outcome e = absurd e
 lines_from-more number old new (i ∷ is) (o ∷ os) item outcome r =
@@ -57,14 +66,18 @@ lines_from-more number old new (i ∷ is) (o ∷ os) item outcome r =
     ∙ ap (λ n. (first ++ more) ++ item_line n item.request.key outcome) same)
 
 -- and counts if it is refused
-pub refusals-more : (outcomes : List Outcome) (outcome : Outcome) → refusals (outcomes ++ outcome ∷ []) ≡ refusals outcomes + cond (is_refusal outcome) 1 0
-refusals-more outcomes outcome = sum_by-append _ outcomes (outcome ∷ []) ∙ ap (λ n. refusals outcomes + n) (zero-add (cond (is_refusal outcome) 1 0))
+pub refusals-more : (outcomes : List Outcome) (outcome : Outcome) →
+    refusals (outcomes ++ outcome ∷ []) ≡ refusals outcomes + cond (is_refusal outcome) 1 0
+refusals-more outcomes outcome = sum_by-append _ outcomes (outcome ∷ [])
+    ∙ ap (λ n. refusals outcomes + n) (zero-add (cond (is_refusal outcome) 1 0))
 
 -- of what was given so far the items were decided and their lines written, from a sound registry
-pub record ComesTo (source : List ℕ) (given : List Entry) (old new : Reg) (before after : Told) (secrets : List (List ℕ)) (done : Done) : Type 0 where
+pub record ComesTo (source : List ℕ) (given : List Entry) (old new : Reg) (before after : Told)
+    (secrets : List (List ℕ)) (done : Done) : Type 0 where
   pub items : List ItemRequest
   pub outcomes : List Outcome
-  pub are_items : (more : List Entry) (later : List ItemRequest) → AreItems source secrets more later → AreItems source [] (given ++ more) (items ++ later)
+  pub are_items : (more : List Entry) (later : List ItemRequest) → AreItems source secrets more
+      later → AreItems source [] (given ++ more) (items ++ later)
   pub runs : Run old (map submitted items) outcomes new
   pub writes : Takes before after (lines_from 1 items outcomes)
   pub counted : done.items ≡ length items
@@ -73,7 +86,8 @@ pub record ComesTo (source : List ℕ) (given : List Entry) (old new : Reg) (bef
   pub few : done.items ≤ length given
   pub sound : Sound old
 
-pub ComesTo-start : (source : List ℕ) (registry : Reg) (told : Told) → Sound registry → ComesTo source [] registry registry told told [] (record { items = 0; refused = 0 })
+pub ComesTo-start : (source : List ℕ) (registry : Reg) (told : Told) → Sound registry →
+    ComesTo source [] registry registry told told [] (record { items = 0; refused = 0 })
 unfolding lines_from
 ComesTo-start source registry told sound = record {
   items = [];
@@ -93,60 +107,75 @@ at_most_one true = omega arith
 at_most_one false = omega arith
 
 -- the next item is decided, and its line is written
-pub ComesTo-more : {source : List ℕ} {given : List Entry} {old between : Reg} {before middle : Told} {secrets : List (List ℕ)} {done : Done}
-    (start now : Told) (p : Paragraphs) (new : Reg) (after : Told) (then_secrets : List (List ℕ)) (then : Done) (request : Request) (outcome : Outcome) →
-    ComesTo source given old between before middle secrets done → (found : FindsItem source start now p given secrets then_secrets request) →
+pub ComesTo-more : {source : List ℕ} {given : List Entry} {old between : Reg}
+    {before middle : Told} {secrets : List (List ℕ)} {done : Done}
+    (start now : Told) (p : Paragraphs) (new : Reg) (after : Told) (then_secrets : List (List ℕ))
+    (then : Done) (request : Request) (outcome : Outcome) →
+    ComesTo source given old between before middle secrets done →
+    (found : FindsItem source start now p given secrets then_secrets request) →
     Decides between then_secrets request.action outcome new →
     then.items ≡ done.items + 1 → then.refused ≡ done.refused + cond (is_refusal outcome) 1 0 →
     Takes middle after (item_line then.items request.key outcome) →
     ComesTo source (given ++ found.added) old new before after then_secrets then
-ComesTo-more {source} {given} start now p new after then_secrets then request outcome so found decides items refused line =
+ComesTo-more {source} {given} start now p new after then_secrets then request outcome so found
+    decides items refused line =
     let item : ItemRequest = record { secrets = then_secrets; request = request } in
-    let number : then.items ≡ 1 + length so.items = items ∙ (ap (λ n. n + 1) so.counted ∙ omega arith) in
+    let number : then.items ≡ 1 + length so.items =
+    items ∙ (ap (λ n. n + 1) so.counted ∙ omega arith) in
     let shown = rw number at line in
     record {
       items = so.items ++ item ∷ [];
       outcomes = so.outcomes ++ outcome ∷ [];
       are_items = λ more later h.
-          let all : AreItems source [] (given ++ (found.added ++ more)) (so.items ++ item ∷ later) = so.are_items (found.added ++ more) (item ∷ later) (found.item more later h) in
+          let all : AreItems source [] (given ++ (found.added ++ more)) (so.items ++ item ∷ later)
+          = so.are_items (found.added ++ more) (item ∷ later) (found.item more later h) in
           rw (append_assoc given found.added more, append_assoc so.items (item ∷ []) later) all;
       runs = Run-more _ _ _ so.items so.outcomes item outcome so.runs decides;
-      writes = rw (lines_from-more 1 _ _ so.items so.outcomes item outcome so.runs) (Takes-then _ _ so.writes shown);
+      writes = rw (lines_from-more 1 _ _ so.items so.outcomes item outcome so.runs)
+          (Takes-then _ _ so.writes shown);
       counted = omega (arith, items, so.counted, length-append so.items (item ∷ []));
-      refused = refused ∙ (ap (λ n. n + cond (is_refusal outcome) 1 0) so.refused ∙ sym (refusals-more so.outcomes outcome));
+      refused = refused ∙ (ap (λ n. n + cond (is_refusal outcome) 1 0) so.refused
+          ∙ sym (refusals-more so.outcomes outcome));
       fewer = omega (arith, refused, so.fewer, items, at_most_one (is_refusal outcome));
       few = omega (arith, items, so.few, found.some, length-append given found.added);
       sound = so.sound;
     }
 
 -- what was given is within the bytes that a reader of paragraphs reads
-pub given_few : (start now : Told) (p : Paragraphs) (given : List Entry) → HasGiven start now p given → length given ≤ 2 ^ 36
+pub given_few : (start now : Told) (p : Paragraphs) (given : List Entry) → HasGiven start now p
+    given → length given ≤ 2 ^ 36
 given_few start now p given has =
-    let all : length has.text ≡ length has.prefix + length (held p) = ap length has.cut ∙ length-append has.prefix (held p) in
+    let all : length has.text ≡ length has.prefix + length (held p) = ap length has.cut
+    ∙ length-append has.prefix (held p) in
     omega (arith, all, has.few, has.bounded, p.few)
 
 -- no item is left after what was given
-pub HandlesAll-end : {source : List ℕ} {given : List Entry} {old new : Reg} {before after : Told} {secrets : List (List ℕ)} {done : Done} (added : List Entry) →
-    ComesTo source given old new before after secrets done → AreItems source secrets added [] → HandlesAll source (given ++ added) old new before after done
+pub HandlesAll-end : {source : List ℕ} {given : List Entry} {old new : Reg} {before after : Told}
+    {secrets : List (List ℕ)} {done : Done} (added : List Entry) →
+    ComesTo source given old new before after secrets done → AreItems source secrets added [] →
+    HandlesAll source (given ++ added) old new before after done
 HandlesAll-end {source} {given} {old} {new} added so none = record {
   items = so.items;
   outcomes = so.outcomes;
   are_items = rw append-nil at (so.are_items added [] none);
   runs = so.runs;
-  confined = items_confined source (given ++ added) so.items [] old new so.outcomes so.sound (so.are_items added [] none) so.runs;
+  confined = items_confined source (given ++ added) so.items [] old new so.outcomes so.sound
+      (so.are_items added [] none) so.runs;
   writes = so.writes;
   counted = so.counted;
   refused = so.refused;
 }
 
-apart_by : (state : ReaderState) (now : Told) (prefix left : List ℕ) → KeepsApart state now prefix left → (whole_part prefix ≡ prefix) ⊎ ((left ≡ []) × IsSpent now)
+apart_by : (state : ReaderState) (now : Told) (prefix left : List ℕ) → KeepsApart state now prefix
+    left → (whole_part prefix ≡ prefix) ⊎ ((left ≡ []) × IsSpent now)
 apart_by Open now prefix left keeps = inl keeps
 apart_by Ended now prefix left keeps = inr keeps
 apart_by Broken now prefix left keeps = absurd keeps
 apart_by Endless now prefix left keeps = absurd keeps
 
 -- the prefix that was given
-pub prefix_read : (start now : Told) (p : Paragraphs) (given : List Entry) (has : HasGiven start now p given) → ReadsItems start now has.prefix
+pub prefix_read : (start now : Told) (p : Paragraphs) (given : List Entry)
+    (has : HasGiven start now p given) → ReadsItems start now has.prefix
 prefix_read start now p given has = record {
   left = held p;
   gives = rw (← has.cut) has.gives;
@@ -156,27 +185,38 @@ prefix_read start now p given has = record {
 }
 
 -- the items up to one that was found
-last_items : {source : List ℕ} {given : List Entry} {old between : Reg} {before middle : Told} {secrets : List (List ℕ)} {done : Done}
-    (start now : Told) (p : Paragraphs) (then_secrets : List (List ℕ)) (request : Request) → (so : ComesTo source given old between before middle secrets done) →
+last_items : {source : List ℕ} {given : List Entry} {old between : Reg} {before middle : Told}
+    {secrets : List (List ℕ)} {done : Done}
+    (start now : Told) (p : Paragraphs) (then_secrets : List (List ℕ)) (request : Request) →
+    (so : ComesTo source given old between before middle secrets done) →
     (found : FindsItem source start now p given secrets then_secrets request) →
-    AreItems source [] (entries found.has.prefix) (so.items ++ record { secrets = then_secrets; request = request } ∷ [])
+    AreItems source [] (entries found.has.prefix)
+    (so.items ++ record { secrets = then_secrets; request = request } ∷ [])
 last_items {source} {given} start now p then_secrets request so found =
     let item : ItemRequest = record { secrets = then_secrets; request = request } in
-    let all : AreItems source [] (given ++ (found.added ++ [])) (so.items ++ item ∷ []) = so.are_items (found.added ++ []) (item ∷ []) (found.item [] [] at_end) in
-    let same : entries found.has.prefix ≡ given ++ (found.added ++ []) = found.has.spelled ∙ ap (λ es. given ++ es) (sym (append-nil found.added)) in
+    let all : AreItems source [] (given ++ (found.added ++ [])) (so.items ++ item ∷ []) =
+    so.are_items (found.added ++ []) (item ∷ []) (found.item [] [] at_end) in
+    let same : entries found.has.prefix ≡ given ++ (found.added ++ []) = found.has.spelled
+    ∙ ap (λ es. given ++ es) (sym (append-nil found.added)) in
     subst (λ es. AreItems source [] es (so.items ++ item ∷ [])) (sym same) all
 
 -- a line could not be written
-pub HandlesSome-cut : {source : List ℕ} {given : List Entry} {old between : Reg} {before middle : Told} {secrets : List (List ℕ)} {done : Done}
-    (start now : Told) (p : Paragraphs) (new : Reg) (after : Told) (then_secrets : List (List ℕ)) (count : ℕ) (request : Request) (outcome : Outcome) →
-    ComesTo source given old between before middle secrets done → FindsItem source start now p given secrets then_secrets request →
+pub HandlesSome-cut : {source : List ℕ} {given : List Entry} {old between : Reg}
+    {before middle : Told} {secrets : List (List ℕ)} {done : Done}
+    (start now : Told) (p : Paragraphs) (new : Reg) (after : Told) (then_secrets : List (List ℕ))
+    (count : ℕ) (request : Request) (outcome : Outcome) →
+    ComesTo source given old between before middle secrets done → FindsItem source start now p
+    given secrets then_secrets request →
     Decides between then_secrets request.action outcome new → count ≡ done.items + 1 →
     TakesPrefix middle after (item_line count request.key outcome) →
     HandlesUnwritten source start now old new before after count
-HandlesSome-cut {source} {old} {between} {middle} start now p new after then_secrets count request outcome so found decides items line =
+HandlesSome-cut {source} {old} {between} {middle} start now p new after then_secrets count request
+    outcome so found decides items line =
     let item : ItemRequest = record { secrets = then_secrets; request = request } in
-    let are : AreItems source [] (entries found.has.prefix) (so.items ++ item ∷ []) = last_items start now p then_secrets request so found in
-    let run : Run old (map submitted (so.items ++ item ∷ [])) (so.outcomes ++ outcome ∷ []) new = Run-more old between new so.items so.outcomes item outcome so.runs decides in
+    let are : AreItems source [] (entries found.has.prefix) (so.items ++ item ∷ []) =
+    last_items start now p then_secrets request so found in
+    let run : Run old (map submitted (so.items ++ item ∷ [])) (so.outcomes ++ outcome ∷ []) new =
+    Run-more old between new so.items so.outcomes item outcome so.runs decides in
     record {
       prefix = found.has.prefix;
       reads = prefix_read start now p _ found.has;
@@ -188,7 +228,8 @@ HandlesSome-cut {source} {old} {between} {middle} start now p new after then_sec
         between = middle;
         are_items = are;
         runs = run;
-        confined = all_items_confined source (entries found.has.prefix) (so.items ++ item ∷ []) old new (so.outcomes ++ outcome ∷ []) so.sound are run;
+        confined = all_items_confined source (entries found.has.prefix) (so.items ++ item ∷ []) old
+            new (so.outcomes ++ outcome ∷ []) so.sound are run;
         writes = so.writes;
         cut = line;
         counted = items ∙ ap (λ n. n + 1) so.counted;
@@ -196,14 +237,21 @@ HandlesSome-cut {source} {old} {between} {middle} start now p new after then_sec
     }
 
 -- the ledger stopped
-pub HandlesThenStops-cut : {L : Type 0} (g : Ghosts L) {source : List ℕ} {given : List Entry} (old between new : L) {before middle : Told} {secrets : List (List ℕ)} {done : Done}
-    (start now : Told) (p : Paragraphs) (after : Told) (then_secrets : List (List ℕ)) (count : ℕ) (request : Request) →
-    ComesTo source given (g.registry old) (g.registry between) before middle secrets done → g.is_stopped between ≡ false → FindsItem source start now p given secrets then_secrets request →
-    StopsAt g between then_secrets request.action new → count ≡ done.items → TakesSome middle after (stop_lines count request.key) →
+pub HandlesThenStops-cut : {L : Type 0} (g : Ghosts L) {source : List ℕ} {given : List Entry}
+    (old between new : L) {before middle : Told} {secrets : List (List ℕ)} {done : Done}
+    (start now : Told) (p : Paragraphs) (after : Told) (then_secrets : List (List ℕ)) (count : ℕ)
+    (request : Request) →
+    ComesTo source given (g.registry old) (g.registry between) before middle secrets done →
+    g.is_stopped between ≡ false → FindsItem source start now p given secrets then_secrets
+    request →
+    StopsAt g between then_secrets request.action new → count ≡ done.items → TakesSome middle after
+    (stop_lines count request.key) →
     HandlesStopped g source start now old new before after count
-HandlesThenStops-cut g {source} old between new {before} {middle} start now p after then_secrets count request so running found stops items line =
+HandlesThenStops-cut g {source} old between new {before} {middle} start now p after then_secrets
+    count request so running found stops items line =
     let item : ItemRequest = record { secrets = then_secrets; request = request } in
-    let are : AreItems source [] (entries found.has.prefix) (so.items ++ item ∷ []) = last_items start now p then_secrets request so found in
+    let are : AreItems source [] (entries found.has.prefix) (so.items ++ item ∷ []) =
+    last_items start now p then_secrets request so found in
     record {
       prefix = found.has.prefix;
       reads = prefix_read start now p _ found.has;
@@ -215,7 +263,8 @@ HandlesThenStops-cut g {source} old between new {before} {middle} start now p af
         between = middle;
         are_items = are;
         runs = so.runs;
-        confined = items_confined source (entries found.has.prefix) so.items (item ∷ []) (g.registry old) (g.registry between) so.outcomes so.sound are so.runs;
+        confined = items_confined source (entries found.has.prefix) so.items (item ∷ [])
+            (g.registry old) (g.registry between) so.outcomes so.sound are so.runs;
         running = running;
         stops = stops;
         writes = so.writes;
@@ -225,11 +274,20 @@ HandlesThenStops-cut g {source} old between new {before} {middle} start now p af
     }
 
 -- an item could not be handled
-pub Handles-cut : {L : Type 0} (g : Ghosts L) {source : List ℕ} {given : List Entry} (old between new : L) {before middle : Told} {secrets : List (List ℕ)} {done : Done}
-    (start now : Told) (p : Paragraphs) (after : Told) (then_secrets : List (List ℕ)) (request : Request) (stop : HandlingFault) →
-    ComesTo source given (g.registry old) (g.registry between) before middle secrets done → g.is_stopped between ≡ false → FindsItem source start now p given secrets then_secrets request →
-    HandlesOne g then_secrets request done between new middle after (Err stop) → HandlesItems g old new source start now before after (Err stop)
-Handles-cut g old between new start now p after then_secrets request (Unwritten count) so running found one =
-    HandlesSome-cut start now p _ after then_secrets count request one.outcome so found one.decides one.items one.writes
-Handles-cut g old between new start now p after then_secrets request (LedgerStopped count) so running found one =
-    HandlesThenStops-cut g old between new start now p after then_secrets count request so running found one.stops one.items one.writes
+pub Handles-cut : {L : Type 0} (g : Ghosts L) {source : List ℕ} {given : List Entry}
+    (old between new : L) {before middle : Told} {secrets : List (List ℕ)} {done : Done}
+    (start now : Told) (p : Paragraphs) (after : Told) (then_secrets : List (List ℕ))
+    (request : Request) (stop : HandlingFault) →
+    ComesTo source given (g.registry old) (g.registry between) before middle secrets done →
+    g.is_stopped between ≡ false → FindsItem source start now p given secrets then_secrets
+    request →
+    HandlesOne g then_secrets request done between new middle after (Err stop) →
+    HandlesItems g old new source start now before after (Err stop)
+Handles-cut g old between new start now p after then_secrets request (Unwritten count) so running
+    found one =
+    HandlesSome-cut start now p _ after then_secrets count request one.outcome so found one.decides
+    one.items one.writes
+Handles-cut g old between new start now p after then_secrets request (LedgerStopped count) so
+    running found one =
+    HandlesThenStops-cut g old between new start now p after then_secrets count request so running
+    found one.stops one.items one.writes

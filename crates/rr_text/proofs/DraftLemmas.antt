@@ -1,5 +1,7 @@
 -- Lemmas on what a draft has of the text so far.
-use Rattle.std.proofs.Common.{◌≡◌, ℕ, ◌+◌, ◌-◌, ◌<◌, ◌≤◌, Bool, true, false, ◌&&◌, ◌||◌, List, [], ◌∷◌, ◌++◌, ◌⊎◌, inl, inr, length, length-append, take, map, refl, sym, ap, subst, ◌∙◌, arith, append_assoc, if◌then◌else◌}
+use Rattle.std.proofs.Common.{◌≡◌, ℕ, ◌+◌, ◌-◌, ◌<◌, ◌≤◌, Bool, true, false, ◌&&◌, ◌||◌, List, []}
+use Rattle.std.proofs.Common.{◌∷◌, ◌++◌, ◌⊎◌, inl, inr, length, length-append, take, map, refl, sym}
+use Rattle.std.proofs.Common.{ap, subst, ◌∙◌, arith, append_assoc, if◌then◌else◌}
 use Rattle.std.proofs.lemmas.List.{append-nil, take_all, take_at, take-append-le}
 use Rattle.std.proofs.Math.Bool.{or-true, and-false}
 use Rattle.std.proofs.lemmas.List.Folds.{list_any-append}
@@ -10,29 +12,37 @@ use Rattle.rr_text.specs.declared.line_so_far.LineSoFar.TheVariants.{Nothing}
 use Rattle.rr_text.specs.declared.line_so_far.LineEnd.{LineEnd}
 use Rattle.rr_text.specs.declared.line_so_far.LineEnd.TheVariants.{Passed, Taken, Closed}
 use Rattle.rr_text.specs.LineParts.{line_so_far, line_with, end_of_line}
-use Rattle.rr_text.specs.DraftParts.{IsCutSo, KeepsBlock, IsUnclosed, HasEntry, IsClosed, GathersLines, Finishes, HasNoText, KeepsPiece, TakesLine, EndsLine}
+use Rattle.rr_text.specs.DraftParts.{IsCutSo, KeepsBlock, IsUnclosed, HasEntry, IsClosed}
+use Rattle.rr_text.specs.DraftParts.{GathersLines, Finishes, HasNoText, KeepsPiece, TakesLine}
+use Rattle.rr_text.specs.DraftParts.{EndsLine}
 use Rattle.rr_bytes.specs.Blanks.{is_line_feed}
-use Rattle.rr_text.specs.Lines.{text_lines, are_whole_lines, IsWholeLine, is_blank_line, is_paragraph_line}
+use Rattle.rr_text.specs.Lines.{text_lines, are_whole_lines, IsWholeLine, is_blank_line}
+use Rattle.rr_text.specs.Lines.{is_paragraph_line}
 use Rattle.rr_text.specs.Blocks.{blocks, from_blank}
 use Rattle.rr_text.specs.PrivateParts.{starts_block, until_blank}
 use Rattle.rr_text.specs.Entries.{entries, block_entry, size_limit}
 use Rattle.rr_text.specs.WholePart.{closes, closed_lines, whole_part, whole_entries}
 use Rattle.rr_text.proofs.LineLemmas.{text_lines-append, are_whole_lines-append}
-use Rattle.rr_text.proofs.LineSoFarLemmas.{or_none, unended, single_after, whole_after, line_with-append, EndsSo, ends_so}
+use Rattle.rr_text.proofs.LineSoFarLemmas.{or_none, unended, single_after, whole_after}
+use Rattle.rr_text.proofs.LineSoFarLemmas.{line_with-append, EndsSo, ends_so}
 use Rattle.rr_text.proofs.BlockLemmas.{blocks_passed, blocks_apart, no_blocks, head_of}
-use Rattle.rr_text.proofs.ApartLemmas.{IsSplit, lines_split, closed_prefix, closed_before, whole_closed}
+use Rattle.rr_text.proofs.ApartLemmas.{IsSplit, lines_split, closed_prefix, closed_before}
+use Rattle.rr_text.proofs.ApartLemmas.{whole_closed}
 
 -- lines of no paragraph before others give no block
-pub blocks_idle : (passed lines : List (List ℕ)) → list_any is_paragraph_line passed ≡ false → blocks (passed ++ lines) ≡ blocks lines
+pub blocks_idle : (passed lines : List (List ℕ)) → list_any is_paragraph_line passed ≡ false →
+    blocks (passed ++ lines) ≡ blocks lines
 blocks_idle [] lines h = refl
 blocks_idle (line ∷ passed) lines h =
     let none = or_none (is_paragraph_line line) (list_any is_paragraph_line passed) h in
     blocks_passed line (passed ++ lines) none.0 ∙ blocks_idle passed lines none.1
 
-pub idle_alone : (passed : List (List ℕ)) → list_any is_paragraph_line passed ≡ false → blocks passed ≡ []
+pub idle_alone : (passed : List (List ℕ)) → list_any is_paragraph_line passed ≡ false →
+    blocks passed ≡ []
 idle_alone passed h = ap blocks (sym (append-nil passed)) ∙ (blocks_idle passed [] h ∙ no_blocks)
 
-unbroken_until : (lines : List (List ℕ)) → list_any is_blank_line lines ≡ false → (until_blank lines ≡ lines) × (from_blank lines ≡ [])
+unbroken_until : (lines : List (List ℕ)) → list_any is_blank_line lines ≡ false →
+    (until_blank lines ≡ lines) × (from_blank lines ≡ [])
 unfolding until_blank from_blank
 unbroken_until [] h = (refl, refl)
 unbroken_until (line ∷ others) h =
@@ -42,12 +52,15 @@ unbroken_until (line ∷ others) h =
     (rw first (ap (λ ls. line ∷ ls) rest.0), rw first rest.1)
 
 -- lines without a blank one, of which the first is of a paragraph, are one block
-pub blocks_one : (lines : List (List ℕ)) → starts_block lines ≡ true → list_any is_blank_line lines ≡ false → blocks lines ≡ lines ∷ []
+pub blocks_one : (lines : List (List ℕ)) → starts_block lines ≡ true → list_any is_blank_line lines
+    ≡ false → blocks lines ≡ lines ∷ []
 blocks_one lines starts h =
     let all = unbroken_until lines h in
-    (head_of lines starts).first ∙ (ap (λ ls. ls ∷ blocks (from_blank lines)) all.0 ∙ (ap (λ ls. lines ∷ blocks ls) all.1 ∙ ap (λ bs. lines ∷ bs) no_blocks))
+    (head_of lines starts).first ∙ (ap (λ ls. ls ∷ blocks (from_blank lines)) all.0
+    ∙ (ap (λ ls. lines ∷ blocks ls) all.1 ∙ ap (λ bs. lines ∷ bs) no_blocks))
 
--- the lines of a text at the end of one of them: those of no block, the block before it, and that line
+-- the lines of a text at the end of one of them: those of no block, the block before it, and that
+-- line
 pub record IsAtLineEnd (text : List ℕ) (started : Bool) (block line : List ℕ) : Type 0 where
   pub passed : List (List ℕ)
   pub lines : text_lines text ≡ passed ++ (text_lines block ++ text_lines line)
@@ -62,26 +75,33 @@ no_text_lines : text_lines [] ≡ []
 unfolding text_lines
 no_text_lines = refl
 
-entries_are : (text : List ℕ) (all : List (List (List ℕ))) → blocks (text_lines text) ≡ all → entries text ≡ map block_entry all
+entries_are : (text : List ℕ) (all : List (List (List ℕ))) → blocks (text_lines text) ≡ all →
+    entries text ≡ map block_entry all
 unfolding entries
 entries_are text all e = ap (map block_entry) e
 
 -- such a line that passes leaves no block
-pub passed_end : (text block line : List ℕ) → IsAtLineEnd text false block line → is_paragraph_line line ≡ false → blocks (text_lines text) ≡ []
+pub passed_end : (text block line : List ℕ) → IsAtLineEnd text false block line →
+    is_paragraph_line line ≡ false → blocks (text_lines text) ≡ []
 passed_end text block line at h =
     let none : block ≡ [] = at.none refl in
     let lines : text_lines text ≡ at.passed ++ line ∷ [] =
-    at.lines ∙ ap (λ ls. at.passed ++ ls) (ap (λ b. text_lines b ++ text_lines line) none ∙ (ap (λ ls. ls ++ text_lines line) no_text_lines ∙ at.single))
-    in ap blocks lines ∙ (blocks_idle at.passed (line ∷ []) at.idle ∙ (blocks_passed line [] h ∙ no_blocks))
+    at.lines ∙ ap (λ ls. at.passed ++ ls) (ap (λ b. text_lines b ++ text_lines line) none
+    ∙ (ap (λ ls. ls ++ text_lines line) no_text_lines ∙ at.single))
+    in ap blocks lines ∙ (blocks_idle at.passed (line ∷ []) at.idle
+    ∙ (blocks_passed line [] h ∙ no_blocks))
 
 -- one that closes leaves the block before it
-pub closed_end : (text block line : List ℕ) → IsAtLineEnd text true block line → is_blank_line line ≡ true → blocks (text_lines text) ≡ text_lines block ∷ []
+pub closed_end : (text block line : List ℕ) → IsAtLineEnd text true block line → is_blank_line line
+    ≡ true → blocks (text_lines text) ≡ text_lines block ∷ []
 closed_end text block line at h =
     ap blocks at.lines
     ∙ (blocks_idle at.passed (text_lines block ++ text_lines line) at.idle
     ∙ (ap (λ ls. blocks (text_lines block ++ ls)) at.single
     ∙ (blocks_apart (text_lines block) line [] h
-    ∙ (ap (λ bs. blocks (text_lines block) ++ bs) no_blocks ∙ (append-nil (blocks (text_lines block)) ∙ blocks_one (text_lines block) at.starts at.unbroken)))))
+    ∙ (ap (λ bs. blocks (text_lines block) ++ bs) no_blocks
+    ∙ (append-nil (blocks (text_lines block)) ∙ blocks_one (text_lines block) at.starts
+    at.unbroken)))))
 
 -- what a block is with one more line
 pub record IsLonger (block line : List ℕ) : Type 0 where
@@ -89,48 +109,63 @@ pub record IsLonger (block line : List ℕ) : Type 0 where
   pub starts : starts_block (text_lines (block ++ line)) ≡ true
   pub unbroken : list_any is_blank_line (text_lines (block ++ line)) ≡ false
 
-starts_by : (started : Bool) (lines : List (List ℕ)) (line : List ℕ) → starts_block lines ≡ started → (started ≡ false → lines ≡ []) → (started || is_paragraph_line line) ≡ true
+starts_by : (started : Bool) (lines : List (List ℕ)) (line : List ℕ) → starts_block lines
+    ≡ started → (started ≡ false → lines ≡ []) → (started || is_paragraph_line line) ≡ true
     → starts_block (lines ++ line ∷ []) ≡ true
 starts_by true [] line starts none h = cc
 starts_by true (first ∷ others) line starts none h = starts
 starts_by false lines line starts none h = let e : lines ≡ [] = none refl in rw e h
 
-unblank_one : (line : List ℕ) → is_blank_line line ≡ false → list_any is_blank_line (line ∷ []) ≡ false
+unblank_one : (line : List ℕ) → is_blank_line line ≡ false → list_any is_blank_line (line ∷ [])
+    ≡ false
 unblank_one line h = rw h refl
 
-idle_one : (line : List ℕ) → is_paragraph_line line ≡ false → list_any is_paragraph_line (line ∷ []) ≡ false
+idle_one : (line : List ℕ) → is_paragraph_line line ≡ false → list_any is_paragraph_line
+    (line ∷ []) ≡ false
 idle_one line h = rw h refl
 
 none_both : (a b : Bool) → a ≡ false → b ≡ false → (a || b) ≡ false
 none_both a b h k = rw (h, k) refl
 
-pub longer : (text block line : List ℕ) (started : Bool) → IsAtLineEnd text started block line → is_blank_line line ≡ false → (started || is_paragraph_line line) ≡ true → IsLonger block line
+pub longer : (text block line : List ℕ) (started : Bool) → IsAtLineEnd text started block line →
+    is_blank_line line ≡ false → (started || is_paragraph_line line) ≡ true → IsLonger block line
 longer text block line started at h begins =
-    let lines : text_lines (block ++ line) ≡ text_lines block ++ text_lines line = text_lines-append block line at.whole in
-    let both : text_lines (block ++ line) ≡ text_lines block ++ line ∷ [] = lines ∙ ap (λ ls. text_lines block ++ ls) at.single in
+    let lines : text_lines (block ++ line) ≡ text_lines block ++ text_lines line =
+    text_lines-append block line at.whole in
+    let both : text_lines (block ++ line) ≡ text_lines block ++ line ∷ [] =
+    lines ∙ ap (λ ls. text_lines block ++ ls) at.single in
     record {
       lines = lines;
-      starts = ap starts_block both ∙ starts_by started (text_lines block) line at.starts (λ e. ap text_lines (at.none e) ∙ no_text_lines) begins;
+      starts = ap starts_block both ∙ starts_by started (text_lines block) line at.starts
+          (λ e. ap text_lines (at.none e) ∙ no_text_lines) begins;
       unbroken = ap (list_any is_blank_line) both
           ∙ (list_any-append is_blank_line (text_lines block) (line ∷ [])
-          ∙ none_both (list_any is_blank_line (text_lines block)) (list_any is_blank_line (line ∷ [])) at.unbroken (unblank_one line h));
+          ∙ none_both (list_any is_blank_line (text_lines block))
+          (list_any is_blank_line (line ∷ [])) at.unbroken (unblank_one line h));
     }
 
 -- one that is taken is the last of the block
-pub taken_end : (text block line : List ℕ) (started : Bool) → IsAtLineEnd text started block line → IsLonger block line → blocks (text_lines text) ≡ text_lines (block ++ line) ∷ []
+pub taken_end : (text block line : List ℕ) (started : Bool) → IsAtLineEnd text started block line →
+    IsLonger block line → blocks (text_lines text) ≡ text_lines (block ++ line) ∷ []
 taken_end text block line started at more =
     ap blocks at.lines
     ∙ (blocks_idle at.passed (text_lines block ++ text_lines line) at.idle
-    ∙ (ap blocks (sym more.lines) ∙ blocks_one (text_lines (block ++ line)) more.starts more.unbroken))
+    ∙ (ap blocks (sym more.lines) ∙ blocks_one (text_lines (block ++ line)) more.starts
+    more.unbroken))
 
 -- the line that has begun, with a piece after it
-after_lines : (text piece line : List ℕ) (passed block : List (List ℕ)) → ((more : List ℕ) → text_lines (text ++ more) ≡ passed ++ (block ++ text_lines (line ++ more)))
-    → (more : List ℕ) → text_lines ((text ++ piece) ++ more) ≡ passed ++ (block ++ text_lines ((line ++ piece) ++ more))
+after_lines : (text piece line : List ℕ) (passed block : List (List ℕ)) →
+    ((more : List ℕ) → text_lines (text ++ more) ≡ passed ++ (block ++ text_lines (line ++ more)))
+    → (more : List ℕ) → text_lines ((text ++ piece) ++ more) ≡ passed ++
+    (block ++ text_lines ((line ++ piece) ++ more))
 after_lines text piece line passed block lines more =
-    ap text_lines (append_assoc text piece more) ∙ (lines (piece ++ more) ∙ ap (λ t. passed ++ (block ++ text_lines t)) (sym (append_assoc line piece more)))
+    ap text_lines (append_assoc text piece more)
+    ∙ (lines (piece ++ more) ∙ ap (λ t. passed ++ (block ++ text_lines t))
+    (sym (append_assoc line piece more)))
 
 -- a piece without an LF makes the line longer
-pub cut_more : (text block line piece : List ℕ) (started : Bool) → IsCutSo text started block line → text_lines piece ≡ piece ∷ [] → are_whole_lines piece ≡ false
+pub cut_more : (text block line piece : List ℕ) (started : Bool) → IsCutSo text started block line
+    → text_lines piece ≡ piece ∷ [] → are_whole_lines piece ≡ false
     → IsCutSo (text ++ piece) started block (line ++ piece)
 cut_more text block line piece started cut single h = record {
   passed = cut.passed;
@@ -140,16 +175,21 @@ cut_more text block line piece started cut single h = record {
   none = cut.none;
   unbroken = cut.unbroken;
   whole = cut.whole;
-  unfinished = list_any-append is_line_feed line piece ∙ none_both (list_any is_line_feed line) (list_any is_line_feed piece) cut.unfinished (unended piece single h);
+  unfinished = list_any-append is_line_feed line piece ∙ none_both (list_any is_line_feed line)
+      (list_any is_line_feed piece) cut.unfinished (unended piece single h);
 }
 
 -- a text without what follows it
-cut_all : (text block line : List ℕ) (started : Bool) (cut : IsCutSo text started block line) → text_lines text ≡ cut.passed ++ (text_lines block ++ text_lines line)
+cut_all : (text block line : List ℕ) (started : Bool) (cut : IsCutSo text started block line) →
+    text_lines text ≡ cut.passed ++ (text_lines block ++ text_lines line)
 cut_all text block line started cut =
-    ap text_lines (sym (append-nil text)) ∙ (cut.lines [] ∙ ap (λ t. cut.passed ++ (text_lines block ++ text_lines t)) (append-nil line))
+    ap text_lines (sym (append-nil text))
+    ∙ (cut.lines [] ∙ ap (λ t. cut.passed ++ (text_lines block ++ text_lines t))
+    (append-nil line))
 
 -- a piece with its LF ends the line
-pub cut_ended : (text block line piece : List ℕ) (started : Bool) → IsCutSo text started block line → text_lines piece ≡ piece ∷ []
+pub cut_ended : (text block line piece : List ℕ) (started : Bool) → IsCutSo text started block line
+    → text_lines piece ≡ piece ∷ []
     → IsAtLineEnd (text ++ piece) started block (line ++ piece)
 cut_ended text block line piece started cut single = record {
   passed = cut.passed;
@@ -162,47 +202,79 @@ cut_ended text block line piece started cut single = record {
   single = single_after line piece cut.unfinished single;
 }
 
-prefix_more : (over : Bool) (whole : ℕ) (kept new piece block : List ℕ) → (whole ≤ length kept) × (take whole kept ≡ block) → (over ≡ false → new ≡ kept ++ piece) → (over ≡ true → new ≡ kept)
+prefix_more : (over : Bool) (whole : ℕ) (kept new piece block : List ℕ) → (whole ≤ length kept)
+    × (take whole kept ≡ block) → (over ≡ false → new ≡ kept ++ piece) → (over ≡ true → new ≡ kept)
     → (whole ≤ length new) × (take whole new ≡ block)
-prefix_more true whole kept new piece block prefix fits left = let e : new ≡ kept = left refl in rw e prefix
+prefix_more true whole kept new piece block prefix fits left = let e : new ≡ kept = left refl in
+    rw e prefix
 prefix_more false whole kept new piece block prefix fits left =
     let e : new ≡ kept ++ piece = fits refl in
-    let within : whole ≤ length kept = prefix.0 in
-    (rw e (omega (arith, length-append kept piece)), ap (take whole) e ∙ (take-append-le whole kept piece within ∙ prefix.1))
+    let within : whole ≤ length kept = prefix.0 in (
+      rw e (omega (arith, length-append kept piece)),
+      ap (take whole) e
+          ∙ (take-append-le whole kept piece within ∙ prefix.1),
+    )
 
-large_by : (over : Bool) (block line piece kept : List ℕ) → (over ≡ false → kept ≡ block ++ line) → (over ≡ true → size_limit < length (block ++ line))
-    → (over ≡ true) ⊎ (size_limit < length kept + length piece) → size_limit < length (block ++ (line ++ piece))
+large_by : (over : Bool) (block line piece kept : List ℕ) → (over ≡ false → kept ≡ block ++ line) →
+    (over ≡ true → size_limit < length (block ++ line))
+    → (over ≡ true) ⊎ (size_limit < length kept + length piece) → size_limit < length
+    (block ++ (line ++ piece))
 large_by true block line piece kept all large more =
     let long = large refl in
-    omega (arith, long, length-append block line, length-append block (line ++ piece), length-append line piece)
+    omega (
+      arith,
+      long,
+      length-append block line,
+      length-append block (line ++ piece),
+      length-append line piece,
+    )
 large_by false block line piece kept all large (inl e) = cc
 large_by false block line piece kept all large (inr long) =
     let is : kept ≡ block ++ line = all refl in
-    omega (arith, long, ap length is, length-append block line, length-append block (line ++ piece), length-append line piece)
+    omega (
+      arith,
+      long,
+      ap length is,
+      length-append block line,
+      length-append block
+          (line ++ piece),
+      length-append line piece,
+    )
 
 -- what is kept with a piece more
-pub kept_more : (old new : Draft) (piece block line : List ℕ) → KeepsBlock block line old.kept.items old.over old.whole → KeepsPiece old new piece
+pub kept_more : (old new : Draft) (piece block line : List ℕ) → KeepsBlock block line
+    old.kept.items old.over old.whole → KeepsPiece old new piece
     → KeepsBlock block (line ++ piece) new.kept.items new.over new.whole
 kept_more old new piece block line kept keeps = record {
-  all = λ e. let fits = keeps.fits e in fits.1 ∙ (ap (λ r. r ++ piece) (kept.all fits.0) ∙ append_assoc block line piece);
-  large = λ e. large_by old.over block line piece old.kept.items kept.all kept.large (keeps.over e).1;
-  kept_whole = λ within. let same : new.whole ≡ old.whole = keeps.whole in rw same (prefix_more new.over old.whole old.kept.items new.kept.items piece block
-      (kept.kept_whole (omega (arith, within, same))) (λ e. (keeps.fits e).1) (λ e. (keeps.over e).0));
+  all = λ e. let fits = keeps.fits e in
+      fits.1 ∙ (ap (λ r. r ++ piece) (kept.all fits.0) ∙ append_assoc block line piece);
+  large = λ e. large_by old.over block line piece old.kept.items kept.all kept.large
+      (keeps.over e).1;
+  kept_whole = λ within. let same : new.whole ≡ old.whole = keeps.whole in
+      rw same (prefix_more new.over old.whole old.kept.items new.kept.items piece block
+      (kept.kept_whole (omega (arith, within, same))) (λ e. (keeps.fits e).1)
+      (λ e. (keeps.over e).0));
   too_large = λ past. kept.too_large (omega (arith, past, keeps.whole));
 }
 
-taken_prefix : (over : Bool) (whole : ℕ) (kept block : List ℕ) → whole ≡ (if over then size_limit + 1 else length kept) → (over ≡ false → kept ≡ block) → whole ≤ size_limit
+taken_prefix : (over : Bool) (whole : ℕ) (kept block : List ℕ) →
+    whole ≡ (if over then size_limit + 1 else length kept) → (over ≡ false → kept ≡ block) →
+    whole ≤ size_limit
     → (whole ≤ length kept) × (take whole kept ≡ block)
 taken_prefix true whole kept block is all within = absurd (omega (arith, is, within))
-taken_prefix false whole kept block is all within = (omega (arith, is), take_all whole kept (omega (arith, is)) ∙ all refl)
+taken_prefix false whole kept block is all within =
+    (omega (arith, is), take_all whole kept (omega (arith, is)) ∙ all refl)
 
-taken_large : (over : Bool) (whole : ℕ) (kept block : List ℕ) → length kept ≤ size_limit → whole ≡ (if over then size_limit + 1 else length kept) → (over ≡ true → size_limit < length block)
+taken_large : (over : Bool) (whole : ℕ) (kept block : List ℕ) → length kept ≤ size_limit →
+    whole ≡ (if over then size_limit + 1 else length kept) →
+    (over ≡ true → size_limit < length block)
     → size_limit < whole → size_limit < length block
 taken_large true whole kept block most is large past = large refl
 taken_large false whole kept block most is large past = absurd (omega (arith, is, most, past))
 
 -- what is kept where the line that has begun is one of the block
-pub kept_taken : (old new : Draft) (block line : List ℕ) → length old.kept.items ≤ size_limit → KeepsBlock block line old.kept.items old.over old.whole → TakesLine old new
+pub kept_taken : (old new : Draft) (block line : List ℕ) → length old.kept.items ≤ size_limit →
+    KeepsBlock block line old.kept.items old.over old.whole → TakesLine old new
     → KeepsBlock (block ++ line) [] new.kept.items new.over new.whole
 kept_taken old new block line most kept takes =
     let items : new.kept.items ≡ old.kept.items = takes.kept in
@@ -211,11 +283,14 @@ kept_taken old new block line most kept takes =
     record {
       all = λ e. items ∙ (kept.all (sym over ∙ e) ∙ sym same);
       large = λ e. rw same (kept.large (sym over ∙ e));
-      kept_whole = λ within. rw items (taken_prefix old.over new.whole old.kept.items (block ++ line) takes.whole kept.all within);
-      too_large = λ past. taken_large old.over new.whole old.kept.items (block ++ line) most takes.whole kept.large past;
+      kept_whole = λ within. rw items (taken_prefix old.over new.whole old.kept.items
+          (block ++ line) takes.whole kept.all within);
+      too_large = λ past. taken_large old.over new.whole old.kept.items (block ++ line) most
+          takes.whole kept.large past;
     }
 
-kept_fresh : (draft : Draft) → HasNoText draft → KeepsBlock [] [] draft.kept.items draft.over draft.whole
+kept_fresh : (draft : Draft) → HasNoText draft → KeepsBlock [] [] draft.kept.items draft.over
+    draft.whole
 kept_fresh draft fresh = record {
   all = λ _. fresh.kept;
   large = λ e. let over = fresh.over in cc;
@@ -227,7 +302,9 @@ no_whole_lines : are_whole_lines [] ≡ true
 unfolding are_whole_lines
 no_whole_lines = refl
 
-cut_none : (text : List ℕ) (passed : List (List ℕ)) → ((more : List ℕ) → text_lines (text ++ more) ≡ passed ++ text_lines more) → list_any is_paragraph_line passed ≡ false
+cut_none : (text : List ℕ) (passed : List (List ℕ)) →
+    ((more : List ℕ) → text_lines (text ++ more) ≡ passed ++ text_lines more) →
+    list_any is_paragraph_line passed ≡ false
     → IsCutSo text false [] []
 cut_none text passed lines idle = record {
   passed = passed;
@@ -240,7 +317,8 @@ cut_none text passed lines idle = record {
   unfinished = refl;
 }
 
-unclosed_with : (text : List ℕ) (draft : Draft) → HasNoText draft → IsCutSo text false [] [] → IsUnclosed text draft
+unclosed_with : (text : List ℕ) (draft : Draft) → HasNoText draft → IsCutSo text false [] [] →
+    IsUnclosed text draft
 unclosed_with text draft fresh cut = record {
   block = [];
   line = [];
@@ -254,20 +332,27 @@ pub unclosed_none : (draft : Draft) → HasNoText draft → IsUnclosed [] draft
 unclosed_none draft fresh = unclosed_with [] draft fresh (cut_none [] [] (λ more. refl) refl)
 
 -- a piece without its LF
-pub unclosed_more : (text piece : List ℕ) (old new : Draft) → IsUnclosed text old → KeepsPiece old new piece → text_lines piece ≡ piece ∷ [] → are_whole_lines piece ≡ false → IsUnclosed (text ++ piece) new
+pub unclosed_more : (text piece : List ℕ) (old new : Draft) → IsUnclosed text old →
+    KeepsPiece old new piece → text_lines piece ≡ piece ∷ [] → are_whole_lines piece ≡ false →
+    IsUnclosed (text ++ piece) new
 unclosed_more text piece old new unclosed keeps single h = record {
   block = unclosed.block;
   line = unclosed.line ++ piece;
-  cut = let started : new.started ≡ old.started = keeps.started in rw started (cut_more text unclosed.block unclosed.line piece old.started unclosed.cut single h);
+  cut = let started : new.started ≡ old.started = keeps.started in
+      rw started (cut_more text unclosed.block unclosed.line piece old.started unclosed.cut single
+      h);
   kept = kept_more old new piece unclosed.block unclosed.line unclosed.kept keeps;
-  known = keeps.line ∙ (ap (λ kind. line_with kind piece) unclosed.known ∙ line_with-append unclosed.line piece);
+  known = keeps.line ∙ (ap (λ kind. line_with kind piece) unclosed.known ∙ line_with-append
+      unclosed.line piece);
 }
 
-feed_in : (bs : List ℕ) → 0 < length bs → are_whole_lines bs ≡ true → list_any is_line_feed bs ≡ true
+feed_in : (bs : List ℕ) → 0 < length bs → are_whole_lines bs ≡ true → list_any is_line_feed bs
+    ≡ true
 unfolding are_whole_lines
 feed_in [] some h = absurd (omega arith)
 feed_in (b ∷ []) some h = rw h refl
-feed_in (b ∷ c ∷ cs) some h = ap (λ t. is_line_feed b || t) (feed_in (c ∷ cs) (omega arith) h) ∙ or-true (is_line_feed b)
+feed_in (b ∷ c ∷ cs) some h = ap (λ t. is_line_feed b || t) (feed_in (c ∷ cs) (omega arith) h)
+    ∙ or-true (is_line_feed b)
 
 both_true : (a b : Bool) → a ≡ true → b ≡ true → (a && b) ≡ true
 both_true a b h k = rw (h, k) refl
@@ -279,39 +364,53 @@ record IsAtFeed (text piece : List ℕ) (started : Bool) (block line : List ℕ)
   pub whole : IsWholeLine (line ++ piece)
   pub some : 0 < length (line ++ piece)
 
-feed_lines : (text piece block line : List ℕ) (started : Bool) (at : IsAtFeed text piece started block line) (more : List ℕ)
-    → text_lines ((text ++ piece) ++ more) ≡ at.cut.passed ++ (text_lines block ++ (line ++ piece) ∷ text_lines more)
+feed_lines : (text piece block line : List ℕ) (started : Bool)
+    (at : IsAtFeed text piece started block line) (more : List ℕ)
+    → text_lines ((text ++ piece) ++ more) ≡ at.cut.passed ++ (text_lines block ++ (line ++ piece)
+    ∷ text_lines more)
 feed_lines text piece block line started at more =
     after_lines text piece line at.cut.passed (text_lines block) at.cut.lines more
-    ∙ ap (λ ls. at.cut.passed ++ (text_lines block ++ ls)) (text_lines-append (line ++ piece) more at.whole.ended ∙ ap (λ ls. ls ++ text_lines more) at.whole.single)
+    ∙ ap (λ ls. at.cut.passed ++ (text_lines block ++ ls)) (text_lines-append (line ++ piece) more
+    at.whole.ended ∙ ap (λ ls. ls ++ text_lines more) at.whole.single)
 
-fed_passed : (text piece block line : List ℕ) (new : Draft) → IsAtFeed text piece false block line → is_paragraph_line (line ++ piece) ≡ false → HasNoText new → IsUnclosed (text ++ piece) new
+fed_passed : (text piece block line : List ℕ) (new : Draft) → IsAtFeed text piece false block line
+    → is_paragraph_line (line ++ piece) ≡ false → HasNoText new → IsUnclosed (text ++ piece) new
 fed_passed text piece block line new at h fresh =
     let none : block ≡ [] = at.cut.none refl in
-    let lines : (more : List ℕ) → text_lines ((text ++ piece) ++ more) ≡ (at.cut.passed ++ (line ++ piece) ∷ []) ++ text_lines more = λ more.
+    let lines : (more : List ℕ) → text_lines ((text ++ piece) ++ more)
+    ≡ (at.cut.passed ++ (line ++ piece) ∷ []) ++ text_lines more = λ more.
     feed_lines text piece block line false at more
-    ∙ (ap (λ ls. at.cut.passed ++ (ls ++ (line ++ piece) ∷ text_lines more)) (ap text_lines none ∙ no_text_lines)
+    ∙ (ap (λ ls. at.cut.passed ++ (ls ++ (line ++ piece) ∷ text_lines more))
+    (ap text_lines none ∙ no_text_lines)
     ∙ sym (append_assoc at.cut.passed ((line ++ piece) ∷ []) (text_lines more)))
     in
     let idle : list_any is_paragraph_line (at.cut.passed ++ (line ++ piece) ∷ []) ≡ false =
     list_any-append is_paragraph_line at.cut.passed ((line ++ piece) ∷ [])
-    ∙ none_both (list_any is_paragraph_line at.cut.passed) (list_any is_paragraph_line ((line ++ piece) ∷ [])) at.cut.idle (idle_one (line ++ piece) h)
-    in unclosed_with (text ++ piece) new fresh (cut_none (text ++ piece) (at.cut.passed ++ (line ++ piece) ∷ []) lines idle)
+    ∙ none_both (list_any is_paragraph_line at.cut.passed)
+    (list_any is_paragraph_line ((line ++ piece) ∷ [])) at.cut.idle (idle_one (line ++ piece) h)
+    in unclosed_with (text ++ piece) new fresh
+    (cut_none (text ++ piece) (at.cut.passed ++ (line ++ piece) ∷ []) lines idle)
 
-fed_taken : (text piece block line : List ℕ) (started : Bool) (mid new : Draft) → IsAtFeed text piece started block line → is_blank_line (line ++ piece) ≡ false
-    → (started || is_paragraph_line (line ++ piece)) ≡ true → length mid.kept.items ≤ size_limit → KeepsBlock block (line ++ piece) mid.kept.items mid.over mid.whole → TakesLine mid new
+fed_taken : (text piece block line : List ℕ) (started : Bool) (mid new : Draft) →
+    IsAtFeed text piece started block line → is_blank_line (line ++ piece) ≡ false
+    → (started || is_paragraph_line (line ++ piece)) ≡ true → length mid.kept.items ≤ size_limit →
+    KeepsBlock block (line ++ piece) mid.kept.items mid.over mid.whole → TakesLine mid new
     → IsUnclosed (text ++ piece) new
 fed_taken text piece block line started mid new at h begins most kept takes =
-    let more : IsLonger block (line ++ piece) = longer (text ++ piece) block (line ++ piece) started at.at h begins in
+    let more : IsLonger block (line ++ piece) = longer (text ++ piece) block (line ++ piece)
+    started at.at h begins in
     let is : new.started ≡ true = takes.started in
-    let both : text_lines (block ++ (line ++ piece)) ≡ text_lines block ++ (line ++ piece) ∷ [] = more.lines ∙ ap (λ ls. text_lines block ++ ls) at.whole.single in
+    let both : text_lines (block ++ (line ++ piece)) ≡ text_lines block ++ (line ++ piece) ∷ [] =
+    more.lines ∙ ap (λ ls. text_lines block ++ ls) at.whole.single in
     record {
       block = block ++ (line ++ piece);
       line = [];
       cut = rw is record {
         passed = at.cut.passed;
         lines = λ rest. feed_lines text piece block line started at rest
-            ∙ ap (λ ls. at.cut.passed ++ ls) (sym (append_assoc (text_lines block) ((line ++ piece) ∷ []) (text_lines rest)) ∙ ap (λ ls. ls ++ text_lines rest) (sym both));
+            ∙ ap (λ ls. at.cut.passed ++ ls)
+            (sym (append_assoc (text_lines block) ((line ++ piece) ∷ []) (text_lines rest))
+            ∙ ap (λ ls. ls ++ text_lines rest) (sym both));
         idle = at.cut.idle;
         starts = more.starts;
         none = λ e. cc;
@@ -324,24 +423,45 @@ fed_taken text piece block line started mid new at h begins most kept takes =
     }
 
 entry_of : (text block : List ℕ) (draft : Draft) → starts_block (text_lines block) ≡ true
-    → (draft.whole ≤ size_limit → (draft.whole ≤ length draft.kept.items) × (take draft.whole draft.kept.items ≡ block)) → (size_limit < draft.whole → size_limit < length block)
+    → (draft.whole ≤ size_limit → (draft.whole ≤ length draft.kept.items)
+    × (take draft.whole draft.kept.items ≡ block)) →
+    (size_limit < draft.whole → size_limit < length block)
     → blocks (text_lines text) ≡ text_lines block ∷ [] → HasEntry text draft
-entry_of text block draft starts kept_whole too_large one = record { block = block; starts = starts; kept_whole = kept_whole; too_large = too_large; one = entries_are text (text_lines block ∷ []) one }
-
-fed_closed : (text piece block line : List ℕ) (mid : Draft) → IsAtFeed text piece true block line → is_blank_line (line ++ piece) ≡ true
-    → KeepsBlock block (line ++ piece) mid.kept.items mid.over mid.whole → IsClosed (text ++ piece) mid
-fed_closed text piece block line mid at h kept =
-    let closing : closes (line ++ piece) ≡ true = both_true (is_blank_line (line ++ piece)) (list_any is_line_feed (line ++ piece)) h (feed_in (line ++ piece) at.some at.whole.ended) in
-    let lines : text_lines (text ++ piece) ≡ (at.at.passed ++ text_lines block) ++ (line ++ piece) ∷ [] =
-    at.at.lines ∙ (ap (λ ls. at.at.passed ++ (text_lines block ++ ls)) at.whole.single ∙ sym (append_assoc at.at.passed (text_lines block) ((line ++ piece) ∷ [])))
-    in record {
-      entry = entry_of (text ++ piece) block mid at.at.starts kept.kept_whole kept.too_large (closed_end (text ++ piece) block (line ++ piece) at.at h);
-      apart = whole_closed (text ++ piece) (line ++ piece) (at.at.passed ++ text_lines block) lines closing;
+entry_of text block draft starts kept_whole too_large one =
+    record {
+      block = block;
+      starts = starts;
+      kept_whole = kept_whole;
+      too_large = too_large;
+      one =
+          entries_are text (text_lines block ∷ []) one;
     }
 
-fed_by : (end : LineEnd) (text piece block line : List ℕ) (started closes : Bool) (mid new : Draft) → IsAtFeed text piece started block line
-    → length mid.kept.items ≤ size_limit → KeepsBlock block (line ++ piece) mid.kept.items mid.over mid.whole
-    → EndsSo started (line ++ piece) end → EndsLine end mid new closes → GathersLines closes (text ++ piece) new
+fed_closed : (text piece block line : List ℕ) (mid : Draft) → IsAtFeed text piece true block line →
+    is_blank_line (line ++ piece) ≡ true
+    → KeepsBlock block (line ++ piece) mid.kept.items mid.over mid.whole → IsClosed (text ++ piece)
+    mid
+fed_closed text piece block line mid at h kept =
+    let closing : closes (line ++ piece) ≡ true = both_true (is_blank_line (line ++ piece))
+    (list_any is_line_feed (line ++ piece)) h
+    (feed_in (line ++ piece) at.some at.whole.ended) in
+    let lines : text_lines (text ++ piece) ≡ (at.at.passed ++ text_lines block) ++ (line ++ piece)
+    ∷ [] =
+    at.at.lines ∙ (ap (λ ls. at.at.passed ++ (text_lines block ++ ls)) at.whole.single
+    ∙ sym (append_assoc at.at.passed (text_lines block) ((line ++ piece) ∷ [])))
+    in record {
+      entry = entry_of (text ++ piece) block mid at.at.starts kept.kept_whole kept.too_large
+          (closed_end (text ++ piece) block (line ++ piece) at.at h);
+      apart = whole_closed (text ++ piece) (line ++ piece) (at.at.passed ++ text_lines block) lines
+          closing;
+    }
+
+fed_by : (end : LineEnd) (text piece block line : List ℕ) (started closes : Bool) (mid new : Draft)
+    → IsAtFeed text piece started block line
+    → length mid.kept.items ≤ size_limit → KeepsBlock block (line ++ piece) mid.kept.items mid.over
+    mid.whole
+    → EndsSo started (line ++ piece) end → EndsLine end mid new closes → GathersLines closes
+    (text ++ piece) new
 fed_by Passed text piece block line started closes mid new at most kept so ends =
     let is : closes ≡ false = ends.1 in
     let was : started ≡ false = so.0 in
@@ -356,22 +476,33 @@ fed_by Closed text piece block line started closes mid new at most kept so ends 
     rw (is, same) (fed_closed text piece block line mid (rw was at at) so.1 kept)
 
 -- a piece with its LF, after which the line is at its end
-pub unclosed_fed : (text piece : List ℕ) (old mid new : Draft) (closing : Bool) → IsUnclosed text old → KeepsPiece old mid piece
-    → EndsLine (end_of_line mid.started mid.line) mid new closing → 0 < length piece → text_lines piece ≡ piece ∷ [] → are_whole_lines piece ≡ true → GathersLines closing (text ++ piece) new
+pub unclosed_fed : (text piece : List ℕ) (old mid new : Draft) (closing : Bool) →
+    IsUnclosed text old → KeepsPiece old mid piece
+    → EndsLine (end_of_line mid.started mid.line) mid new closing → 0 < length piece →
+    text_lines piece ≡ piece ∷ [] → are_whole_lines piece ≡ true → GathersLines closing
+    (text ++ piece) new
 unclosed_fed text piece old mid new closing unclosed keeps ends some single h =
     let started : mid.started ≡ old.started = keeps.started in
-    let known : mid.line ≡ line_so_far (unclosed.line ++ piece) = keeps.line ∙ (ap (λ kind. line_with kind piece) unclosed.known ∙ line_with-append unclosed.line piece) in
-    let so : EndsSo old.started (unclosed.line ++ piece) (end_of_line mid.started mid.line) = rw (started, known) (ends_so old.started (unclosed.line ++ piece)) in
+    let known : mid.line ≡ line_so_far (unclosed.line ++ piece) = keeps.line
+    ∙ (ap (λ kind. line_with kind piece) unclosed.known ∙ line_with-append unclosed.line
+    piece) in
+    let so : EndsSo old.started (unclosed.line ++ piece) (end_of_line mid.started mid.line) =
+    rw (started, known) (ends_so old.started (unclosed.line ++ piece)) in
     let at : IsAtFeed text piece old.started unclosed.block unclosed.line = record {
       cut = unclosed.cut;
       at = cut_ended text unclosed.block unclosed.line piece old.started unclosed.cut single;
-      whole = record { single = single_after unclosed.line piece unclosed.cut.unfinished single; ended = whole_after unclosed.line piece some h };
+      whole = record {
+        single = single_after unclosed.line piece unclosed.cut.unfinished single;
+        ended = whole_after unclosed.line piece some h;
+      };
       some = omega (arith, some, length-append unclosed.line piece);
     } in
-    fed_by (end_of_line mid.started mid.line) text piece unclosed.block unclosed.line old.started closing mid new at
+    fed_by (end_of_line mid.started mid.line) text piece unclosed.block unclosed.line old.started
+    closing mid new at
     mid.most (kept_more old mid piece unclosed.block unclosed.line unclosed.kept keeps) so ends
 
-unfinished_single : (b : ℕ) (bs : List ℕ) → list_any is_line_feed (b ∷ bs) ≡ false → text_lines (b ∷ bs) ≡ (b ∷ bs) ∷ []
+unfinished_single : (b : ℕ) (bs : List ℕ) → list_any is_line_feed (b ∷ bs) ≡ false →
+    text_lines (b ∷ bs) ≡ (b ∷ bs) ∷ []
 unfolding text_lines
 unfinished_single b [] h =
     let none : is_line_feed b ≡ false = (or_none (is_line_feed b) false h).0 in
@@ -381,59 +512,81 @@ unfinished_single b (c ∷ cs) h =
     let first : is_line_feed b ≡ false = none.0 in
     rw first (ap (onto_first b) (unfinished_single c cs none.1))
 
-unfinished_lines : (line : List ℕ) → list_any is_line_feed line ≡ false → (line ≡ []) ⊎ (text_lines line ≡ line ∷ [])
+unfinished_lines : (line : List ℕ) → list_any is_line_feed line ≡ false → (line ≡ [])
+    ⊎ (text_lines line ≡ line ∷ [])
 unfinished_lines [] h = inl refl
 unfinished_lines (b ∷ bs) h = inr (unfinished_single b bs h)
 
 -- where no line has begun, the text is at its end or after a line
-bare_end : (text block : List ℕ) (started : Bool) → IsCutSo text started block [] → blocks (text_lines text) ≡ blocks (text_lines block)
+bare_end : (text block : List ℕ) (started : Bool) → IsCutSo text started block [] →
+    blocks (text_lines text) ≡ blocks (text_lines block)
 bare_end text block started cut =
     ap blocks (cut_all text block [] started cut)
     ∙ (blocks_idle cut.passed (text_lines block ++ text_lines []) cut.idle
-    ∙ (ap (λ ls. blocks (text_lines block ++ ls)) no_text_lines ∙ ap blocks (append-nil (text_lines block))))
+    ∙ (ap (λ ls. blocks (text_lines block ++ ls)) no_text_lines ∙ ap blocks
+    (append-nil (text_lines block))))
 
-finishes_one : (started : Bool) (text : List ℕ) (draft : Draft) → started ≡ true → HasEntry text draft → Finishes started text draft
+finishes_one : (started : Bool) (text : List ℕ) (draft : Draft) → started ≡ true →
+    HasEntry text draft → Finishes started text draft
 finishes_one true text draft e entry = entry
 finishes_one false text draft e entry = cc
 
-finishes_none : (started : Bool) (text : List ℕ) (draft : Draft) → started ≡ false → entries text ≡ [] → Finishes started text draft
+finishes_none : (started : Bool) (text : List ℕ) (draft : Draft) → started ≡ false → entries text
+    ≡ [] → Finishes started text draft
 finishes_none true text draft e none = cc
 finishes_none false text draft e none = none
 
-bare_by : (started closing : Bool) (text block : List ℕ) (old new : Draft) → IsCutSo text started block [] → KeepsBlock block [] old.kept.items old.over old.whole → old.started ≡ started
+bare_by : (started closing : Bool) (text block : List ℕ) (old new : Draft) → IsCutSo text started
+    block [] → KeepsBlock block [] old.kept.items old.over old.whole → old.started ≡ started
     → EndsLine (end_of_line started Nothing) old new closing → Finishes new.started text new
 bare_by true closing text block old new cut kept was ends =
     let same : new ≡ old = ends.0 in
     let P : Draft → Type 0 = λ d. Finishes d.started text d in
-    subst P (sym same) (finishes_one old.started text old was (entry_of text block old cut.starts kept.kept_whole kept.too_large (bare_end text block true cut ∙ blocks_one (text_lines block) cut.starts cut.unbroken)))
+    subst P (sym same) (finishes_one old.started text old was
+    (entry_of text block old cut.starts kept.kept_whole kept.too_large
+    (bare_end text block true cut ∙ blocks_one (text_lines block) cut.starts cut.unbroken)))
 bare_by false closing text block old new cut kept was ends =
-    finishes_none new.started text new ends.0.started (entries_are text [] (bare_end text block false cut ∙ (ap (λ b. blocks (text_lines b)) (cut.none refl) ∙ (ap blocks no_text_lines ∙ no_blocks))))
+    finishes_none new.started text new ends.0.started
+    (entries_are text [] (bare_end text block false cut
+    ∙ (ap (λ b. blocks (text_lines b)) (cut.none refl)
+    ∙ (ap blocks no_text_lines ∙ no_blocks))))
 
-ended_by : (end : LineEnd) (text block line : List ℕ) (started closing : Bool) (old new : Draft) → IsAtLineEnd text started block line
-    → KeepsBlock block line old.kept.items old.over old.whole → old.started ≡ started → EndsSo started line end → EndsLine end old new closing → Finishes new.started text new
+ended_by : (end : LineEnd) (text block line : List ℕ) (started closing : Bool) (old new : Draft) →
+    IsAtLineEnd text started block line
+    → KeepsBlock block line old.kept.items old.over old.whole → old.started ≡ started →
+    EndsSo started line end → EndsLine end old new closing → Finishes new.started text new
 ended_by Passed text block line started closing old new at kept was so ends =
     let none : started ≡ false = so.0 in
-    finishes_none new.started text new ends.0.started (entries_are text [] (passed_end text block line (rw none at at) so.1))
+    finishes_none new.started text new ends.0.started
+    (entries_are text [] (passed_end text block line (rw none at at) so.1))
 ended_by Taken text block line started closing old new at kept was so ends =
     let more : IsLonger block line = longer text block line started at so.0 so.1 in
-    let all : KeepsBlock (block ++ line) [] new.kept.items new.over new.whole = kept_taken old new block line old.most kept ends.0 in
-    finishes_one new.started text new ends.0.started (entry_of text (block ++ line) new more.starts all.kept_whole all.too_large (taken_end text block line started at more))
+    let all : KeepsBlock (block ++ line) [] new.kept.items new.over new.whole =
+    kept_taken old new block line old.most kept ends.0 in
+    finishes_one new.started text new ends.0.started (entry_of text (block ++ line) new more.starts
+    all.kept_whole all.too_large (taken_end text block line started at more))
 ended_by Closed text block line started closing old new at kept was so ends =
     let same : new ≡ old = ends.0 in
     let begun : started ≡ true = so.0 in
     let whole : IsAtLineEnd text true block line = rw begun at at in
     let P : Draft → Type 0 = λ d. Finishes d.started text d in
-    subst P (sym same) (finishes_one old.started text old (was ∙ begun) (entry_of text block old whole.starts kept.kept_whole kept.too_large (closed_end text block line whole so.1)))
+    subst P (sym same) (finishes_one old.started text old (was ∙ begun)
+    (entry_of text block old whole.starts kept.kept_whole kept.too_large
+    (closed_end text block line whole so.1)))
 
 -- the end of the text, whether or not a line has begun
-pub unclosed_ended : (text : List ℕ) (old new : Draft) (closing : Bool) → IsUnclosed text old → EndsLine (end_of_line old.started old.line) old new closing → Finishes new.started text new
+pub unclosed_ended : (text : List ℕ) (old new : Draft) (closing : Bool) → IsUnclosed text old →
+    EndsLine (end_of_line old.started old.line) old new closing → Finishes new.started text new
 unclosed_ended text old new closing unclosed ends =
     elim (unfinished_lines unclosed.line unclosed.cut.unfinished) [
       | inl none ↦
           let known : old.line ≡ Nothing = unclosed.known ∙ ap line_so_far none in
           let cut : IsCutSo text old.started unclosed.block [] = rw none at unclosed.cut in
-          let kept : KeepsBlock unclosed.block [] old.kept.items old.over old.whole = rw none at unclosed.kept in
-          let so : EndsLine (end_of_line old.started Nothing) old new closing = subst (λ (kind : LineSoFar). EndsLine (end_of_line old.started kind) old new closing) known ends in
+          let kept : KeepsBlock unclosed.block [] old.kept.items old.over old.whole =
+          rw none at unclosed.kept in
+          let so : EndsLine (end_of_line old.started Nothing) old new closing =
+          subst (λ (kind : LineSoFar). EndsLine (end_of_line old.started kind) old new closing)
+          known ends in
           bare_by old.started closing text unclosed.block old new cut kept refl so
       | inr single ↦
           let at : IsAtLineEnd text old.started unclosed.block unclosed.line = record {
@@ -446,11 +599,14 @@ unclosed_ended text old new closing unclosed ends =
             whole = unclosed.cut.whole;
             single = single;
           } in
-          let so : EndsSo old.started unclosed.line (end_of_line old.started old.line) = rw unclosed.known (ends_so old.started unclosed.line) in
-          ended_by (end_of_line old.started old.line) text unclosed.block unclosed.line old.started closing old new at unclosed.kept refl so ends
+          let so : EndsSo old.started unclosed.line (end_of_line old.started old.line) =
+          rw unclosed.known (ends_so old.started unclosed.line) in
+          ended_by (end_of_line old.started old.line) text unclosed.block unclosed.line old.started
+          closing old new at unclosed.kept refl so ends
     ]
 
-unclosed_blocks : (lines : List (List ℕ)) → list_any is_blank_line lines ≡ false → list_any closes lines ≡ false
+unclosed_blocks : (lines : List (List ℕ)) → list_any is_blank_line lines ≡ false →
+    list_any closes lines ≡ false
 unclosed_blocks [] h = refl
 unclosed_blocks (line ∷ others) h =
     let none = or_none (is_blank_line line) (list_any is_blank_line others) h in
@@ -460,49 +616,67 @@ unclosed_blocks (line ∷ others) h =
 unclosed_line : (line : List ℕ) → list_any is_line_feed line ≡ false → closes line ≡ false
 unclosed_line line h = rw h (and-false (is_blank_line line))
 
-unclosed_unfinished : (line : List ℕ) → list_any is_line_feed line ≡ false → list_any closes (text_lines line) ≡ false
+unclosed_unfinished : (line : List ℕ) → list_any is_line_feed line ≡ false →
+    list_any closes (text_lines line) ≡ false
 unclosed_unfinished line h = elim (unfinished_lines line h) [
   | inl none ↦ rw none (ap (list_any closes) no_text_lines)
-  | inr single ↦ ap (list_any closes) single ∙ none_both (closes line) false (unclosed_line line h) refl
+  | inr single ↦ ap (list_any closes) single ∙ none_both (closes line) false (unclosed_line line h)
+      refl
 ]
 
-idle_prefix : (prefix rest all : List (List ℕ)) → all ≡ prefix ++ rest → list_any is_paragraph_line all ≡ false → list_any is_paragraph_line prefix ≡ false
+idle_prefix : (prefix rest all : List (List ℕ)) → all ≡ prefix ++ rest → list_any is_paragraph_line
+    all ≡ false → list_any is_paragraph_line prefix ≡ false
 idle_prefix prefix rest all e h =
-    (or_none (list_any is_paragraph_line prefix) (list_any is_paragraph_line rest) (sym (list_any-append is_paragraph_line prefix rest) ∙ (ap (list_any is_paragraph_line) (sym e) ∙ h))).0
+    (or_none (list_any is_paragraph_line prefix) (list_any is_paragraph_line rest)
+    (sym (list_any-append is_paragraph_line prefix rest)
+    ∙ (ap (list_any is_paragraph_line) (sym e) ∙ h))).0
 
 -- of a text whose last block may go on nothing is whole
-pub unclosed_whole : (text : List ℕ) (draft : Draft) → IsUnclosed text draft → whole_entries text ≡ []
+pub unclosed_whole : (text : List ℕ) (draft : Draft) → IsUnclosed text draft → whole_entries text
+    ≡ []
 unfolding whole_part
 unclosed_whole text draft unclosed =
     let more = text_lines unclosed.block ++ text_lines unclosed.line in
-    let all : text_lines text ≡ unclosed.cut.passed ++ more = cut_all text unclosed.block unclosed.line draft.started unclosed.cut in
+    let all : text_lines text ≡ unclosed.cut.passed ++ more = cut_all text unclosed.block
+    unclosed.line draft.started unclosed.cut in
     let closes_none : list_any closes more ≡ false =
     list_any-append closes (text_lines unclosed.block) (text_lines unclosed.line)
-    ∙ none_both (list_any closes (text_lines unclosed.block)) (list_any closes (text_lines unclosed.line))
-    (unclosed_blocks (text_lines unclosed.block) unclosed.cut.unbroken) (unclosed_unfinished unclosed.line unclosed.cut.unfinished)
+    ∙ none_both (list_any closes (text_lines unclosed.block))
+    (list_any closes (text_lines unclosed.line))
+    (unclosed_blocks (text_lines unclosed.block) unclosed.cut.unbroken)
+    (unclosed_unfinished unclosed.line unclosed.cut.unfinished)
     in
-    let kept : closed_lines (text_lines text) ≡ closed_lines unclosed.cut.passed = ap closed_lines all ∙ closed_before unclosed.cut.passed more closes_none in
+    let kept : closed_lines (text_lines text) ≡ closed_lines unclosed.cut.passed =
+    ap closed_lines all ∙ closed_before unclosed.cut.passed more closes_none in
     let prefix = closed_prefix unclosed.cut.passed in
     let cut : IsSplit (closed_lines unclosed.cut.passed) (prefix.0 ++ more) =
     lines_split text (closed_lines unclosed.cut.passed) (prefix.0 ++ more)
-    (all ∙ (ap (λ ls. ls ++ more) prefix.1 ∙ append_assoc (closed_lines unclosed.cut.passed) prefix.0 more))
+    (all ∙ (ap (λ ls. ls ++ more) prefix.1 ∙ append_assoc (closed_lines unclosed.cut.passed)
+    prefix.0 more))
     in
     entries_are (concat (closed_lines (text_lines text))) []
     (ap (λ ls. blocks (text_lines (concat ls))) kept
-    ∙ (ap blocks cut.prefix ∙ idle_alone (closed_lines unclosed.cut.passed) (idle_prefix (closed_lines unclosed.cut.passed) prefix.0 unclosed.cut.passed prefix.1 unclosed.cut.idle)))
+    ∙ (ap blocks cut.prefix ∙ idle_alone (closed_lines unclosed.cut.passed)
+    (idle_prefix (closed_lines unclosed.cut.passed) prefix.0 unclosed.cut.passed prefix.1
+    unclosed.cut.idle)))
 
 -- one line more of a text is added
-pub lines_taken : (text done rest piece after : List ℕ) → text ≡ done ++ rest → rest ≡ piece ++ after → text ≡ (done ++ piece) ++ after
-lines_taken text done rest piece after h e = h ∙ (ap (λ r. done ++ r) e ∙ sym (append_assoc done piece after))
+pub lines_taken : (text done rest piece after : List ℕ) → text ≡ done ++ rest →
+    rest ≡ piece ++ after → text ≡ (done ++ piece) ++ after
+lines_taken text done rest piece after h e =
+    h ∙ (ap (λ r. done ++ r) e ∙ sym (append_assoc done piece after))
 
 -- the line that closes is the last one that was added
-pub lines_closed : (past text done rest piece after : List ℕ) (draft : Draft) → text ≡ done ++ rest → rest ≡ piece ++ after → IsClosed ((past ++ done) ++ piece) draft
+pub lines_closed : (past text done rest piece after : List ℕ) (draft : Draft) →
+    text ≡ done ++ rest → rest ≡ piece ++ after → IsClosed ((past ++ done) ++ piece) draft
     → IsClosed (past ++ take (length text - length after) text) draft
 lines_closed past text done rest piece after draft h e closed =
     let whole : text ≡ (done ++ piece) ++ after = lines_taken text done rest piece after h e in
-    let lengths : length text ≡ length (done ++ piece) + length after = ap length whole ∙ length-append (done ++ piece) after in
+    let lengths : length text ≡ length (done ++ piece) + length after = ap length whole
+    ∙ length-append (done ++ piece) after in
     let prefix : take (length text - length after) text ≡ done ++ piece =
-    ap (take (length text - length after)) whole ∙ take_at (done ++ piece) after (length text - length after) (omega arith)
+    ap (take (length text - length after)) whole ∙ take_at (done ++ piece) after
+    (length text - length after) (omega arith)
     in
     let P : List ℕ → Type 0 = λ t. IsClosed t draft in
     subst P (append_assoc past done piece ∙ ap (λ r. past ++ r) (sym prefix)) closed

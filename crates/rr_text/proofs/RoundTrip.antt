@@ -1,9 +1,12 @@
 -- Canonical text spells its paragraph again.
-use Rattle.std.proofs.Common.{◌≡◌, ◌==◌, ℕ, ◌+◌, ◌-◌, ◌<◌, ◌≤◌, max, Bool, true, false, ◌&&◌, ◌||◌, List, [], ◌∷◌, ◌++◌, length, take, drop, map, replicate, refl, sym, ap, ◌∙◌, arith, append_assoc, length-append, suc, zero, None, Ok}
+use Rattle.std.proofs.Common.{◌≡◌, ◌==◌, ℕ, ◌+◌, ◌-◌, ◌<◌, ◌≤◌, max, Bool, true, false, ◌&&◌, ◌||◌}
+use Rattle.std.proofs.Common.{List, [], ◌∷◌, ◌++◌, length, take, drop, map, replicate, refl, sym}
+use Rattle.std.proofs.Common.{ap, ◌∙◌, arith, append_assoc, length-append, suc, zero, None, Ok}
 use Rattle.std.proofs.lemmas.Bool.Decides.{nat_tests}
 use Rattle.std.proofs.lemmas.List.{drop_at, take_at, append-nil}
 use Rattle.std.proofs.lemmas.List.Folds.{list_any-append}
-use Rattle.std.specs.List.{list_any, list_all, flat_map, AllByRecursion, onto_first, before_first, after_first, position_or_len}
+use Rattle.std.specs.List.{list_any, list_all, flat_map, AllByRecursion, onto_first, before_first}
+use Rattle.std.specs.List.{after_first, position_or_len}
 use Rattle.std.specs.Char.{is_ascii_alphabetic}
 use Rattle.rr_text.specs.declared.line.LineKind.TheVariants.{Continuation, Opening}
 use Rattle.rr_bytes.specs.Blanks.{is_blank_or_line_feed, is_line_feed}
@@ -11,30 +14,38 @@ use Rattle.rr_bytes.specs.LetterCase.{lowered}
 use Rattle.rr_bytes.specs.NameBytes.{begins, is_attribute_name, is_name_byte}
 use Rattle.rr_bytes.specs.Trims.{before_trimmed, trim, trim_end, trim_start}
 use Rattle.rr_text.specs.Bytes.{is_refused, is_colon}
-use Rattle.rr_text.specs.Lines.{text_lines, are_whole_lines, IsWholeLine, line_kind, is_blank_line, is_skipped_line, is_remark_sign}
-use Rattle.rr_text.specs.Faults.{written_name, opening_fault, fault_by_kind, line_fault, later_fault, block_fault}
-use Rattle.rr_text.specs.Entries.{added_value, opened_value, continued, block_fields, opened_field, block_entry, entries, size_limit}
+use Rattle.rr_text.specs.Lines.{text_lines, are_whole_lines, IsWholeLine, line_kind, is_blank_line}
+use Rattle.rr_text.specs.Lines.{is_skipped_line, is_remark_sign}
+use Rattle.rr_text.specs.Faults.{written_name, opening_fault, fault_by_kind, line_fault}
+use Rattle.rr_text.specs.Faults.{later_fault, block_fault}
+use Rattle.rr_text.specs.Entries.{added_value, opened_value, continued, block_fields, opened_field}
+use Rattle.rr_text.specs.Entries.{block_entry, entries, size_limit}
 use Rattle.rr_text.specs.Blocks.{blocks, from_blank}
 use Rattle.rr_text.specs.PrivateParts.{until_blank}
 use Rattle.rr_text.proofs.BlockLemmas.{blocks_prefix, no_blocks}
 use Rattle.rr_text.proofs.EntryLemmas.{entry_small, entries_joined}
 use Rattle.rr_bytes.proofs.TrimLemmas.{trim_end_blank}
 use Rattle.rr_text.specs.Fields.{Field, IsLine, IsField, AreFields}
-use Rattle.rr_text.specs.CanonicalText.{value_column, ended, opening_line, further_line, after_blanks, value_text, field_text, canonical}
+use Rattle.rr_text.specs.CanonicalText.{value_column, ended, opening_line, further_line}
+use Rattle.rr_text.specs.CanonicalText.{after_blanks, value_text, field_text, canonical}
 use Rattle.rr_text.proofs.LineLemmas.{text_lines-append, are_whole_lines-append}
 use Rattle.rr_text.proofs.SoundLemmas.{and_left, and_right, or_left, or_right, not_false, any_cons}
 
 -- a line with no LF in it, and the LF that ends it
-lone_more : (b : ℕ) (bs : List ℕ) → is_line_feed b ≡ false → text_lines bs ≡ bs ∷ [] → text_lines (b ∷ bs) ≡ (b ∷ bs) ∷ []
+lone_more : (b : ℕ) (bs : List ℕ) → is_line_feed b ≡ false → text_lines bs ≡ bs ∷ [] →
+    text_lines (b ∷ bs) ≡ (b ∷ bs) ∷ []
 unfolding text_lines
 lone_more b bs h rec = rw h (ap (onto_first b) rec)
 
-ended_lone : (line : List ℕ) → list_any is_line_feed line ≡ false → text_lines (ended line) ≡ ended line ∷ []
+ended_lone : (line : List ℕ) → list_any is_line_feed line ≡ false → text_lines (ended line)
+    ≡ ended line ∷ []
 unfolding text_lines
 ended_lone [] h = refl
-ended_lone (b ∷ bs) h = lone_more b (bs ++ 10 ∷ []) (or_left _ _ h) (ended_lone bs (or_right (is_line_feed b) _ h))
+ended_lone (b ∷ bs) h = lone_more b (bs ++ 10 ∷ []) (or_left _ _ h)
+    (ended_lone bs (or_right (is_line_feed b) _ h))
 
-whole_more : (b : ℕ) (bs : List ℕ) → are_whole_lines bs ≡ true → 0 < length bs → are_whole_lines (b ∷ bs) ≡ true
+whole_more : (b : ℕ) (bs : List ℕ) → are_whole_lines bs ≡ true → 0 < length bs →
+    are_whole_lines (b ∷ bs) ≡ true
 unfolding are_whole_lines
 whole_more b [] h some = absurd (omega arith)
 whole_more b (c ∷ cs) h some = h
@@ -49,8 +60,10 @@ ended_whole [] = refl
 ended_whole (b ∷ bs) = whole_more b (ended bs) (ended_whole bs) (some_ended bs)
 
 -- the lines of a text that begins with such a line
-ended_lines : (line rest : List ℕ) → list_any is_line_feed line ≡ false → text_lines (ended line ++ rest) ≡ ended line ∷ text_lines rest
-ended_lines line rest h = text_lines-append (ended line) rest (ended_whole line) ∙ ap (λ ls. ls ++ text_lines rest) (ended_lone line h)
+ended_lines : (line rest : List ℕ) → list_any is_line_feed line ≡ false →
+    text_lines (ended line ++ rest) ≡ ended line ∷ text_lines rest
+ended_lines line rest h = text_lines-append (ended line) rest (ended_whole line)
+    ∙ ap (λ ls. ls ++ text_lines rest) (ended_lone line h)
 
 -- the lines that a value is printed as
 unfoldable pub further_lines : List (List ℕ) → List (List ℕ)
@@ -68,9 +81,12 @@ canonical_lines (field ∷ others) = value_lines field.name field.lines ++ canon
 
 -- bytes of names and blanks
 
-any_none : (p : ℕ → Bool) → ((b : ℕ) → is_name_byte b ≡ true → p b ≡ false) → (name : List ℕ) → list_all is_name_byte name ≡ true → list_any p name ≡ false
+any_none : (p : ℕ → Bool) → ((b : ℕ) → is_name_byte b ≡ true → p b ≡ false) → (name : List ℕ) →
+    list_all is_name_byte name ≡ true → list_any p name ≡ false
 any_none p never [] h = refl
-any_none p never (b ∷ bs) h = any_cons p b bs (never b (and_left (is_name_byte b) (list_all is_name_byte bs) h)) (any_none p never bs (and_right (is_name_byte b) (list_all is_name_byte bs) h))
+any_none p never (b ∷ bs) h =
+    any_cons p b bs (never b (and_left (is_name_byte b) (list_all is_name_byte bs) h))
+    (any_none p never bs (and_right (is_name_byte b) (list_all is_name_byte bs) h))
 
 name_no_feed : (b : ℕ) → is_name_byte b ≡ true → is_line_feed b ≡ false
 name_no_feed b h = grind (arith, nat_tests)
@@ -88,62 +104,84 @@ any_blanks : (p : ℕ → Bool) → p 32 ≡ false → (n : ℕ) → list_any p 
 any_blanks p h zero = refl
 any_blanks p h (suc n) = any_cons p 32 (replicate n 32) h (any_blanks p h n)
 
-any_append : (p : ℕ → Bool) (xs ys : List ℕ) → list_any p xs ≡ false → list_any p ys ≡ false → list_any p (xs ++ ys) ≡ false
+any_append : (p : ℕ → Bool) (xs ys : List ℕ) → list_any p xs ≡ false → list_any p ys ≡ false →
+    list_any p (xs ++ ys) ≡ false
 any_append p xs ys h e = list_any-append p xs ys ∙ rw (h, e) refl
 
-any_after : (p : ℕ → Bool) (n : ℕ) (line : List ℕ) → p 32 ≡ false → list_any p line ≡ false → list_any p (after_blanks n line) ≡ false
+any_after : (p : ℕ → Bool) (n : ℕ) (line : List ℕ) → p 32 ≡ false → list_any p line ≡ false →
+    list_any p (after_blanks n line) ≡ false
 any_after p n [] h e = refl
 any_after p n (b ∷ bs) h e = any_append p (replicate n 32) (b ∷ bs) (any_blanks p h n) e
 
-any_opening : (p : ℕ → Bool) (name line : List ℕ) → p 32 ≡ false → p 58 ≡ false → list_any p name ≡ false → list_any p line ≡ false → list_any p (opening_line name line) ≡ false
+any_opening : (p : ℕ → Bool) (name line : List ℕ) → p 32 ≡ false → p 58 ≡ false → list_any p name
+    ≡ false → list_any p line ≡ false → list_any p (opening_line name line) ≡ false
 any_opening p name line h k e f =
-    any_append p (name ++ 58 ∷ []) _ (any_append p name (58 ∷ []) e (any_cons p 58 [] k refl)) (any_after p _ line h f)
+    any_append p (name ++ 58 ∷ []) _ (any_append p name (58 ∷ []) e (any_cons p 58 [] k refl))
+    (any_after p _ line h f)
 
-any_further : (p : ℕ → Bool) (line : List ℕ) → p 32 ≡ false → p 43 ≡ false → list_any p line ≡ false → list_any p (further_line line) ≡ false
+any_further : (p : ℕ → Bool) (line : List ℕ) → p 32 ≡ false → p 43 ≡ false → list_any p line
+    ≡ false → list_any p (further_line line) ≡ false
 any_further p [] h k e = any_cons p 43 [] k refl
 any_further p (b ∷ bs) h k e = any_append p (replicate 16 32) (b ∷ bs) (any_blanks p h 16) e
 
 -- what a good attribute's name is made of
 pub name_bytes : (field : Field) → IsField field → list_all is_name_byte field.name ≡ true
-name_bytes field good = and_right (begins is_ascii_alphabetic field.name) _ (and_left (begins is_ascii_alphabetic field.name && list_all is_name_byte field.name) _ good.named)
+name_bytes field good = and_right (begins is_ascii_alphabetic field.name) _
+    (and_left (begins is_ascii_alphabetic field.name && list_all is_name_byte field.name) _
+    good.named)
 
 pub name_begins : (field : Field) → IsField field → begins is_ascii_alphabetic field.name ≡ true
-name_begins field good = and_left _ _ (and_left (begins is_ascii_alphabetic field.name && list_all is_name_byte field.name) _ good.named)
+name_begins field good =
+    and_left _ _
+    (and_left (begins is_ascii_alphabetic field.name && list_all is_name_byte field.name) _
+    good.named)
 
 -- the lines of canonical text
 
-further_text : (further : List (List ℕ)) (rest : List ℕ) → AllByRecursion IsLine further → text_lines (flat_map (λ line. ended (further_line line)) further ++ rest) ≡ further_lines further ++ text_lines rest
+further_text : (further : List (List ℕ)) (rest : List ℕ) → AllByRecursion IsLine further →
+    text_lines (flat_map (λ line. ended (further_line line)) further ++ rest) ≡ further_lines
+    further ++ text_lines rest
 unfolding further_lines
 further_text [] rest good = refl
 further_text (line ∷ others) rest good =
-    let free : list_any is_line_feed (further_line line) ≡ false = any_further is_line_feed line refl refl (not_false _ good.0.unbroken) in
-    ap text_lines (append_assoc (ended (further_line line)) (flat_map (λ l. ended (further_line l)) others) rest)
+    let free : list_any is_line_feed (further_line line) ≡ false = any_further is_line_feed line
+    refl refl (not_false _ good.0.unbroken) in
+    ap text_lines (append_assoc (ended (further_line line)) (flat_map (λ l. ended (further_line l))
+    others) rest)
     ∙ (ended_lines (further_line line) (flat_map (λ l. ended (further_line l)) others ++ rest) free
     ∙ ap (λ ls. ended (further_line line) ∷ ls) (further_text others rest good.1))
 
-value_text_lines : (name : List ℕ) (lines : List (List ℕ)) (rest : List ℕ) → list_any is_line_feed name ≡ false → AllByRecursion IsLine lines
+value_text_lines : (name : List ℕ) (lines : List (List ℕ)) (rest : List ℕ) → list_any is_line_feed
+    name ≡ false → AllByRecursion IsLine lines
     → text_lines (value_text name lines ++ rest) ≡ value_lines name lines ++ text_lines rest
 unfolding value_lines
 value_text_lines name [] rest free good = refl
 value_text_lines name (first ∷ further) rest free good =
-    let none : list_any is_line_feed (opening_line name first) ≡ false = any_opening is_line_feed name first refl refl free (not_false _ good.0.unbroken) in
-    ap text_lines (append_assoc (ended (opening_line name first)) (flat_map (λ l. ended (further_line l)) further) rest)
-    ∙ (ended_lines (opening_line name first) (flat_map (λ l. ended (further_line l)) further ++ rest) none
+    let none : list_any is_line_feed (opening_line name first) ≡ false = any_opening is_line_feed
+    name first refl refl free (not_false _ good.0.unbroken) in
+    ap text_lines (append_assoc (ended (opening_line name first))
+    (flat_map (λ l. ended (further_line l)) further) rest)
+    ∙ (ended_lines (opening_line name first) (flat_map (λ l. ended (further_line l)) further ++
+    rest) none
     ∙ ap (λ ls. ended (opening_line name first) ∷ ls) (further_text further rest good.1))
 
-pub canonical_text_lines : (fields : List Field) → AreFields fields → text_lines (canonical fields) ≡ canonical_lines fields
+pub canonical_text_lines : (fields : List Field) → AreFields fields → text_lines (canonical fields)
+    ≡ canonical_lines fields
 unfolding canonical_lines canonical text_lines
 canonical_text_lines [] good = refl
 canonical_text_lines (field ∷ others) good =
-    value_text_lines field.name field.lines (canonical others) (any_none is_line_feed name_no_feed field.name (name_bytes field good.0)) good.0.good
+    value_text_lines field.name field.lines (canonical others)
+    (any_none is_line_feed name_no_feed field.name (name_bytes field good.0)) good.0.good
     ∙ ap (λ ls. value_lines field.name field.lines ++ ls) (canonical_text_lines others good.1)
 
 -- the kinds of these lines
 
-letter_facts : (b : ℕ) → is_ascii_alphabetic b ≡ true → (is_blank_or_line_feed b ≡ false) × (is_remark_sign b ≡ false) × ((b == 43) ≡ false)
+letter_facts : (b : ℕ) → is_ascii_alphabetic b ≡ true → (is_blank_or_line_feed b ≡ false)
+    × (is_remark_sign b ≡ false) × ((b == 43) ≡ false)
 letter_facts b h = (grind (arith, nat_tests), grind (arith, nat_tests), grind (arith, nat_tests))
 
-letter_kind : (b : ℕ) (bs : List ℕ) → is_ascii_alphabetic b ≡ true → (line_kind (b ∷ bs) ≡ Opening) × (is_blank_line (b ∷ bs) ≡ false) × (is_skipped_line (b ∷ bs) ≡ false)
+letter_kind : (b : ℕ) (bs : List ℕ) → is_ascii_alphabetic b ≡ true → (line_kind (b ∷ bs) ≡ Opening)
+    × (is_blank_line (b ∷ bs) ≡ false) × (is_skipped_line (b ∷ bs) ≡ false)
 unfolding line_kind
 letter_kind b bs h =
     let facts = letter_facts b h in
@@ -153,73 +191,103 @@ letter_kind b bs h =
     (rw (blank, remark, plus) refl, rw blank refl, remark)
 
 pub opening_kind : (name first : List ℕ) → begins is_ascii_alphabetic name ≡ true
-    → (line_kind (ended (opening_line name first)) ≡ Opening) × (is_blank_line (ended (opening_line name first)) ≡ false) × (is_skipped_line (ended (opening_line name first)) ≡ false)
+    → (line_kind (ended (opening_line name first)) ≡ Opening)
+    × (is_blank_line (ended (opening_line name first)) ≡ false)
+    × (is_skipped_line (ended (opening_line name first)) ≡ false)
 opening_kind [] first h = cc
 opening_kind (b ∷ bs) first h = letter_kind b _ h
 
-all_blank_start_by : (b : ℕ) (bs : List ℕ) → is_blank_or_line_feed b ≡ true → trim_start is_blank_or_line_feed bs ≡ [] → trim_start is_blank_or_line_feed (b ∷ bs) ≡ []
+all_blank_start_by : (b : ℕ) (bs : List ℕ) → is_blank_or_line_feed b ≡ true →
+    trim_start is_blank_or_line_feed bs ≡ [] → trim_start is_blank_or_line_feed (b ∷ bs) ≡ []
 unfolding trim_start
 all_blank_start_by b bs h rec = rw h rec
 
-all_blank_start : (bs : List ℕ) → list_all is_blank_or_line_feed bs ≡ true → trim_start is_blank_or_line_feed bs ≡ []
+all_blank_start : (bs : List ℕ) → list_all is_blank_or_line_feed bs ≡ true →
+    trim_start is_blank_or_line_feed bs ≡ []
 unfolding trim_start
 all_blank_start [] h = refl
-all_blank_start (b ∷ bs) h = all_blank_start_by b bs (and_left (is_blank_or_line_feed b) (list_all is_blank_or_line_feed bs) h) (all_blank_start bs (and_right (is_blank_or_line_feed b) (list_all is_blank_or_line_feed bs) h))
+all_blank_start (b ∷ bs) h = all_blank_start_by b bs
+    (and_left (is_blank_or_line_feed b) (list_all is_blank_or_line_feed bs) h)
+    (all_blank_start bs (and_right (is_blank_or_line_feed b) (list_all is_blank_or_line_feed bs) h))
 
-all_blank_trim : (bs : List ℕ) → list_all is_blank_or_line_feed bs ≡ true → trim is_blank_or_line_feed bs ≡ []
+all_blank_trim : (bs : List ℕ) → list_all is_blank_or_line_feed bs ≡ true →
+    trim is_blank_or_line_feed bs ≡ []
 unfolding trim_end
 all_blank_trim bs h = ap (trim_end is_blank_or_line_feed) (all_blank_start bs h)
 
-solid_by : (t : Bool) (b : ℕ) (bs : List ℕ) → list_all is_blank_or_line_feed (b ∷ bs) ≡ t → trim is_blank_or_line_feed (b ∷ bs) ≡ b ∷ bs → list_all is_blank_or_line_feed (b ∷ bs) ≡ false
-solid_by true b bs h trimmed = let none : trim is_blank_or_line_feed (b ∷ bs) ≡ [] = all_blank_trim (b ∷ bs) h in cc
+solid_by : (t : Bool) (b : ℕ) (bs : List ℕ) → list_all is_blank_or_line_feed (b ∷ bs) ≡ t →
+    trim is_blank_or_line_feed (b ∷ bs) ≡ b ∷ bs → list_all is_blank_or_line_feed (b ∷ bs) ≡ false
+solid_by true b bs h trimmed = let none : trim is_blank_or_line_feed (b ∷ bs) ≡ [] =
+    all_blank_trim (b ∷ bs) h in cc
 solid_by false b bs h trimmed = h
 
 -- a trimmed line that is not empty has a byte that is not blank
-solid : (b : ℕ) (bs : List ℕ) → trim is_blank_or_line_feed (b ∷ bs) ≡ b ∷ bs → list_all is_blank_or_line_feed (b ∷ bs) ≡ false
+solid : (b : ℕ) (bs : List ℕ) → trim is_blank_or_line_feed (b ∷ bs) ≡ b ∷ bs →
+    list_all is_blank_or_line_feed (b ∷ bs) ≡ false
 solid b bs trimmed = solid_by (list_all is_blank_or_line_feed (b ∷ bs)) b bs refl trimmed
 
-all_left_by : (t : Bool) (b : ℕ) (bs ys : List ℕ) → is_blank_or_line_feed b ≡ t → list_all is_blank_or_line_feed (b ∷ bs) ≡ false → (list_all is_blank_or_line_feed bs ≡ false → list_all is_blank_or_line_feed (bs ++ ys) ≡ false) → list_all is_blank_or_line_feed ((b ∷ bs) ++ ys) ≡ false
-all_left_by true b bs ys h all rec = let rest : list_all is_blank_or_line_feed bs ≡ false = rw h at all in rw h (rec rest)
+all_left_by : (t : Bool) (b : ℕ) (bs ys : List ℕ) → is_blank_or_line_feed b ≡ t →
+    list_all is_blank_or_line_feed (b ∷ bs) ≡ false → (list_all is_blank_or_line_feed bs ≡ false →
+    list_all is_blank_or_line_feed (bs ++ ys) ≡ false) → list_all is_blank_or_line_feed
+    ((b ∷ bs) ++ ys) ≡ false
+all_left_by true b bs ys h all rec = let rest : list_all is_blank_or_line_feed bs ≡ false =
+    rw h at all in rw h (rec rest)
 all_left_by false b bs ys h all rec = rw h refl
 
-all_left : (xs ys : List ℕ) → list_all is_blank_or_line_feed xs ≡ false → list_all is_blank_or_line_feed (xs ++ ys) ≡ false
+all_left : (xs ys : List ℕ) → list_all is_blank_or_line_feed xs ≡ false →
+    list_all is_blank_or_line_feed (xs ++ ys) ≡ false
 all_left [] ys h = cc
 all_left (b ∷ bs) ys h = all_left_by (is_blank_or_line_feed b) b bs ys refl h (all_left bs ys)
 
-all_right : (n : ℕ) (ys : List ℕ) → list_all is_blank_or_line_feed ys ≡ false → list_all is_blank_or_line_feed (replicate n 32 ++ ys) ≡ false
+all_right : (n : ℕ) (ys : List ℕ) → list_all is_blank_or_line_feed ys ≡ false →
+    list_all is_blank_or_line_feed (replicate n 32 ++ ys) ≡ false
 all_right zero ys h = h
 all_right (suc n) ys h = all_right n ys h
 
-space_kind : (bs : List ℕ) → list_all is_blank_or_line_feed (32 ∷ bs) ≡ false → (line_kind (32 ∷ bs) ≡ Continuation) × (is_blank_line (32 ∷ bs) ≡ false)
+space_kind : (bs : List ℕ) → list_all is_blank_or_line_feed (32 ∷ bs) ≡ false →
+    (line_kind (32 ∷ bs) ≡ Continuation) × (is_blank_line (32 ∷ bs) ≡ false)
 unfolding line_kind
 space_kind bs h = (rw h refl, h)
 
-pub further_kind : (line : List ℕ) → IsLine line → (line_kind (ended (further_line line)) ≡ Continuation) × (is_blank_line (ended (further_line line)) ≡ false)
+pub further_kind : (line : List ℕ) → IsLine line →
+    (line_kind (ended (further_line line)) ≡ Continuation)
+    × (is_blank_line (ended (further_line line)) ≡ false)
 unfolding line_kind
 further_kind [] good = (refl, refl)
-further_kind (b ∷ bs) good = space_kind ((replicate 15 32 ++ b ∷ bs) ++ 10 ∷ []) (all_left (replicate 16 32 ++ b ∷ bs) (10 ∷ []) (all_right 16 (b ∷ bs) (solid b bs good.trimmed)))
+further_kind (b ∷ bs) good = space_kind ((replicate 15 32 ++ b ∷ bs) ++ 10 ∷ [])
+    (all_left (replicate 16 32 ++ b ∷ bs) (10 ∷ [])
+    (all_right 16 (b ∷ bs) (solid b bs good.trimmed)))
 
 -- what these lines give
 
-solid_before : (b : ℕ) (bs : List ℕ) → is_blank_or_line_feed b ≡ false → before_trimmed is_blank_or_line_feed b bs ≡ b ∷ bs
+solid_before : (b : ℕ) (bs : List ℕ) → is_blank_or_line_feed b ≡ false →
+    before_trimmed is_blank_or_line_feed b bs ≡ b ∷ bs
 solid_before b [] h = rw h refl
 solid_before b (c ∷ cs) h = refl
 
-solid_end : (bs : List ℕ) → list_any is_blank_or_line_feed bs ≡ false → trim_end is_blank_or_line_feed bs ≡ bs
+solid_end : (bs : List ℕ) → list_any is_blank_or_line_feed bs ≡ false →
+    trim_end is_blank_or_line_feed bs ≡ bs
 unfolding trim_end
 solid_end [] h = refl
-solid_end (b ∷ bs) h = ap (before_trimmed is_blank_or_line_feed b) (solid_end bs (or_right (is_blank_or_line_feed b) _ h)) ∙ solid_before b bs (or_left (is_blank_or_line_feed b) (list_any is_blank_or_line_feed bs) h)
+solid_end (b ∷ bs) h = ap (before_trimmed is_blank_or_line_feed b)
+    (solid_end bs (or_right (is_blank_or_line_feed b) _ h)) ∙ solid_before b bs
+    (or_left (is_blank_or_line_feed b) (list_any is_blank_or_line_feed bs) h)
 
-place_by : (b : ℕ) (bs rest : List ℕ) → is_colon b ≡ false → position_or_len is_colon (bs ++ 58 ∷ rest) ≡ length bs → position_or_len is_colon ((b ∷ bs) ++ 58 ∷ rest) ≡ length (b ∷ bs)
+place_by : (b : ℕ) (bs rest : List ℕ) → is_colon b ≡ false → position_or_len is_colon
+    (bs ++ 58 ∷ rest) ≡ length bs → position_or_len is_colon ((b ∷ bs) ++ 58 ∷ rest)
+    ≡ length (b ∷ bs)
 place_by b bs rest h rec = rw h (omega (arith, rec))
 
-place_of_colon : (name rest : List ℕ) → list_any is_colon name ≡ false → position_or_len is_colon (name ++ 58 ∷ rest) ≡ length name
+place_of_colon : (name rest : List ℕ) → list_any is_colon name ≡ false → position_or_len is_colon
+    (name ++ 58 ∷ rest) ≡ length name
 place_of_colon [] rest h = refl
-place_of_colon (b ∷ bs) rest h = place_by b bs rest (or_left (is_colon b) _ h) (place_of_colon bs rest (or_right (is_colon b) (list_any is_colon bs) h))
+place_of_colon (b ∷ bs) rest h = place_by b bs rest (or_left (is_colon b) _ h)
+    (place_of_colon bs rest (or_right (is_colon b) (list_any is_colon bs) h))
 
 drop_after : (name rest : List ℕ) → drop (length name + 1) (name ++ 58 ∷ rest) ≡ rest
 drop_after name rest =
-    ap (λ l. drop (length name + 1) l) (sym (append_assoc name (58 ∷ []) rest)) ∙ drop_at (name ++ 58 ∷ []) rest (length name + 1) (length-append name (58 ∷ []))
+    ap (λ l. drop (length name + 1) l) (sym (append_assoc name (58 ∷ []) rest)) ∙ drop_at
+    (name ++ 58 ∷ []) rest (length name + 1) (length-append name (58 ∷ []))
 
 or_true : (a : Bool) → (a || true) ≡ true
 or_true true = refl
@@ -229,39 +297,52 @@ any_colon : (name rest : List ℕ) → list_any is_colon (name ++ 58 ∷ rest) �
 any_colon [] rest = refl
 any_colon (b ∷ bs) rest = rw (any_colon bs rest) (or_true (is_colon b))
 
-start_blanks : (n : ℕ) (bs : List ℕ) → trim_start is_blank_or_line_feed (replicate n 32 ++ bs) ≡ trim_start is_blank_or_line_feed bs
+start_blanks : (n : ℕ) (bs : List ℕ) → trim_start is_blank_or_line_feed (replicate n 32 ++ bs)
+    ≡ trim_start is_blank_or_line_feed bs
 unfolding trim_start
 start_blanks zero bs = refl
 start_blanks (suc n) bs = start_blanks n bs
 
-feed_by : (t : Bool) (b : ℕ) (bs : List ℕ) → is_blank_or_line_feed b ≡ t → trim_end is_blank_or_line_feed (trim_start is_blank_or_line_feed (bs ++ 10 ∷ [])) ≡ trim_end is_blank_or_line_feed (trim_start is_blank_or_line_feed bs) → trim_end is_blank_or_line_feed (trim_start is_blank_or_line_feed ((b ∷ bs) ++ 10 ∷ [])) ≡ trim_end is_blank_or_line_feed (trim_start is_blank_or_line_feed (b ∷ bs))
+feed_by : (t : Bool) (b : ℕ) (bs : List ℕ) → is_blank_or_line_feed b ≡ t →
+    trim_end is_blank_or_line_feed (trim_start is_blank_or_line_feed (bs ++ 10 ∷ [])) ≡ trim_end
+    is_blank_or_line_feed (trim_start is_blank_or_line_feed bs) → trim_end is_blank_or_line_feed
+    (trim_start is_blank_or_line_feed ((b ∷ bs) ++ 10 ∷ [])) ≡ trim_end is_blank_or_line_feed
+    (trim_start is_blank_or_line_feed (b ∷ bs))
 unfolding trim_start
 feed_by true b bs h rec = rw h rec
 feed_by false b bs h rec = rw h (trim_end_blank is_blank_or_line_feed 10 (b ∷ bs) refl)
 
-trim-ended : (bs : List ℕ) → trim is_blank_or_line_feed (bs ++ 10 ∷ []) ≡ trim is_blank_or_line_feed bs
+trim-ended : (bs : List ℕ) → trim is_blank_or_line_feed (bs ++ 10 ∷ [])
+    ≡ trim is_blank_or_line_feed bs
 unfolding trim_start trim_end
 trim-ended [] = refl
 trim-ended (b ∷ bs) = feed_by (is_blank_or_line_feed b) b bs refl (trim-ended bs)
 
 -- blanks before a line and the LF after it are trimmed
-padded : (n : ℕ) (line : List ℕ) → trim is_blank_or_line_feed line ≡ line → trim is_blank_or_line_feed ((replicate n 32 ++ line) ++ 10 ∷ []) ≡ line
-padded n line trimmed = trim-ended (replicate n 32 ++ line) ∙ (ap (trim_end is_blank_or_line_feed) (start_blanks n line) ∙ trimmed)
+padded : (n : ℕ) (line : List ℕ) → trim is_blank_or_line_feed line ≡ line →
+    trim is_blank_or_line_feed ((replicate n 32 ++ line) ++ 10 ∷ []) ≡ line
+padded n line trimmed = trim-ended (replicate n 32 ++ line)
+    ∙ (ap (trim_end is_blank_or_line_feed) (start_blanks n line) ∙ trimmed)
 
-pub opened_value_is : (n : ℕ) (line : List ℕ) → trim is_blank_or_line_feed line ≡ line → trim is_blank_or_line_feed (after_blanks n line ++ 10 ∷ []) ≡ line
+pub opened_value_is : (n : ℕ) (line : List ℕ) → trim is_blank_or_line_feed line ≡ line →
+    trim is_blank_or_line_feed (after_blanks n line ++ 10 ∷ []) ≡ line
 unfolding trim_start trim_end
 opened_value_is n [] trimmed = refl
 opened_value_is n (b ∷ bs) trimmed = padded n (b ∷ bs) trimmed
 
-pub added_value_is : (line : List ℕ) → trim is_blank_or_line_feed line ≡ line → added_value (ended (further_line line)) ≡ line
+pub added_value_is : (line : List ℕ) → trim is_blank_or_line_feed line ≡ line →
+    added_value (ended (further_line line)) ≡ line
 unfolding trim_start trim_end
 added_value_is [] trimmed = refl
 added_value_is (b ∷ bs) trimmed = padded 15 (b ∷ bs) trimmed
 
-colon_line : (name first : List ℕ) → ended (opening_line name first) ≡ name ++ 58 ∷ (after_blanks (max 1 (value_column - (length name + 1))) first ++ 10 ∷ [])
+colon_line : (name first : List ℕ) → ended (opening_line name first) ≡ name ++ 58
+    ∷ (after_blanks (max 1 (value_column - (length name + 1))) first ++ 10 ∷ [])
 colon_line name first =
-    append_assoc (name ++ 58 ∷ []) (after_blanks (max 1 (value_column - (length name + 1))) first) (10 ∷ [])
-    ∙ append_assoc name (58 ∷ []) (after_blanks (max 1 (value_column - (length name + 1))) first ++ 10 ∷ [])
+    append_assoc (name ++ 58 ∷ []) (after_blanks (max 1 (value_column - (length name + 1))) first)
+    (10 ∷ [])
+    ∙ append_assoc name (58 ∷ []) (after_blanks (max 1 (value_column - (length name + 1))) first ++
+    10 ∷ [])
 
 -- a printed opening line opens the attribute that it was printed for
 pub record IsOpeningOf (name first line : List ℕ) : Type 0 where
@@ -269,39 +350,52 @@ pub record IsOpeningOf (name first line : List ℕ) : Type 0 where
   pub name_is : written_name line ≡ name
   pub value_is : opened_value line ≡ first
 
-pub opening_of : (name first : List ℕ) → list_all is_name_byte name ≡ true → trim is_blank_or_line_feed first ≡ first → IsOpeningOf name first (ended (opening_line name first))
+pub opening_of : (name first : List ℕ) → list_all is_name_byte name ≡ true →
+    trim is_blank_or_line_feed first ≡ first → IsOpeningOf name first
+    (ended (opening_line name first))
 opening_of name first bytes trimmed =
     let n = max 1 (value_column - (length name + 1)) in
     let rest = after_blanks n first ++ 10 ∷ [] in
     let free : list_any is_colon name ≡ false = any_none is_colon name_no_colon name bytes in
-    let place : position_or_len is_colon (name ++ 58 ∷ rest) ≡ length name = place_of_colon name rest free in
-    let before : before_first is_colon (name ++ 58 ∷ rest) ≡ name = ap (λ k. take k (name ++ 58 ∷ rest)) place ∙ take_at name (58 ∷ rest) (length name) refl in
-    let after : after_first is_colon (name ++ 58 ∷ rest) ≡ rest = ap (λ k. drop (k + 1) (name ++ 58 ∷ rest)) place ∙ drop_after name rest in
+    let place : position_or_len is_colon (name ++ 58 ∷ rest) ≡ length name = place_of_colon name
+    rest free in
+    let before : before_first is_colon (name ++ 58 ∷ rest) ≡ name =
+    ap (λ k. take k (name ++ 58 ∷ rest)) place ∙ take_at name (58 ∷ rest) (length name) refl in
+    let after : after_first is_colon (name ++ 58 ∷ rest) ≡ rest =
+    ap (λ k. drop (k + 1) (name ++ 58 ∷ rest)) place ∙ drop_after name rest in
     record {
       colon = ap (list_any is_colon) (colon_line name first) ∙ any_colon name rest;
-      name_is = ap written_name (colon_line name first) ∙ (ap (trim_end is_blank_or_line_feed) before ∙ solid_end name (any_none is_blank_or_line_feed name_no_blank name bytes));
-      value_is = ap opened_value (colon_line name first) ∙ (ap (trim is_blank_or_line_feed) after ∙ opened_value_is n first trimmed);
+      name_is = ap written_name (colon_line name first)
+          ∙ (ap (trim_end is_blank_or_line_feed) before ∙ solid_end name
+          (any_none is_blank_or_line_feed name_no_blank name bytes));
+      value_is = ap opened_value (colon_line name first) ∙ (ap (trim is_blank_or_line_feed) after
+          ∙ opened_value_is n first trimmed);
     }
 
 -- what canonical lines spell
 
-continued_one : (line : List ℕ) (others : List (List ℕ)) → line_kind line ≡ Continuation → continued (line ∷ others) ≡ added_value line ∷ continued others
+continued_one : (line : List ℕ) (others : List (List ℕ)) → line_kind line ≡ Continuation →
+    continued (line ∷ others) ≡ added_value line ∷ continued others
 unfolding continued
 continued_one line others h = rw h refl
 
-fields_one : (line : List ℕ) (others : List (List ℕ)) → line_kind line ≡ Continuation → block_fields (line ∷ others) ≡ block_fields others
+fields_one : (line : List ℕ) (others : List (List ℕ)) → line_kind line ≡ Continuation →
+    block_fields (line ∷ others) ≡ block_fields others
 unfolding block_fields
 fields_one line others h = rw h refl
 
-continued_none : (line : List ℕ) (others : List (List ℕ)) → line_kind line ≡ Opening → continued (line ∷ others) ≡ []
+continued_none : (line : List ℕ) (others : List (List ℕ)) → line_kind line ≡ Opening →
+    continued (line ∷ others) ≡ []
 unfolding continued
 continued_none line others h = rw h refl
 
-fields_opened : (line : List ℕ) (others : List (List ℕ)) → line_kind line ≡ Opening → block_fields (line ∷ others) ≡ opened_field line (continued others) ∷ block_fields others
+fields_opened : (line : List ℕ) (others : List (List ℕ)) → line_kind line ≡ Opening →
+    block_fields (line ∷ others) ≡ opened_field line (continued others) ∷ block_fields others
 unfolding block_fields
 fields_opened line others h = rw h refl
 
-pub further_continued : (further rest : List (List ℕ)) → AllByRecursion IsLine further → continued (further_lines further ++ rest) ≡ further ++ continued rest
+pub further_continued : (further rest : List (List ℕ)) → AllByRecursion IsLine further →
+    continued (further_lines further ++ rest) ≡ further ++ continued rest
 unfolding further_lines
 further_continued [] rest good = refl
 further_continued (line ∷ others) rest good =
@@ -309,115 +403,156 @@ further_continued (line ∷ others) rest good =
     ∙ (ap (λ l. l ∷ continued (further_lines others ++ rest)) (added_value_is line good.0.trimmed)
     ∙ ap (λ ls. line ∷ ls) (further_continued others rest good.1))
 
-further_fields : (further rest : List (List ℕ)) → AllByRecursion IsLine further → block_fields (further_lines further ++ rest) ≡ block_fields rest
+further_fields : (further rest : List (List ℕ)) → AllByRecursion IsLine further →
+    block_fields (further_lines further ++ rest) ≡ block_fields rest
 unfolding further_lines
 further_fields [] rest good = refl
-further_fields (line ∷ others) rest good = fields_one _ (further_lines others ++ rest) (further_kind line good.0).0 ∙ further_fields others rest good.1
+further_fields (line ∷ others) rest good = fields_one _ (further_lines others ++ rest)
+    (further_kind line good.0).0 ∙ further_fields others rest good.1
 
 -- the lines of one attribute before others that continue nothing
-field_by : (name : List ℕ) (lines : List (List ℕ)) (rest : List (List ℕ)) → list_all is_name_byte name ≡ true → begins is_ascii_alphabetic name ≡ true → lowered name ≡ name
+field_by : (name : List ℕ) (lines : List (List ℕ)) (rest : List (List ℕ)) → list_all is_name_byte
+    name ≡ true → begins is_ascii_alphabetic name ≡ true → lowered name ≡ name
     → 0 < length lines → AllByRecursion IsLine lines → continued rest ≡ []
-    → (continued (value_lines name lines ++ rest) ≡ []) × (block_fields (value_lines name lines ++ rest) ≡ record { name = name; lines = lines } ∷ block_fields rest)
+    → (continued (value_lines name lines ++ rest) ≡ [])
+    × (block_fields (value_lines name lines ++ rest) ≡ record { name = name; lines = lines }
+    ∷ block_fields rest)
 unfolding value_lines
 field_by name [] rest bytes letter lower some good none = absurd (omega arith)
 field_by name (first ∷ further) rest bytes letter lower some good none =
     let line = ended (opening_line name first) in
     let kind : line_kind line ≡ Opening = (opening_kind name first letter).0 in
     let opens : IsOpeningOf name first line = opening_of name first bytes good.0.trimmed in
-    let make = λ (n : List ℕ) (ls : List (List ℕ)). let field : Field = record { name = n; lines = ls } in field in
-    let more : continued (further_lines further ++ rest) ≡ further = further_continued further rest good.1 ∙ (ap (λ ls. further ++ ls) none ∙ append-nil further) in
+    let make = λ (n : List ℕ) (ls : List (List ℕ)). let field : Field =
+    record { name = n; lines = ls } in field in
+    let more : continued (further_lines further ++ rest) ≡ further = further_continued further rest
+    good.1 ∙ (ap (λ ls. further ++ ls) none ∙ append-nil further) in
     let named : lowered (written_name line) ≡ name = ap (lowered) opens.name_is ∙ lower in
-    let field : opened_field line (continued (further_lines further ++ rest)) ≡ make name (first ∷ further) =
+    let field : opened_field line (continued (further_lines further ++ rest)) ≡ make name
+    (first ∷ further) =
     ap (λ n. make n (opened_value line ∷ continued (further_lines further ++ rest))) named
-    ∙ (ap (λ v. make name (v ∷ continued (further_lines further ++ rest))) opens.value_is ∙ ap (λ ls. make name (first ∷ ls)) more)
+    ∙ (ap (λ v. make name (v ∷ continued (further_lines further ++ rest))) opens.value_is
+    ∙ ap (λ ls. make name (first ∷ ls)) more)
     in (
       continued_none line (further_lines further ++ rest) kind,
       fields_opened line (further_lines further ++ rest) kind
-          ∙ (ap (λ f. f ∷ block_fields (further_lines further ++ rest)) field ∙ ap (λ fs. make name (first ∷ further) ∷ fs) (further_fields further rest good.1)),
+          ∙ (ap (λ f. f ∷ block_fields (further_lines further ++ rest)) field
+          ∙ ap (λ fs. make name (first ∷ further) ∷ fs) (further_fields further rest good.1)),
     )
 
-canonical_read : (fields : List Field) → AreFields fields → (continued (canonical_lines fields) ≡ []) × (block_fields (canonical_lines fields) ≡ fields)
+canonical_read : (fields : List Field) → AreFields fields →
+    (continued (canonical_lines fields) ≡ []) × (block_fields (canonical_lines fields) ≡ fields)
 unfolding canonical_lines continued block_fields
 canonical_read [] good = (refl, refl)
 canonical_read (field ∷ others) good =
     let rest = canonical_read others good.1 in
-    let one = field_by field.name field.lines (canonical_lines others) (name_bytes field good.0) (name_begins field good.0) good.0.lower good.0.some good.0.good rest.0 in
+    let one = field_by field.name field.lines (canonical_lines others) (name_bytes field good.0)
+    (name_begins field good.0) good.0.lower good.0.some good.0.good rest.0 in
     (one.0, one.1 ∙ ap (λ fs. field ∷ fs) rest.1)
 
 -- canonical text gives its attributes back
-pub canonical_fields : (fields : List Field) → AreFields fields → block_fields (text_lines (canonical fields)) ≡ fields
-canonical_fields fields good = ap block_fields (canonical_text_lines fields good) ∙ (canonical_read fields good).1
+pub canonical_fields : (fields : List Field) → AreFields fields →
+    block_fields (text_lines (canonical fields)) ≡ fields
+canonical_fields fields good = ap block_fields (canonical_text_lines fields good)
+    ∙ (canonical_read fields good).1
 
-pub canonical_determines : (a b : List Field) → AreFields a → AreFields b → canonical a ≡ canonical b → a ≡ b
-canonical_determines a b good right same = sym (canonical_fields a good) ∙ (ap (λ text. block_fields (text_lines text)) same ∙ canonical_fields b right)
+pub canonical_determines : (a b : List Field) → AreFields a → AreFields b → canonical a ≡ canonical
+    b → a ≡ b
+canonical_determines a b good right same = sym (canonical_fields a good)
+    ∙ (ap (λ text. block_fields (text_lines text)) same ∙ canonical_fields b right)
 
 -- canonical lines have no fault
 
-clean_ended : (line : List ℕ) → list_any is_refused line ≡ false → list_any is_refused (ended line) ≡ false
+clean_ended : (line : List ℕ) → list_any is_refused line ≡ false → list_any is_refused (ended line)
+    ≡ false
 clean_ended line h = any_append is_refused line (10 ∷ []) h refl
 
-opening_faultless : (line name : List ℕ) → list_any is_colon line ≡ true → written_name line ≡ name → is_attribute_name name ≡ true → opening_fault line ≡ None
+opening_faultless : (line name : List ℕ) → list_any is_colon line ≡ true → written_name line
+    ≡ name → is_attribute_name name ≡ true → opening_fault line ≡ None
 unfolding opening_fault
 opening_faultless line name colon is named =
     let good : is_attribute_name (written_name line) ≡ true = ap is_attribute_name is ∙ named in
     rw (colon, good) refl
 
-opening_clean : (is_first : Bool) (line : List ℕ) → line_kind line ≡ Opening → list_any is_refused line ≡ false → opening_fault line ≡ None → line_fault is_first line ≡ None
+opening_clean : (is_first : Bool) (line : List ℕ) → line_kind line ≡ Opening →
+    list_any is_refused line ≡ false → opening_fault line ≡ None → line_fault is_first line ≡ None
 unfolding line_fault
 opening_clean is_first line kind clean none = ap (fault_by_kind is_first line) kind ∙ rw clean none
 
-further_clean : (line : List ℕ) → line_kind line ≡ Continuation → list_any is_refused line ≡ false → line_fault false line ≡ None
+further_clean : (line : List ℕ) → line_kind line ≡ Continuation → list_any is_refused line
+    ≡ false → line_fault false line ≡ None
 unfolding line_fault
 further_clean line kind clean = ap (fault_by_kind false line) kind ∙ rw clean refl
 
-further_faultless : (further rest : List (List ℕ)) → AllByRecursion IsLine further → later_fault rest ≡ None → later_fault (further_lines further ++ rest) ≡ None
+further_faultless : (further rest : List (List ℕ)) → AllByRecursion IsLine further →
+    later_fault rest ≡ None → later_fault (further_lines further ++ rest) ≡ None
 unfolding further_lines later_fault
 further_faultless [] rest good none = none
 further_faultless (line ∷ others) rest good none =
-    let clean : list_any is_refused (ended (further_line line)) ≡ false = clean_ended (further_line line) (any_further is_refused line refl refl (not_false _ good.0.clean)) in
-    let one : line_fault false (ended (further_line line)) ≡ None = further_clean (ended (further_line line)) (further_kind line good.0).0 clean in
+    let clean : list_any is_refused (ended (further_line line)) ≡ false =
+    clean_ended (further_line line) (any_further is_refused line refl refl
+    (not_false _ good.0.clean)) in
+    let one : line_fault false (ended (further_line line)) ≡ None =
+    further_clean (ended (further_line line)) (further_kind line good.0).0 clean in
     rw one (further_faultless others rest good.1 none)
 
-opened_faultless : (is_first : Bool) (name first : List ℕ) → is_attribute_name name ≡ true → list_all is_name_byte name ≡ true → begins is_ascii_alphabetic name ≡ true → IsLine first
+opened_faultless : (is_first : Bool) (name first : List ℕ) → is_attribute_name name ≡ true →
+    list_all is_name_byte name ≡ true → begins is_ascii_alphabetic name ≡ true → IsLine first
     → line_fault is_first (ended (opening_line name first)) ≡ None
 opened_faultless is_first name first named bytes letter good =
     let line = ended (opening_line name first) in
     let opens : IsOpeningOf name first line = opening_of name first bytes good.trimmed in
     let clean : list_any is_refused line ≡ false = clean_ended (opening_line name first)
-    (any_opening is_refused name first refl refl (any_none is_refused name_no_refused name bytes) (not_false _ good.clean))
-    in opening_clean is_first line (opening_kind name first letter).0 clean (opening_faultless line name opens.colon opens.name_is named)
+    (any_opening is_refused name first refl refl (any_none is_refused name_no_refused name bytes)
+    (not_false _ good.clean))
+    in opening_clean is_first line (opening_kind name first letter).0 clean
+    (opening_faultless line name opens.colon opens.name_is named)
 
-value_faultless : (name : List ℕ) (lines rest : List (List ℕ)) → is_attribute_name name ≡ true → list_all is_name_byte name ≡ true → begins is_ascii_alphabetic name ≡ true → AllByRecursion IsLine lines
+value_faultless : (name : List ℕ) (lines rest : List (List ℕ)) → is_attribute_name name ≡ true →
+    list_all is_name_byte name ≡ true → begins is_ascii_alphabetic name ≡ true →
+    AllByRecursion IsLine lines
     → later_fault rest ≡ None → later_fault (value_lines name lines ++ rest) ≡ None
 unfolding value_lines later_fault
 value_faultless name [] rest named bytes letter good none = none
 value_faultless name (first ∷ further) rest named bytes letter good none =
-    let one : line_fault false (ended (opening_line name first)) ≡ None = opened_faultless false name first named bytes letter good.0 in
+    let one : line_fault false (ended (opening_line name first)) ≡ None = opened_faultless false
+    name first named bytes letter good.0 in
     rw one (further_faultless further rest good.1 none)
 
-canonical_later : (fields : List Field) → AreFields fields → later_fault (canonical_lines fields) ≡ None
+canonical_later : (fields : List Field) → AreFields fields → later_fault (canonical_lines fields)
+    ≡ None
 unfolding canonical_lines later_fault
 canonical_later [] good = refl
 canonical_later (field ∷ others) good =
-    value_faultless field.name field.lines (canonical_lines others) good.0.named (name_bytes field good.0) (name_begins field good.0) good.0.good (canonical_later others good.1)
+    value_faultless field.name field.lines (canonical_lines others) good.0.named
+    (name_bytes field good.0) (name_begins field good.0) good.0.good
+    (canonical_later others good.1)
 
-first_faultless : (name : List ℕ) (lines rest : List (List ℕ)) → is_attribute_name name ≡ true → list_all is_name_byte name ≡ true → begins is_ascii_alphabetic name ≡ true → 0 < length lines → AllByRecursion IsLine lines
+first_faultless : (name : List ℕ) (lines rest : List (List ℕ)) → is_attribute_name name ≡ true →
+    list_all is_name_byte name ≡ true → begins is_ascii_alphabetic name ≡ true → 0 < length lines →
+    AllByRecursion IsLine lines
     → later_fault rest ≡ None → block_fault (value_lines name lines ++ rest) ≡ None
 unfolding value_lines block_fault
 first_faultless name [] rest named bytes letter some good none = absurd (omega arith)
 first_faultless name (first ∷ further) rest named bytes letter some good none =
-    let one : line_fault true (ended (opening_line name first)) ≡ None = opened_faultless true name first named bytes letter good.0 in
+    let one : line_fault true (ended (opening_line name first)) ≡ None = opened_faultless true name
+    first named bytes letter good.0 in
     rw one (further_faultless further rest good.1 none)
 
-canonical_block : (fields : List Field) → AreFields fields → block_fault (canonical_lines fields) ≡ None
+canonical_block : (fields : List Field) → AreFields fields → block_fault (canonical_lines fields)
+    ≡ None
 unfolding canonical_lines block_fault
 canonical_block [] good = refl
 canonical_block (field ∷ others) good =
-    first_faultless field.name field.lines (canonical_lines others) good.0.named (name_bytes field good.0) (name_begins field good.0) good.0.some good.0.good (canonical_later others good.1)
+    first_faultless field.name field.lines (canonical_lines others) good.0.named
+    (name_bytes field good.0) (name_begins field good.0) good.0.some good.0.good
+    (canonical_later others good.1)
 
 -- canonical text has no fault
-pub canonical_faultless : (fields : List Field) → AreFields fields → block_fault (text_lines (canonical fields)) ≡ None
-canonical_faultless fields good = ap block_fault (canonical_text_lines fields good) ∙ canonical_block fields good
+pub canonical_faultless : (fields : List Field) → AreFields fields →
+    block_fault (text_lines (canonical fields)) ≡ None
+canonical_faultless fields good = ap block_fault (canonical_text_lines fields good)
+    ∙ canonical_block fields good
 
 -- canonical lines are one block
 
@@ -429,81 +564,111 @@ unfolding NoBlank
 no_blank_append [] ys h e = e
 no_blank_append (x ∷ xs) ys h e = (h.0, no_blank_append xs ys h.1 e)
 
-further_no_blank : (further : List (List ℕ)) → AllByRecursion IsLine further → NoBlank (further_lines further)
+further_no_blank : (further : List (List ℕ)) → AllByRecursion IsLine further →
+    NoBlank (further_lines further)
 unfolding NoBlank further_lines
 further_no_blank [] good = tt
-further_no_blank (line ∷ others) good = ((further_kind line good.0).1, further_no_blank others good.1)
+further_no_blank (line ∷ others) good =
+    ((further_kind line good.0).1, further_no_blank others good.1)
 
-value_no_blank : (name : List ℕ) (lines : List (List ℕ)) → begins is_ascii_alphabetic name ≡ true → AllByRecursion IsLine lines → NoBlank (value_lines name lines)
+value_no_blank : (name : List ℕ) (lines : List (List ℕ)) → begins is_ascii_alphabetic name ≡ true →
+    AllByRecursion IsLine lines → NoBlank (value_lines name lines)
 unfolding NoBlank value_lines
 value_no_blank name [] letter good = tt
-value_no_blank name (first ∷ further) letter good = ((opening_kind name first letter).1, further_no_blank further good.1)
+value_no_blank name (first ∷ further) letter good =
+    ((opening_kind name first letter).1, further_no_blank further good.1)
 
 canonical_no_blank : (fields : List Field) → AreFields fields → NoBlank (canonical_lines fields)
 unfolding NoBlank canonical_lines
 canonical_no_blank [] good = tt
 canonical_no_blank (field ∷ others) good =
-    no_blank_append (value_lines field.name field.lines) (canonical_lines others) (value_no_blank field.name field.lines (name_begins field good.0) good.0.good) (canonical_no_blank others good.1)
+    no_blank_append (value_lines field.name field.lines) (canonical_lines others)
+    (value_no_blank field.name field.lines (name_begins field good.0) good.0.good)
+    (canonical_no_blank others good.1)
 
-one_block : (lines : List (List ℕ)) → NoBlank lines → (until_blank lines ≡ lines) × (from_blank lines ≡ [])
+one_block : (lines : List (List ℕ)) → NoBlank lines → (until_blank lines ≡ lines)
+    × (from_blank lines ≡ [])
 unfolding NoBlank until_blank from_blank
 one_block [] h = (refl, refl)
-one_block (line ∷ others) h = let rest = one_block others h.1 in let first : is_blank_line line ≡ false = h.0 in (rw first (ap (λ ls. line ∷ ls) rest.0), rw first rest.1)
+one_block (line ∷ others) h = let rest = one_block others h.1 in let first : is_blank_line line
+    ≡ false = h.0 in (rw first (ap (λ ls. line ∷ ls) rest.0), rw first rest.1)
 
-blocks_alone : (line : List ℕ) (others : List (List ℕ)) → NoBlank (line ∷ others) → is_skipped_line line ≡ false → blocks (line ∷ others) ≡ (line ∷ others) ∷ []
+blocks_alone : (line : List ℕ) (others : List (List ℕ)) → NoBlank (line ∷ others) →
+    is_skipped_line line ≡ false → blocks (line ∷ others) ≡ (line ∷ others) ∷ []
 unfolding NoBlank
 blocks_alone line others h s =
     let alone = one_block (line ∷ others) h in
-    blocks_prefix line others h.0 s ∙ (ap (λ ls. ls ∷ blocks (from_blank (line ∷ others))) alone.0 ∙ ap (λ ls. (line ∷ others) ∷ blocks ls) alone.1 ∙ ap (λ bs. (line ∷ others) ∷ bs) no_blocks)
+    blocks_prefix line others h.0 s ∙ (ap (λ ls. ls ∷ blocks (from_blank (line ∷ others))) alone.0
+    ∙ ap (λ ls. (line ∷ others) ∷ blocks ls) alone.1 ∙ ap (λ bs. (line ∷ others) ∷ bs)
+    no_blocks)
 
-value_blocks : (name : List ℕ) (lines rest : List (List ℕ)) → begins is_ascii_alphabetic name ≡ true → 0 < length lines → AllByRecursion IsLine lines → NoBlank rest
+value_blocks : (name : List ℕ) (lines rest : List (List ℕ)) → begins is_ascii_alphabetic name
+    ≡ true → 0 < length lines → AllByRecursion IsLine lines → NoBlank rest
     → blocks (value_lines name lines ++ rest) ≡ (value_lines name lines ++ rest) ∷ []
 unfolding value_lines NoBlank
 value_blocks name [] rest letter some good h = absurd (omega arith)
 value_blocks name (first ∷ further) rest letter some good h =
-    blocks_alone (ended (opening_line name first)) (further_lines further ++ rest)
-    ((opening_kind name first letter).1, no_blank_append (further_lines further) rest (further_no_blank further good.1) h) (opening_kind name first letter).2
+    blocks_alone (ended (opening_line name first)) (further_lines further ++ rest) (
+      (opening_kind name first letter).1,
+      no_blank_append (further_lines further) rest
+          (further_no_blank further good.1) h,
+    ) (opening_kind name first letter).2
 
-canonical_blocks : (fields : List Field) → 0 < length fields → AreFields fields → blocks (canonical_lines fields) ≡ canonical_lines fields ∷ []
+canonical_blocks : (fields : List Field) → 0 < length fields → AreFields fields →
+    blocks (canonical_lines fields) ≡ canonical_lines fields ∷ []
 unfolding canonical_lines
 canonical_blocks [] some good = absurd (omega arith)
 canonical_blocks (field ∷ others) some good =
-    value_blocks field.name field.lines (canonical_lines others) (name_begins field good.0) good.0.some good.0.good (canonical_no_blank others good.1)
+    value_blocks field.name field.lines (canonical_lines others) (name_begins field good.0)
+    good.0.some good.0.good (canonical_no_blank others good.1)
 
-pub canonical_spells : (fields : List Field) → 0 < length fields → AreFields fields → length (canonical fields) ≤ size_limit → entries (canonical fields) ≡ Ok fields ∷ []
+pub canonical_spells : (fields : List Field) → 0 < length fields → AreFields fields →
+    length (canonical fields) ≤ size_limit → entries (canonical fields) ≡ Ok fields ∷ []
 unfolding entries
 canonical_spells fields some good small =
     let lines = canonical_text_lines fields good in
-    let all : blocks (text_lines (canonical fields)) ≡ text_lines (canonical fields) ∷ [] = ap blocks lines ∙ (canonical_blocks fields some good ∙ ap (λ ls. ls ∷ []) (sym lines)) in
+    let all : blocks (text_lines (canonical fields)) ≡ text_lines (canonical fields) ∷ [] =
+    ap blocks lines ∙ (canonical_blocks fields some good ∙ ap (λ ls. ls ∷ []) (sym lines)) in
     let entry : block_entry (text_lines (canonical fields)) ≡ Ok fields =
-    entry_small (canonical fields) None small (sym (canonical_faultless fields good)) ∙ ap (λ fs. Ok fs) (canonical_fields fields good)
+    entry_small (canonical fields) None small (sym (canonical_faultless fields good))
+    ∙ ap (λ fs. Ok fs) (canonical_fields fields good)
     in ap (map block_entry) all ∙ ap (λ e. e ∷ []) entry
 
-further_whole : (further : List (List ℕ)) → are_whole_lines (flat_map (λ line. ended (further_line line)) further) ≡ true
+further_whole : (further : List (List ℕ)) →
+    are_whole_lines (flat_map (λ line. ended (further_line line)) further) ≡ true
 unfolding are_whole_lines
 further_whole [] = refl
-further_whole (line ∷ others) = are_whole_lines-append (ended (further_line line)) _ (ended_whole (further_line line)) (further_whole others)
+further_whole (line ∷ others) = are_whole_lines-append (ended (further_line line)) _
+    (ended_whole (further_line line)) (further_whole others)
 
-value_whole : (name : List ℕ) (lines : List (List ℕ)) → are_whole_lines (value_text name lines) ≡ true
+value_whole : (name : List ℕ) (lines : List (List ℕ)) → are_whole_lines (value_text name lines)
+    ≡ true
 unfolding are_whole_lines
 value_whole name [] = refl
-value_whole name (first ∷ further) = are_whole_lines-append (ended (opening_line name first)) _ (ended_whole (opening_line name first)) (further_whole further)
+value_whole name (first ∷ further) = are_whole_lines-append (ended (opening_line name first)) _
+    (ended_whole (opening_line name first)) (further_whole further)
 
 canonical_whole : (fields : List Field) → are_whole_lines (canonical fields) ≡ true
 unfolding are_whole_lines canonical
 canonical_whole [] = refl
-canonical_whole (field ∷ others) = are_whole_lines-append (field_text field) (canonical others) (value_whole field.name field.lines) (canonical_whole others)
+canonical_whole (field ∷ others) = are_whole_lines-append (field_text field) (canonical others)
+    (value_whole field.name field.lines) (canonical_whole others)
 
 empty_line : IsWholeLine (10 ∷ [])
 unfolding text_lines are_whole_lines
 empty_line = record { single = refl; ended = refl }
 
-pub canonical_leads : (fields : List Field) (rest : List ℕ) → 0 < length fields → AreFields fields → length (canonical fields) ≤ size_limit
+pub canonical_leads : (fields : List Field) (rest : List ℕ) → 0 < length fields →
+    AreFields fields → length (canonical fields) ≤ size_limit
     → entries (canonical fields ++ 10 ∷ rest) ≡ Ok fields ∷ entries rest
 canonical_leads fields rest some good small =
-    entries_joined (canonical fields) (10 ∷ []) rest (canonical_whole fields) empty_line refl ∙ ap (λ es. es ++ entries rest) (canonical_spells fields some good small)
+    entries_joined (canonical fields) (10 ∷ []) rest (canonical_whole fields) empty_line refl
+    ∙ ap (λ es. es ++ entries rest) (canonical_spells fields some good small)
 
 -- what a reader makes of a text that is canonical
-pub canonical_again : (text : List ℕ) (fields : List Field) → AreFields fields → canonical fields ≡ text → (block_fault (text_lines text) ≡ None) × (block_fields (text_lines text) ≡ fields)
-canonical_again text fields good same =
-    (ap (λ t. block_fault (text_lines t)) (sym same) ∙ canonical_faultless fields good, ap (λ t. block_fields (text_lines t)) (sym same) ∙ canonical_fields fields good)
+pub canonical_again : (text : List ℕ) (fields : List Field) → AreFields fields → canonical fields
+    ≡ text → (block_fault (text_lines text) ≡ None) × (block_fields (text_lines text) ≡ fields)
+canonical_again text fields good same = (
+  ap (λ t. block_fault (text_lines t)) (sym same) ∙ canonical_faultless fields good,
+  ap (λ t. block_fields (text_lines t)) (sym same) ∙ canonical_fields fields good,
+)

@@ -9,12 +9,16 @@ use Rattle.rr_answer.proofs.answering.find.Goals as goal
 
 pub returns-in-Prefixes-clause-ok : goal.returns-in-Prefixes-clause-ok
 returns-in-Prefixes-clause-ok g c =
-    subst (λ (q : Query). IfOk c.ranges-in-Prefixes.result (λ found. IsAnswer c.args.registry.now c.args.limit q (Ok (found_text found)))) (sym c.in-Prefixes.is)
-    (subst (λ (r : Reg). IfOk c.ranges-in-Prefixes.result (λ found. IsRangeAnswer r c.args.limit c.in-Prefixes.name (Ok (found_text found))))
+    subst (λ (q : Query). IfOk c.ranges-in-Prefixes.result (λ found. IsAnswer c.args.registry.now
+    c.args.limit q (Ok (found_text found)))) (sym c.in-Prefixes.is)
+    (subst (λ (r : Reg). IfOk c.ranges-in-Prefixes.result (λ found. IsRangeAnswer r c.args.limit
+    c.in-Prefixes.name (Ok (found_text found))))
     c.book-in-Prefixes.ensures.same c.ranges-in-Prefixes.ensures.ok)
 
 pub returns-in-Prefixes-clause-fault : goal.returns-in-Prefixes-clause-fault
 returns-in-Prefixes-clause-fault g c =
-    subst (λ (q : Query). IfErr c.ranges-in-Prefixes.result (λ fault. fault ≢ Memory → IsAnswer c.args.registry.now c.args.limit q (Err fault))) (sym c.in-Prefixes.is)
-    (subst (λ (r : Reg). IfErr c.ranges-in-Prefixes.result (λ fault. fault ≢ Memory → IsRangeAnswer r c.args.limit c.in-Prefixes.name (Err fault)))
+    subst (λ (q : Query). IfErr c.ranges-in-Prefixes.result (λ fault. fault ≢ Memory →
+    IsAnswer c.args.registry.now c.args.limit q (Err fault))) (sym c.in-Prefixes.is)
+    (subst (λ (r : Reg). IfErr c.ranges-in-Prefixes.result (λ fault. fault ≢ Memory →
+    IsRangeAnswer r c.args.limit c.in-Prefixes.name (Err fault)))
     c.book-in-Prefixes.ensures.same c.ranges-in-Prefixes.ensures.fault)

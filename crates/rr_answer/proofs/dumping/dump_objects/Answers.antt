@@ -8,16 +8,25 @@ pub returns-in_err-dump_object-clause-writes : goal.returns-in_err-dump_object-c
 returns-in_err-dump_object-clause-writes g c =
     let exit = err_from_is_err_and c.from_residual.result c.from_residual.ensures.1 in
     let before = c.objects.invariant in
-    let whole = next_lent c.args.full c.args.objects.now c.objects.object-index c.object-item.result before.0 c.objects-test.true c.object-item.is before.1 in
-    rw (exit.1, exit.2, whole) (cut_between _ _ _ _ _ _ _ before.2 c.in_err-dump_object.ensures.writes)
+    let whole = next_lent c.args.full c.args.objects.now c.objects.object-index
+    c.object-item.result before.0 c.objects-test.true c.object-item.is before.1 in
+    rw (exit.1, exit.2, whole)
+    (cut_between _ _ _ _ _ _ _ before.2 c.in_err-dump_object.ensures.writes)
 
 pub objects-preserved : goal.objects-preserved
 objects-preserved g c =
     let before = c.objects.invariant in
-    let next = next_of c.args.full c.args.objects.now c.objects.object-index c.object-item.result before.0 c.objects-test.true c.object-item.is before.1 in
-    (_, next ∙ sym (append_assoc before.0 _ _), Takes-then _ _ before.2 c.in_ok-dump_object.ensures.writes, c.in_ok-dump_object.ensures.aside ∙ before.3)
+    let next = next_of c.args.full c.args.objects.now c.objects.object-index c.object-item.result
+    before.0 c.objects-test.true c.object-item.is before.1 in (
+      _,
+      next ∙ sym (append_assoc before.0 _ _),
+      Takes-then _ _ before.2
+          c.in_ok-dump_object.ensures.writes,
+      c.in_ok-dump_object.ensures.aside ∙ before.3,
+    )
 
 pub returns-clause-writes : goal.returns-clause-writes
 returns-clause-writes g c =
     let before = c.objects.invariant in
-    rw (all_taken c.args.full c.args.objects.now c.objects.object-index before.0 c.objects-test.false before.1) before.2
+    rw (all_taken c.args.full c.args.objects.now c.objects.object-index before.0
+    c.objects-test.false before.1) before.2

@@ -8,5 +8,6 @@ use Rattle.rr_answer.proofs.place.places.Given as goal
 -- the texts of the places so far and of the objects to come are all
 abbrev pub invariant-objects : goal.invariant-objects
 invariant-objects l =
-    flat_map place_text l.places.items ++ flat_map (λ object. public_text object.now) (drop l.object-index l.objects)
+    flat_map place_text l.places.items ++ flat_map (λ object. public_text object.now)
+    (drop l.object-index l.objects)
     ≡ flat_map public_text (lent l.objects)

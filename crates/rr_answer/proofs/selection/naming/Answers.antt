@@ -9,5 +9,7 @@ use Rattle.rr_answer.proofs.selection.naming.Goals as goal
 pub returns : goal.returns
 returns g c =
     IfOk-weaker c.those_naming.result _ _
-    (λ found is. ap lent is ∙ filtered (object_names c.args.name.now) c.deref.result.now ∙ ap (filter (object_names c.args.name.now)) (ap lent c.deref.ensures.value ∙ c.in_ok-objects.ensures.all))
+    (λ found is. ap lent is ∙ filtered (object_names c.args.name.now) c.deref.result.now
+    ∙ ap (filter (object_names c.args.name.now)) (ap lent c.deref.ensures.value
+    ∙ c.in_ok-objects.ensures.all))
     c.those_naming.ensures

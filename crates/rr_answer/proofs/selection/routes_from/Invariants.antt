@@ -7,4 +7,5 @@ use Rattle.rr_answer.proofs.selection.routes_from.Given as goal
 
 -- the routes found are those of the origins so far
 abbrev pub invariant-loop-origin : goal.invariant-loop-origin
-invariant-loop-origin g l = lent l.found.items ≡ filter_map (λ n. get (g.B.Book.contents l.book) (Route l.prefix n)) (take l.origin-index l.origins)
+invariant-loop-origin g l = lent l.found.items ≡ filter_map
+    (λ n. get (g.B.Book.contents l.book) (Route l.prefix n)) (take l.origin-index l.origins)

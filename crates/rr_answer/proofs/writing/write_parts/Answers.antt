@@ -18,7 +18,8 @@ rest-preserved g c =
     let bytes = g.T.Part.bytes in
     let count = c.in_ok-count.count in
     let rest = c.rest.rest.now in
-    let whole : flat_map bytes c.args.parts.now ≡ (before.0 ++ flat_map bytes (take count rest)) ++ flat_map bytes c.split_at.result.1.now =
+    let whole : flat_map bytes c.args.parts.now ≡ (before.0 ++ flat_map bytes (take count rest)) ++
+    flat_map bytes c.split_at.result.1.now =
     rw (c.split_at.ensures.back, append_assoc, ← parts_split bytes count rest) before.1 in (
       before.0 ++ flat_map bytes (take count rest),
       whole,

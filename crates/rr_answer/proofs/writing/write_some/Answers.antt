@@ -5,5 +5,7 @@ use Rattle.rr_answer.proofs.writing.write_some.Goals as goal
 
 pub returns-in_err-write_all-clause-writes : goal.returns-in_err-write_all-clause-writes
 returns-in_err-write_all-clause-writes g c =
-    let exit = err_from_is_err_and c.from_residual-in_err-write_all.result c.from_residual-in_err-write_all.ensures.1 in
-    rw exit.1 (parts_cut g.T.Part.bytes c.gather-count.result c.args.parts.now _ _ _ (c.deref.ensures.value ∙ c.gather-count.ensures.bytes) c.in_err-write_all.ensures.writes)
+    let exit = err_from_is_err_and c.from_residual-in_err-write_all.result
+    c.from_residual-in_err-write_all.ensures.1 in
+    rw exit.1 (parts_cut g.T.Part.bytes c.gather-count.result c.args.parts.now _ _ _
+    (c.deref.ensures.value ∙ c.gather-count.ensures.bytes) c.in_err-write_all.ensures.writes)

@@ -10,9 +10,11 @@ use Rattle.rr_arguments.proofs.reading.read_argument.Goals as goal
 pub returns-in-Some : goal.returns-in-Some
 returns-in-Some c made =
     ap (λ (t : Rattle.std.specs.Prelude.Option Text). option_map_or made t nothing)
-    (sym (first_value-rows (found_of c.args.found.now) c.args.place.now) ∙ sym c.get_str.ensures ∙ ap (option_map (λ s. s.now)) c.in-Some.is)
+    (sym (first_value-rows (found_of c.args.found.now) c.args.place.now) ∙ sym c.get_str.ensures
+    ∙ ap (option_map (λ s. s.now)) c.in-Some.is)
 
 pub returns-in-None : goal.returns-in-None
 returns-in-None c made =
     ap (λ (t : Rattle.std.specs.Prelude.Option Text). option_map_or made t nothing)
-    (sym (first_value-rows (found_of c.args.found.now) c.args.place.now) ∙ sym c.get_str.ensures ∙ ap (option_map (λ s. s.now)) c.in-None.is)
+    (sym (first_value-rows (found_of c.args.found.now) c.args.place.now) ∙ sym c.get_str.ensures
+    ∙ ap (option_map (λ s. s.now)) c.in-None.is)

@@ -17,4 +17,5 @@ returns c =
     let words : List Text = c.args.first.now ∷ c.args.name.now ∷ codes "--help" ∷ [] in
     let same : map string_bytes c.as_slice.result.now ≡ words = search rules in
     answered (kind_of c.in-Err.error) (line_kinds words) None c.read_refusal.result
-    (kinds_at_err _ _ words c.in-Err.error c.in_ok-program.ensures.0 same c.in-Err.ensures.kinds) c.read_refusal.ensures
+    (kinds_at_err _ _ words c.in-Err.error c.in_ok-program.ensures.0 same c.in-Err.ensures.kinds)
+    c.read_refusal.ensures

@@ -8,7 +8,9 @@ use Rattle.rr_auth.proofs.authority.some_entry_passes.Given as goal
 -- the entries that are left decide
 abbrev pub invariant-entries : goal.invariant-entries
 invariant-entries g l = record {
-  left : list_any (λ entry. grants l.prefix entry && name_passes (g.B.Book.contents l.book) l.initial.secrets entry.name) (drop l.entry-index l.entries)
-      ≡ list_any (λ entry. grants l.prefix entry && name_passes (g.B.Book.contents l.book) l.initial.secrets entry.name) l.entries;
+  left : list_any (λ entry. grants l.prefix entry && name_passes (g.B.Book.contents l.book)
+      l.initial.secrets entry.name) (drop l.entry-index l.entries)
+      ≡ list_any (λ entry. grants l.prefix entry && name_passes (g.B.Book.contents l.book)
+      l.initial.secrets entry.name) l.entries;
   same_secrets : l.secrets ≡ l.initial.secrets;
 }

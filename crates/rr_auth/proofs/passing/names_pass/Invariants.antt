@@ -7,7 +7,9 @@ use Rattle.rr_auth.proofs.passing.names_pass.Given as goal
 -- the names that are left decide
 abbrev pub invariant-names : goal.invariant-names
 invariant-names g l = record {
-  left : names_pass (seen_by (option_copied l.own) (g.B.Book.contents l.book)) l.initial.secrets (drop l.name-index l.names)
-      ≡ names_pass (seen_by (option_copied l.own) (g.B.Book.contents l.book)) l.initial.secrets l.names;
+  left : names_pass (seen_by (option_copied l.own) (g.B.Book.contents l.book)) l.initial.secrets
+      (drop l.name-index l.names)
+      ≡ names_pass (seen_by (option_copied l.own) (g.B.Book.contents l.book)) l.initial.secrets
+      l.names;
   same_secrets : l.secrets ≡ l.initial.secrets;
 }

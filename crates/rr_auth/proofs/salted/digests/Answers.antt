@@ -13,24 +13,35 @@ use Rattle.rr_auth.proofs.salted.digests.Goals as goal
 use Rattle.rr_auth.proofs.salted.digests.Goals.{then-contains+in_ok-insert, else-contains}
 
 pub loop-secret-init : goal.loop-secret-init
-loop-secret-init c = λ digest wanted. ap (list_any (is_at (slice_cmp nat_cmp digest))) c.new-digests.ensures.empty
+loop-secret-init c = λ digest wanted. ap (list_any (is_at (slice_cmp nat_cmp digest)))
+    c.new-digests.ensures.empty
 
 pub loop-secret-preserved : goal.loop-secret-preserved
 loop-secret-preserved c =
-    let P : BTreeSet (List ℕ) → Type 0 = λ digests. HasDigests c.args.salt.now c.args.wanted.now (take (c.loop-secret.secret-index + 1) c.args.secrets.now) digests in
+    let P : BTreeSet (List ℕ) → Type 0 = λ digests. HasDigests c.args.salt.now c.args.wanted.now
+    (take (c.loop-secret.secret-index + 1) c.args.secrets.now) digests in
     elim c.if-contains.branch [
       | then-contains+in_ok-insert w ↦
-          let update : Updates (slice_cmp nat_cmp) c.loop-secret.digests w.insert.new.self (sha256 (c.args.salt.now ++ c.secret-item.result)) true =
-          subst (λ (digest : List ℕ). Updates (slice_cmp nat_cmp) c.loop-secret.digests w.insert.new.self digest true) c.salted_digest-digest.ensures w.in_ok-insert.ensures.updates in
+          let update : Updates (slice_cmp nat_cmp) c.loop-secret.digests w.insert.new.self
+          (sha256 (c.args.salt.now ++ c.secret-item.result)) true =
+          subst (λ (digest : List ℕ). Updates (slice_cmp nat_cmp) c.loop-secret.digests
+          w.insert.new.self digest true) c.salted_digest-digest.ensures
+          w.in_ok-insert.ensures.updates in
           subst P (sym w.digests-is)
-          (one_image_more (λ secret. sha256 (c.args.salt.now ++ secret)) c.args.wanted.now c.args.secrets.now c.loop-secret.secret-index c.secret-item.result
-          c.loop-secret-test.true c.secret-item.is c.loop-secret.digests w.insert.new.self update c.loop-secret.invariant)
+          (one_image_more (λ secret. sha256 (c.args.salt.now ++ secret)) c.args.wanted.now
+          c.args.secrets.now c.loop-secret.secret-index c.secret-item.result
+          c.loop-secret-test.true c.secret-item.is c.loop-secret.digests w.insert.new.self update
+          c.loop-secret.invariant)
       | else-contains w ↦
-          let out : contains (slice_cmp nat_cmp) c.args.wanted.now (sha256 (c.args.salt.now ++ c.secret-item.result)) ≡ false =
-          ap (contains (slice_cmp nat_cmp) c.args.wanted.now) (sym c.salted_digest-digest.ensures) ∙ sym c.contains.ensures ∙ w.if-contains.false in
+          let out : contains (slice_cmp nat_cmp) c.args.wanted.now
+          (sha256 (c.args.salt.now ++ c.secret-item.result)) ≡ false =
+          ap (contains (slice_cmp nat_cmp) c.args.wanted.now) (sym c.salted_digest-digest.ensures)
+          ∙ sym c.contains.ensures ∙ w.if-contains.false in
           subst P (sym w.digests-is)
-          (one_image_less (λ secret. sha256 (c.args.salt.now ++ secret)) c.args.wanted.now c.args.secrets.now c.loop-secret.secret-index c.secret-item.result
-          c.loop-secret-test.true c.secret-item.is c.loop-secret.digests out c.loop-secret.invariant)
+          (one_image_less (λ secret. sha256 (c.args.salt.now ++ secret)) c.args.wanted.now
+          c.args.secrets.now c.loop-secret.secret-index c.secret-item.result
+          c.loop-secret-test.true c.secret-item.is c.loop-secret.digests out
+          c.loop-secret.invariant)
     ]
 
 pub returns : goal.returns

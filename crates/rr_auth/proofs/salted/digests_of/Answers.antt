@@ -1,4 +1,5 @@
-use Rattle.std.proofs.Common.{◌≡◌, ◌++◌, ◌∷◌, [], ℕ, All, Bool, IsTrue, List, ap, cond, false, refl, subst, sym, take, true, ◌∙◌}
+use Rattle.std.proofs.Common.{◌≡◌, ◌++◌, ◌∷◌, [], ℕ, All, Bool, IsTrue, List, ap, cond, false, refl}
+use Rattle.std.proofs.Common.{subst, sym, take, true, ◌∙◌}
 use Rattle.std.specs.BTreeMap.{is_at}
 use Rattle.std.specs.BTreeSet.{contains}
 use Rattle.std.specs.Cmp.Lexicographic.{slice_cmp}
@@ -17,10 +18,18 @@ stays false x is = is
 pub loop-line-preserved : goal.loop-line-preserved
 loop-line-preserved c =
     let before : List AuthParts = take c.loop-line.line-index c.args.lines.now in
-    let kept : (line : AuthParts) → IsWanted c.loop-line.digests line → IsWanted c.insert.new.self line =
-    λ line has. c.in_ok-insert.ensures.updates.0 line.digest ∙ stays (is_at (slice_cmp nat_cmp c.digest.result.now) line.digest) (contains (slice_cmp nat_cmp) c.loop-line.digests line.digest) has in
+    let kept : (line : AuthParts) → IsWanted c.loop-line.digests line → IsWanted c.insert.new.self
+    line =
+    λ line has. c.in_ok-insert.ensures.updates.0 line.digest
+    ∙ stays (is_at (slice_cmp nat_cmp c.digest.result.now) line.digest)
+    (contains (slice_cmp nat_cmp) c.loop-line.digests line.digest) has in
     let last : IsWanted c.insert.new.self c.line-item.result =
-    subst (λ (digest : List ℕ). IsTrue (contains (slice_cmp nat_cmp) c.insert.new.self digest)) c.digest.ensures c.in_ok-insert.ensures.updates.1 in
+    subst (λ (digest : List ℕ). IsTrue (contains (slice_cmp nat_cmp) c.insert.new.self digest))
+    c.digest.ensures c.in_ok-insert.ensures.updates.1 in
     subst (All (IsWanted c.insert.new.self))
-    (sym (take_more c.args.lines.now c.loop-line.line-index c.line-item.result c.loop-line-test.true ∙ ap (λ (line : AuthParts). before ++ line ∷ []) (sym c.line-item.is)))
-    (All-push (IsWanted c.insert.new.self) before c.line-item.result (All-weaker (IsWanted c.loop-line.digests) (IsWanted c.insert.new.self) kept before c.loop-line.invariant) last)
+    (sym (take_more c.args.lines.now c.loop-line.line-index c.line-item.result
+    c.loop-line-test.true ∙ ap (λ (line : AuthParts). before ++ line ∷ [])
+    (sym c.line-item.is)))
+    (All-push (IsWanted c.insert.new.self) before c.line-item.result
+    (All-weaker (IsWanted c.loop-line.digests) (IsWanted c.insert.new.self) kept before
+    c.loop-line.invariant) last)

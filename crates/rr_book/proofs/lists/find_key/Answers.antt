@@ -10,7 +10,8 @@ returns-in-None c =
     let os = c.args.objects.now in
     let place = place_of c.args.key.now os in
     let nothing = rw c.place.ensures.value at c.in-None.ensures.lookup in
-    sym (found_nowhere c.args.key.now os c.requires (slice_get_past os place (ltb-false place (length os) (sym nothing.0))))
+    sym (found_nowhere c.args.key.now os c.requires
+    (slice_get_past os place (ltb-false place (length os) (sym nothing.0))))
 
 pub returns-then-is_same : goal.returns-then-is_same
 returns-then-is_same c =
@@ -19,7 +20,9 @@ returns-then-is_same c =
     let object = c.in-Some.object.now in
     let there = rw c.place.ensures.value at c.in-Some.ensures.lookup in
     let own = rw c.key.ensures.value at c.is_same.ensures in
-    sym (found_there c.args.key.now os object true c.requires (slice_get_read os (length os) place object refl (ltb-true place (length os) (sym there.0)) there.1) (sym c.if-is_same.true ∙ own))
+    sym (found_there c.args.key.now os object true c.requires
+    (slice_get_read os (length os) place object refl (ltb-true place (length os) (sym there.0))
+    there.1) (sym c.if-is_same.true ∙ own))
 
 pub returns-else-is_same : goal.returns-else-is_same
 returns-else-is_same c =
@@ -28,4 +31,6 @@ returns-else-is_same c =
     let object = c.in-Some.object.now in
     let there = rw c.place.ensures.value at c.in-Some.ensures.lookup in
     let own = rw c.key.ensures.value at c.is_same.ensures in
-    sym (found_there c.args.key.now os object false c.requires (slice_get_read os (length os) place object refl (ltb-true place (length os) (sym there.0)) there.1) (sym c.if-is_same.false ∙ own))
+    sym (found_there c.args.key.now os object false c.requires
+    (slice_get_read os (length os) place object refl (ltb-true place (length os) (sym there.0))
+    there.1) (sym c.if-is_same.false ∙ own))

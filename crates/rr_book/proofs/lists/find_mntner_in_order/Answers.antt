@@ -11,7 +11,8 @@ returns-in-None c =
     let os = c.args.objects.now in
     let place = place_of (Mntner c.args.name.now) os in
     let nothing = rw c.place_of_mntner.ensures at c.in-None.ensures.lookup in
-    sym (mntner_nowhere c.args.name.now os c.requires (slice_get_past os place (ltb-false place (length os) (sym nothing.0))))
+    sym (mntner_nowhere c.args.name.now os c.requires
+    (slice_get_past os place (ltb-false place (length os) (sym nothing.0))))
 
 pub returns-then-is_mntner_of : goal.returns-then-is_mntner_of
 returns-then-is_mntner_of c =
@@ -20,7 +21,9 @@ returns-then-is_mntner_of c =
     let object = c.in-Some.object.now in
     let there = rw c.place_of_mntner.ensures at c.in-Some.ensures.lookup in
     let own = rw c.key.ensures.value at c.is_mntner_of.ensures in
-    sym (mntner_there c.args.name.now os object true c.requires (slice_get_read os (length os) place object refl (ltb-true place (length os) (sym there.0)) there.1) (sym c.if-is_mntner_of.true ∙ own))
+    sym (mntner_there c.args.name.now os object true c.requires
+    (slice_get_read os (length os) place object refl (ltb-true place (length os) (sym there.0))
+    there.1) (sym c.if-is_mntner_of.true ∙ own))
 
 pub returns-else-is_mntner_of : goal.returns-else-is_mntner_of
 returns-else-is_mntner_of c =
@@ -29,4 +32,6 @@ returns-else-is_mntner_of c =
     let object = c.in-Some.object.now in
     let there = rw c.place_of_mntner.ensures at c.in-Some.ensures.lookup in
     let own = rw c.key.ensures.value at c.is_mntner_of.ensures in
-    sym (mntner_there c.args.name.now os object false c.requires (slice_get_read os (length os) place object refl (ltb-true place (length os) (sym there.0)) there.1) (sym c.if-is_mntner_of.false ∙ own))
+    sym (mntner_there c.args.name.now os object false c.requires
+    (slice_get_read os (length os) place object refl (ltb-true place (length os) (sym there.0))
+    there.1) (sym c.if-is_mntner_of.false ∙ own))

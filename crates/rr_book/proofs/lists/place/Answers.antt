@@ -9,4 +9,5 @@ pub returns-clause-value : goal.returns-clause-value
 returns-clause-value c =
     let parted = in_order_parted c.args.key.now c.args.objects.now c.requires in
     place_of_part c.args.key.now _ _ c.partition_point.ensures.bound
-    (IsPartitionPoint-from_clause (λ o. is_gt (key_cmp c.args.key.now o.key)) _ _ c.partition_point.ensures.partitioned parted (λ a r q k. search rules))
+    (IsPartitionPoint-from_clause (λ o. is_gt (key_cmp c.args.key.now o.key)) _ _
+    c.partition_point.ensures.partitioned parted (λ a r q k. search rules))

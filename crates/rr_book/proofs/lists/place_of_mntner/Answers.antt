@@ -10,4 +10,5 @@ pub returns : goal.returns
 returns c =
     let parted = in_order_parted (Mntner c.args.name.now) c.args.objects.now c.requires in
     place_of_part (Mntner c.args.name.now) _ _ c.partition_point.ensures.bound
-    (IsPartitionPoint-from_clause (λ o. is_gt (key_cmp (Mntner c.args.name.now) o.key)) _ _ c.partition_point.ensures.partitioned parted (λ a r q k. search rules))
+    (IsPartitionPoint-from_clause (λ o. is_gt (key_cmp (Mntner c.args.name.now) o.key)) _ _
+    c.partition_point.ensures.partitioned parted (λ a r q k. search rules))

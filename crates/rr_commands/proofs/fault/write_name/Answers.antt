@@ -4,4 +4,5 @@ use Rattle.rr_commands.proofs.fault.write_name.Goals as goal
 
 pub returns-clause-writes : goal.returns-clause-writes
 returns-clause-writes g c =
-    Writes-then _ _ (g.E.Sink.told c.write_all.new.writer) _ (codes ": ") c.write_all.result c.in_ok-write_on_line.ensures.writes c.write_all.ensures.writes
+    Writes-then _ _ (g.E.Sink.told c.write_all.new.writer) _ (codes ": ") c.write_all.result
+    c.in_ok-write_on_line.ensures.writes c.write_all.ensures.writes

@@ -18,5 +18,12 @@ bytes-preserved g c =
     let before = c.bytes.invariant in
     let next = map-next byte_on_line c.args.text.now c.bytes.byte-index 0 c.bytes-test.true in
     let after = map byte_on_line (drop (c.bytes.byte-index + 1) c.args.text.now) in
-    let cut = before.1 ∙ (ap (λ rest. before.0 ++ rest) (next ∙ ap (λ b. b ∷ after) (sym c.byte_on_line.ensures)) ∙ sym (append_assoc before.0 (c.byte_on_line.result ∷ []) after)) in
-    (_, cut, Takes-then _ _ before.2 c.in_ok-write_all.ensures.writes, c.in_ok-write_all.ensures.aside ∙ before.3)
+    let cut =
+    before.1
+    ∙ (ap (λ rest. before.0 ++ rest) (next ∙ ap (λ b. b ∷ after) (sym c.byte_on_line.ensures))
+    ∙ sym (append_assoc before.0 (c.byte_on_line.result ∷ []) after)) in (
+      _,
+      cut,
+      Takes-then _ _ before.2 c.in_ok-write_all.ensures.writes,
+      c.in_ok-write_all.ensures.aside ∙ before.3,
+    )

@@ -5,4 +5,5 @@ use Rattle.rr_commands.proofs.loading.object_count.Goals as goal
 pub returns : goal.returns
 returns c =
     ap length c.as_slice.ensures.value
-    ∙ (sym (length-map c.in_ok-objects.objects.items (λ object. object.now)) ∙ ap length c.in_ok-objects.ensures.all)
+    ∙ (sym (length-map c.in_ok-objects.objects.items (λ object. object.now)) ∙ ap length
+    c.in_ok-objects.ensures.all)

@@ -10,7 +10,8 @@ returns-in-Ok-clause-asked g c =
       answer = made.answer;
       gives = made.answered;
       writes = made.writes;
-      status = c.answered_status.ensures ∙ (ap error_status made.told ∙ error_status-told made.answer);
+      status = c.answered_status.ensures ∙ (ap error_status made.told ∙ error_status-told
+          made.answer);
       trouble = tt;
       same = refl;
       keeps = c.in-Ok.ensures.keeps c.requires;

@@ -9,8 +9,12 @@ use Rattle.rr_cover.proofs.in_order.put_in_order.Goals as goal
 
 pub returns-clause-rising : goal.returns-clause-rising
 returns-clause-rising c =
-    subst (λ (spans : List Ends). IsStrictlySortedBy span_cmp spans) (sym (dedup_is span_eq _ _ c.dedup.ensures.filtered)) (IsStrictlySortedBy-dedup span_cmp_total (λ s t. span_eq_ties s t) _ c.sort_unstable.ensures.sorted)
+    subst (λ (spans : List Ends). IsStrictlySortedBy span_cmp spans)
+    (sym (dedup_is span_eq _ _ c.dedup.ensures.filtered))
+    (IsStrictlySortedBy-dedup span_cmp_total (λ s t. span_eq_ties s t) _
+    c.sort_unstable.ensures.sorted)
 
 pub returns-clause-same : goal.returns-clause-same
 returns-clause-same c =
-    sorted_kept _ _ _ c.sort_unstable.ensures.permutation (dedup_is span_eq _ _ c.dedup.ensures.filtered)
+    sorted_kept _ _ _ c.sort_unstable.ensures.permutation
+    (dedup_is span_eq _ _ c.dedup.ensures.filtered)

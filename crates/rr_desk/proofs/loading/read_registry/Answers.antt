@@ -1,6 +1,7 @@
 use Rattle.std.proofs.lemmas.Result.{err_from_is_err_and}
 use Rattle.rr_load.proofs.Sources.{dumps_of_source}
-use Rattle.rr_desk.proofs.Loads.{reading_fails, reading_not_of_store, registry_fails, registry_not_of_store, taken_loads}
+use Rattle.rr_desk.proofs.Loads.{reading_fails, reading_not_of_store, registry_fails}
+use Rattle.rr_desk.proofs.Loads.{registry_not_of_store, taken_loads}
 use Rattle.rr_desk.proofs.loading.read_registry.Goals as goal
 
 pub returns-in_err-objects-clause-why : goal.returns-in_err-objects-clause-why
@@ -15,18 +16,23 @@ returns-in_err-objects-clause-not_of_store g c =
 
 pub returns-in_err-registry-clause-why : goal.returns-in_err-registry-clause-why
 returns-in_err-registry-clause-why g c =
-    let exit = err_from_is_err_and c.from_residual-in_err-registry.result c.from_residual-in_err-registry.ensures.1 in
-    rw (exit.1, exit.2) (registry_fails _ _ _ _ _ c.in_ok-objects.ensures.reads c.in_err-registry.ensures.taken)
+    let exit = err_from_is_err_and c.from_residual-in_err-registry.result
+    c.from_residual-in_err-registry.ensures.1 in
+    rw (exit.1, exit.2) (registry_fails _ _ _ _ _ c.in_ok-objects.ensures.reads
+    c.in_err-registry.ensures.taken)
 
 pub returns-in_err-registry-clause-not_of_store : goal.returns-in_err-registry-clause-not_of_store
 returns-in_err-registry-clause-not_of_store g c =
-    let exit = err_from_is_err_and c.from_residual-in_err-registry.result c.from_residual-in_err-registry.ensures.1 in
+    let exit = err_from_is_err_and c.from_residual-in_err-registry.result
+    c.from_residual-in_err-registry.ensures.1 in
     rw (exit.1, exit.2) (registry_not_of_store _)
 
 pub returns-clause-loaded : goal.returns-clause-loaded
-returns-clause-loaded g c = taken_loads _ _ _ _ _ c.in_ok-objects.ensures.reads c.in_ok-registry.ensures.taken
+returns-clause-loaded g c = taken_loads _ _ _ _ _ c.in_ok-objects.ensures.reads
+    c.in_ok-registry.ensures.taken
 
 pub returns-clause-of_source : goal.returns-clause-of_source
 returns-clause-of_source g c =
-    let loaded = taken_loads _ _ _ _ _ c.in_ok-objects.ensures.reads c.in_ok-registry.ensures.taken in
+    let loaded = taken_loads _ _ _ _ _ c.in_ok-objects.ensures.reads
+    c.in_ok-registry.ensures.taken in
     dumps_of_source _ _ _ loaded.dump c.in_ok-registry.ensures.sound

@@ -31,9 +31,13 @@ pub returns-in-Ok-clause-migrates : goal.returns-in-Ok-clause-migrates
 returns-in-Ok-clause-migrates g c =
     let kept = c.in-Ok.ensures.migrates.crash.clean in record {
       was_open = rw c.of.ensures.store c.in-Ok.ensures.migrates.was_open;
-      grown = rw (c.of.ensures.registry, c.of.ensures.store) (λ clean. c.requires.grown (omega (arith, kept)));
-      migrated = rw (c.of.ensures.store, ← c.root.ensures.root, ← c.source.ensures.source) c.in-Ok.ensures.migrates.migrated;
-      crash = rw c.of.ensures.store (grown_commits g.S.Store c.args.settings.now c.args.registry c.args.conn c.in-Ok.store c.requires.grown (rw (c.root.ensures.root, c.source.ensures.source) at c.in-Ok.ensures.migrates.crash));
+      grown = rw (c.of.ensures.registry, c.of.ensures.store)
+          (λ clean. c.requires.grown (omega (arith, kept)));
+      migrated = rw (c.of.ensures.store, ← c.root.ensures.root, ← c.source.ensures.source)
+          c.in-Ok.ensures.migrates.migrated;
+      crash = rw c.of.ensures.store (grown_commits g.S.Store c.args.settings.now c.args.registry
+          c.args.conn c.in-Ok.store c.requires.grown
+          (rw (c.root.ensures.root, c.source.ensures.source) at c.in-Ok.ensures.migrates.crash));
     }
 
 pub returns-in-Err-clause-fails : goal.returns-in-Err-clause-fails
@@ -43,22 +47,32 @@ returns-in-Err-clause-fails g c =
         autocommit = fails.autocommit;
         was_open = fails.was_open;
         kept = fails.kept;
-        crash = grown_commits g.S.Store c.args.settings.now c.args.registry c.args.conn c.in-Err.unmade.1 c.requires.grown (rw (c.root.ensures.root, c.source.ensures.source) at fails.crash);
+        crash = grown_commits g.S.Store c.args.settings.now c.args.registry c.args.conn
+            c.in-Err.unmade.1 c.requires.grown (rw (c.root.ensures.root, c.source.ensures.source)
+            at fails.crash);
       };
       why = λ clean.
           let kept = fails.crash.clean in
-          let why = rw (c.root.ensures.root, c.source.ensures.source) at (fails.why clean) in record {
+          let why = rw (c.root.ensures.root, c.source.ensures.source) at (fails.why clean) in
+          record {
             wrong_version = why.wrong_version;
             bad_row = λ is registry of rows. why.bad_row is (values registry) rows;
             no_other_said = why.no_other_said;
             tables = why.tables;
             untabled = why.untabled;
-            no_root = λ is. is_rootless c.args.settings.now _ c.args.registry (c.requires.grown (omega (arith, kept))) (why.no_root is);
+            no_root = λ is. is_rootless c.args.settings.now _ c.args.registry
+                (c.requires.grown (omega (arith, kept))) (why.no_root is);
           };
       store = λ error is tidy clean.
           let kept = fails.crash.clean in
           elim (fails.store error is tidy clean) [
             | inl caused ↦ inl caused
-            | inr root ↦ inr (record { registry = c.args.registry; grown = c.requires.grown (omega (arith, kept)) })
+            | inr root ↦
+                inr
+                (record {
+                  registry = c.args.registry;
+                  grown = c.requires.grown
+                      (omega (arith, kept));
+                })
           ];
     }

@@ -12,5 +12,7 @@ returns-in-Ok-clause-ok c = record {
 pub returns-in-Err-clause-fault : goal.returns-in-Err-clause-fault
 returns-in-Err-clause-fault c =
     rw c.told_as.ensures
-    (upper_fault c.args.settings.now c.args.objects.items c.in_ok-upper.upper c.in-Err.fault c.in_ok-upper.ensures.read
-    (rw c.in_ok-objects.ensures at (told_so c.in_ok-objects.objects.items c.in-Err.fault migrate.NoRoot c.in-Err.ensures.taken)))
+    (upper_fault c.args.settings.now c.args.objects.items c.in_ok-upper.upper c.in-Err.fault
+    c.in_ok-upper.ensures.read
+    (rw c.in_ok-objects.ensures at (told_so c.in_ok-objects.objects.items c.in-Err.fault
+    migrate.NoRoot c.in-Err.ensures.taken)))

@@ -17,15 +17,19 @@ returns-in-Err-clause-fails g c = record {
 pub returns-in-Ok-clause-rows : goal.returns-in-Ok-clause-rows
 returns-in-Ok-clause-rows g c =
     IfOk-weaker c.create.result _ _ (λ store makes clean.
-    lent_rows c.args.registry.now c.in-Ok.objects.items c.objects.ensures.sound c.in-Ok.ensures.all _
-    (subst (λ os. IsStoreOf (lent os) (database g.S.Store store)) c.deref.ensures.value (makes.filled clean)))
+    lent_rows c.args.registry.now c.in-Ok.objects.items c.objects.ensures.sound c.in-Ok.ensures.all
+    _
+    (subst (λ os. IsStoreOf (lent os) (database g.S.Store store)) c.deref.ensures.value
+    (makes.filled clean)))
     c.create.ensures.makes
 
 pub returns-in-Ok-clause-is_open : goal.returns-in-Ok-clause-is_open
-returns-in-Ok-clause-is_open g c = IfOk-weaker c.create.result _ _ (λ store makes. makes.is_open) c.create.ensures.makes
+returns-in-Ok-clause-is_open g c = IfOk-weaker c.create.result _ _ (λ store makes. makes.is_open)
+    c.create.ensures.makes
 
 pub returns-in-Ok-clause-settled : goal.returns-in-Ok-clause-settled
-returns-in-Ok-clause-settled g c = IfOk-weaker c.create.result _ _ (λ store makes. makes.settled) c.create.ensures.makes
+returns-in-Ok-clause-settled g c = IfOk-weaker c.create.result _ _ (λ store makes. makes.settled)
+    c.create.ensures.makes
 
 pub returns-in-Ok-clause-makes : goal.returns-in-Ok-clause-makes
 returns-in-Ok-clause-makes g c =
@@ -34,7 +38,9 @@ returns-in-Ok-clause-makes g c =
       tables = makes.tables;
       was_open = makes.was_open;
       crash = left_as g.S.Store c.args.conn store (λ db filled.
-          lent_rows c.args.registry.now c.in-Ok.objects.items c.objects.ensures.sound c.in-Ok.ensures.all db (subst (λ os. IsStoreOf (lent os) db) c.deref.ensures.value filled)) makes.crash;
+          lent_rows c.args.registry.now c.in-Ok.objects.items c.objects.ensures.sound
+          c.in-Ok.ensures.all db (subst (λ os. IsStoreOf (lent os) db) c.deref.ensures.value
+          filled)) makes.crash;
     }) c.create.ensures.makes
 
 pub returns-in-Ok-clause-fails : goal.returns-in-Ok-clause-fails
@@ -45,7 +51,9 @@ returns-in-Ok-clause-fails g c =
         was_open = fails.was_open;
         kept = fails.kept;
         crash = left_as g.S.Store c.args.conn e.1 (λ db filled.
-            lent_rows c.args.registry.now c.in-Ok.objects.items c.objects.ensures.sound c.in-Ok.ensures.all db (subst (λ os. IsStoreOf (lent os) db) c.deref.ensures.value filled)) fails.crash;
+            lent_rows c.args.registry.now c.in-Ok.objects.items c.objects.ensures.sound
+            c.in-Ok.ensures.all db (subst (λ os. IsStoreOf (lent os) db) c.deref.ensures.value
+            filled)) fails.crash;
       };
       not_empty = fails.not_empty;
       store = fails.store;

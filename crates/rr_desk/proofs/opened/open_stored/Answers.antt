@@ -16,14 +16,17 @@ pub of-requires-clause-settled : goal.of-requires-clause-settled
 of-requires-clause-settled g c = c.in-Ok.ensures.opens.settled
 
 pub of-requires-clause-rows : goal.of-requires-clause-rows
-of-requires-clause-rows g c = λ clean. opened_rows c.args.source.now _ _ _ (c.in-Ok.ensures.opens.stored clean) c.in-Ok-from_objects.ensures.taken
+of-requires-clause-rows g c = λ clean. opened_rows c.args.source.now _ _ _
+    (c.in-Ok.ensures.opens.stored clean) c.in-Ok-from_objects.ensures.taken
 
 pub returns-in-Ok-from_objects-clause-running : goal.returns-in-Ok-from_objects-clause-running
 returns-in-Ok-from_objects-clause-running g c = c.of.ensures.running
 
 pub returns-in-Ok-from_objects-clause-of_source : goal.returns-in-Ok-from_objects-clause-of_source
 returns-in-Ok-from_objects-clause-of_source g c =
-    rw c.of.ensures.registry (taken_of_source c.args.source.now _ _ c.in-Ok-from_objects.ensures.taken c.in-Ok-from_objects.ensures.sound c.in-Ok.ensures.opens.of_source)
+    rw c.of.ensures.registry (taken_of_source c.args.source.now _ _
+    c.in-Ok-from_objects.ensures.taken c.in-Ok-from_objects.ensures.sound
+    c.in-Ok.ensures.opens.of_source)
 
 pub returns-in-Ok-from_objects-clause-holds : goal.returns-in-Ok-from_objects-clause-holds
 returns-in-Ok-from_objects-clause-holds g c = c.of.ensures.held
@@ -33,7 +36,9 @@ returns-in-Ok-from_objects-clause-opens g c =
     let opens = c.in-Ok.ensures.opens in record {
       was_open = rw c.of.ensures.store opens.was_open;
       rows = rw (c.of.ensures.registry, c.of.ensures.store)
-          (λ clean. subst (HasRows c.in-Ok-from_objects.registry) (opens.same clean) (opened_rows c.args.source.now _ _ _ (opens.stored clean) c.in-Ok-from_objects.ensures.taken));
+          (λ clean. subst (HasRows c.in-Ok-from_objects.registry) (opens.same clean)
+          (opened_rows c.args.source.now _ _ _ (opens.stored clean)
+          c.in-Ok-from_objects.ensures.taken));
       same = rw c.of.ensures.store opens.same;
       crash = rw c.of.ensures.store opens.crash;
     }
@@ -51,18 +56,26 @@ returns-in-Err-from_objects-clause-fails g c =
           (λ clean.
           let stored = rw (opens.same clean) at opens.stored clean in record {
             wrong_version = λ number is. absurd (no_version c.in-Err-from_objects.fault number is);
-            bad_row = λ is. bad_objects c.args.source.now _ _ _ c.in-Err-from_objects.ensures.taken is stored;
+            bad_row = λ is. bad_objects c.args.source.now _ _ _ c.in-Err-from_objects.ensures.taken
+                is stored;
             no_other_said = λ is. stored_says_it _ c.args.source.now _ _ stored;
             tables = λ of. stored.rows.tidy.has;
             untabled = λ none. absurd (none stored.rows.tidy.has);
           });
-      store = rw c.refused.ensures (λ error is. absurd (no_error c.in-Err-from_objects.fault error is));
+      store = rw c.refused.ensures
+          (λ error is. absurd (no_error c.in-Err-from_objects.fault error is));
     }
 
 pub returns-in-Err-clause-fails : goal.returns-in-Err-clause-fails
 returns-in-Err-clause-fails g c =
     let fails = c.in-Err.ensures.fails in record {
-      none = record { autocommit = fails.rests.autocommit; was_open = fails.rests.opened; kept = fails.rests.same; crash = fails.rests.crash };
+      none = record {
+        autocommit = fails.rests.autocommit;
+        was_open = fails.rests.opened;
+        kept =
+            fails.rests.same;
+        crash = fails.rests.crash;
+      };
       why = λ clean.
           let why = fails.why clean in record {
             wrong_version = why.wrong_version;

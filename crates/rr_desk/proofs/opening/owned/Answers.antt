@@ -7,5 +7,7 @@ use Rattle.rr_desk.proofs.opening.owned.Goals as goal
 
 pub new-requires : goal.new-requires
 new-requires c =
-    let same : c.in_ok-attributes-2.attributes.items ≡ c.args.attributes.items ++ owner_fields c.args.settings.now = grind (arith, common_steps) in
-    subst AreFields (sym (c.deref.ensures.value ∙ same)) (owned_good c.args.attributes.items c.args.settings.now c.requires c.root.ensures.good)
+    let same : c.in_ok-attributes-2.attributes.items ≡ c.args.attributes.items ++ owner_fields
+    c.args.settings.now = grind (arith, common_steps) in
+    subst AreFields (sym (c.deref.ensures.value ∙ same))
+    (owned_good c.args.attributes.items c.args.settings.now c.requires c.root.ensures.good)

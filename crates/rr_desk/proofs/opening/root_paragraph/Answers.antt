@@ -6,5 +6,7 @@ use Rattle.rr_desk.proofs.opening.root_paragraph.Goals as goal
 
 pub owned-requires : goal.owned-requires
 owned-requires c =
-    let same : c.in_ok-attributes-3.attributes.items ≡ one_line (codes "mntner") c.args.settings.now.root ∷ (one_line (codes "auth") (auth_line c.args.settings.now.auth) ∷ []) = search rules in
+    let same : c.in_ok-attributes-3.attributes.items ≡ one_line (codes "mntner")
+    c.args.settings.now.root ∷ (one_line (codes "auth") (auth_line c.args.settings.now.auth)
+    ∷ []) = search rules in
     subst AreFields (sym same) (root_good c.args.settings.now c.root.ensures.good)

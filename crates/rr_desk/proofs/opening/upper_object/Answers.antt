@@ -5,4 +5,5 @@ use Rattle.rr_desk.proofs.opening.upper_object.Goals as goal
 pub unreachable-requires : goal.unreachable-requires
 unreachable-requires c =
     some_never _ c.in-None.is
-    (c.in_ok-object.ensures.only _ (upper_told c.args.settings.now c.root.result.now c.source.result.now c.root.ensures.good c.root.ensures.root c.source.ensures.source))
+    (c.in_ok-object.ensures.only _ (upper_told c.args.settings.now c.root.result.now
+    c.source.result.now c.root.ensures.good c.root.ensures.root c.source.ensures.source))

@@ -8,7 +8,8 @@ use Rattle.rr_desk.proofs.serving.serve_all.Given as goal
 abbrev pub invariant-turns : goal.invariant-turns
 invariant-turns g l = record {
   within : l.served ≤ l.turn;
-  taken : TakesTurns g.S.Store g.V.Service.serves l.turn l.initial.desk l.desk (g.P.Peers.tally l.initial.peers) (g.P.Peers.tally l.peers) l.served (l.turn - l.served);
+  taken : TakesTurns g.S.Store g.V.Service.serves l.turn l.initial.desk l.desk
+      (g.P.Peers.tally l.initial.peers) (g.P.Peers.tally l.peers) l.served (l.turn - l.served);
   lasts : DatabaseLasts (desk_state g.S.Store l.initial.desk) (desk_state g.S.Store l.desk);
   settings : l.desk.settings ≡ l.initial.desk.settings;
 }

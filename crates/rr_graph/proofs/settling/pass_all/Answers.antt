@@ -13,9 +13,16 @@ loop-value-preserved g c =
       | in-Some+in_ok-push w ↦
           ap (λ v. v.items) w.values-is ∙ w.in_ok-push.ensures.items
           ∙ ap (λ (l : List V). l ++ w.in-Some.passed ∷ []) c.loop-value.invariant
-          ∙ append_assoc old (filter_map h (take c.loop-value.value-index c.args.starts.now)) (w.in-Some.passed ∷ [])
-          ∙ ap (λ (l : List V). old ++ l) (sym (filter_map_more-Some h c.args.starts.now c.loop-value.value-index c.value-item.result w.in-Some.passed c.loop-value-test.true c.value-item.is (sym w.in-Some.ensures)))
+          ∙ append_assoc old (filter_map h (take c.loop-value.value-index c.args.starts.now))
+          (w.in-Some.passed ∷ [])
+          ∙ ap (λ (l : List V). old ++ l)
+          (sym (filter_map_more-Some h c.args.starts.now c.loop-value.value-index
+          c.value-item.result w.in-Some.passed c.loop-value-test.true c.value-item.is
+          (sym w.in-Some.ensures)))
       | in_default w ↦
           ap (λ v. v.items) w.values-is ∙ c.loop-value.invariant
-          ∙ ap (λ (l : List V). old ++ l) (sym (filter_map_more-None h c.args.starts.now c.loop-value.value-index c.value-item.result c.loop-value-test.true c.value-item.is (sym w.in_default.ensures)))
+          ∙ ap (λ (l : List V). old ++ l)
+          (sym (filter_map_more-None h c.args.starts.now c.loop-value.value-index
+          c.value-item.result c.loop-value-test.true c.value-item.is
+          (sym w.in_default.ensures)))
     ]

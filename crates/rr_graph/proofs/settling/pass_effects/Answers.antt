@@ -1,4 +1,5 @@
-use Rattle.std.proofs.Common.{◌≡◌, ◌↔◌, ◌⊎◌, ◌++◌, List, Contains, None, Some, ap, map, refl, sym, subst, ◌∙◌}
+use Rattle.std.proofs.Common.{◌≡◌, ◌↔◌, ◌⊎◌, ◌++◌, List, Contains, None, Some, ap, map, refl, sym}
+use Rattle.std.proofs.Common.{subst, ◌∙◌}
 use Rattle.std.specs.BTreeSet.{contains}
 use Rattle.std.specs.Ordering.{ordering_then}
 use Rattle.std.specs.declared.cmp.Ordering.{Ordering}
@@ -7,15 +8,23 @@ use Rattle.rr_graph.specs.EffectParts.{Makes}
 use Rattle.rr_graph.specs.SettledParts.{IsMade}
 use Rattle.rr_graph.specs.declared.labels.Edge.{Edge}
 use Rattle.rr_graph.proofs.Enough.{IsCovered-more, IsCovered-none, there-made}
-use Rattle.rr_graph.proofs.Runs.{Contains-earlier, Contains-made, Contains-value, IsMade-more, IsMade-none}
+use Rattle.rr_graph.proofs.Runs.{Contains-earlier, Contains-made, Contains-value, IsMade-more}
+use Rattle.rr_graph.proofs.Runs.{IsMade-none}
 use Rattle.rr_graph.proofs.settling.pass_effects.Goals as goal
 
 pub loop-value-init : goal.loop-value-init
 loop-value-init g c =
     let M : Type 0 = (g.row.G-Node.Denot × g.row.G-Kind.Denot) × g.row.G-Group.Denot in
-    let mark_cmp : M → M → Ordering = λ x y. ordering_then (ordering_then (g.G.Node.Ord.cmp x.0.0 y.0.0) (g.G.Kind.Ord.cmp x.0.1 y.0.1)) (g.G.Group.Ord.cmp x.1 y.1) in (
-      λ node value choice is. let wrong : None ≡ Some choice = sym (c.new-effects.ensures.known (node, g.G.Labelled.kind_of value)) ∙ is in cc,
-      IsCovered-none g.G.Labelled.keeps g.G.Labelled.passed g.G.Labelled.kind_of g.G.Labelled.group_of g.met.G.Labelled.same (λ (_ : g.row.G-Node.Denot). c.args.run.now) (contains mark_cmp c.new-effects.result.marks) (λ (q : g.row.G-Node.Denot × g.row.G-Value.Denot). Contains c.args.values.now.items q.1) c.new-effects.ensures.marks,
+    let mark_cmp : M → M → Ordering = λ x y.
+    ordering_then (ordering_then (g.G.Node.Ord.cmp x.0.0 y.0.0) (g.G.Kind.Ord.cmp x.0.1 y.0.1))
+    (g.G.Group.Ord.cmp x.1 y.1) in (
+      λ node value choice is. let wrong : None ≡ Some choice =
+          sym (c.new-effects.ensures.known (node, g.G.Labelled.kind_of value)) ∙ is in cc,
+      IsCovered-none g.G.Labelled.keeps g.G.Labelled.passed g.G.Labelled.kind_of
+          g.G.Labelled.group_of g.met.G.Labelled.same (λ (_ : g.row.G-Node.Denot). c.args.run.now)
+          (contains mark_cmp c.new-effects.result.marks)
+          (λ (q : g.row.G-Node.Denot × g.row.G-Value.Denot). Contains c.args.values.now.items q.1)
+          c.new-effects.ensures.marks,
       IsMade-none g.G.Labelled.passed c.args.values.now.items c.args.node.now c.args.run.now,
     )
 
@@ -23,28 +32,49 @@ pub loop-value-preserved : goal.loop-value-preserved
 loop-value-preserved g c =
     let P : Type 0 = g.row.G-Node.Denot × g.row.G-Value.Denot in
     let M : Type 0 = (g.row.G-Node.Denot × g.row.G-Kind.Denot) × g.row.G-Group.Denot in
-    let mark_cmp : M → M → Ordering = λ x y. ordering_then (ordering_then (g.G.Node.Ord.cmp x.0.0 y.0.0) (g.G.Kind.Ord.cmp x.0.1 y.0.1)) (g.G.Group.Ord.cmp x.1 y.1) in
-    let all : g.row.G-Node.Denot → List (Edge g.row.G-Node.Denot g.row.G-Label.Denot) = λ _. c.args.run.now in
+    let mark_cmp : M → M → Ordering = λ x y.
+    ordering_then (ordering_then (g.G.Node.Ord.cmp x.0.0 y.0.0) (g.G.Kind.Ord.cmp x.0.1 y.0.1))
+    (g.G.Group.Ord.cmp x.1 y.1) in
+    let all : g.row.G-Node.Denot → List (Edge g.row.G-Node.Denot g.row.G-Label.Denot) = λ _.
+    c.args.run.now in
     let old : List g.row.G-Value.Denot = c.loop-value.values.items in
     let now : List g.row.G-Value.Denot = c.add_made.new.values.items in
     let new : List g.row.G-Value.Denot = c.dedup_if_doubled-last.new.list.items in
     let pairs : List P = c.in_ok-made.made.items in
     let made = c.in_ok-made.ensures.made all refl c.loop-value.invariant.0 in
-    let pushed : now ≡ old ++ map (λ (q : P). q.1) pairs = c.in_ok-add_made.ensures ∙ ap (λ (l : List P). old ++ map (λ (q : P). q.1) l) c.deref.ensures.value in
+    let pushed : now ≡ old ++ map (λ (q : P). q.1) pairs = c.in_ok-add_made.ensures
+    ∙ ap (λ (l : List P). old ++ map (λ (q : P). q.1) l) c.deref.ensures.value in
     let same = c.dedup_if_doubled-last.ensures g.met.G.Labelled.exact_values in
-    let there : (q : P) → Makes g.G.Labelled.passed c.value-item.result c.args.run.now q.0 q.1 → Contains new q.1 =
-    there-made g.G.Labelled.keeps g.G.Labelled.passed g.G.Labelled.kind_of g.G.Labelled.group_of g.met.G.Labelled.same all (contains mark_cmp c.loop-value.effects.marks) (contains mark_cmp c.made.new.self.marks) (λ (q : P). Contains old q.1) (λ (q : P). Contains new q.1) c.args.node.now c.value-item.result pairs
-    c.loop-value.invariant.1 made (λ q. Contains-earlier g.G.Labelled.passed old now new pairs pushed same q.1) (Contains-value g.G.Labelled.passed old now new pairs pushed same) in (
+    let there : (q : P) → Makes g.G.Labelled.passed c.value-item.result c.args.run.now q.0 q.1 →
+    Contains new q.1 =
+    there-made g.G.Labelled.keeps g.G.Labelled.passed g.G.Labelled.kind_of g.G.Labelled.group_of
+    g.met.G.Labelled.same all (contains mark_cmp c.loop-value.effects.marks)
+    (contains mark_cmp c.made.new.self.marks) (λ (q : P). Contains old q.1)
+    (λ (q : P). Contains new q.1) c.args.node.now c.value-item.result pairs
+    c.loop-value.invariant.1 made (λ q. Contains-earlier g.G.Labelled.passed old now new pairs
+    pushed same q.1) (Contains-value g.G.Labelled.passed old now new pairs pushed same) in (
       c.in_ok-made.ensures.known all refl c.loop-value.invariant.0,
-      IsCovered-more g.G.Labelled.keeps g.G.Labelled.passed g.G.Labelled.kind_of g.G.Labelled.group_of g.met.G.Labelled.same all (contains mark_cmp c.loop-value.effects.marks) (contains mark_cmp c.made.new.self.marks) (λ (q : P). Contains old q.1) (λ (q : P). Contains new q.1) c.args.node.now c.value-item.result pairs
-          c.loop-value.invariant.1 made (λ q. Contains-earlier g.G.Labelled.passed old now new pairs pushed same q.1) (Contains-value g.G.Labelled.passed old now new pairs pushed same) c.in_ok-made.ensures.marked,
-      IsMade-more g.G.Labelled.passed c.args.values.now.items old new c.args.starts.now c.loop-value.value-index c.value-item.result c.args.node.now c.args.run.now
-          c.loop-value-test.true c.value-item.is c.loop-value.invariant.2 (Contains-earlier g.G.Labelled.passed old now new pairs pushed same)
-          (Contains-made g.G.Labelled.passed old now new pairs pushed same c.value-item.result c.args.node.now c.args.run.now c.requires made.only)
+      IsCovered-more g.G.Labelled.keeps g.G.Labelled.passed g.G.Labelled.kind_of
+          g.G.Labelled.group_of g.met.G.Labelled.same all
+          (contains mark_cmp c.loop-value.effects.marks) (contains mark_cmp c.made.new.self.marks)
+          (λ (q : P). Contains old q.1) (λ (q : P). Contains new q.1) c.args.node.now
+          c.value-item.result pairs
+          c.loop-value.invariant.1 made (λ q. Contains-earlier g.G.Labelled.passed old now new
+          pairs pushed same q.1) (Contains-value g.G.Labelled.passed old now new pairs pushed
+          same) c.in_ok-made.ensures.marked,
+      IsMade-more g.G.Labelled.passed c.args.values.now.items old new c.args.starts.now
+          c.loop-value.value-index c.value-item.result c.args.node.now c.args.run.now
+          c.loop-value-test.true c.value-item.is c.loop-value.invariant.2
+          (Contains-earlier g.G.Labelled.passed old now new pairs pushed same)
+          (Contains-made g.G.Labelled.passed old now new pairs pushed same c.value-item.result
+          c.args.node.now c.args.run.now c.requires made.only)
           (λ v makes. there (c.args.node.now, v) makes),
     )
 
 pub returns : goal.returns
 returns g c =
-    subst (λ (l : List g.row.G-Value.Denot). (v : g.row.G-Value.Denot) → Contains c.loop-value.values.items v ↔ (Contains c.args.values.now.items v ⊎ IsMade g.G.Labelled.passed c.args.node.now c.args.run.now l v))
-    (take_all c.loop-value.value-index c.args.starts.now c.loop-value-test.false) c.loop-value.invariant.2
+    subst (λ (l : List g.row.G-Value.Denot). (v : g.row.G-Value.Denot) →
+    Contains c.loop-value.values.items v ↔ (Contains c.args.values.now.items v
+    ⊎ IsMade g.G.Labelled.passed c.args.node.now c.args.run.now l v))
+    (take_all c.loop-value.value-index c.args.starts.now c.loop-value-test.false)
+    c.loop-value.invariant.2

@@ -8,6 +8,16 @@ use Rattle.rr_graph.proofs.settling.pass_effects.Given as goal
 
 abbrev pub invariant-loop-value : goal.invariant-loop-value
 invariant-loop-value g l =
-    IsKnown g.G.Labelled.keeps g.G.Labelled.passed g.G.Labelled.kind_of (λ (_ : g.row.G-Node.Denot). l.run) (get (λ (x y : g.row.G-Node.Denot × g.row.G-Kind.Denot). ordering_then (g.G.Node.Ord.cmp x.0 y.0) (g.G.Kind.Ord.cmp x.1 y.1)) l.effects.map)
-    × IsCovered g.G.Labelled.keeps g.G.Labelled.passed g.G.Labelled.kind_of g.G.Labelled.group_of (λ (_ : g.row.G-Node.Denot). l.run) (contains (λ (x y : (g.row.G-Node.Denot × g.row.G-Kind.Denot) × g.row.G-Group.Denot). ordering_then (ordering_then (g.G.Node.Ord.cmp x.0.0 y.0.0) (g.G.Kind.Ord.cmp x.0.1 y.0.1)) (g.G.Group.Ord.cmp x.1 y.1)) l.effects.marks) (λ (q : g.row.G-Node.Denot × g.row.G-Value.Denot). Contains l.values.items q.1)
-    × ((v : g.row.G-Value.Denot) → Contains l.values.items v ↔ (Contains l.initial.values.items v ⊎ IsMade g.G.Labelled.passed l.node l.run (take l.value-index l.starts) v))
+    IsKnown g.G.Labelled.keeps g.G.Labelled.passed g.G.Labelled.kind_of
+    (λ (_ : g.row.G-Node.Denot). l.run)
+    (get (λ (x y : g.row.G-Node.Denot × g.row.G-Kind.Denot).
+    ordering_then (g.G.Node.Ord.cmp x.0 y.0) (g.G.Kind.Ord.cmp x.1 y.1)) l.effects.map)
+    × IsCovered g.G.Labelled.keeps g.G.Labelled.passed g.G.Labelled.kind_of g.G.Labelled.group_of
+    (λ (_ : g.row.G-Node.Denot). l.run)
+    (contains (λ (x y : (g.row.G-Node.Denot × g.row.G-Kind.Denot) × g.row.G-Group.Denot).
+    ordering_then (ordering_then (g.G.Node.Ord.cmp x.0.0 y.0.0) (g.G.Kind.Ord.cmp x.0.1 y.0.1))
+    (g.G.Group.Ord.cmp x.1 y.1)) l.effects.marks)
+    (λ (q : g.row.G-Node.Denot × g.row.G-Value.Denot). Contains l.values.items q.1)
+    × ((v : g.row.G-Value.Denot) → Contains l.values.items v
+    ↔ (Contains l.initial.values.items v ⊎ IsMade g.G.Labelled.passed l.node l.run
+    (take l.value-index l.starts) v))

@@ -13,12 +13,16 @@ loop-place-init g c = λ exact e has. absurd (Contains-nil e has)
 
 pub loop-place-preserved : goal.loop-place-preserved
 loop-place-preserved g c = λ exact e has.
-    elim (Contains-take_cases c.args.edges.now c.loop-place.place c.index-edges-place.result e c.loop-place-test.true c.index-edges-place.is has) [
+    elim (Contains-take_cases c.args.edges.now c.loop-place.place c.index-edges-place.result e
+    c.loop-place-test.true c.index-edges-place.is has) [
       | inl earlier ↦ c.loop-place.invariant exact e earlier
       | inr same ↦
-          let equal : g.N.PartialEq.eq c.index-edges-place.result.to c.args.node.now ≡ true = not_false (g.N.PartialEq.eq c.index-edges-place.result.to c.args.node.now) (sym c.ne.ensures ∙ c.if-ne.false) in
+          let equal : g.N.PartialEq.eq c.index-edges-place.result.to c.args.node.now ≡ true =
+          not_false (g.N.PartialEq.eq c.index-edges-place.result.to c.args.node.now)
+          (sym c.ne.ensures ∙ c.if-ne.false) in
           subst (λ (f : Edge g.row.N.Denot g.row.L.Denot). f.to ≡ c.args.node.now) same
-          (tells_apart exact c.index-edges-place.result.to c.args.node.now (sym (g.met.N.Ord.matches_eq c.index-edges-place.result.to c.args.node.now) ∙ equal))
+          (tells_apart exact c.index-edges-place.result.to c.args.node.now
+          (sym (g.met.N.Ord.matches_eq c.index-edges-place.result.to c.args.node.now) ∙ equal))
     ]
 
 pub returns-then-ne-clause-run : goal.returns-then-ne-clause-run
@@ -26,4 +30,7 @@ returns-then-ne-clause-run g c = c.loop-place.invariant
 
 pub returns-clause-run : goal.returns-clause-run
 returns-clause-run g c = λ exact e has.
-    c.loop-place.invariant exact e (subst (λ l. Contains l e) (sym (take_all c.loop-place.place c.args.edges.now c.loop-place-test.false)) (Contains-whole _ c.args.edges.now e has))
+    c.loop-place.invariant exact e
+    (subst (λ l. Contains l e)
+    (sym (take_all c.loop-place.place c.args.edges.now c.loop-place-test.false))
+    (Contains-whole _ c.args.edges.now e has))

@@ -11,21 +11,46 @@ use Rattle.rr_graph.proofs.settling.settle.Goals as goal
 
 pub returns-in_err-enter-clause-many : goal.returns-in_err-enter-clause-many
 returns-in_err-enter-clause-many g c = λ is.
-    let found = subst (λ (o : Option (Vec g.row.G-Value.Denot)). IfSome o (λ values. (v : g.row.G-Value.Denot) → Contains values.items v ↔ IsFound (g.G.Labelled.edge c.args.graph.now) (g.G.Labelled.own c.args.graph.now) g.G.Labelled.passed c.args.tail.now.node.now v)) c.in-Some.is c.in_ok-values.ensures.found in
-    let p = err_from_is_err_and c.from_residual-in_err-enter.result c.from_residual-in_err-enter.ensures.1 in
-    MoreThan-weaker c.args.limit (IsHeldOr (values_at g.G.Node.Ord.cmp c.args.settled.now.values) c.in_ok-copy.field-0 (Contains c.in-Some.values.items))
-    (IsHeldOr (values_at g.G.Node.Ord.cmp c.args.settled.now.values) c.args.tail.now.node.now (IsFound (g.G.Labelled.edge c.args.graph.now) (g.G.Labelled.own c.args.graph.now) g.G.Labelled.passed c.args.tail.now.node.now))
-    (λ q held. elim held [ inl before ↦ inl before | inr here ↦ inr (here.0 ∙ c.in_ok-copy.ensures, (found q.1).0 here.1) ])
+    let found = subst (λ (o : Option (Vec g.row.G-Value.Denot)).
+    IfSome o (λ values. (v : g.row.G-Value.Denot) → Contains values.items v
+    ↔ IsFound (g.G.Labelled.edge c.args.graph.now) (g.G.Labelled.own c.args.graph.now)
+    g.G.Labelled.passed c.args.tail.now.node.now v)) c.in-Some.is
+    c.in_ok-values.ensures.found in
+    let p = err_from_is_err_and c.from_residual-in_err-enter.result
+    c.from_residual-in_err-enter.ensures.1 in
+    MoreThan-weaker c.args.limit (IsHeldOr (values_at g.G.Node.Ord.cmp c.args.settled.now.values)
+    c.in_ok-copy.field-0 (Contains c.in-Some.values.items))
+    (IsHeldOr (values_at g.G.Node.Ord.cmp c.args.settled.now.values) c.args.tail.now.node.now
+    (IsFound (g.G.Labelled.edge c.args.graph.now) (g.G.Labelled.own c.args.graph.now)
+    g.G.Labelled.passed c.args.tail.now.node.now))
+    (λ q held. elim held [
+      | inl before ↦ inl before
+      | inr here ↦
+          inr (here.0 ∙ c.in_ok-copy.ensures, (found q.1).0 here.1)
+    ])
     (c.in_err-enter.ensures.many (cc (is, p.1, p.2)))
 
 pub returns-in_ok-enter-clause-settled : goal.returns-in_ok-enter-clause-settled
 returns-in_ok-enter-clause-settled g c =
-    HoldsAllValues-entered (g.G.Labelled.edge c.args.graph.now) (g.G.Labelled.own c.args.graph.now) g.G.Labelled.passed g.G.Value.Ord.cmp (values_at g.G.Node.Ord.cmp c.args.settled.now.values) g.met.G.Labelled.exact_nodes (values_at g.G.Node.Ord.cmp c.enter.new.self.values)
-    c.args.tail.now.node.now c.in_ok-copy.field-0 c.in_ok-copy.ensures c.in-Some.values.items c.in_ok-enter.ensures.entered c.requires.settled
-    (subst (λ (o : Option (Vec g.row.G-Value.Denot)). IfSome o (λ values. (v : g.row.G-Value.Denot) → Contains values.items v ↔ IsFound (g.G.Labelled.edge c.args.graph.now) (g.G.Labelled.own c.args.graph.now) g.G.Labelled.passed c.args.tail.now.node.now v)) c.in-Some.is c.in_ok-values.ensures.found)
-    (subst (λ (o : Option (Vec g.row.G-Value.Denot)). IfSome o (λ values. IsStrictlySortedBy g.G.Value.Ord.cmp values.items)) c.in-Some.is c.in_ok-values.ensures.sorted)
+    HoldsAllValues-entered (g.G.Labelled.edge c.args.graph.now) (g.G.Labelled.own c.args.graph.now)
+    g.G.Labelled.passed g.G.Value.Ord.cmp
+    (values_at g.G.Node.Ord.cmp c.args.settled.now.values) g.met.G.Labelled.exact_nodes
+    (values_at g.G.Node.Ord.cmp c.enter.new.self.values)
+    c.args.tail.now.node.now c.in_ok-copy.field-0 c.in_ok-copy.ensures c.in-Some.values.items
+    c.in_ok-enter.ensures.entered c.requires.settled
+    (subst (λ (o : Option (Vec g.row.G-Value.Denot)).
+    IfSome o (λ values. (v : g.row.G-Value.Denot) → Contains values.items v
+    ↔ IsFound (g.G.Labelled.edge c.args.graph.now) (g.G.Labelled.own c.args.graph.now)
+    g.G.Labelled.passed c.args.tail.now.node.now v)) c.in-Some.is c.in_ok-values.ensures.found)
+    (subst (λ (o : Option (Vec g.row.G-Value.Denot)).
+    IfSome o (λ values. IsStrictlySortedBy g.G.Value.Ord.cmp values.items)) c.in-Some.is
+    c.in_ok-values.ensures.sorted)
 
 pub returns-in_ok-enter-clause-only : goal.returns-in_ok-enter-clause-only
 returns-in_ok-enter-clause-only g c =
-    only_entered (g.G.Labelled.edge c.args.graph.now) (g.G.Labelled.own c.args.graph.now) g.G.Labelled.passed g.G.Value.Ord.cmp (values_at g.G.Node.Ord.cmp c.args.settled.now.values) g.met.G.Labelled.exact_nodes (values_at g.G.Node.Ord.cmp c.enter.new.self.values)
-    c.args.tail.now.node.now c.in_ok-copy.field-0 c.in_ok-copy.ensures c.in-Some.values.items c.in_ok-enter.ensures.entered
+    only_entered (g.G.Labelled.edge c.args.graph.now) (g.G.Labelled.own c.args.graph.now)
+    g.G.Labelled.passed g.G.Value.Ord.cmp
+    (values_at g.G.Node.Ord.cmp c.args.settled.now.values) g.met.G.Labelled.exact_nodes
+    (values_at g.G.Node.Ord.cmp c.enter.new.self.values)
+    c.args.tail.now.node.now c.in_ok-copy.field-0 c.in_ok-copy.ensures c.in-Some.values.items
+    c.in_ok-enter.ensures.entered

@@ -1,7 +1,8 @@
 use Rattle.std.proofs.Common.{◌≡◌, ◌∙◌, Contains, None, Some, sym, subst}
 use Rattle.std.proofs.lemmas.Result.{err_from_is_err_and}
 use Rattle.rr_graph.specs.Carried.{IsFound}
-use Rattle.rr_graph.specs.SettledParts.{IsAmong, IsFoundAmong, IsHeldOr, HoldsAllValues, IsTallied, values_at}
+use Rattle.rr_graph.specs.SettledParts.{IsAmong, IsFoundAmong, IsHeldOr, HoldsAllValues, IsTallied}
+use Rattle.rr_graph.specs.SettledParts.{values_at}
 use Rattle.rr_graph.specs.declared.settled.Settled.{Settled}
 use Rattle.rr_graph.proofs.KnownNodes.{IsFoundAmong-held, IsTallied-none, among_only}
 use Rattle.rr_graph.proofs.Listings.{MoreThan-weaker}
@@ -10,32 +11,58 @@ use Rattle.rr_graph.proofs.settling.settled.Goals.{in-Some+in_ok-tail+in_ok-sett
 
 pub loop-place-init : goal.loop-place-init
 loop-place-init g c = (
-  λ node values is. let wrong : None ≡ Some values = sym (c.new-settled.ensures.none node) ∙ is in cc,
-  λ node values is. let wrong : None ≡ Some values = sym (c.new-settled.ensures.none node) ∙ is in cc,
-  IsTallied-none (values_at g.G.Node.Ord.cmp c.new-settled.result.values) c.args.limit c.new-settled.result.pairs c.new-settled.ensures.none c.new-settled.ensures.count,
+  λ node values is. let wrong : None ≡ Some values = sym (c.new-settled.ensures.none node) ∙ is in
+      cc,
+  λ node values is. let wrong : None ≡ Some values = sym (c.new-settled.ensures.none node) ∙ is in
+      cc,
+  IsTallied-none (values_at g.G.Node.Ord.cmp c.new-settled.result.values) c.args.limit
+      c.new-settled.result.pairs c.new-settled.ensures.none c.new-settled.ensures.count,
 )
 
 pub loop-place-preserved : goal.loop-place-preserved
 loop-place-preserved g c =
-    let Kept : Settled g.row.G.Denot g.row.G-Node.Denot g.row.G-Label.Denot g.row.G-Value.Denot g.row.G-Kind.Denot g.row.G-Group.Denot → Type 0 =
-    λ settled. HoldsAllValues (g.G.Labelled.edge c.args.graph.now) (g.G.Labelled.own c.args.graph.now) g.G.Labelled.passed g.G.Value.Ord.cmp (values_at g.G.Node.Ord.cmp settled.values)
+    let Kept : Settled g.row.G.Denot g.row.G-Node.Denot g.row.G-Label.Denot g.row.G-Value.Denot
+    g.row.G-Kind.Denot g.row.G-Group.Denot → Type 0 =
+    λ settled. HoldsAllValues (g.G.Labelled.edge c.args.graph.now)
+    (g.G.Labelled.own c.args.graph.now) g.G.Labelled.passed g.G.Value.Ord.cmp
+    (values_at g.G.Node.Ord.cmp settled.values)
     × IsAmong c.args.nodes.now (values_at g.G.Node.Ord.cmp settled.values)
     × IsTallied (values_at g.G.Node.Ord.cmp settled.values) c.args.limit settled.pairs in
     elim c.match-get.branch [
       | in-Some+in_ok-tail+in_ok-settle w ↦
-          let listed : Contains c.args.nodes.now w.in-Some.node.now = (_, w.in-Some.ensures.lookup.3.0, sym (w.in-Some.ensures.lookup.3.1 w.in-Some.node.now)) in
-          let there : Contains c.args.nodes.now w.in_ok-tail.tail.node.now = subst (Contains c.args.nodes.now) (sym w.in_ok-tail.ensures.node) listed in
-          subst Kept (sym w.settled-is)
-          (w.in_ok-settle.ensures.settled, among_only c.args.nodes.now w.in_ok-tail.tail.node.now (values_at g.G.Node.Ord.cmp c.loop-place.settled.values) (values_at g.G.Node.Ord.cmp w.settle.new.settled.values) there c.loop-place.invariant.1 w.in_ok-settle.ensures.only, w.in_ok-settle.ensures.tallied)
+          let listed : Contains c.args.nodes.now w.in-Some.node.now = (
+            _,
+            w.in-Some.ensures.lookup.3.0,
+            sym (w.in-Some.ensures.lookup.3.1 w.in-Some.node.now),
+          ) in
+          let there : Contains c.args.nodes.now w.in_ok-tail.tail.node.now =
+          subst (Contains c.args.nodes.now) (sym w.in_ok-tail.ensures.node) listed in
+          subst Kept (sym w.settled-is) (
+            w.in_ok-settle.ensures.settled,
+            among_only c.args.nodes.now w.in_ok-tail.tail.node.now
+                (values_at g.G.Node.Ord.cmp c.loop-place.settled.values)
+                (values_at g.G.Node.Ord.cmp w.settle.new.settled.values) there
+                c.loop-place.invariant.1 w.in_ok-settle.ensures.only,
+            w.in_ok-settle.ensures.tallied,
+          )
       | in_default w ↦ subst Kept (sym w.settled-is) c.loop-place.invariant
     ]
 
 pub returns-in_err-settle-clause-many : goal.returns-in_err-settle-clause-many
 returns-in_err-settle-clause-many g c = λ is.
-    let listed : Contains c.args.nodes.now c.in-Some.node.now = (_, c.in-Some.ensures.lookup.3.0, sym (c.in-Some.ensures.lookup.3.1 c.in-Some.node.now)) in
-    let there : Contains c.args.nodes.now c.in_ok-tail.tail.node.now = subst (Contains c.args.nodes.now) (sym c.in_ok-tail.ensures.node) listed in
-    let p = err_from_is_err_and c.from_residual-in_err-settle.result c.from_residual-in_err-settle.ensures.1 in
-    MoreThan-weaker c.args.limit (IsHeldOr (values_at g.G.Node.Ord.cmp c.loop-place.settled.values) c.in_ok-tail.tail.node.now (IsFound (g.G.Labelled.edge c.args.graph.now) (g.G.Labelled.own c.args.graph.now) g.G.Labelled.passed c.in_ok-tail.tail.node.now))
-    (IsFoundAmong (g.G.Labelled.edge c.args.graph.now) (g.G.Labelled.own c.args.graph.now) g.G.Labelled.passed c.args.nodes.now)
-    (IsFoundAmong-held (g.G.Labelled.edge c.args.graph.now) (g.G.Labelled.own c.args.graph.now) g.G.Labelled.passed g.G.Value.Ord.cmp (values_at g.G.Node.Ord.cmp c.loop-place.settled.values) c.args.nodes.now c.in_ok-tail.tail.node.now c.loop-place.invariant.0 c.loop-place.invariant.1 there)
+    let listed : Contains c.args.nodes.now c.in-Some.node.now =
+    (_, c.in-Some.ensures.lookup.3.0, sym (c.in-Some.ensures.lookup.3.1 c.in-Some.node.now)) in
+    let there : Contains c.args.nodes.now c.in_ok-tail.tail.node.now =
+    subst (Contains c.args.nodes.now) (sym c.in_ok-tail.ensures.node) listed in
+    let p = err_from_is_err_and c.from_residual-in_err-settle.result
+    c.from_residual-in_err-settle.ensures.1 in
+    MoreThan-weaker c.args.limit (IsHeldOr (values_at g.G.Node.Ord.cmp c.loop-place.settled.values)
+    c.in_ok-tail.tail.node.now (IsFound (g.G.Labelled.edge c.args.graph.now)
+    (g.G.Labelled.own c.args.graph.now) g.G.Labelled.passed c.in_ok-tail.tail.node.now))
+    (IsFoundAmong (g.G.Labelled.edge c.args.graph.now) (g.G.Labelled.own c.args.graph.now)
+    g.G.Labelled.passed c.args.nodes.now)
+    (IsFoundAmong-held (g.G.Labelled.edge c.args.graph.now) (g.G.Labelled.own c.args.graph.now)
+    g.G.Labelled.passed g.G.Value.Ord.cmp
+    (values_at g.G.Node.Ord.cmp c.loop-place.settled.values) c.args.nodes.now
+    c.in_ok-tail.tail.node.now c.loop-place.invariant.0 c.loop-place.invariant.1 there)
     (c.in_err-settle.ensures.many (cc (is, p.1, p.2)))

@@ -3,8 +3,10 @@ use Rattle.rr_http.proofs.answering.submit_body.Goals as goal
 
 pub returns-clause-submits : goal.returns-clause-submits
 returns-clause-submits g c =
-    body_submitted _ _ _ _ _ _ _ _ _ c.new-body.result c.submit.new.reader c.requires.small c.new-body.ensures.rest c.new-body.ensures.missing c.new-body.ensures.failed
-    c.new-body.ensures.reads c.submit.ensures.reader_aside (c.submit.ensures.submits c.requires.running)
+    body_submitted _ _ _ _ _ _ _ _ _ c.new-body.result c.submit.new.reader c.requires.small
+    c.new-body.ensures.rest c.new-body.ensures.missing c.new-body.ensures.failed
+    c.new-body.ensures.reads c.submit.ensures.reader_aside
+    (c.submit.ensures.submits c.requires.running)
 
 pub returns-clause-keeps : goal.returns-clause-keeps
 returns-clause-keeps g c = record {

@@ -4,6 +4,7 @@ use Rattle.rr_http.proofs.asking.find_value.Goals as goal
 
 pub fields-preserved : goal.fields-preserved
 fields-preserved c = record {
-  same = c.fields.invariant.same ∙ values_passed _ _ _ _ _ c.in-Some.ensures.cases.0 (sym c.is_field_of.ensures ∙ c.if-is_field_of.false);
+  same = c.fields.invariant.same ∙ values_passed _ _ _ _ _ c.in-Some.ensures.cases.0
+      (sym c.is_field_of.ensures ∙ c.if-is_field_of.false);
   within = within_rest _ _ _ _ c.in-Some.ensures.cases.0 c.fields.invariant.within;
 }

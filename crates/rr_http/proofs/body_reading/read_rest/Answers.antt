@@ -1,4 +1,5 @@
-use Rattle.std.proofs.Common.{◌≡◌, ◌≤◌, ◌+◌, ℕ, List, ap, arith, length, length-append, rules, take, ◌∙◌}
+use Rattle.std.proofs.Common.{◌≡◌, ◌≤◌, ◌+◌, ℕ, List, ap, arith, length, length-append, rules, take}
+use Rattle.std.proofs.Common.{◌∙◌}
 use Rattle.std.proofs.lemmas.List.{length-take}
 use Rattle.rr_io.proofs.Transfers.{Gives-then}
 use Rattle.rr_http.proofs.HeadReading.{on_err}
@@ -16,5 +17,14 @@ returns-in_err-extend_from_slice-in-Ok-clause-no_memory g c =
     on_err c.from_residual.result _ (
       _,
       Gives-then _ _ before.1 c.in-Ok.ensures.gives,
-      omega (arith, many, bound, room, before.3, length-append before.0 (take c.in-Ok.count c.read.new.buf), length-take c.in-Ok.count c.read.new.buf),
+      omega (
+        arith,
+        many,
+        bound,
+        room,
+        before.3,
+        length-append before.0
+            (take c.in-Ok.count c.read.new.buf),
+        length-take c.in-Ok.count c.read.new.buf,
+      ),
     )

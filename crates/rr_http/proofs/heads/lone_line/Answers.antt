@@ -9,4 +9,5 @@ returns-then-speaks_http c =
     (lone_refused _ c.requires (sym c.speaks_http.ensures ∙ c.if-speaks_http.true))
 
 pub returns-else-speaks_http : goal.returns-else-speaks_http
-returns-else-speaks_http c = lone_whois _ c.requires (sym c.speaks_http.ensures ∙ c.if-speaks_http.false)
+returns-else-speaks_http c = lone_whois _ c.requires
+    (sym c.speaks_http.ensures ∙ c.if-speaks_http.false)

@@ -6,4 +6,5 @@ use Rattle.rr_index.specs.ChosenKeyParts.{is_chosen}
 use Rattle.rr_index.proofs.object_map.inetnum_keys.Given as goal
 
 abbrev pub invariant-loop-span : goal.invariant-loop-span
-invariant-loop-span l = (k : Key) → contains key_cmp l.keys k ≡ is_chosen (take l.span-index l.spans) [] k
+invariant-loop-span l = (k : Key) → contains key_cmp l.keys k ≡ is_chosen
+    (take l.span-index l.spans) [] k

@@ -7,12 +7,19 @@ pub returns-in_err-write_all-clause-writes : goal.returns-in_err-write_all-claus
 returns-in_err-write_all-clause-writes g c =
     let exit = err_from_is_err_and c.from_residual.result c.from_residual.ensures.1 in
     let before = c.pieces.invariant in
-    let next = flat_map-next (λ (piece : Bor (List ℕ)). piece.now) c.args.pieces.now c.pieces.piece-index _ c.pieces-test.true in
+    let next = flat_map-next (λ (piece : Bor (List ℕ)). piece.now) c.args.pieces.now
+    c.pieces.piece-index _ c.pieces-test.true in
     rw (exit.1, before.1, next)
     (TakesPrefix-then _ _ before.2 (TakesPrefix-more _ _ c.in_err-write_all.ensures.writes))
 
 pub pieces-preserved : goal.pieces-preserved
 pieces-preserved g c =
     let before = c.pieces.invariant in
-    let next = flat_map-next (λ (piece : Bor (List ℕ)). piece.now) c.args.pieces.now c.pieces.piece-index _ c.pieces-test.true in
-    (_, before.1 ∙ (ap (λ rest. before.0 ++ rest) next ∙ sym (append_assoc before.0 _ _)), Takes-then _ _ before.2 c.in_ok-write_all.ensures.writes, c.in_ok-write_all.ensures.aside ∙ before.3)
+    let next = flat_map-next (λ (piece : Bor (List ℕ)). piece.now) c.args.pieces.now
+    c.pieces.piece-index _ c.pieces-test.true in (
+      _,
+      before.1 ∙ (ap (λ rest. before.0 ++ rest) next ∙ sym (append_assoc before.0 _ _)),
+      Takes-then _ _ before.2 c.in_ok-write_all.ensures.writes,
+      c.in_ok-write_all.ensures.aside
+          ∙ before.3,
+    )

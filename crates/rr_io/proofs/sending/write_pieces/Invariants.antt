@@ -5,6 +5,7 @@ use Rattle.rr_io.proofs.sending.write_pieces.Given as goal
 
 abbrev pub invariant-pieces : goal.invariant-pieces
 invariant-pieces g l =
-    (taken : List ℕ) × (flat_map (λ piece. piece.now) l.pieces ≡ taken ++ flat_map (λ piece. piece.now) (drop l.piece-index l.pieces))
+    (taken : List ℕ) × (flat_map (λ piece. piece.now) l.pieces ≡ taken ++ flat_map
+    (λ piece. piece.now) (drop l.piece-index l.pieces))
     × Takes (g.W.Sink.told l.initial.writer) (g.W.Sink.told l.writer) taken
     × (g.W.Sink.aside l.writer ≡ g.W.Sink.aside l.initial.writer)

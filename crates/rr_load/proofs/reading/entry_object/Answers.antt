@@ -8,10 +8,13 @@ use Rattle.rr_load.proofs.reading.entry_object.Goals as goal
 pub returns-in-Ok : goal.returns-in-Ok
 returns-in-Ok c = λ next is.
     let same = rw c.in-Ok.is at is in
-    subst (λ e. MatchResult c.read_object.result (λ o. entry_object c.args.source.now c.args.n e ≡ Ok o) (λ f. (f ≡ Memory) ⊎ (entry_object c.args.source.now c.args.n e ≡ Err f))) (sym same) c.read_object.ensures
+    subst (λ e. MatchResult c.read_object.result (λ o. entry_object c.args.source.now c.args.n e
+    ≡ Ok o) (λ f. (f ≡ Memory) ⊎ (entry_object c.args.source.now c.args.n e ≡ Err f)))
+    (sym same) c.read_object.ensures
 
 pub returns-in-Memory : goal.returns-in-Memory
 returns-in-Memory c = λ next is. inl refl
 
 pub returns-in_default : goal.returns-in_default
-returns-in_default c = λ next is. inr (faulty_entry c.args.source.now c.args.n c.in-Err.fault next c.in_default.not-Memory (rw c.in-Err.is at is))
+returns-in_default c = λ next is. inr (faulty_entry c.args.source.now c.args.n c.in-Err.fault next
+    c.in_default.not-Memory (rw c.in-Err.is at is))

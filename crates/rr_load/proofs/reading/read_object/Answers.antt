@@ -10,4 +10,6 @@ pub returns-in-Memory : goal.returns-in-Memory
 returns-in-Memory c = inl refl
 
 pub returns-in_default : goal.returns-in_default
-returns-in_default c = inr (ap (object_result c.args.n) (c.in-Err.ensures.fault c.in_default.not-Memory) ∙ ap (λ code. Err (Object c.args.n code)) (sym c.code.ensures))
+returns-in_default c =
+    inr (ap (object_result c.args.n) (c.in-Err.ensures.fault c.in_default.not-Memory)
+    ∙ ap (λ code. Err (Object c.args.n code)) (sym c.code.ensures))

@@ -6,9 +6,19 @@ use Rattle.rr_number.proofs.as_number.push_text.Goals as goal
 pub push_number-requires : goal.push_number-requires
 push_number-requires c =
     rw c.push_str.ensures
-    (omega (arith, length-append c.args.text.now (65 ∷ 83 ∷ []), ten_digits c.args.number (omega arith)))
+    (omega (
+      arith,
+      length-append c.args.text.now (65 ∷ 83 ∷ []),
+      ten_digits c.args.number
+          (omega arith),
+    ))
 
 pub returns-clause-short : goal.returns-clause-short
 returns-clause-short c =
     rw (c.push_number.ensures, c.push_str.ensures)
-    (omega (arith, length-append (c.args.text.now ++ (65 ∷ 83 ∷ [])) (decimal c.args.number), length-append c.args.text.now (65 ∷ 83 ∷ []), ten_digits c.args.number (omega arith)))
+    (omega (
+      arith,
+      length-append (c.args.text.now ++ (65 ∷ 83 ∷ [])) (decimal c.args.number),
+      length-append c.args.text.now (65 ∷ 83 ∷ []),
+      ten_digits c.args.number (omega arith),
+    ))

@@ -1,5 +1,6 @@
 use Rattle.rr_number.proofs.ParentLemmas.{parent_parts}
-use Rattle.rr_number.proofs.SetKinds.{components-read, kind_told, set_name_of-again, set_name_of-case}
+use Rattle.rr_number.proofs.SetKinds.{components-read, kind_told, set_name_of-again}
+use Rattle.rr_number.proofs.SetKinds.{set_name_of-case}
 use Rattle.rr_number.proofs.laws.set_names_are_read_again.Goals as goal
 
 pub returns : goal.returns

@@ -9,4 +9,5 @@ returns-clause-found c =
     IfSome-each _ _ (λ ranged is. ranged_of-spelled _ ranged (sym c.read_both.ensures ∙ is))
 
 pub returns-clause-only : goal.returns-clause-only
-returns-clause-only c = λ prefix operator spelled. c.read_both.ensures ∙ ranged_of-read _ prefix operator spelled
+returns-clause-only c = λ prefix operator spelled. c.read_both.ensures ∙ ranged_of-read _ prefix
+    operator spelled

@@ -7,6 +7,8 @@ use Rattle.rr_number.proofs.set_name.has_word_start.Goals as goal
 
 pub returns : goal.returns
 returns c =
-    any_from_yields_List (λ component. starts_with nat_eq component (word_start c.args.kind)) _ _ _ c.any.ensures.ran
-    (YieldsList-from_slice_split _ (λ b. b == 58) c.args.bytes.now c.split.ensures.rest c.split.ensures.done c.split.ensures.closure (λ x b q k. search rules))
+    any_from_yields_List (λ component. starts_with nat_eq component (word_start c.args.kind)) _ _ _
+    c.any.ensures.ran
+    (YieldsList-from_slice_split _ (λ b. b == 58) c.args.bytes.now c.split.ensures.rest
+    c.split.ensures.done c.split.ensures.closure (λ x b q k. search rules))
     (λ x b q k. search rules)

@@ -5,4 +5,5 @@ use Rattle.rr_object.proofs.reading.has_any.Given as goal
 
 -- the items passed so far are not the keyword
 abbrev pub invariant-items : goal.invariant-items
-invariant-items l = list_any is_any (map (λ item. item.now) (drop l.item-index l.listed)) ≡ list_any is_any (map (λ item. item.now) l.listed)
+invariant-items l = list_any is_any (map (λ item. item.now) (drop l.item-index l.listed))
+    ≡ list_any is_any (map (λ item. item.now) l.listed)

@@ -7,4 +7,5 @@ use Rattle.rr_object.proofs.reading.has_pseudo_attribute.Goals as goal
 pub returns : goal.returns
 returns c =
     any_from_yields_List is_pseudo_attribute _ _ _ c.any.ensures.ran
-    (YieldsList-from_first (λ field. field) (λ fields. fields) c.args.paragraph.now c.attributes.ensures.value) (λ x b q k. search (rules, tests))
+    (YieldsList-from_first (λ field. field) (λ fields. fields) c.args.paragraph.now
+    c.attributes.ensures.value) (λ x b q k. search (rules, tests))

@@ -7,5 +7,8 @@ loop-object-init c = none_reached c.args.objects.now _ _ c.new-passed.ensures
 
 pub loop-object-preserved : goal.loop-object-preserved
 loop-object-preserved c =
-    next_reached c.args.objects.now c.loop-object.object-index c.object-item.result c.key.result.now _ _ _ _ c.loop-object-test.true c.object-item.is (sym c.key.ensures.value) c.requires
-    c.key.ensures.formed c.loop-object.invariant (λ xs x own rise held. c.in_ok-pass.ensures xs x own rise held c.if-not-branch.false)
+    next_reached c.args.objects.now c.loop-object.object-index c.object-item.result
+    c.key.result.now _ _ _ _ c.loop-object-test.true c.object-item.is (sym c.key.ensures.value)
+    c.requires
+    c.key.ensures.formed c.loop-object.invariant (λ xs x own rise held. c.in_ok-pass.ensures xs x
+    own rise held c.if-not-branch.false)

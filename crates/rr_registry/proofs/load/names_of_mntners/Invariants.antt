@@ -8,4 +8,5 @@ use Rattle.rr_registry.proofs.load.names_of_mntners.Given as goal
 
 -- the names of the first objects that are mntners
 abbrev pub invariant-loop-object : goal.invariant-loop-object
-invariant-loop-object l = (name : List ℕ) → contains (slice_cmp nat_cmp) l.mntners name ≡ list_any (λ o. is_mntner_of name o.key) (take l.object-index l.objects)
+invariant-loop-object l = (name : List ℕ) → contains (slice_cmp nat_cmp) l.mntners name ≡ list_any
+    (λ o. is_mntner_of name o.key) (take l.object-index l.objects)

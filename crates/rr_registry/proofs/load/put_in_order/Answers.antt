@@ -7,5 +7,11 @@ pub loop-object-init : goal.loop-object-init
 loop-object-init c =
     let rest = c.into_iter-object-iterator.ensures.into_iter_gives in
     let begun = start c.args.objects.items _ _ c.new-gathered.ensures.none rest.0 in
-    let all : into_iter_len c.into_iter-object-iterator.result ≡ length (into_iter_items c.into_iter-object-iterator.result) = search rules in
-    (c.new-gathered.ensures.consistent, begun.same_clash, begun.same_whole, omega (arith, rest.2), all)
+    let all : into_iter_len c.into_iter-object-iterator.result
+    ≡ length (into_iter_items c.into_iter-object-iterator.result) = search rules in (
+      c.new-gathered.ensures.consistent,
+      begun.same_clash,
+      begun.same_whole,
+      omega (arith, rest.2),
+      all,
+    )

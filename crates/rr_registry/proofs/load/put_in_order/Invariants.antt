@@ -9,7 +9,9 @@ use Rattle.rr_registry.proofs.load.put_in_order.Given as goal
 abbrev pub invariant-loop-object : goal.invariant-loop-object
 invariant-loop-object l =
     IsConsistent l.gathered
-    × (clash (objects_of l.gathered) (l.n + 1) (into_iter_items l.object-iterator) ≡ clash [] 1 l.fn.objects.items)
-    × (gathered (book_of (objects_of l.gathered)) (into_iter_items l.object-iterator) ≡ gathered empty l.fn.objects.items)
+    × (clash (objects_of l.gathered) (l.n + 1) (into_iter_items l.object-iterator) ≡ clash [] 1
+    l.fn.objects.items)
+    × (gathered (book_of (objects_of l.gathered)) (into_iter_items l.object-iterator) ≡ gathered
+    empty l.fn.objects.items)
     × (l.n + into_iter_len l.object-iterator < 2 ^ 64)
     × (into_iter_len l.object-iterator ≡ length (into_iter_items l.object-iterator))

@@ -24,7 +24,11 @@ pub returns-clause-missing : goal.returns-clause-missing
 returns-clause-missing g c = λ s.
     let test : List ℕ → Bool = λ x. not (has_as_set (g.B.Book.contents c.args.book.now) x) in (
       λ has.
-          let r = (Contains-filter test c.args.names.now s).0 (subst (λ (l : List (List ℕ)). Contains l s) c.in_ok-missing_names.ensures ((c.in_ok-missing.ensures.same exact_bytes s).0 has)) in
+          let r = (Contains-filter test c.args.names.now s).0
+          (subst (λ (l : List (List ℕ)). Contains l s) c.in_ok-missing_names.ensures
+          ((c.in_ok-missing.ensures.same exact_bytes s).0 has)) in
           (r.0, untrue (has_as_set (g.B.Book.contents c.args.book.now) s) r.1),
-      λ (among, none). (c.in_ok-missing.ensures.same exact_bytes s).1 (rw c.in_ok-missing_names.ensures ((Contains-filter test c.args.names.now s).1 (among, true_not (has_as_set (g.B.Book.contents c.args.book.now) s) none))),
+      λ (among, none). (c.in_ok-missing.ensures.same exact_bytes s).1
+          (rw c.in_ok-missing_names.ensures ((Contains-filter test c.args.names.now s).1
+          (among, true_not (has_as_set (g.B.Book.contents c.args.book.now) s) none))),
     )

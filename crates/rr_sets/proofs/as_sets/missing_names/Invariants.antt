@@ -5,4 +5,6 @@ use Rattle.rr_sets.specs.AsSets.{has_as_set}
 use Rattle.rr_sets.proofs.as_sets.missing_names.Given as goal
 
 abbrev pub invariant-loop-name : goal.invariant-loop-name
-invariant-loop-name g l = l.missing.items ≡ filter (λ (s : List ℕ). not (has_as_set (g.B.Book.contents l.book) s)) (take l.name-index l.names)
+invariant-loop-name g l = l.missing.items
+    ≡ filter (λ (s : List ℕ). not (has_as_set (g.B.Book.contents l.book) s))
+    (take l.name-index l.names)

@@ -11,8 +11,12 @@ loop-member-preserved c =
           ap (λ v. v.items) w.names-is ∙ w.in_ok-push.ensures.items
           ∙ ap (λ (n : List ℕ). c.loop-member.names.items ++ n ∷ []) w.in_ok-copy.ensures
           ∙ ap (λ (l : List (List ℕ)). l ++ w.in-Some.name.now ∷ []) c.loop-member.invariant
-          ∙ sym (filter_map_more-Some set_listed c.args.members.now c.loop-member.member-index c.member-item.result w.in-Some.name.now c.loop-member-test.true c.member-item.is (sym w.in-Some.ensures))
+          ∙ sym (filter_map_more-Some set_listed c.args.members.now c.loop-member.member-index
+          c.member-item.result w.in-Some.name.now c.loop-member-test.true c.member-item.is
+          (sym w.in-Some.ensures))
       | in_default w ↦
           ap (λ v. v.items) w.names-is ∙ c.loop-member.invariant
-          ∙ sym (filter_map_more-None set_listed c.args.members.now c.loop-member.member-index c.member-item.result c.loop-member-test.true c.member-item.is (sym w.in_default.ensures))
+          ∙ sym (filter_map_more-None set_listed c.args.members.now c.loop-member.member-index
+          c.member-item.result c.loop-member-test.true c.member-item.is
+          (sym w.in_default.ensures))
     ]

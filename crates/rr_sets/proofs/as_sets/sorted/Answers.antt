@@ -8,6 +8,10 @@ returns-clause-same g c = λ exact.
     IfOk-weaker c.ascending.result _ _
     (λ list is x.
     let keys = btree_set_contains_iff g.met.T.Ord.total exact c.in_ok-distinct.field-0 x in
-    let from = btree_set_contains_from_list g.met.T.Ord.total exact c.args.list.items c.in_ok-distinct.field-0 c.in_ok-distinct.ensures x in
-    (λ has. from.0 (keys.1 (subst (λ (l : List g.row.T.Denot). Contains l x) is has)), λ has. rw is (keys.0 (from.1 has))))
+    let from = btree_set_contains_from_list g.met.T.Ord.total exact c.args.list.items
+    c.in_ok-distinct.field-0 c.in_ok-distinct.ensures x in (
+      λ has. from.0 (keys.1 (subst (λ (l : List g.row.T.Denot). Contains l x) is has)),
+      λ has.
+          rw is (keys.0 (from.1 has)),
+    ))
     c.ascending.ensures.same

@@ -7,6 +7,9 @@ use Rattle.rr_sets.proofs.by_reference.in_order.Goals as goal
 
 pub loop-name-preserved : goal.loop-name-preserved
 loop-name-preserved c =
-    let update : Updates (slice_cmp nat_cmp) c.loop-name.set c.insert.new.self c.name-item.result true =
-    subst (λ (name : List ℕ). Updates (slice_cmp nat_cmp) c.loop-name.set c.insert.new.self name true) c.in_ok-copy.ensures c.in_ok-insert.ensures.updates in
-    names_more c.args.names.now c.loop-name.name-index c.name-item.result c.loop-name.set c.insert.new.self c.loop-name-test.true c.name-item.is update c.loop-name.invariant
+    let update : Updates (slice_cmp nat_cmp) c.loop-name.set c.insert.new.self c.name-item.result
+    true =
+    subst (λ (name : List ℕ). Updates (slice_cmp nat_cmp) c.loop-name.set c.insert.new.self name
+    true) c.in_ok-copy.ensures c.in_ok-insert.ensures.updates in
+    names_more c.args.names.now c.loop-name.name-index c.name-item.result c.loop-name.set
+    c.insert.new.self c.loop-name-test.true c.name-item.is update c.loop-name.invariant

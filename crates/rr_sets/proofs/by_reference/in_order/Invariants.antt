@@ -7,4 +7,5 @@ use Rattle.std.specs.Str.{bytes_eq}
 use Rattle.rr_sets.proofs.by_reference.in_order.Given as goal
 
 abbrev pub invariant-loop-name : goal.invariant-loop-name
-invariant-loop-name l = (q : List ℕ) → contains (slice_cmp nat_cmp) l.set q ≡ list_any (bytes_eq q) (take l.name-index l.names)
+invariant-loop-name l = (q : List ℕ) → contains (slice_cmp nat_cmp) l.set q ≡ list_any (bytes_eq q)
+    (take l.name-index l.names)

@@ -8,7 +8,8 @@ use Rattle.rr_sets.proofs.by_reference.taken.Goals as goal
 
 pub returns : goal.returns
 returns c =
-    let listed = rw c.names.ensures at c.in_ok-names.ensures in
+    let listed = rw c.by_ref.ensures at c.in_ok-names.ensures in
     IfOk-weaker c.maintained.result _ _
-    (λ objects is. is ∙ words_taken c.args.by_ref.now (contains (slice_cmp nat_cmp) c.in_ok-names.names) c.args.objects.now listed)
-    (rw c.any.ensures at c.maintained.ensures)
+    (λ objects is. is ∙ words_taken c.args.set.now.by_ref
+    (contains (slice_cmp nat_cmp) c.in_ok-names.names) c.args.objects.now listed)
+    (rw c.by_ref_any.ensures at c.maintained.ensures)

@@ -12,8 +12,13 @@ loop-set-preserved g c =
           ap (λ v. v.items) w.missing-is ∙ w.in_ok-push.ensures.items
           ∙ ap (λ (n : List ℕ). c.loop-set.missing.items ++ n ∷ []) w.in_ok-copy.ensures
           ∙ ap (λ (l : List (List ℕ)). l ++ w.in-Some.name.now ∷ []) c.loop-set.invariant
-          ∙ sym (filter_map_more-Some (missing_name (g.B.Book.contents c.args.book.now)) c.args.sets.now c.loop-set.set-index c.set-item.result w.in-Some.name.now c.loop-set-test.true c.set-item.is (sym c.in_ok-name.ensures ∙ ap option_copied w.in-Some.is))
+          ∙ sym (filter_map_more-Some (missing_name (g.B.Book.contents c.args.book.now))
+          c.args.sets.now c.loop-set.set-index c.set-item.result w.in-Some.name.now
+          c.loop-set-test.true c.set-item.is (sym c.in_ok-name.ensures ∙ ap option_copied
+          w.in-Some.is))
       | in_default w ↦
           ap (λ v. v.items) w.missing-is ∙ c.loop-set.invariant
-          ∙ sym (filter_map_more-None (missing_name (g.B.Book.contents c.args.book.now)) c.args.sets.now c.loop-set.set-index c.set-item.result c.loop-set-test.true c.set-item.is (sym c.in_ok-name.ensures ∙ ap option_copied w.in_default.is))
+          ∙ sym (filter_map_more-None (missing_name (g.B.Book.contents c.args.book.now))
+          c.args.sets.now c.loop-set.set-index c.set-item.result c.loop-set-test.true
+          c.set-item.is (sym c.in_ok-name.ensures ∙ ap option_copied w.in_default.is))
     ]

@@ -1,4 +1,5 @@
-use Rattle.std.proofs.Common.{◌≡◌, ℕ, ◌+◌, ◌<◌, List, [], ◌∷◌, ◌++◌, length, map, take, refl, sym, ap, subst, ◌∙◌, arith}
+use Rattle.std.proofs.Common.{◌≡◌, ℕ, ◌+◌, ◌<◌, List, [], ◌∷◌, ◌++◌, length, map, take, refl, sym}
+use Rattle.std.proofs.Common.{ap, subst, ◌∙◌, arith}
 use Rattle.std.proofs.Math.Seq.{take-length}
 use Rattle.std.proofs.lemmas.List.{take_more, map-append}
 use Rattle.sqlite_value.specs.Order.{Row}
@@ -18,20 +19,30 @@ loop-name-preserved g c =
     let row : List ℕ → Row = λ n. named_values n c.args.class c.args.key.now in
     let within : at < length names = omega arith in
     let grown : map row (take (at + 1) names) ≡ map row (take at names) ++ row name ∷ [] =
-    ap (map row) (take_more names at name within ∙ ap (λ n. take at names ++ n ∷ []) (sym c.name-item.is)) ∙ map-append row (take at names) (name ∷ []) in (
+    ap (map row) (take_more names at name within ∙ ap (λ n. take at names ++ n ∷ [])
+    (sym c.name-item.is)) ∙ map-append row (take at names) (name ∷ []) in (
       c.in_ok-_count.ensures.same_reference ∙ c.loop-name.invariant.0,
-      subst (λ rows. HasAltered g.S.Store c.args.tx.now.conn.now c.add_name.new.tx.conn.now (Adds rows)) (sym grown)
-          (added_more g.S.Store c.args.tx.now.conn.now c.loop-name.tx.conn.now c.add_name.new.tx.conn.now (map row (take at names)) (row name) c.loop-name.invariant.1
-          (λ clean. rw c.as_bytes.ensures.value at (c.in_ok-_count.ensures.steps.made clean)) c.in_ok-_count.ensures.steps.goes_on c.in_ok-_count.ensures.steps.kept c.in_ok-_count.ensures.steps.survives),
+      subst (λ rows. HasAltered g.S.Store c.args.tx.now.conn.now c.add_name.new.tx.conn.now
+          (Adds rows)) (sym grown)
+          (added_more g.S.Store c.args.tx.now.conn.now c.loop-name.tx.conn.now
+          c.add_name.new.tx.conn.now (map row (take at names)) (row name)
+          c.loop-name.invariant.1
+          (λ clean. rw c.as_bytes.ensures.value at (c.in_ok-_count.ensures.steps.made clean))
+          c.in_ok-_count.ensures.steps.goes_on c.in_ok-_count.ensures.steps.kept
+          c.in_ok-_count.ensures.steps.survives),
     )
 
 pub returns-clause-steps : goal.returns-clause-steps
 returns-clause-steps g c =
     let names = c.args.names.now in
-    let last : c.loop-name.name-index ≡ length names = omega (arith, c.loop-name-test.false, c.loop-name.auto.name-index-end) in
+    let last : c.loop-name.name-index ≡ length names =
+    omega (arith, c.loop-name-test.false, c.loop-name.auto.name-index-end) in
     let all = ap (λ n. take n names) last ∙ take-length names in
     record {
-      made = λ clean on. subst (λ xs. Alters (state g.S.Store c.args.tx.now.conn.now).now (state g.S.Store c.loop-name.tx.conn.now).now 4 (Adds (map (λ name. named_values name c.args.class c.args.key.now) xs))) all (c.loop-name.invariant.1.done clean on);
+      made = λ clean on. subst (λ xs. Alters (state g.S.Store c.args.tx.now.conn.now).now
+          (state g.S.Store c.loop-name.tx.conn.now).now 4
+          (Adds (map (λ name. named_values name c.args.class c.args.key.now) xs))) all
+          (c.loop-name.invariant.1.done clean on);
       goes_on = c.loop-name.invariant.1.step;
       kept = c.loop-name.invariant.1.kept;
       survives = c.loop-name.invariant.1.survives;

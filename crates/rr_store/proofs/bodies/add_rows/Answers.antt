@@ -6,7 +6,10 @@ use Rattle.rr_store.proofs.bodies.add_rows.Goals as goal
 
 pub returns-clause-steps : goal.returns-clause-steps
 returns-clause-steps g c =
-    steps_ok g.S.Store _ (steps_more g.S.Store c.in_ok-_object.ensures.steps c.in_ok-add_names.ensures.steps refl (λ clean first second.
-    let added = added_by c.class-class.result c.key-key.result.now c.body.result.now c.names.result.now (state g.S.Store c.args.tx.now.conn.now).now (state g.S.Store c.add_object.new.tx.conn.now).now
+    steps_ok g.S.Store _ (steps_more g.S.Store c.in_ok-_object.ensures.steps
+    c.in_ok-add_names.ensures.steps refl (λ clean first second.
+    let added = added_by c.class-class.result c.key-key.result.now c.body.result.now
+    c.names.result.now (state g.S.Store c.args.tx.now.conn.now).now
+    (state g.S.Store c.add_object.new.tx.conn.now).now
     (state g.S.Store c.add_names.new.tx.conn.now).now first second in
     rw (c.class-class.ensures, c.key-key.ensures, c.body.ensures, c.names.ensures) at added)) refl

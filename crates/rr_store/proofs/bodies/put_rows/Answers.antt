@@ -6,6 +6,9 @@ use Rattle.rr_store.proofs.bodies.put_rows.Goals as goal
 
 pub returns-clause-steps : goal.returns-clause-steps
 returns-clause-steps g c =
-    steps_then g.S.Store c.in_ok-remove_rows.ensures.steps c.add_rows.ensures.steps refl (λ clean first added.
+    steps_then g.S.Store c.in_ok-remove_rows.ensures.steps c.add_rows.ensures.steps refl
+    (λ clean first added.
     let taken = rw (c.class.ensures, c.key.ensures) at first in
-    put_by c.args.entry.now (state g.S.Store c.args.tx.now.conn.now).now (state g.S.Store c.remove_rows.new.tx.conn.now).now (state g.S.Store c.add_rows.new.tx.conn.now).now taken added)
+    put_by c.args.entry.now (state g.S.Store c.args.tx.now.conn.now).now
+    (state g.S.Store c.remove_rows.new.tx.conn.now).now
+    (state g.S.Store c.add_rows.new.tx.conn.now).now taken added)

@@ -1,4 +1,5 @@
-use Rattle.std.proofs.Common.{◌≡◌, ◌+◌, ◌<◌, [], ◌∷◌, ◌++◌, length, take, refl, sym, ap, subst, ◌∙◌, arith}
+use Rattle.std.proofs.Common.{◌≡◌, ◌+◌, ◌<◌, [], ◌∷◌, ◌++◌, length, take, refl, sym, ap, subst, ◌∙◌}
+use Rattle.std.proofs.Common.{arith}
 use Rattle.std.proofs.Math.Seq.{take-length}
 use Rattle.std.proofs.lemmas.List.{take_more}
 use Rattle.sqlite.specs.Held.{state}
@@ -7,7 +8,8 @@ use Rattle.rr_store.proofs.AddingLemmas.{HasAltered, none_removed, removed_more}
 use Rattle.rr_store.proofs.bodies.remove_names.Goals as goal
 
 pub loop-name-init : goal.loop-name-init
-loop-name-init g c = (refl, none_removed c.args.class c.args.key.now g.S.Store c.args.tx.now.conn.now c.requires)
+loop-name-init g c =
+    (refl, none_removed c.args.class c.args.key.now g.S.Store c.args.tx.now.conn.now c.requires)
 
 pub loop-name-preserved : goal.loop-name-preserved
 loop-name-preserved g c =
@@ -16,20 +18,30 @@ loop-name-preserved g c =
     let at = c.loop-name.name-index in
     let among = is_name_among c.args.class c.args.key.now in
     let within : at < length names = omega arith in
-    let grown : take (at + 1) names ≡ take at names ++ name ∷ [] = take_more names at name within ∙ ap (λ n. take at names ++ n ∷ []) (sym c.name-item.is) in (
+    let grown : take (at + 1) names ≡ take at names ++ name ∷ [] = take_more names at name within
+    ∙ ap (λ n. take at names ++ n ∷ []) (sym c.name-item.is) in (
       c.in_ok-_count.ensures.same_reference ∙ c.loop-name.invariant.0,
-      subst (λ ns. HasAltered g.S.Store c.args.tx.now.conn.now c.remove_name.new.tx.conn.now (Removes (among ns))) (sym grown)
-          (removed_more c.args.class c.args.key.now g.S.Store c.args.tx.now.conn.now c.loop-name.tx.conn.now c.remove_name.new.tx.conn.now (take at names) name c.loop-name.invariant.1
-          (λ clean. rw c.as_bytes.ensures.value at (c.in_ok-_count.ensures.steps.made clean)) c.in_ok-_count.ensures.steps.goes_on c.in_ok-_count.ensures.steps.kept c.in_ok-_count.ensures.steps.survives),
+      subst (λ ns. HasAltered g.S.Store c.args.tx.now.conn.now c.remove_name.new.tx.conn.now
+          (Removes (among ns))) (sym grown)
+          (removed_more c.args.class c.args.key.now g.S.Store c.args.tx.now.conn.now
+          c.loop-name.tx.conn.now c.remove_name.new.tx.conn.now (take at names) name
+          c.loop-name.invariant.1
+          (λ clean. rw c.as_bytes.ensures.value at (c.in_ok-_count.ensures.steps.made clean))
+          c.in_ok-_count.ensures.steps.goes_on c.in_ok-_count.ensures.steps.kept
+          c.in_ok-_count.ensures.steps.survives),
     )
 
 pub returns-clause-steps : goal.returns-clause-steps
 returns-clause-steps g c =
     let names = c.args.names.now in
-    let last : c.loop-name.name-index ≡ length names = omega (arith, c.loop-name-test.false, c.loop-name.auto.name-index-end) in
+    let last : c.loop-name.name-index ≡ length names =
+    omega (arith, c.loop-name-test.false, c.loop-name.auto.name-index-end) in
     let all = ap (λ n. take n names) last ∙ take-length names in
     record {
-      made = λ clean on. subst (λ ns. Alters (state g.S.Store c.args.tx.now.conn.now).now (state g.S.Store c.loop-name.tx.conn.now).now 4 (Removes (is_name_among c.args.class c.args.key.now ns))) all (c.loop-name.invariant.1.done clean on);
+      made = λ clean on. subst (λ ns. Alters (state g.S.Store c.args.tx.now.conn.now).now
+          (state g.S.Store c.loop-name.tx.conn.now).now 4
+          (Removes (is_name_among c.args.class c.args.key.now ns))) all
+          (c.loop-name.invariant.1.done clean on);
       goes_on = c.loop-name.invariant.1.step;
       kept = c.loop-name.invariant.1.kept;
       survives = c.loop-name.invariant.1.survives;

@@ -13,27 +13,48 @@ use Rattle.rr_store.proofs.FailureLemmas.{second_reads}
 use Rattle.rr_store.proofs.checks.check_named_table.Goals as goal
 
 pub check_maintainers-requires-clause-tables : goal.check_maintainers-requires-clause-tables
-check_maintainers-requires-clause-tables g c clean = tables_then g.S.Store c.args.conn.now c.count_named.new.conn c.count_named.new.conn c.in_ok-_count.ensures.looks.rests c.in_ok-_count.ensures.looks.same c.requires.tables clean
+check_maintainers-requires-clause-tables g c clean = tables_then g.S.Store c.args.conn.now
+    c.count_named.new.conn c.count_named.new.conn c.in_ok-_count.ensures.looks.rests
+    c.in_ok-_count.ensures.looks.same c.requires.tables clean
 
 pub returns-clause-looks : goal.returns-clause-looks
-returns-clause-looks g c = looks_then g.S.Store c.args.conn.now c.count_named.new.conn c.check_maintainers.new.conn c.in_ok-_count.ensures.looks.rests c.in_ok-_count.ensures.looks.same c.check_maintainers.result c.check_maintainers.ensures.looks
+returns-clause-looks g c = looks_then g.S.Store c.args.conn.now c.count_named.new.conn
+    c.check_maintainers.new.conn c.in_ok-_count.ensures.looks.rests
+    c.in_ok-_count.ensures.looks.same c.check_maintainers.result c.check_maintainers.ensures.looks
 
 pub returns-in_err-_count-clause-looks : goal.returns-in_err-_count-clause-looks
-returns-in_err-_count-clause-looks g c = looks_failed g.S.Store c.args.conn.now c.count_named.new.conn c.from_residual.result c.from_residual.ensures.0 c.in_err-_count.ensures.looks.rests
+returns-in_err-_count-clause-looks g c = looks_failed g.S.Store c.args.conn.now
+    c.count_named.new.conn c.from_residual.result c.from_residual.ensures.0
+    c.in_err-_count.ensures.looks.rests
 
 pub returns-clause-numbered : goal.returns-clause-numbered
-returns-clause-numbered g c clean = on_any c.check_maintainers.result (c.in_ok-_count.ensures.numbered (omega (arith, clean, c.check_maintainers.ensures.looks.rests.crash.clean)))
+returns-clause-numbered g c clean = on_any c.check_maintainers.result
+    (c.in_ok-_count.ensures.numbered
+    (omega (arith, clean, c.check_maintainers.ensures.looks.rests.crash.clean)))
 
 pub returns-clause-ok : goal.returns-clause-ok
 returns-clause-ok g c clean =
-    let before : HasCleanDisk (state g.S.Store c.count_named.new.conn) = omega (arith, clean, c.check_maintainers.ensures.looks.rests.crash.clean) in
-    subst (λ (d : Database). OnOk c.check_maintainers.result (IsPermutation (flat_map named_rows (map (entry_in (form_of c.args.version)) c.args.objects.now)) (contents (d.trees 4)))) (c.in_ok-_count.ensures.looks.same before).0.now_is (c.check_maintainers.ensures.ok clean)
+    let before : HasCleanDisk (state g.S.Store c.count_named.new.conn) =
+    omega (arith, clean, c.check_maintainers.ensures.looks.rests.crash.clean) in
+    subst (λ (d : Database). OnOk c.check_maintainers.result
+    (IsPermutation
+    (flat_map named_rows (map (entry_in (form_of c.args.version)) c.args.objects.now))
+    (contents (d.trees 4)))) (c.in_ok-_count.ensures.looks.same before).0.now_is
+    (c.check_maintainers.ensures.ok clean)
 
 pub returns-clause-bad_row : goal.returns-clause-bad_row
 returns-clause-bad_row g c clean =
-    let before : HasCleanDisk (state g.S.Store c.count_named.new.conn) = omega (arith, clean, c.check_maintainers.ensures.looks.rests.crash.clean) in
-    subst (λ (d : Database). IfErr c.check_maintainers.result (λ fault. fault ≡ BadRow → IsPermutation (flat_map named_rows (map (entry_in (form_of c.args.version)) c.args.objects.now)) (contents (d.trees 4)) → ⊥)) (c.in_ok-_count.ensures.looks.same before).0.now_is (c.check_maintainers.ensures.bad_row clean)
+    let before : HasCleanDisk (state g.S.Store c.count_named.new.conn) =
+    omega (arith, clean, c.check_maintainers.ensures.looks.rests.crash.clean) in
+    subst (λ (d : Database). IfErr c.check_maintainers.result (λ fault. fault ≡ BadRow →
+    IsPermutation
+    (flat_map named_rows (map (entry_in (form_of c.args.version)) c.args.objects.now))
+    (contents (d.trees 4)) → ⊥)) (c.in_ok-_count.ensures.looks.same before).0.now_is
+    (c.check_maintainers.ensures.bad_row clean)
 
 pub returns-clause-cause : goal.returns-clause-cause
 returns-clause-cause g c =
-    second_reads g.S.Store c.args.conn.now c.count_named.new.conn c.check_maintainers.new.conn c.in_ok-_count.ensures.looks.same c.in_ok-_count.ensures.looks.rests.crash c.check_maintainers.ensures.looks.rests.crash c.check_maintainers.result c.check_maintainers.ensures.cause
+    second_reads g.S.Store c.args.conn.now c.count_named.new.conn c.check_maintainers.new.conn
+    c.in_ok-_count.ensures.looks.same c.in_ok-_count.ensures.looks.rests.crash
+    c.check_maintainers.ensures.looks.rests.crash c.check_maintainers.result
+    c.check_maintainers.ensures.cause

@@ -11,23 +11,30 @@ use Rattle.rr_store.proofs.checks.naming_objects.Goals as goal
 pub returns-clause-read : goal.returns-clause-read
 returns-clause-read g c clean =
     IfOk-weaker c.in_order.result _ _
-    (λ ordered same. reordered current_form c.args.source.now c.in_ok-objects.objects.items ordered.items
-    (pointed c.args.name.now (contents ((state g.S.Store c.args.conn.now).now.trees 4)) (contents ((state g.S.Store c.args.conn.now).now.trees 2)))
+    (λ ordered same. reordered current_form c.args.source.now c.in_ok-objects.objects.items
+    ordered.items
+    (pointed c.args.name.now (contents ((state g.S.Store c.args.conn.now).now.trees 4))
+    (contents ((state g.S.Store c.args.conn.now).now.trees 2)))
     (rw c.as_bytes.ensures.value at (c.in_ok-objects.ensures.read clean)) same)
     c.in_order.ensures.same
 
 pub returns-clause-of_source : goal.returns-clause-of_source
 returns-clause-of_source g c =
-    IfOk-weaker c.in_order.result _ _ (λ ordered same. all-permutation (IsObjectOf c.args.source.now) c.in_ok-objects.objects.items ordered.items same c.in_ok-objects.ensures.of_source) c.in_order.ensures.same
+    IfOk-weaker c.in_order.result _ _
+    (λ ordered same. all-permutation (IsObjectOf c.args.source.now)
+    c.in_ok-objects.objects.items ordered.items same c.in_ok-objects.ensures.of_source)
+    c.in_order.ensures.same
 
 pub returns-clause-bad_row : goal.returns-clause-bad_row
 returns-clause-bad_row g c clean =
     each_err c.in_order.result _ _ c.in_order.ensures.fault
-    (λ fault tied bad objects stored. tied bad (pointed_apart c.args.source.now c.args.name.now objects (state g.S.Store c.args.conn.now).now stored c.in_ok-objects.objects.items
+    (λ fault tied bad objects stored. tied bad (pointed_apart c.args.source.now c.args.name.now
+    objects (state g.S.Store c.args.conn.now).now stored c.in_ok-objects.objects.items
     (rw c.as_bytes.ensures.value at (c.in_ok-objects.ensures.read clean))))
 
 pub returns-in_err-objects-clause-bad_row : goal.returns-in_err-objects-clause-bad_row
 returns-in_err-objects-clause-bad_row g c clean =
     let exit = err_from_is_err_and c.from_residual.result c.from_residual.ensures.1 in
-    rw (exit.1, exit.2) (λ bad objects stored. pointed_read c.args.source.now c.args.name.now objects (state g.S.Store c.args.conn.now).now stored
+    rw (exit.1, exit.2) (λ bad objects stored. pointed_read c.args.source.now c.args.name.now
+    objects (state g.S.Store c.args.conn.now).now stored
     (rw c.as_bytes.ensures.value at (c.in_err-objects.ensures.bad_row clean bad)))

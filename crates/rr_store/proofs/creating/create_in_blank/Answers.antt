@@ -12,9 +12,23 @@ pub returns : goal.returns
 returns g c =
     let old = c.args.conn.now in
     let work = c.make_filled-work in
-    let settled : IsTrue (state g.S.Store old).is_open → (state g.S.Store old).now ≡ (state g.S.Store old).committed = c.is_autocommit.ensures.settled (c.is_autocommit.ensures.value ∙ ap not c.requires.autocommit) in
-    let made : Transacts g.S.Store (IsMadeWith (IsStoreOf (lent c.args.objects.now))) old c.end.new.tx.0 c.end.result =
-    ended_writes g.S.Store old c.transaction-tx.result.conn.now work.new.tx.conn.now c.end.new.tx.0 work.result c.end.result (IsMadeWith (IsStoreOf (lent c.args.objects.now))) c.transaction-tx.ensures.begun
-    (λ clean. both_ok work.result (work.ensures.steps.made clean) (work.ensures.tables clean) (λ store tables. record { vacant = inl (ap (λ h. h.schema) c.transaction-tx.ensures.begun ∙ c.requires.blank); tables = tables; rows = store })) c.end.ensures.survives
-    work.ensures.steps.survives work.ensures.steps.kept work.ensures.steps.goes_on settled c.end.ensures.autocommit c.end.ensures.done c.end.ensures.ok c.end.ensures.is_open c.end.ensures.was_open c.end.ensures.err in
+    let settled : IsTrue (state g.S.Store old).is_open → (state g.S.Store old).now
+    ≡ (state g.S.Store old).committed = c.is_autocommit.ensures.settled
+    (c.is_autocommit.ensures.value ∙ ap not c.requires.autocommit) in
+    let made : Transacts g.S.Store (IsMadeWith (IsStoreOf (lent c.args.objects.now))) old
+    c.end.new.tx.0 c.end.result =
+    ended_writes g.S.Store old c.transaction-tx.result.conn.now work.new.tx.conn.now c.end.new.tx.0
+    work.result c.end.result (IsMadeWith (IsStoreOf (lent c.args.objects.now)))
+    c.transaction-tx.ensures.begun
+    (λ clean. both_ok work.result (work.ensures.steps.made clean) (work.ensures.tables clean)
+    (λ store tables.
+    record {
+      vacant = inl (ap (λ h. h.schema) c.transaction-tx.ensures.begun
+          ∙ c.requires.blank);
+      tables = tables;
+      rows = store;
+    })) c.end.ensures.survives
+    work.ensures.steps.survives work.ensures.steps.kept work.ensures.steps.goes_on settled
+    c.end.ensures.autocommit c.end.ensures.done c.end.ensures.ok c.end.ensures.is_open
+    c.end.ensures.was_open c.end.ensures.err in
     search rules

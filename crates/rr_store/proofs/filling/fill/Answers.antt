@@ -10,17 +10,27 @@ use Rattle.rr_store.proofs.filling.fill.Goals as goal
 
 pub returns-clause-steps : goal.returns-clause-steps
 returns-clause-steps g c =
-    let all : Steps g.S.Store (λ _ _. Unit {0}) c.args.tx.now.conn.now c.add_objects.new.tx.conn.now c.add_objects.result =
-    steps_more g.S.Store c.in_ok-_version.ensures.steps c.add_objects.ensures.steps refl (λ clean first second. tt) in
+    let all : Steps g.S.Store (λ _ _. Unit {0}) c.args.tx.now.conn.now
+    c.add_objects.new.tx.conn.now c.add_objects.result =
+    steps_more g.S.Store c.in_ok-_version.ensures.steps c.add_objects.ensures.steps refl
+    (λ clean first second. tt) in
     record {
       made = λ clean.
           let last = c.add_objects.ensures.steps.survives.clean in
           let first = c.in_ok-_version.ensures.steps.survives.clean in
           let mid = c.in_ok-_version.ensures.steps.goes_on (omega (arith, last)) in
-          both_ok c.add_objects.result c.add_objects.ensures.read (c.add_objects.ensures.steps.made clean mid.is_open) (λ read added. record {
+          both_ok c.add_objects.result c.add_objects.ensures.read
+          (c.add_objects.ensures.steps.made clean mid.is_open) (λ read added. record {
             read = read;
-            filled = filled_so (map entry_of (lent c.args.objects.now)) (state g.S.Store c.args.tx.now.conn.now).now (state g.S.Store c.add_meta_row.new.tx.conn.now).now (state g.S.Store c.add_objects.new.tx.conn.now).now
-                (c.requires (omega (arith, last, first)) ((c.in_ok-_version.ensures.steps.kept (omega (arith, last))).was_open mid.is_open)) (rw c.text.ensures at (c.in_ok-_version.ensures.steps.made (omega (arith, last)))) added;
+            filled = filled_so (map entry_of (lent c.args.objects.now))
+                (state g.S.Store c.args.tx.now.conn.now).now
+                (state g.S.Store c.add_meta_row.new.tx.conn.now).now
+                (state g.S.Store c.add_objects.new.tx.conn.now).now
+                (c.requires (omega (arith, last, first))
+                ((c.in_ok-_version.ensures.steps.kept (omega (arith, last))).was_open
+                mid.is_open))
+                (rw c.text.ensures at (c.in_ok-_version.ensures.steps.made
+                (omega (arith, last)))) added;
           });
       goes_on = all.goes_on;
       kept = all.kept;
@@ -32,5 +42,7 @@ returns-clause-others g c clean =
     let last = c.add_objects.ensures.steps.survives.clean in
     let mid = c.in_ok-_version.ensures.steps.goes_on (omega (arith, last)) in
     then_ok c.add_objects.result (c.add_objects.ensures.steps.made clean mid.is_open) (λ added.
-    others_then (state g.S.Store c.args.tx.now.conn.now).now (state g.S.Store c.add_meta_row.new.tx.conn.now).now (state g.S.Store c.add_objects.new.tx.conn.now).now
+    others_then (state g.S.Store c.args.tx.now.conn.now).now
+    (state g.S.Store c.add_meta_row.new.tx.conn.now).now
+    (state g.S.Store c.add_objects.new.tx.conn.now).now
     (c.in_ok-_version.ensures.steps.made (omega (arith, last))).others added.others)

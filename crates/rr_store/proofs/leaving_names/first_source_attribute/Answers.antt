@@ -11,4 +11,5 @@ pub returns : goal.returns
 returns c =
     sym (option_map_id c.find.result)
     ∙ find_from_yields_List (has_name (kind_name Source)) _ _ c.find.result c.find.ensures.ran
-    (YieldsList-from_first (λ field. field) (λ fields. fields) c.args.paragraph.now c.attributes.ensures.value) (λ x b q k. search (rules, tests))
+    (YieldsList-from_first (λ field. field) (λ fields. fields) c.args.paragraph.now
+    c.attributes.ensures.value) (λ x b q k. search (rules, tests))

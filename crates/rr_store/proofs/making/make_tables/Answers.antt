@@ -6,7 +6,9 @@ use Rattle.rr_store.proofs.making.make_tables.Goals as goal
 
 pub returns-clause-steps : goal.returns-clause-steps
 returns-clause-steps g c =
-    steps_ok g.S.Store _ (steps_then g.S.Store (steps_both g.S.Store c.in_ok-_first.ensures.steps c.in_ok-_second.ensures.steps refl) c.in_ok-_third.ensures.steps refl (λ clean both third.
+    steps_ok g.S.Store _
+    (steps_then g.S.Store (steps_both g.S.Store c.in_ok-_first.ensures.steps
+    c.in_ok-_second.ensures.steps refl) c.in_ok-_third.ensures.steps refl (λ clean both third.
     bare (state g.S.Store c.args.tx.now.conn.now).now both.0 _ _ both.1 both.2 third)) refl
 
 pub returns-clause-schema : goal.returns-clause-schema

@@ -6,4 +6,5 @@ use Rattle.rr_store.specs.Versions.{version_number}
 use Rattle.rr_store.proofs.meta.other_version.Given as goal
 
 abbrev pub invariant-loop-row : goal.invariant-loop-row
-invariant-loop-row l = (k : ℕ) (d : Row) → k < l.row-index → (n : ℕ) → n < 2 ^ 32 → n ≢ version_number l.version → get_or l.rows k d ≡ meta_row (codes "version") (decimal n) → ⊥
+invariant-loop-row l = (k : ℕ) (d : Row) → k < l.row-index → (n : ℕ) → n < 2 ^ 32 →
+    n ≢ version_number l.version → get_or l.rows k d ≡ meta_row (codes "version") (decimal n) → ⊥

@@ -22,11 +22,17 @@ returns-in_ok-rewrite-clause-migrates g c =
     let new = c.rewrite.new.conn in
     let registered : has_mntner root objects ≡ true = cc in
     let written : Transacts g.S.Store (IsRewritten root source objects) old new c.rewrite.result =
-    writes_then g.S.Store old c.stored_objects.new.conn new c.in_ok-objects.ensures.looks.rests c.in_ok-objects.ensures.looks.same (IsRewritten root source objects) c.rewrite.result c.rewrite.ensures in
+    writes_then g.S.Store old c.stored_objects.new.conn new c.in_ok-objects.ensures.looks.rests
+    c.in_ok-objects.ensures.looks.same (IsRewritten root source objects) c.rewrite.result
+    c.rewrite.ensures in
     let done : Transacts g.S.Store (IsMigrated root source) old new c.rewrite.result =
-    writes_as g.S.Store old new (IsRewritten root source objects) (IsMigrated root source) c.rewrite.result
-    (λ clean db rewritten. migrated root source objects (state g.S.Store old).now db (c.in_ok-objects.ensures.stored (omega (arith, clean, c.rewrite.ensures.crash.clean))) registered rewritten) written in
-    writes_ok g.S.Store old new (IsMigrated root source) (IsMigrated root source) c.in_ok-rewrite.field-0 c.rewrite.result tt _ c.in_ok-rewrite.was refl done
+    writes_as g.S.Store old new (IsRewritten root source objects) (IsMigrated root source)
+    c.rewrite.result
+    (λ clean db rewritten. migrated root source objects (state g.S.Store old).now db
+    (c.in_ok-objects.ensures.stored (omega (arith, clean, c.rewrite.ensures.crash.clean)))
+    registered rewritten) written in
+    writes_ok g.S.Store old new (IsMigrated root source) (IsMigrated root source)
+    c.in_ok-rewrite.field-0 c.rewrite.result tt _ c.in_ok-rewrite.was refl done
 
 pub returns-in_err-rewrite-clause-migrates : goal.returns-in_err-rewrite-clause-migrates
 returns-in_err-rewrite-clause-migrates g c =
@@ -40,18 +46,29 @@ returns-in_err-rewrite-clause-migrates g c =
     let new = c.rewrite.new.conn in
     let registered : has_mntner root objects ≡ true = cc in
     let written : Transacts g.S.Store (IsRewritten root source objects) old new c.rewrite.result =
-    writes_then g.S.Store old c.stored_objects.new.conn new c.in_ok-objects.ensures.looks.rests c.in_ok-objects.ensures.looks.same (IsRewritten root source objects) c.rewrite.result c.rewrite.ensures in
+    writes_then g.S.Store old c.stored_objects.new.conn new c.in_ok-objects.ensures.looks.rests
+    c.in_ok-objects.ensures.looks.same (IsRewritten root source objects) c.rewrite.result
+    c.rewrite.ensures in
     let done : Transacts g.S.Store (IsMigrated root source) old new c.rewrite.result =
-    writes_as g.S.Store old new (IsRewritten root source objects) (IsMigrated root source) c.rewrite.result
-    (λ clean db rewritten. migrated root source objects (state g.S.Store old).now db (c.in_ok-objects.ensures.stored (omega (arith, clean, c.rewrite.ensures.crash.clean))) registered rewritten) written in
-    writes_failed g.S.Store old new (IsMigrated root source) (IsMigrated root source) c.rewrite.result c.from_residual-in_err-rewrite.result (rw c.in_err-rewrite.was refl) c.from_residual-in_err-rewrite.ensures.0 done
+    writes_as g.S.Store old new (IsRewritten root source objects) (IsMigrated root source)
+    c.rewrite.result
+    (λ clean db rewritten. migrated root source objects (state g.S.Store old).now db
+    (c.in_ok-objects.ensures.stored (omega (arith, clean, c.rewrite.ensures.crash.clean)))
+    registered rewritten) written in
+    writes_failed g.S.Store old new (IsMigrated root source) (IsMigrated root source)
+    c.rewrite.result c.from_residual-in_err-rewrite.result (rw c.in_err-rewrite.was refl)
+    c.from_residual-in_err-rewrite.ensures.0 done
 
 pub returns-in_err-objects-clause-cause : goal.returns-in_err-objects-clause-cause
 returns-in_err-objects-clause-cause g c =
     let exit = err_from_is_err_and c.from_residual.result c.from_residual.ensures.1 in
-    rw (exit.1, exit.2) (λ error is tidy clean. inl (c.in_err-objects.ensures.cause error (unread_store c.in_err-objects.field-0.0 error is) tidy clean))
+    rw (exit.1, exit.2) (λ error is tidy clean.
+    inl (c.in_err-objects.ensures.cause error (unread_store c.in_err-objects.field-0.0 error
+    is) tidy clean))
 
 pub returns-in_err-objects-clause-why : goal.returns-in_err-objects-clause-why
 returns-in_err-objects-clause-why g c clean =
     let exit = err_from_is_err_and c.from_residual.result c.from_residual.ensures.1 in
-    rw (exit.1, exit.2) (unread_refuses c.args.root.now c.args.source.now (state g.S.Store c.args.conn.now).now c.in_err-objects.field-0.0 (c.in_err-objects.ensures.why clean))
+    rw (exit.1, exit.2) (unread_refuses c.args.root.now c.args.source.now
+    (state g.S.Store c.args.conn.now).now c.in_err-objects.field-0.0
+    (c.in_err-objects.ensures.why clean))

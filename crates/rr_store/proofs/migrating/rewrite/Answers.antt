@@ -10,9 +10,13 @@ pub returns : goal.returns
 returns g c =
     let of_source = rw c.in-Some.is at c.in_ok-upper.ensures.of_source in
     let read = rw c.in-Some.is at c.in_ok-upper.ensures.read in
-    let listed : c.deref.result.now ≡ c.args.objects.items ++ c.in-Some.upper ∷ [] = c.deref.ensures.value ∙ c.in_ok-all.ensures in
-    let same : lent c.deref-2.result.now ≡ c.args.objects.items ++ c.in-Some.upper ∷ [] = ap lent c.deref-2.ensures.value ∙ (c.in_ok-lent.ensures ∙ listed) in
-    writes_as g.S.Store c.args.conn.now c.replace.new.conn (IsReplaced (map entry_of (lent c.deref-2.result.now))) (IsRewritten c.args.root.now c.args.source.now c.args.objects.items) c.replace.result
+    let listed : c.deref.result.now ≡ c.args.objects.items ++ c.in-Some.upper ∷ [] =
+    c.deref.ensures.value ∙ c.in_ok-all.ensures in
+    let same : lent c.deref-2.result.now ≡ c.args.objects.items ++ c.in-Some.upper ∷ [] =
+    ap lent c.deref-2.ensures.value ∙ (c.in_ok-lent.ensures ∙ listed) in
+    writes_as g.S.Store c.args.conn.now c.replace.new.conn
+    (IsReplaced (map entry_of (lent c.deref-2.result.now)))
+    (IsRewritten c.args.root.now c.args.source.now c.args.objects.items) c.replace.result
     (λ clean db replaced. record {
       upper = c.in-Some.upper;
       of_source = of_source;

@@ -6,4 +6,5 @@ use Rattle.rr_store.specs.Versions.{form_of}
 use Rattle.rr_store.proofs.namings.namings.Given as goal
 
 abbrev pub invariant-loop-object : goal.invariant-loop-object
-invariant-loop-object l = map naming_row l.all.items ≡ flat_map named_rows (map (entry_in (form_of l.version)) (take l.object-index l.objects))
+invariant-loop-object l = map naming_row l.all.items ≡ flat_map named_rows
+    (map (entry_in (form_of l.version)) (take l.object-index l.objects))

@@ -7,4 +7,5 @@ pub returns-clause-is : goal.returns-clause-is
 returns-clause-is c held =
     let rest = c.loop-rest.rest.now in
     let none : length rest ≡ 0 = omega (arith, c.in_default.len_below) in
-    chain_rises c.args.objects.now (c.loop-rest.invariant.0 (subst AreChained (sym (none_of_length rest none)) tt))
+    chain_rises c.args.objects.now
+    (c.loop-rest.invariant.0 (subst AreChained (sym (none_of_length rest none)) tt))

@@ -10,5 +10,9 @@ pub returns-clause-steps : goal.returns-clause-steps
 returns-clause-steps g c =
     let old = c.args.tx.now.conn.now in
     let new = c.execute.new.self.conn.now in
-    statement_steps g.S.Store old new insert_meta (Text c.args.name.now ∷ Text c.args.value.now ∷ []) c.execute.result c.execute.ensures.ended c.execute.ensures.runs c.execute.ensures.survives _
-    (λ clean count ran on. inserts_meta c.args.name.now c.args.value.now (state g.S.Store old) (state g.S.Store new) (c.requires (omega (arith, clean, c.execute.ensures.survives.clean)) on) count ran)
+    statement_steps g.S.Store old new insert_meta (Text c.args.name.now ∷ Text c.args.value.now
+    ∷ []) c.execute.result c.execute.ensures.ended c.execute.ensures.runs
+    c.execute.ensures.survives _
+    (λ clean count ran on. inserts_meta c.args.name.now c.args.value.now (state g.S.Store old)
+    (state g.S.Store new) (c.requires (omega (arith, clean, c.execute.ensures.survives.clean))
+    on) count ran)

@@ -8,4 +8,6 @@ use Rattle.rr_store.proofs.StreamLemmas.{HasRead}
 use Rattle.rr_store.proofs.streams.take_objects.Given as goal
 
 abbrev pub invariant-rows : goal.invariant-rows
-invariant-rows g l = (l.rows.conn.ghost_name ≡ l.initial.rows.conn.ghost_name) × HasRead g.S.Store l.initial.rows.conn.now l.rows.conn.now (λ rows. AreRead (form_of l.version) l.source (contents rows) l.objects.items) × AllByRecursion (IsObjectOf l.source) l.objects.items
+invariant-rows g l = (l.rows.conn.ghost_name ≡ l.initial.rows.conn.ghost_name) × HasRead g.S.Store
+    l.initial.rows.conn.now l.rows.conn.now (λ rows. AreRead (form_of l.version) l.source
+    (contents rows) l.objects.items) × AllByRecursion (IsObjectOf l.source) l.objects.items

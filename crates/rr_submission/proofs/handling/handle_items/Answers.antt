@@ -1,7 +1,8 @@
 -- Reading moves what was given, and a line moves how far the items have come.
 use Rattle.std.proofs.Common.{[], ◌++◌, ◌∙◌, refl, arith}
 use Rattle.std.proofs.lemmas.Result.{err_from_is_err_and}
-use Rattle.rr_submission.proofs.Progress.{ComesTo-start, ComesTo-more, Handles-cut, HandlesAll-end, given_few}
+use Rattle.rr_submission.proofs.Progress.{ComesTo-start, ComesTo-more, Handles-cut, HandlesAll-end}
+use Rattle.rr_submission.proofs.Progress.{given_few}
 use Rattle.rr_submission.proofs.handling.handle_items.Goals as goal
 
 pub items-init : goal.items-init
@@ -23,12 +24,14 @@ handle_item-requires-clause-refused g c =
     let so = c.items.invariant.0 in
     omega (arith, so.2.fewer, so.2.few, given_few _ _ c.items.paragraphs so.0 so.1)
 
-pub returns-in_err-done-in-Ok-Some-clause-handles : goal.returns-in_err-done-in-Ok-Some-clause-handles
+pub returns-in_err-done-in-Ok-Some-clause-handles :
+    goal.returns-in_err-done-in-Ok-Some-clause-handles
 returns-in_err-done-in-Ok-Some-clause-handles g c =
     let exit = err_from_is_err_and c.from_residual.result c.from_residual.ensures.1 in
     let so = c.items.invariant.0 in
     let found = rw c.in-Ok-Some.field-0-is at (c.in-Ok-Some.ensures.finds _ so.0 so.1) in
-    rw (exit.1, exit.2) (Handles-cut g.L.Ledger _ _ _ _ _ _ _ _ _ _ so.2 c.items.invariant.1 found c.in_err-done-in-Ok-Some.ensures.handles)
+    rw (exit.1, exit.2) (Handles-cut g.L.Ledger _ _ _ _ _ _ _ _ _ _ so.2 c.items.invariant.1 found
+    c.in_err-done-in-Ok-Some.ensures.handles)
 
 pub returns-in_err-done-in-Ok-Some-clause-lasts : goal.returns-in_err-done-in-Ok-Some-clause-lasts
 returns-in_err-done-in-Ok-Some-clause-lasts g c =
@@ -39,7 +42,13 @@ items-preserved g c =
     let so = c.items.invariant.0 in
     let found = rw c.in-Ok-Some.field-0-is at (c.in-Ok-Some.ensures.finds _ so.0 so.1) in
     let one = c.in_ok-done-in-Ok-Some.ensures.handles in (
-      (so.0 ++ found.added, found.has, rw c.in_ok-done-in-Ok-Some.ensures.same_secrets (ComesTo-more _ _ _ _ _ _ _ _ one.outcome so.2 found one.decides one.items one.refused one.writes)),
+      (
+        so.0 ++ found.added,
+        found.has,
+        rw c.in_ok-done-in-Ok-Some.ensures.same_secrets
+            (ComesTo-more _ _ _ _ _ _ _ _ one.outcome so.2 found one.decides one.items one.refused
+            one.writes),
+      ),
       c.in_ok-done-in-Ok-Some.ensures.running,
       c.in-Ok-Some.ensures.aside ∙ c.items.invariant.2,
       c.in_ok-done-in-Ok-Some.ensures.aside ∙ c.items.invariant.3,
@@ -50,10 +59,20 @@ pub returns-in-Ok-None-clause-handles : goal.returns-in-Ok-None-clause-handles
 returns-in-Ok-None-clause-handles g c =
     let so = c.items.invariant.0 in
     let none = rw c.in-Ok-None.field-0-is at (c.in-Ok-None.ensures.finds _ so.0 so.1) in
-    record { given = so.0 ++ none.added; ended = none.all; handles = HandlesAll-end none.added so.2 none.none }
+    record {
+      given = so.0 ++ none.added;
+      ended = none.all;
+      handles = HandlesAll-end none.added so.2
+          none.none;
+    }
 
 pub returns-in-Err-clause-handles : goal.returns-in-Err-clause-handles
 returns-in-Err-clause-handles g c =
     let so = c.items.invariant.0 in
     let none = (c.in-Err.ensures.finds _ so.0 so.1).1 in
-    record { given = so.0 ++ none.added; ended = none.all; handles = HandlesAll-end none.added so.2 none.none }
+    record {
+      given = so.0 ++ none.added;
+      ended = none.all;
+      handles = HandlesAll-end none.added so.2
+          none.none;
+    }

@@ -5,7 +5,8 @@ use Rattle.rr_submission.proofs.handling.handle_items.Given as goal
 
 abbrev pub invariant-items : goal.invariant-items
 invariant-items g l =
-    ((given : List Entry) × HasGiven (g.R.Source.told l.initial.reader) (g.R.Source.told l.reader) l.paragraphs given
+    ((given : List Entry) × HasGiven (g.R.Source.told l.initial.reader) (g.R.Source.told l.reader)
+    l.paragraphs given
     × ComesTo l.source given (g.L.Ledger.registry l.initial.ledger) (g.L.Ledger.registry l.ledger)
     (g.W.Sink.told l.initial.writer) (g.W.Sink.told l.writer) l.secrets l.done)
     × (g.L.Ledger.is_stopped l.ledger ≡ false)

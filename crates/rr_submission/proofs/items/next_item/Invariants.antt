@@ -6,8 +6,10 @@ use Rattle.rr_submission.proofs.items.next_item.Given as goal
 
 abbrev pub invariant-paragraphs : goal.invariant-paragraphs
 invariant-paragraphs g l = record {
-  passing : (start : Told) (given : List Entry) → HasGiven start (g.R.Source.told l.initial.reader) l.initial.paragraphs given
-      → IsPassing l.source start (g.R.Source.told l.reader) l.paragraphs given l.initial.secrets l.secrets;
+  passing : (start : Told) (given : List Entry) → HasGiven start (g.R.Source.told l.initial.reader)
+      l.initial.paragraphs given
+      → IsPassing l.source start (g.R.Source.told l.reader) l.paragraphs given l.initial.secrets
+      l.secrets;
   nearer : left_of l.paragraphs ≤ left_of l.initial.paragraphs;
   aside : g.R.Source.aside l.reader ≡ g.R.Source.aside l.initial.reader;
 }

@@ -7,4 +7,5 @@ use Rattle.rr_submission.proofs.submission_text.is_secrets_alone.Goals as goal
 pub returns : goal.returns
 returns c =
     all_from_yields_List is_password _ _ _ c.all.ensures.ran
-    (YieldsList-from_first (λ field. field) (λ fields. fields) c.args.paragraph.now c.attributes.ensures.value) (λ x b q k. search (rules, tests))
+    (YieldsList-from_first (λ field. field) (λ fields. fields) c.args.paragraph.now
+    c.attributes.ensures.value) (λ x b q k. search (rules, tests))

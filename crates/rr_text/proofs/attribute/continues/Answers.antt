@@ -11,4 +11,6 @@ returns-then-is_empty c = λ _.
     (entries_none c.args.text.now none).0
 
 pub returns : goal.returns
-returns c = λ no. ap continued c.split_line.ensures.lines ∙ (opened _ _ _ c.of.ensures (sym c.opens_attribute.ensures ∙ not_no c.opens_attribute.result no)).lines
+returns c = λ no. ap continued c.split_line.ensures.lines
+    ∙ (opened _ _ _ c.of.ensures (sym c.opens_attribute.ensures ∙ not_no c.opens_attribute.result
+    no)).lines

@@ -7,11 +7,13 @@ use Rattle.rr_text.proofs.attribute.push_continued.Goals as goal
 
 pub returns-then-opens_attribute : goal.returns-then-opens_attribute
 returns-then-opens_attribute c =
-    ended_by _ _ _ c.lines.invariant (ap continued c.split_line.ensures.lines ∙ (opened _ _ _ c.of-kind.ensures (cc)).lines)
+    ended_by _ _ _ c.lines.invariant (ap continued c.split_line.ensures.lines
+    ∙ (opened _ _ _ c.of-kind.ensures (cc)).lines)
 
 pub lines-preserved : goal.lines-preserved
 lines-preserved c =
-    step_by _ _ _ _ _ _ c.lines.invariant (ap continued c.split_line.ensures.lines ∙ (further _ _ _ c.of-kind.ensures (cc)).lines) c.in_ok-push_added.ensures
+    step_by _ _ _ _ _ _ c.lines.invariant (ap continued c.split_line.ensures.lines
+    ∙ (further _ _ _ c.of-kind.ensures (cc)).lines) c.in_ok-push_added.ensures
 
 pub returns : goal.returns
 returns c =

@@ -5,7 +5,8 @@ use Rattle.rr_text.proofs.KeptLemmas.{kept_none, kept_passed}
 use Rattle.rr_text.proofs.attributes.next_opening.Goals as goal
 
 pub lines-preserved : goal.lines-preserved
-lines-preserved c = sym (ap kept_fields c.split_line.ensures.lines ∙ kept_passed _ _ _ c.of.ensures (cc)) ∙ c.lines.invariant
+lines-preserved c = sym (ap kept_fields c.split_line.ensures.lines ∙ kept_passed _ _ _ c.of.ensures
+    (cc)) ∙ c.lines.invariant
 
 pub returns-clause-fields : goal.returns-clause-fields
 returns-clause-fields c =

@@ -9,13 +9,19 @@ use Rattle.rr_text.proofs.block.skip_to_block.Goals as goal
 
 pub lines-preserved : goal.lines-preserved
 lines-preserved c = record {
-  after = (c.lines.invariant.after.0 ++ c.split_line.result.0.now, passed_line _ _ _ _ _ c.lines.invariant.after.1 c.split_line.ensures.whole);
+  after = (
+    c.lines.invariant.after.0 ++ c.split_line.result.0.now,
+    passed_line _ _ _ _ _
+        c.lines.invariant.after.1 c.split_line.ensures.whole,
+  );
   same =
-      let passed : blocks (c.split_line.result.0.now ∷ text_lines c.split_line.result.1.now) ≡ blocks (text_lines c.split_line.result.1.now) =
+      let passed : blocks (c.split_line.result.0.now ∷ text_lines c.split_line.result.1.now)
+      ≡ blocks (text_lines c.split_line.result.1.now) =
       blocks_passed _ _ (cc)
       in sym passed ∙ (ap blocks (sym c.split_line.ensures.lines) ∙ c.lines.invariant.same);
   lines =
-      let passed : from_block (c.split_line.result.0.now ∷ text_lines c.split_line.result.1.now) ≡ from_block (text_lines c.split_line.result.1.now) =
+      let passed : from_block (c.split_line.result.0.now ∷ text_lines c.split_line.result.1.now)
+      ≡ from_block (text_lines c.split_line.result.1.now) =
       from_block_passed _ _ (cc)
       in sym passed ∙ (ap from_block (sym c.split_line.ensures.lines) ∙ c.lines.invariant.lines);
 }

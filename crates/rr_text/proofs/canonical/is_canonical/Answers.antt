@@ -16,7 +16,10 @@ returns-then-is_some-clause-only c = λ fields some good same.
 
 pub returns-clause-yes : goal.returns-clause-yes
 returns-clause-yes c = λ all.
-    canonical_kept c.args.text.now (sym c.opens.ensures ∙ c.if-not-opens.false) (sym c.block_fault.ensures ∙ no_fault c.block_fault.result (sym c.is_some.ensures ∙ c.if-is_some.false)) (sym c.are_printed.ensures ∙ all)
+    canonical_kept c.args.text.now (sym c.opens.ensures ∙ c.if-not-opens.false)
+    (sym c.block_fault.ensures ∙ no_fault c.block_fault.result
+    (sym c.is_some.ensures ∙ c.if-is_some.false)) (sym c.are_printed.ensures ∙ all)
 
 pub returns-clause-only : goal.returns-clause-only
-returns-clause-only c = λ fields some good same. c.are_printed.ensures ∙ (canonical_only c.args.text.now fields some good same).2
+returns-clause-only c = λ fields some good same. c.are_printed.ensures
+    ∙ (canonical_only c.args.text.now fields some good same).2

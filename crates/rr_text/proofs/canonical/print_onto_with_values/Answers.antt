@@ -5,5 +5,6 @@ use Rattle.rr_text.proofs.canonical.print_onto_with_values.Goals as goal
 
 pub returns-then-not-has-clause-ok : goal.returns-then-not-has-clause-ok
 returns-then-not-has-clause-ok c =
-    let same = ap canonical (none_valued c.args.name.now c.args.line.now c.args.paragraph.now (sym c.has.ensures ∙ c.if-not-has.true)) in
+    let same = ap canonical (none_valued c.args.name.now c.args.line.now c.args.paragraph.now
+    (sym c.has.ensures ∙ c.if-not-has.true)) in
     rw same c.print_onto.ensures.ok

@@ -9,11 +9,15 @@ pub loop-attribute-preserved : goal.loop-attribute-preserved
 loop-attribute-preserved c =
     let valued = with_value c.args.name.now c.args.line.now in (
       step_by _ _ _ _ _ _ c.loop-attribute.invariant.0
-          (ap (λ fields. canonical (map valued fields)) c.in-Some.ensures.steps ∙ canonical_more (valued c.in-Some.attribute) (map valued c.next.new.self)) c.in_ok-print_onto_with_value.ensures.ok,
-      starts_then _ _ _ c.loop-attribute.invariant.1 (starts_more _ _ _ c.in_ok-print_onto_with_value.ensures.ok),
+          (ap (λ fields. canonical (map valued fields)) c.in-Some.ensures.steps ∙ canonical_more
+          (valued c.in-Some.attribute) (map valued c.next.new.self))
+          c.in_ok-print_onto_with_value.ensures.ok,
+      starts_then _ _ _ c.loop-attribute.invariant.1
+          (starts_more _ _ _ c.in_ok-print_onto_with_value.ensures.ok),
     )
 
 pub returns-clause-ok : goal.returns-clause-ok
 returns-clause-ok c =
     let valued = with_value c.args.name.now c.args.line.now in
-    ended_by _ _ _ c.loop-attribute.invariant.0 (ap (λ fields. canonical (map valued fields)) c.in-None.ensures.steps.0 ∙ canonical_none)
+    ended_by _ _ _ c.loop-attribute.invariant.0 (ap (λ fields. canonical (map valued fields))
+    c.in-None.ensures.steps.0 ∙ canonical_none)

@@ -7,5 +7,6 @@ use Rattle.rr_text.proofs.comparing.is_lower.Goals as goal
 
 pub returns : goal.returns
 returns c =
-    all_from_yields_List (λ (b : ℕ). to_ascii_lowercase b == b) _ _ _ c.all.ensures.ran (YieldsList-from_slice c.args.name.now cc) (λ x b q k. search (rules, tests))
+    all_from_yields_List (λ (b : ℕ). to_ascii_lowercase b == b) _ _ _ c.all.ensures.ran
+    (YieldsList-from_slice c.args.name.now cc) (λ x b q k. search (rules, tests))
     ∙ lower_same c.args.name.now

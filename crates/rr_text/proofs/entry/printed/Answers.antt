@@ -6,7 +6,8 @@ use Rattle.rr_text.proofs.entry.printed.Goals as goal
 
 pub lines-preserved : goal.lines-preserved
 lines-preserved c =
-    step_by _ _ _ _ _ _ c.lines.invariant (ap printed_lines c.split_line.ensures.lines ∙ printed_more _ _ _ c.of.ensures) c.in_ok-push_line.ensures.ok
+    step_by _ _ _ _ _ _ c.lines.invariant (ap printed_lines c.split_line.ensures.lines
+    ∙ printed_more _ _ _ c.of.ensures) c.in_ok-push_line.ensures.ok
 
 pub returns : goal.returns
 returns c =

@@ -4,7 +4,8 @@ use Rattle.rr_text.specs.KeptText.{printed_lines}
 use Rattle.rr_text.proofs.entry.printed.Given as goal
 
 abbrev pub invariant-lines : goal.invariant-lines
-invariant-lines l = l.text.items ++ printed_lines (text_lines l.rest) ≡ printed_lines (text_lines l.block)
+invariant-lines l = l.text.items ++ printed_lines (text_lines l.rest) ≡ printed_lines
+    (text_lines l.block)
 
 abbrev pub decreases-lines : goal.decreases-lines
 decreases-lines l = length l.rest

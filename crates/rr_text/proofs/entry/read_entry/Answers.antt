@@ -14,7 +14,12 @@ returns-in-Some-clause-fault c = λ _. entry_small _ _ (omega arith) c.in-Some.e
 pub returns-in_ok-paragraph-in-None-clause-found : goal.returns-in_ok-paragraph-in-None-clause-found
 returns-in_ok-paragraph-in-None-clause-found c =
     let value = c.in_ok-paragraph-in-None.ensures.value in (
-      omega (arith, ap length value, some_fields (text_lines c.args.block.now) c.requires (sym c.in-None.ensures)),
+      omega (
+        arith,
+        ap length value,
+        some_fields (text_lines c.args.block.now) c.requires
+            (sym c.in-None.ensures),
+      ),
       c.in_ok-paragraph-in-None.ensures.fields,
       entry_small _ _ (omega arith) c.in-None.ensures ∙ ap (λ fields. Ok fields) (sym value),
     )

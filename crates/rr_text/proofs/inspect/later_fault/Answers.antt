@@ -8,12 +8,15 @@ use Rattle.rr_text.proofs.inspect.later_fault.Goals as goal
 
 pub returns-then-is_some : goal.returns-then-is_some
 returns-then-is_some c =
-    later_found _ _ _ _ c.line_fault-fault.ensures (cc) c.split_line.ensures.lines ∙ c.lines.invariant
+    later_found _ _ _ _ c.line_fault-fault.ensures (cc) c.split_line.ensures.lines
+    ∙ c.lines.invariant
 
 pub lines-preserved : goal.lines-preserved
 lines-preserved c =
     let none = no_fault c.line_fault-fault.result (cc) in
-    sym (ap faults.later_fault c.split_line.ensures.lines ∙ later_more c.split_line.result.0.now (text_lines c.split_line.result.1.now) (sym c.line_fault-fault.ensures ∙ none)) ∙ c.lines.invariant
+    sym (ap faults.later_fault c.split_line.ensures.lines ∙ later_more c.split_line.result.0.now
+    (text_lines c.split_line.result.1.now) (sym c.line_fault-fault.ensures ∙ none))
+    ∙ c.lines.invariant
 
 pub returns : goal.returns
 returns c =

@@ -5,13 +5,16 @@ use Rattle.rr_text.proofs.LineLemmas.{cut_some, cut_none, no_lines}
 use Rattle.rr_text.proofs.line.split_line.Goals as goal
 
 pub returns-in-Some-clause-lines : goal.returns-in-Some-clause-lines
-returns-in-Some-clause-lines c = (cut_some _ _ _ _ c.in-Some.ensures c.split_at.ensures.front c.split_at.ensures.back).lines
+returns-in-Some-clause-lines c = (cut_some _ _ _ _ c.in-Some.ensures c.split_at.ensures.front
+    c.split_at.ensures.back).lines
 
 pub returns-in-Some-clause-single : goal.returns-in-Some-clause-single
-returns-in-Some-clause-single c = (cut_some _ _ _ _ c.in-Some.ensures c.split_at.ensures.front c.split_at.ensures.back).single
+returns-in-Some-clause-single c = (cut_some _ _ _ _ c.in-Some.ensures c.split_at.ensures.front
+    c.split_at.ensures.back).single
 
 pub returns-in-Some-clause-ended : goal.returns-in-Some-clause-ended
-returns-in-Some-clause-ended c = inl (cut_some _ _ _ _ c.in-Some.ensures c.split_at.ensures.front c.split_at.ensures.back).ended
+returns-in-Some-clause-ended c = inl (cut_some _ _ _ _ c.in-Some.ensures c.split_at.ensures.front
+    c.split_at.ensures.back).ended
 
 pub returns-in-None-clause-lines : goal.returns-in-None-clause-lines
 returns-in-None-clause-lines c =

@@ -4,4 +4,5 @@ use Rattle.rr_text.specs.CanonicalText.{field_text}
 use Rattle.rr_text.proofs.paragraph.printed.Given as goal
 
 abbrev pub invariant-loop-attribute : goal.invariant-loop-attribute
-invariant-loop-attribute l = l.text.items ≡ flat_map field_text (take l.attribute-index l.attributes)
+invariant-loop-attribute l = l.text.items ≡ flat_map field_text
+    (take l.attribute-index l.attributes)

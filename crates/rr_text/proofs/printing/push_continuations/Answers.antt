@@ -8,12 +8,15 @@ use Rattle.rr_text.proofs.printing.push_continuations.Goals as goal
 
 pub returns-then-opens_attribute-clause-ok : goal.returns-then-opens_attribute-clause-ok
 returns-then-opens_attribute-clause-ok c =
-    ended_by _ _ _ c.lines.invariant.0 (ap further_text (ap continued c.split_line.ensures.lines ∙ (opened _ _ _ c.of-kind.ensures (cc)).lines))
+    ended_by _ _ _ c.lines.invariant.0
+    (ap further_text (ap continued c.split_line.ensures.lines
+    ∙ (opened _ _ _ c.of-kind.ensures (cc)).lines))
 
 pub lines-preserved : goal.lines-preserved
 lines-preserved c = (
   step_by _ _ _ _ _ _ c.lines.invariant.0
-      (ap (λ lines. further_text (continued lines)) c.split_line.ensures.lines ∙ further_more _ _ _ c.of-kind.ensures (cc)) c.in_ok-push_continuation.ensures.ok,
+      (ap (λ lines. further_text (continued lines)) c.split_line.ensures.lines ∙ further_more _ _ _
+      c.of-kind.ensures (cc)) c.in_ok-push_continuation.ensures.ok,
   starts_then _ _ _ c.lines.invariant.1 (starts_more _ _ _ c.in_ok-push_continuation.ensures.ok),
 )
 

@@ -7,7 +7,8 @@ use Rattle.rr_text.proofs.printing.push_continuations.Given as goal
 
 abbrev pub invariant-lines : goal.invariant-lines
 invariant-lines l =
-    (l.out.items ++ further_text (continued (text_lines l.rest)) ≡ l.initial.out.items ++ further_text (continued (text_lines l.text)))
+    (l.out.items ++ further_text (continued (text_lines l.rest)) ≡ l.initial.out.items ++
+    further_text (continued (text_lines l.text)))
     × StartsWith l.out.items l.initial.out.items
 
 abbrev pub decreases-lines : goal.decreases-lines

@@ -5,12 +5,15 @@ use Rattle.rr_text.specs.Entries.{entries}
 use Rattle.rr_text.proofs.EntryLemmas.{entries_empty, entries_more, entries_fault, entries_some}
 use Rattle.rr_text.proofs.reader.next_paragraph.Goals as goal
 
-pub returns-in_err-paragraph-in-Some-clause-fault : goal.returns-in_err-paragraph-in-Some-clause-fault
+pub returns-in_err-paragraph-in-Some-clause-fault :
+    goal.returns-in_err-paragraph-in-Some-clause-fault
 returns-in_err-paragraph-in-Some-clause-fault c =
     let p = err_from_is_err_and c.from_residual.result c.from_residual.ensures.1 in
-    rw (p.1, p.2) (λ other. entries_fault _ _ _ _ c.in-Some.ensures.found.3 (c.in_err-paragraph-in-Some.ensures.fault other))
+    rw (p.1, p.2) (λ other. entries_fault _ _ _ _ c.in-Some.ensures.found.3
+    (c.in_err-paragraph-in-Some.ensures.fault other))
 
-pub returns-in_err-paragraph-in-Some-clause-memory : goal.returns-in_err-paragraph-in-Some-clause-memory
+pub returns-in_err-paragraph-in-Some-clause-memory :
+    goal.returns-in_err-paragraph-in-Some-clause-memory
 returns-in_err-paragraph-in-Some-clause-memory c =
     let p = err_from_is_err_and c.from_residual.result c.from_residual.ensures.1 in
     rw p.1 (entries_some _ _ _ c.in-Some.ensures.found.3)
@@ -20,4 +23,6 @@ returns-in-None-clause-none c = λ _. entries_empty _ c.in-None.ensures.none
 
 pub returns-in_ok-paragraph-in-Some-clause-found : goal.returns-in_ok-paragraph-in-Some-clause-found
 returns-in_ok-paragraph-in-Some-clause-found c =
-    entries_more _ _ _ c.in-Some.ensures.found.3 ∙ ap (λ e. e ∷ entries (drop c.in-Some.place c.args.text.now)) c.in_ok-paragraph-in-Some.ensures.found.2
+    entries_more _ _ _ c.in-Some.ensures.found.3
+    ∙ ap (λ e. e ∷ entries (drop c.in-Some.place c.args.text.now))
+    c.in_ok-paragraph-in-Some.ensures.found.2

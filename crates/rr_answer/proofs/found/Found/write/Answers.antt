@@ -13,9 +13,13 @@ returns-in-Numbers-clause-writes g c =
     let found = c.deref-in-Numbers in
     let missing = c.deref-in-Numbers-2 in
     let nothing = ended (codes "% empty") in
-    let whole : or_else nothing (flat_map number_line found.result.now ++ flat_map missing_line missing.result.now) ≡ found_text c.args.self.now =
-    (λ i. or_else nothing (flat_map number_line (found.ensures.value i) ++ flat_map missing_line (missing.ensures.value i))) ∙ sym (ap found_text c.in-Numbers.is) in
-    subst (λ (text : List ℕ). Writes (g.W.Sink.told c.args.writer.now) (g.W.Sink.told c.write_members-in-Numbers.new.writer) text c.write_members-in-Numbers.result)
+    let whole : or_else nothing (flat_map number_line found.result.now ++ flat_map missing_line
+    missing.result.now) ≡ found_text c.args.self.now =
+    (λ i. or_else nothing (flat_map number_line (found.ensures.value i) ++ flat_map missing_line
+    (missing.ensures.value i))) ∙ sym (ap found_text c.in-Numbers.is) in
+    subst (λ (text : List ℕ). Writes (g.W.Sink.told c.args.writer.now)
+    (g.W.Sink.told c.write_members-in-Numbers.new.writer) text
+    c.write_members-in-Numbers.result)
     whole c.write_members-in-Numbers.ensures.writes
 
 pub returns-in-Ranges-clause-writes : goal.returns-in-Ranges-clause-writes
@@ -24,7 +28,10 @@ returns-in-Ranges-clause-writes g c =
     let found = c.deref-in-Ranges in
     let missing = c.deref-in-Ranges-2 in
     let nothing = ended (codes "% empty") in
-    let whole : or_else nothing (flat_map range_line found.result.now ++ flat_map missing_line missing.result.now) ≡ found_text c.args.self.now =
-    (λ i. or_else nothing (flat_map range_line (found.ensures.value i) ++ flat_map missing_line (missing.ensures.value i))) ∙ sym (ap found_text c.in-Ranges.is) in
-    subst (λ (text : List ℕ). Writes (g.W.Sink.told c.args.writer.now) (g.W.Sink.told c.write_members-in-Ranges.new.writer) text c.write_members-in-Ranges.result)
+    let whole : or_else nothing (flat_map range_line found.result.now ++ flat_map missing_line
+    missing.result.now) ≡ found_text c.args.self.now =
+    (λ i. or_else nothing (flat_map range_line (found.ensures.value i) ++ flat_map missing_line
+    (missing.ensures.value i))) ∙ sym (ap found_text c.in-Ranges.is) in
+    subst (λ (text : List ℕ). Writes (g.W.Sink.told c.args.writer.now)
+    (g.W.Sink.told c.write_members-in-Ranges.new.writer) text c.write_members-in-Ranges.result)
     whole c.write_members-in-Ranges.ensures.writes

@@ -5,5 +5,8 @@ use Rattle.rr_auth.proofs.salted.Salted.hash.Goals as goal
 
 pub returns-clause-remembers : goal.returns-clause-remembers
 returns-clause-remembers c =
-    salt_put c.args.wanted.now c.args.secrets.now c.args.salt c.in_ok-digests.digests c.args.self.now.digests c.insert.new.self c.in_ok-insert.ensures.updates c.requires.remembered
-    (subst (λ (salt : List ℕ). HasDigests salt c.args.wanted.now c.args.secrets.now c.in_ok-digests.digests) c.deref.ensures.value c.in_ok-digests.ensures)
+    salt_put c.args.wanted.now c.args.secrets.now c.args.salt c.in_ok-digests.digests
+    c.args.self.now.digests c.insert.new.self c.in_ok-insert.ensures.updates
+    c.requires.remembered
+    (subst (λ (salt : List ℕ). HasDigests salt c.args.wanted.now c.args.secrets.now
+    c.in_ok-digests.digests) c.deref.ensures.value c.in_ok-digests.ensures)

@@ -6,5 +6,8 @@ use Rattle.rr_auth.proofs.tried.Tried.put.Goals as goal
 
 pub returns : goal.returns
 returns c = λ secrets were is.
-    answer_put secrets c.in_ok-name.name (record { lines = c.in_ok-lines.lines; trial = c.args.trial }) c.args.self.now.answers c.insert.new.self c.in_ok-insert.ensures.updates were
-    (subst (λ (lines : List AuthParts). IsTrial secrets lines c.args.trial) (sym c.in_ok-lines.ensures) is)
+    answer_put secrets c.in_ok-name.name
+    (record { lines = c.in_ok-lines.lines; trial = c.args.trial }) c.args.self.now.answers
+    c.insert.new.self c.in_ok-insert.ensures.updates were
+    (subst (λ (lines : List AuthParts). IsTrial secrets lines c.args.trial)
+    (sym c.in_ok-lines.ensures) is)

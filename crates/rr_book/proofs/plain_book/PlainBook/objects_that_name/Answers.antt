@@ -6,10 +6,14 @@ pub returns-in-Some-clause-lists : goal.returns-in-Some-clause-lists
 returns-in-Some-clause-lists c =
     let found = rw c.deref.ensures.value at c.objects_of.ensures.found in
     IfOk-weaker c.objects_of.result _ _
-    (λ found is. lists_named c.self.inside.objects.items c.self.inside.referrers.keys c.self.invariant c.args.self.now c.self.view_is c.args.name.now c.in-Some.keys.now found.items
+    (λ found is. lists_named c.self.inside.objects.items c.self.inside.referrers.keys
+    c.self.invariant c.args.self.now c.self.view_is c.args.name.now c.in-Some.keys.now
+    found.items
     c.in-Some.ensures is c.objects_of.ensures.ordered)
     found
 
 pub returns-in-None-clause-lists : goal.returns-in-None-clause-lists
 returns-in-None-clause-lists c =
-    lists_none c.self.inside.objects.items c.self.inside.referrers.keys c.self.invariant c.args.self.now c.self.view_is c.args.name.now c.new.result.items c.in-None.ensures c.new.ensures.items
+    lists_none c.self.inside.objects.items c.self.inside.referrers.keys c.self.invariant
+    c.args.self.now c.self.view_is c.args.name.now c.new.result.items c.in-None.ensures
+    c.new.ensures.items

@@ -3,5 +3,6 @@ use Rattle.rr_book.proofs.plain_book.PlainBookBook.crosses.Goals as goal
 
 pub returns : goal.returns
 returns c =
-    let objects = told _ _ c.deref.result.now c.self.view_is c.self.invariant.book.ordered c.deref.ensures.value in
+    let objects = told _ _ c.deref.result.now c.self.view_is c.self.invariant.book.ordered
+    c.deref.ensures.value in
     rw (← objects) c.some_crosses.ensures

@@ -6,7 +6,8 @@ use Rattle.rr_book.proofs.plain_book.PlainBookBook.origins.Goals as goal
 
 pub returns-clause-value : goal.returns-clause-value
 returns-clause-value c =
-    let objects = told _ _ c.deref.result.now c.self.view_is c.self.invariant.book.ordered c.deref.ensures.value in
+    let objects = told _ _ c.deref.result.now c.self.view_is c.self.invariant.book.ordered
+    c.deref.ensures.value in
     rw (← objects) c.origins.ensures
 
 pub returns-clause-ascending : goal.returns-clause-ascending

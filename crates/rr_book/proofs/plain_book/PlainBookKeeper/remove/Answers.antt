@@ -9,14 +9,18 @@ use Rattle.rr_book.proofs.plain_book.PlainBookKeeper.remove.Goals as goal
 pub invariant_of-self : goal.invariant_of-self
 invariant_of-self c =
     let k = c.args.key.now in
-    indexed_removal c.self.inside.objects.items c.self.inside.referrers.keys c.self.invariant c.remove.new.objects.items k c.in-Some.old c.take_all.new.self.keys
-    (subst (λ r. Sound (remove r k)) (sym c.self.view_is) c.requires) c.remove.ensures.rest (sym c.in-Some.is ∙ c.remove.ensures.old) c.take_all.ensures
+    indexed_removal c.self.inside.objects.items c.self.inside.referrers.keys c.self.invariant
+    c.remove.new.objects.items k c.in-Some.old c.take_all.new.self.keys
+    (subst (λ r. Sound (remove r k)) (sym c.self.view_is) c.requires) c.remove.ensures.rest
+    (sym c.in-Some.is ∙ c.remove.ensures.old) c.take_all.ensures
 
 pub invariant_of-self-in_default : goal.invariant_of-self-in_default
 invariant_of-self-in_default c =
     let k = c.args.key.now in
-    indexed_none c.self.inside.objects.items c.self.inside.referrers.keys c.self.invariant c.remove.new.objects.items k
-    (subst (λ r. Sound (remove r k)) (sym c.self.view_is) c.requires) c.remove.ensures.rest (sym c.in_default.is ∙ c.remove.ensures.old)
+    indexed_none c.self.inside.objects.items c.self.inside.referrers.keys c.self.invariant
+    c.remove.new.objects.items k
+    (subst (λ r. Sound (remove r k)) (sym c.self.view_is) c.requires) c.remove.ensures.rest
+    (sym c.in_default.is ∙ c.remove.ensures.old)
 
 pub returns-in-Some : goal.returns-in-Some
 returns-in-Some c =

@@ -9,4 +9,5 @@ use Rattle.rr_book.proofs.set_index.SetIndex.of.Given as goal
 
 abbrev pub invariant-loop-object : goal.invariant-loop-object
 invariant-loop-object l =
-    (name : List ℕ) (key : Key) → stands_under l.referrers.keys name key ≡ list_any (λ o. names_set name o && eq_by_cmp key_cmp o.key key) (take l.object-index l.objects)
+    (name : List ℕ) (key : Key) → stands_under l.referrers.keys name key ≡ list_any
+    (λ o. names_set name o && eq_by_cmp key_cmp o.key key) (take l.object-index l.objects)

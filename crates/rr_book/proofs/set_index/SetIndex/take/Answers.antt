@@ -16,11 +16,16 @@ loop-name-preserved c =
     let before = c.loop-name.invariant in
     elim c.if-not-contains.branch [
       | then-not-contains w ↦
-          subst (λ (r : SetIndex). TakesPrefix out names key (i + 1) c.args.self.now.keys r.keys) (sym w.self-is)
-          (taken_more out names key i c.name-item.result c.args.self.now.keys c.loop-name.self.keys w.take_from.new.self.keys c.loop-name-test.true c.name-item.is
-          (sym c.contains.ensures ∙ w.if-not-contains.true) before (rw w.key.ensures.value at w.take_from.ensures))
+          subst (λ (r : SetIndex). TakesPrefix out names key (i + 1) c.args.self.now.keys r.keys)
+          (sym w.self-is)
+          (taken_more out names key i c.name-item.result c.args.self.now.keys c.loop-name.self.keys
+          w.take_from.new.self.keys c.loop-name-test.true c.name-item.is
+          (sym c.contains.ensures ∙ w.if-not-contains.true) before
+          (rw w.key.ensures.value at w.take_from.ensures))
       | else-not-contains w ↦
-          subst (λ (r : SetIndex). TakesPrefix out names key (i + 1) c.args.self.now.keys r.keys) (sym w.self-is)
-          (left_more out names key i c.name-item.result c.args.self.now.keys c.loop-name.self.keys c.loop-name-test.true c.name-item.is
+          subst (λ (r : SetIndex). TakesPrefix out names key (i + 1) c.args.self.now.keys r.keys)
+          (sym w.self-is)
+          (left_more out names key i c.name-item.result c.args.self.now.keys c.loop-name.self.keys
+          c.loop-name-test.true c.name-item.is
           (sym c.contains.ensures ∙ w.if-not-contains.false) before)
     ]

@@ -18,4 +18,5 @@ returns-in-Some-clause-taken c =
     ((c.get_mut.follows.holds after).3 (subst IsSome there refl)).0
     (λ k.
     updated_keys before after key false c.remove.ensures.updates k
-    ∙ ap (λ (o : Option (BTreeSet Key)). cond (eq_by_cmp key_cmp key k) false (option_map_or (λ ks. contains key_cmp ks k) o false)) there)
+    ∙ ap (λ (o : Option (BTreeSet Key)). cond (eq_by_cmp key_cmp key k) false
+    (option_map_or (λ ks. contains key_cmp ks k) o false)) there)

@@ -8,13 +8,19 @@ use Rattle.rr_cover.proofs.prefix_tree.PrefixTree.insert.Goals.{in-Ok, in-Err}
 pub returns-clause-stood : goal.returns-clause-stood
 returns-clause-stood g c =
     elim c.match-set.branch [
-      | in-Ok w ↦ rw w.result-is (w.in-Ok.ensures.stood ∙ sym ((tree_answers c.self.inside.root).all (span_of c.args.prefix)) ∙ ap (λ m. get m (span_of c.args.prefix)) c.self.view_is)
+      | in-Ok w ↦
+          rw w.result-is
+          (w.in-Ok.ensures.stood
+          ∙ sym ((tree_answers c.self.inside.root).all (span_of c.args.prefix))
+          ∙ ap (λ m. get m (span_of c.args.prefix)) c.self.view_is)
       | in-Err w ↦ rw w.result-is tt
     ]
 
 pub returns-clause-ok : goal.returns-clause-ok
 returns-clause-ok g c =
     elim c.match-set.branch [
-      | in-Ok w ↦ rw w.result-is (tree_inserted c.self.inside.root c.set.new.tree (span_of c.args.prefix) c.args.value w.in-Ok.ensures.all ∙ ap (λ m. insert m (span_of c.args.prefix) c.args.value) c.self.view_is)
+      | in-Ok w ↦ rw w.result-is (tree_inserted c.self.inside.root c.set.new.tree
+          (span_of c.args.prefix) c.args.value w.in-Ok.ensures.all
+          ∙ ap (λ m. insert m (span_of c.args.prefix) c.args.value) c.self.view_is)
       | in-Err w ↦ rw w.result-is tt
     ]

@@ -13,4 +13,5 @@ returns g c =
     listed_spans c.put_in_order.new.prefixes.items u
     ∙ c.put_in_order.ensures.same u
     ∙ rw c.new-prefixes.ensures.items at (listed u)
-    ∙ ap (λ b. b && covers c.args.span u) (sym (held_map c.self.inside.root u) ∙ ap (λ m. contains_key m u) c.self.view_is))
+    ∙ ap (λ b. b && covers c.args.span u) (sym (held_map c.self.inside.root u)
+    ∙ ap (λ m. contains_key m u) c.self.view_is))

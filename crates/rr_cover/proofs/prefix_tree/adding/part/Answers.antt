@@ -8,5 +8,9 @@ pub returns-clause-root : goal.returns-clause-root
 returns-clause-root g c = λ p side is_p lies rooted.
     let node = c.args.node.value in
     let fork = c.in-Some.fork.value in
-    let parting : IsParting fork.prefix node.prefix c.args.root = subst (λ r. IsParting r node.prefix c.args.root) (sym c.in-Some.ensures) (rw c.deref-2.ensures at c.parting.ensures) in
-    rooted_on c.beside.result fork.prefix p side c.beside.ensures.root (parting_lies p fork.prefix node.prefix c.args.root side is_p parting lies (root_on c.args.tree.now c.args.root p side c.requires.root rooted))
+    let parting : IsParting fork.prefix node.prefix c.args.root =
+    subst (λ r. IsParting r node.prefix c.args.root) (sym c.in-Some.ensures)
+    (rw c.deref-2.ensures at c.parting.ensures) in
+    rooted_on c.beside.result fork.prefix p side c.beside.ensures.root
+    (parting_lies p fork.prefix node.prefix c.args.root side is_p parting lies
+    (root_on c.args.tree.now c.args.root p side c.requires.root rooted))

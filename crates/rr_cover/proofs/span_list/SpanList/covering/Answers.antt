@@ -3,4 +3,5 @@ use Rattle.rr_cover.proofs.span_list.SpanList.covering.Goals as goal
 
 pub returns : goal.returns
 returns g c =
-    rw (← c.self.view_is, keys_listed _ c.self.invariant, ← c.deref.ensures.value) c.spans_covering.ensures
+    rw (← c.self.view_is, keys_listed _ c.self.invariant, ← c.deref.ensures.value)
+    c.spans_covering.ensures

@@ -11,4 +11,5 @@ returns g c =
     whole_list c.args.self.now (λ u. covers u c.args.span) _ c.put_in_order.ensures.rising (λ u.
     c.put_in_order.ensures.same u
     ∙ rw c.new-spans.ensures.items at (listed u)
-    ∙ ap (λ b. b && covers u c.args.span) (sym (held_nested c.self.inside.root u) ∙ ap (λ m. contains_key m u) c.self.view_is))
+    ∙ ap (λ b. b && covers u c.args.span) (sym (held_nested c.self.inside.root u)
+    ∙ ap (λ m. contains_key m u) c.self.view_is))

@@ -11,4 +11,5 @@ returns g c =
     whole_list c.args.self.now (λ u. covers c.args.span u) _ c.put_in_order.ensures.rising (λ u.
     c.put_in_order.ensures.same u
     ∙ rw c.new-spans.ensures.items at (listed u)
-    ∙ ap (λ b. b && covers c.args.span u) (sym (held_nested c.self.inside.root u) ∙ ap (λ m. contains_key m u) c.self.view_is))
+    ∙ ap (λ b. b && covers c.args.span u) (sym (held_nested c.self.inside.root u)
+    ∙ ap (λ m. contains_key m u) c.self.view_is))

@@ -26,16 +26,27 @@ returns-in-Ok-create_stored-clause-runs g c = record {
 }
 
 pub returns-in-Ok-create_stored-clause-opening : goal.returns-in-Ok-create_stored-clause-opening
-returns-in-Ok-create_stored-clause-opening g c = rw c.in-Ok-create_stored.ensures.registry c.in-Ok.ensures.opening
+returns-in-Ok-create_stored-clause-opening g c = rw c.in-Ok-create_stored.ensures.registry
+    c.in-Ok.ensures.opening
 
 pub returns-in-Ok-create_stored-clause-makes : goal.returns-in-Ok-create_stored-clause-makes
 returns-in-Ok-create_stored-clause-makes g c =
-    makes_as _ _ _ (λ db rows. record { registry = c.in-Ok.registry; is_opening = c.in-Ok.ensures.opening; rows = rows }) c.in-Ok-create_stored.ensures.makes
+    makes_as _ _ _ (λ db rows. record {
+      registry = c.in-Ok.registry;
+      is_opening =
+          c.in-Ok.ensures.opening;
+      rows = rows;
+    }) c.in-Ok-create_stored.ensures.makes
 
 pub returns-in-Err-clause-fails : goal.returns-in-Err-clause-fails
 returns-in-Err-clause-fails g c =
     let fails = c.in-Err.ensures.fails in record {
-      none = none_as _ _ _ (λ db rows. record { registry = c.in-Ok.registry; is_opening = c.in-Ok.ensures.opening; rows = rows }) fails.none;
+      none = none_as _ _ _ (λ db rows. record {
+        registry = c.in-Ok.registry;
+        is_opening =
+            c.in-Ok.ensures.opening;
+        rows = rows;
+      }) fails.none;
       not_empty = fails.not_empty;
       store = fails.store;
       untabled = fails.untabled;
@@ -46,7 +57,9 @@ returns-in_default-clause-event g c = no_making _ _ _ (returns-in_default-clause
 
 pub returns-in-Ok-create_stored-clause-event : goal.returns-in-Ok-create_stored-clause-event
 returns-in-Ok-create_stored-clause-event g c =
-    making _ _ _ _ (returns-in-Ok-create_stored-clause-runs g c) (returns-in-Ok-create_stored-clause-opening g c) (returns-in-Ok-create_stored-clause-makes g c)
+    making _ _ _ _ (returns-in-Ok-create_stored-clause-runs g c)
+    (returns-in-Ok-create_stored-clause-opening g c) (returns-in-Ok-create_stored-clause-makes
+    g c)
 
 pub returns-in-Err-clause-event : goal.returns-in-Err-clause-event
 returns-in-Err-clause-event g c = no_making _ _ _ (returns-in-Err-clause-fails g c).none

@@ -9,22 +9,39 @@ pub returns-in-Ok-create_stored-clause-runs : goal.returns-in-Ok-create_stored-c
 returns-in-Ok-create_stored-clause-runs g c = record {
   running = c.in-Ok-create_stored.ensures.running;
   settings = refl;
-  of_source = rw (c.in-Ok-create_stored.ensures.registry, ← c.source.ensures.source) c.in-Ok.ensures.of_source;
+  of_source = rw (c.in-Ok-create_stored.ensures.registry, ← c.source.ensures.source)
+      c.in-Ok.ensures.of_source;
   holds = c.in-Ok-create_stored.ensures.holds;
 }
 
 pub returns-in-Ok-create_stored-clause-makes : goal.returns-in-Ok-create_stored-clause-makes
 returns-in-Ok-create_stored-clause-makes g c =
-    rw (← c.source.ensures.source) (makes_as _ _ _ (λ db rows. record { registry = c.in-Ok.registry; is_loaded = c.in-Ok.ensures.loaded; rows = rows }) c.in-Ok-create_stored.ensures.makes)
+    rw (← c.source.ensures.source)
+    (makes_as _ _ _ (λ db rows. record {
+      registry = c.in-Ok.registry;
+      is_loaded =
+          c.in-Ok.ensures.loaded;
+      rows = rows;
+    }) c.in-Ok-create_stored.ensures.makes)
 
 pub returns-in-Err-create_stored-clause-fails : goal.returns-in-Err-create_stored-clause-fails
 returns-in-Err-create_stored-clause-fails g c =
     let fails = c.in-Err-create_stored.ensures.fails in record {
-      none = rw (← c.source.ensures.source) (none_as _ _ _ (λ db rows. record { registry = c.in-Ok.registry; is_loaded = c.in-Ok.ensures.loaded; rows = rows }) fails.none);
-      why = rw (c.from.ensures, ← c.source.ensures.source) (making_fails _ _ _ c.in-Ok.registry c.in-Err-create_stored.fault c.in-Ok.ensures.loaded);
-      not_empty = λ is. fails.not_empty (making_of_rows c.in-Err-create_stored.fault (sym c.from.ensures ∙ is));
-      store = λ error is. fails.store error (making_of_store c.in-Err-create_stored.fault error (sym c.from.ensures ∙ is));
-      untabled = λ error is. fails.untabled error (making_of_store c.in-Err-create_stored.fault error (sym c.from.ensures ∙ is));
+      none = rw (← c.source.ensures.source)
+          (none_as _ _ _ (λ db rows. record {
+            registry = c.in-Ok.registry;
+            is_loaded =
+                c.in-Ok.ensures.loaded;
+            rows = rows;
+          }) fails.none);
+      why = rw (c.from.ensures, ← c.source.ensures.source)
+          (making_fails _ _ _ c.in-Ok.registry c.in-Err-create_stored.fault c.in-Ok.ensures.loaded);
+      not_empty = λ is. fails.not_empty (making_of_rows c.in-Err-create_stored.fault
+          (sym c.from.ensures ∙ is));
+      store = λ error is. fails.store error (making_of_store c.in-Err-create_stored.fault error
+          (sym c.from.ensures ∙ is));
+      untabled = λ error is. fails.untabled error (making_of_store c.in-Err-create_stored.fault
+          error (sym c.from.ensures ∙ is));
     }
 
 pub returns-in-Err-clause-fails : goal.returns-in-Err-clause-fails
@@ -38,10 +55,13 @@ returns-in-Err-clause-fails g c = record {
 
 pub returns-in-Ok-create_stored-clause-event : goal.returns-in-Ok-create_stored-clause-event
 returns-in-Ok-create_stored-clause-event g c =
-    making _ _ _ _ (returns-in-Ok-create_stored-clause-runs g c) (rw (c.in-Ok-create_stored.ensures.registry, ← c.source.ensures.source) c.in-Ok.ensures.loaded) (returns-in-Ok-create_stored-clause-makes g c)
+    making _ _ _ _ (returns-in-Ok-create_stored-clause-runs g c)
+    (rw (c.in-Ok-create_stored.ensures.registry, ← c.source.ensures.source)
+    c.in-Ok.ensures.loaded) (returns-in-Ok-create_stored-clause-makes g c)
 
 pub returns-in-Err-create_stored-clause-event : goal.returns-in-Err-create_stored-clause-event
-returns-in-Err-create_stored-clause-event g c = no_making _ _ _ (returns-in-Err-create_stored-clause-fails g c).none
+returns-in-Err-create_stored-clause-event g c =
+    no_making _ _ _ (returns-in-Err-create_stored-clause-fails g c).none
 
 pub returns-in-Err-clause-event : goal.returns-in-Err-clause-event
 returns-in-Err-clause-event g c = no_making _ _ _ (returns-in-Err-clause-fails g c).none

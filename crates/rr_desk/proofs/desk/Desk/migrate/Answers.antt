@@ -4,7 +4,13 @@ use Rattle.rr_desk.proofs.desk.Desk.migrate.Goals as goal
 
 pub returns-in-Ok-clause-event : goal.returns-in-Ok-clause-event
 returns-in-Ok-clause-event g c =
-    migration _ _ _ (record { running = c.in-Ok.ensures.running; settings = refl; of_source = c.in-Ok.ensures.of_source; holds = c.in-Ok.ensures.holds }) c.in-Ok.ensures.migrates
+    migration _ _ _ (record {
+      running = c.in-Ok.ensures.running;
+      settings = refl;
+      of_source =
+          c.in-Ok.ensures.of_source;
+      holds = c.in-Ok.ensures.holds;
+    }) c.in-Ok.ensures.migrates
 
 pub returns-in-Err-clause-event : goal.returns-in-Err-clause-event
 returns-in-Err-clause-event g c = no_migration _ _ _ _ c.in-Err.ensures.fails

@@ -23,7 +23,8 @@ pub returns-in-Err-clause-fails : goal.returns-in-Err-clause-fails
 returns-in-Err-clause-fails g c = rw (← c.source.ensures.source) c.in-Err.ensures.fails
 
 pub returns-in-Ok-clause-event : goal.returns-in-Ok-clause-event
-returns-in-Ok-clause-event g c = opening _ _ _ (returns-in-Ok-clause-runs g c) (returns-in-Ok-clause-opens g c)
+returns-in-Ok-clause-event g c = opening _ _ _ (returns-in-Ok-clause-runs g c)
+    (returns-in-Ok-clause-opens g c)
 
 pub returns-in-Err-clause-event : goal.returns-in-Err-clause-event
 returns-in-Err-clause-event g c = no_opening _ _ _ _ (returns-in-Err-clause-fails g c)

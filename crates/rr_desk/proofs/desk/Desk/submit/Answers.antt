@@ -5,15 +5,21 @@ use Rattle.rr_desk.proofs.desk.Desk.submit.Goals as goal
 
 pub returns-clause-stopped : goal.returns-clause-stopped
 returns-clause-stopped g c = λ stopped.
-    let refused = c.submit-submitted.ensures.stopped stopped in
-    (refused.0, same_desk c.args.self.now c.submit-submitted.new.ledger refused.1, refused.2, refused.3)
+    let refused = c.submit-submitted.ensures.stopped stopped in (
+      refused.0,
+      same_desk c.args.self.now c.submit-submitted.new.ledger refused.1,
+      refused.2,
+      refused.3,
+    )
 
 pub returns-clause-submits : goal.returns-clause-submits
-returns-clause-submits g c = λ running. rw (← c.source.ensures.source) (c.submit-submitted.ensures.submits running)
+returns-clause-submits g c = λ running. rw (← c.source.ensures.source)
+    (c.submit-submitted.ensures.submits running)
 
 pub returns-clause-of_source : goal.returns-clause-of_source
 returns-clause-of_source g c =
-    submitted_of_source g.S.Store c.args.self.now.settings.source c.args.self.now.stored c.submit-submitted.new.ledger _ _ _ _ _
+    submitted_of_source g.S.Store c.args.self.now.settings.source c.args.self.now.stored
+    c.submit-submitted.new.ledger _ _ _ _ _
     (λ stopped. (c.submit-submitted.ensures.stopped stopped).1)
     (λ running. rw c.source.ensures.source at (c.submit-submitted.ensures.submits running))
 
@@ -23,8 +29,13 @@ returns-clause-lasts g c = c.submit-submitted.ensures.lasts
 pub returns-clause-event : goal.returns-clause-event
 returns-clause-event g c = submission _ _ _ _ _ _ _ (record {
   refuses = λ halted.
-      let refused = returns-clause-stopped g c halted in
-      (refused.0, refused.1, ap (λ r. g.R.Source.told r) refused.2, ap (λ w. g.W.Sink.told w) refused.3);
+      let refused = returns-clause-stopped g c halted in (
+        refused.0,
+        refused.1,
+        ap (λ r. g.R.Source.told r) refused.2,
+        ap (λ w. g.W.Sink.told w)
+            refused.3,
+      );
   submits = returns-clause-submits g c;
   runs_on = c.submit-submitted.ensures.running;
   lasts = c.submit-submitted.ensures.lasts;

@@ -8,30 +8,42 @@ use Rattle.rr_desk.proofs.stored.Stored.decide_about.Goals as goal
 
 pub invariant_of-self : goal.invariant_of-self
 invariant_of-self g c = λ running.
-    still_held g.S.Store c.self.inside.store c.follow.new.store c.self.inside.registry c.apply-outcome.new.self c.args.key.now c.apply-outcome.result _ (c.self.invariant running)
-    (subst (λ k. LeadsTo c.self.inside.registry k c.apply-outcome.result c.apply-outcome.new.self) (sym c.requires.key) (leads _ _ _ _ _ c.apply-outcome.ensures.step))
+    still_held g.S.Store c.self.inside.store c.follow.new.store c.self.inside.registry
+    c.apply-outcome.new.self c.args.key.now c.apply-outcome.result _ (c.self.invariant running)
+    (subst (λ k. LeadsTo c.self.inside.registry k c.apply-outcome.result c.apply-outcome.new.self)
+    (sym c.requires.key) (leads _ _ _ _ _ c.apply-outcome.ensures.step))
     c.in-Ok.ensures.follows
 
 pub follow-requires : goal.follow-requires
 follow-requires g c =
-    stands_after c.self.inside.registry c.args.key.now c.apply-outcome.result c.apply-outcome.new.self
-    (subst (λ k. LeadsTo c.self.inside.registry k c.apply-outcome.result c.apply-outcome.new.self) (sym c.requires.key) (leads _ _ _ _ _ c.apply-outcome.ensures.step))
+    stands_after c.self.inside.registry c.args.key.now c.apply-outcome.result
+    c.apply-outcome.new.self
+    (subst (λ k. LeadsTo c.self.inside.registry k c.apply-outcome.result c.apply-outcome.new.self)
+    (sym c.requires.key) (leads _ _ _ _ _ c.apply-outcome.ensures.step))
 
 pub returns-in-Err-clause-stops : goal.returns-in-Err-clause-stops
 returns-in-Err-clause-stops g c =
     let running = rw (← c.self.view_is) at c.requires.running in
-    subst (λ s. LeavesStopped s.registry c.args.secrets.now c.args.item c.apply-outcome.new.self true (state g.S.Store s.store) (state g.S.Store c.follow.new.store)) c.self.view_is
-    (stops_there g.S.Store c.self.inside.store c.follow.new.store c.self.inside.registry c.apply-outcome.new.self c.args.secrets.now c.args.item c.args.key.now c.apply-outcome.result _
-    c.requires.key c.apply-outcome.ensures.step c.apply-outcome.ensures.leaves c.in-Err.ensures.changing (c.self.invariant running) c.in-Err.ensures.follows)
+    subst (λ s. LeavesStopped s.registry c.args.secrets.now c.args.item c.apply-outcome.new.self
+    true (state g.S.Store s.store) (state g.S.Store c.follow.new.store)) c.self.view_is
+    (stops_there g.S.Store c.self.inside.store c.follow.new.store c.self.inside.registry
+    c.apply-outcome.new.self c.args.secrets.now c.args.item c.args.key.now
+    c.apply-outcome.result _
+    c.requires.key c.apply-outcome.ensures.step c.apply-outcome.ensures.leaves
+    c.in-Err.ensures.changing (c.self.invariant running) c.in-Err.ensures.follows)
 
 pub returns-in-Ok-clause-lasts : goal.returns-in-Ok-clause-lasts
 returns-in-Ok-clause-lasts g c =
     let running = rw (← c.self.view_is) at c.requires.running in
-    subst (λ s. DatabaseLasts (state g.S.Store s.store) (state g.S.Store c.follow.new.store)) c.self.view_is
-    (item_lasts g.S.Store _ c.self.inside.store c.follow.new.store c.self.inside.registry _ (c.self.invariant running) c.in-Ok.ensures.follows c.follow.ensures.others)
+    subst (λ s. DatabaseLasts (state g.S.Store s.store) (state g.S.Store c.follow.new.store))
+    c.self.view_is
+    (item_lasts g.S.Store _ c.self.inside.store c.follow.new.store c.self.inside.registry _
+    (c.self.invariant running) c.in-Ok.ensures.follows c.follow.ensures.others)
 
 pub returns-in-Err-clause-lasts : goal.returns-in-Err-clause-lasts
 returns-in-Err-clause-lasts g c =
     let running = rw (← c.self.view_is) at c.requires.running in
-    subst (λ s. DatabaseLasts (state g.S.Store s.store) (state g.S.Store c.follow.new.store)) c.self.view_is
-    (item_lasts g.S.Store _ c.self.inside.store c.follow.new.store c.self.inside.registry _ (c.self.invariant running) c.in-Err.ensures.follows c.follow.ensures.others)
+    subst (λ s. DatabaseLasts (state g.S.Store s.store) (state g.S.Store c.follow.new.store))
+    c.self.view_is
+    (item_lasts g.S.Store _ c.self.inside.store c.follow.new.store c.self.inside.registry _
+    (c.self.invariant running) c.in-Err.ensures.follows c.follow.ensures.others)

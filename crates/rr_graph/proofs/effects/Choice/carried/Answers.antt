@@ -11,14 +11,17 @@ use Rattle.rr_graph.proofs.effects.Choice.carried.Goals as goal
 pub returns-then-not-others : goal.returns-then-not-others
 returns-then-not-others g c = λ chosen.
     IfOk-weaker c.carried.result _ _
-    (λ pairs is. IsMadeBut-keeping g.G.Labelled.keeps g.G.Labelled.passed c.args.edges.now c.args.value c.args.self.now chosen (not c.args.others) pairs.items (ap not c.if-not-others.true)
+    (λ pairs is. IsMadeBut-keeping g.G.Labelled.keeps g.G.Labelled.passed c.args.edges.now
+    c.args.value c.args.self.now chosen (not c.args.others) pairs.items
+    (ap not c.if-not-others.true)
     (is ∙ ap (filter_map (pair_by g.G.Labelled.passed c.args.value)) c.deref.ensures.value))
     c.carried.ensures
 
 pub returns-in_default : goal.returns-in_default
 returns-in_default g c = λ _.
     IfOk-weaker c.carried-in_default.result _ _
-    (λ pairs is. IsMadeBut-all g.G.Labelled.keeps g.G.Labelled.passed c.args.edges.now c.args.value (not c.args.others) pairs.items is)
+    (λ pairs is. IsMadeBut-all g.G.Labelled.keeps g.G.Labelled.passed c.args.edges.now c.args.value
+    (not c.args.others) pairs.items is)
     c.carried-in_default.ensures
 
 pub returns : goal.returns
@@ -26,8 +29,15 @@ returns g c = λ chosen.
     let E : Type 0 = Edge g.row.N.Denot g.row.L.Denot in
     let P : Type 0 = g.row.N.Denot × g.row.G-Value.Denot in
     let by : E → Option P = pair_by g.G.Labelled.passed c.args.value in
-    let enough : IsEnough (changed g.G.Labelled.keeps g.G.Labelled.passed) c.args.edges.now c.args.value c.in-Some.changing.items =
-    subst (λ (o : Option (Vec E)). IfSome o (λ kept. IsEnough (changed g.G.Labelled.keeps g.G.Labelled.passed) c.args.edges.now c.args.value kept.items)) c.in-Some.is chosen.changing in
-    IsMadeBut-chosen g.G.Labelled.keeps g.G.Labelled.passed c.args.edges.now c.args.value c.args.self.now chosen c.in-Some.changing.items enough (not c.args.others) c.append.new.self.items
-    (c.in_ok-append.ensures.items ∙ ap (λ (l : List P). l ++ c.in_ok-more.more.items) (c.in_ok-pairs.ensures ∙ ap (filter_map by) c.deref-2.ensures.value)
-    ∙ ap (λ (l : List P). filter_map by c.args.self.now.keeping.items ++ l) (c.in_ok-more.ensures ∙ ap (filter_map by) c.deref-3.ensures.value))
+    let enough : IsEnough (changed g.G.Labelled.keeps g.G.Labelled.passed) c.args.edges.now
+    c.args.value c.in-Some.changing.items =
+    subst (λ (o : Option (Vec E)).
+    IfSome o (λ kept. IsEnough (changed g.G.Labelled.keeps g.G.Labelled.passed)
+    c.args.edges.now c.args.value kept.items)) c.in-Some.is chosen.changing in
+    IsMadeBut-chosen g.G.Labelled.keeps g.G.Labelled.passed c.args.edges.now c.args.value
+    c.args.self.now chosen c.in-Some.changing.items enough (not c.args.others)
+    c.append.new.self.items
+    (c.in_ok-append.ensures.items ∙ ap (λ (l : List P). l ++ c.in_ok-more.more.items)
+    (c.in_ok-pairs.ensures ∙ ap (filter_map by) c.deref-2.ensures.value)
+    ∙ ap (λ (l : List P). filter_map by c.args.self.now.keeping.items ++ l)
+    (c.in_ok-more.ensures ∙ ap (filter_map by) c.deref-3.ensures.value))

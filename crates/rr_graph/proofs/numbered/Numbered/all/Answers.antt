@@ -6,8 +6,10 @@ pub loop-place-init : goal.loop-place-init
 loop-place-init g c = below_none c.new-places.result.items c.new-places.ensures.items
 
 pub loop-place-preserved : goal.loop-place-preserved
-loop-place-preserved g c = below_more c.loop-place.place c.loop-place.places.items c.push.new.self.items
-    (c.in_ok-push.ensures.items ∙ ap (λ (n : ℕ). c.loop-place.places.items ++ n ∷ []) c.in_ok-narrow.ensures) c.loop-place.invariant
+loop-place-preserved g c = below_more c.loop-place.place c.loop-place.places.items
+    c.push.new.self.items
+    (c.in_ok-push.ensures.items ∙ ap (λ (n : ℕ). c.loop-place.places.items ++ n ∷ [])
+    c.in_ok-narrow.ensures) c.loop-place.invariant
 
 pub returns : goal.returns
 returns g c = λ place. (

@@ -1,6 +1,8 @@
-use Rattle.std.proofs.Common.{◌≡◌, ◌⊎◌, ◌++◌, [], ◌∷◌, List, Contains, append_assoc, sym, ap, ◌∙◌, inl, inr}
+use Rattle.std.proofs.Common.{◌≡◌, ◌⊎◌, ◌++◌, [], ◌∷◌, List, Contains, append_assoc, sym, ap, ◌∙◌}
+use Rattle.std.proofs.Common.{inl, inr}
 use Rattle.std.proofs.lemmas.List.{append-nil}
-use Rattle.std.proofs.lemmas.List.Elements.{Contains-append_left, Contains-append_right, Contains-push}
+use Rattle.std.proofs.lemmas.List.Elements.{Contains-append_left, Contains-append_right}
+use Rattle.std.proofs.lemmas.List.Elements.{Contains-push}
 use Rattle.std.proofs.lemmas.Result.{err_from_is_err_and}
 use Rattle.rr_graph.specs.ListingParts.{Lists}
 use Rattle.rr_graph.proofs.Listings.{Lists-more, Lists-none, MoreThan-weaker}
@@ -20,21 +22,35 @@ loop-node-preserved g c =
     record {
       listing = c.in_ok-add.ensures.listing;
       taken = c.in-Some.node ∷ taken;
-      cut = c.loop-node.invariant.cut ∙ ap (λ (l : List g.row.N.Denot). l ++ taken) c.in-Some.ensures.items ∙ append_assoc c.pop.new.self.items (c.in-Some.node ∷ []) taken;
-      added = Lists-more c.args.self.now.list.items taken c.loop-node.self.list.items c.add.new.self.list.items c.in-Some.node c.loop-node.invariant.added c.in_ok-add.ensures.added;
+      cut = c.loop-node.invariant.cut ∙ ap (λ (l : List g.row.N.Denot). l ++ taken)
+          c.in-Some.ensures.items ∙ append_assoc c.pop.new.self.items (c.in-Some.node ∷ []) taken;
+      added = Lists-more c.args.self.now.list.items taken c.loop-node.self.list.items
+          c.add.new.self.list.items c.in-Some.node c.loop-node.invariant.added
+          c.in_ok-add.ensures.added;
     }
 
 -- what the walk had and the node are among what it began with and the nodes
-earlier : {N : Type 0} (old nodes rest taken now : List N) (node : N) → nodes ≡ rest ++ taken → Lists old taken now → Contains rest node → (other : N) → Contains now other ⊎ (other ≡ node) → Contains old other ⊎ Contains nodes other
+earlier : {N : Type 0} (old nodes rest taken now : List N) (node : N) → nodes ≡ rest ++ taken →
+    Lists old taken now → Contains rest node → (other : N) → Contains now other ⊎ (other ≡ node) →
+    Contains old other ⊎ Contains nodes other
 earlier old nodes rest taken now node cut added among other has =
     elim has [
-      | inl there ↦ elim (added.only other there) [ inl at_first ↦ inl at_first | inr later ↦ inr (rw cut (Contains-append_right rest taken other later)) ]
+      | inl there ↦ elim (added.only other there) [
+        | inl at_first ↦ inl at_first
+        | inr later ↦
+            inr (rw cut (Contains-append_right rest taken other later))
+      ]
       | inr same ↦ inr (rw (cut, same) (Contains-append_left rest taken node among))
     ]
 
 pub returns-in_err-add-clause-many : goal.returns-in_err-add-clause-many
 returns-in_err-add-clause-many g c = λ is.
     let p = err_from_is_err_and c.from_residual.result c.from_residual.ensures.1 in
-    MoreThan-weaker c.args.limit (λ (other : g.row.N.Denot). Contains c.loop-node.self.list.items other ⊎ (other ≡ c.in-Some.node)) (λ (other : g.row.N.Denot). Contains c.args.self.now.list.items other ⊎ Contains c.args.nodes.items other)
-    (earlier c.args.self.now.list.items c.args.nodes.items c.loop-node.nodes.items c.loop-node.invariant.taken c.loop-node.self.list.items c.in-Some.node c.loop-node.invariant.cut c.loop-node.invariant.added (rw c.in-Some.ensures.items (Contains-push c.pop.new.self.items c.in-Some.node)))
+    MoreThan-weaker c.args.limit (λ (other : g.row.N.Denot). Contains c.loop-node.self.list.items
+    other ⊎ (other ≡ c.in-Some.node)) (λ (other : g.row.N.Denot).
+    Contains c.args.self.now.list.items other ⊎ Contains c.args.nodes.items other)
+    (earlier c.args.self.now.list.items c.args.nodes.items c.loop-node.nodes.items
+    c.loop-node.invariant.taken c.loop-node.self.list.items c.in-Some.node
+    c.loop-node.invariant.cut c.loop-node.invariant.added
+    (rw c.in-Some.ensures.items (Contains-push c.pop.new.self.items c.in-Some.node)))
     (c.in_err-add.ensures.many (cc (is, p.1, p.2)))

@@ -10,22 +10,28 @@ use Rattle.rr_index.proofs.indexed_book.IndexedBook.add.Goals as goal
 
 pub enter-requires-clause-fresh : goal.enter-requires-clause-fresh
 enter-requires-clause-fresh c =
-    under_none c.self.inside.objects c.self.inside.indexes c.args.object c.self.invariant.indexes (ap (λ (s : Reg). get s c.args.object.key) c.self.view_is ∙ c.requires.free)
+    under_none c.self.inside.objects c.self.inside.indexes c.args.object c.self.invariant.indexes
+    (ap (λ (s : Reg). get s c.args.object.key) c.self.view_is ∙ c.requires.free)
 
 pub enter-requires-clause-apart : goal.enter-requires-clause-apart
 enter-requires-clause-apart c =
     let o = c.args.object in
     uncrossed c.self.inside.objects c.self.inside.indexes o c.self.invariant.indexes
-    (apart_of c.self.inside.objects o (subst (λ (s : Reg). Sound (insert s o.key o)) (sym c.self.view_is) c.requires.sound))
+    (apart_of c.self.inside.objects o (subst (λ (s : Reg). Sound (insert s o.key o))
+    (sym c.self.view_is) c.requires.sound))
 
 pub invariant_of-self-in-Err : goal.invariant_of-self-in-Err
 invariant_of-self-in-Err c =
     let r = c.self.inside.objects in
     let o = c.args.object in
-    let free : get r o.key ≡ None = ap (λ (s : Reg). get s o.key) c.self.view_is ∙ c.requires.free in
+    let free : get r o.key ≡ None = ap (λ (s : Reg). get s o.key) c.self.view_is
+    ∙ c.requires.free in
     record {
       sound = subst Sound (sym c.in-Err.ensures.err) c.self.invariant.sound;
-      indexes = c.leave.ensures (insert r o.key o) (c.in_ok-enter.ensures.ok r c.self.invariant.indexes free)
-          (subst (λ (x : Obj). get (insert r o.key o) x.key ≡ Some x) (sym c.in-Err.ensures.returned) (put_there r o.key o))
-          (c.in-Err.ensures.err ∙ sym (put_and_taken r o.key o free) ∙ ap (λ (x : Obj). remove (insert r o.key o) x.key) (sym c.in-Err.ensures.returned));
+      indexes = c.leave.ensures (insert r o.key o)
+          (c.in_ok-enter.ensures.ok r c.self.invariant.indexes free)
+          (subst (λ (x : Obj). get (insert r o.key o) x.key ≡ Some x)
+          (sym c.in-Err.ensures.returned) (put_there r o.key o))
+          (c.in-Err.ensures.err ∙ sym (put_and_taken r o.key o free)
+          ∙ ap (λ (x : Obj). remove (insert r o.key o) x.key) (sym c.in-Err.ensures.returned));
     }

@@ -12,12 +12,16 @@ invariant_of-self c =
     let at : get r k ≡ Some c.in-Some.old = sym c.remove.ensures.old ∙ c.in-Some.is in
     let own = c.self.invariant.sound.keyed k c.in-Some.old at in
     record {
-      sound = subst Sound (sym c.remove.ensures.rest) (subst (λ (s : Reg). Sound (remove s k)) (sym c.self.view_is) c.requires);
-      indexes = c.leave.ensures r c.self.invariant.indexes (ap (get r) own ∙ at) (c.remove.ensures.rest ∙ ap (remove r) (sym own));
+      sound = subst Sound (sym c.remove.ensures.rest) (subst (λ (s : Reg). Sound (remove s k))
+          (sym c.self.view_is) c.requires);
+      indexes = c.leave.ensures r c.self.invariant.indexes (ap (get r) own ∙ at)
+          (c.remove.ensures.rest ∙ ap (remove r) (sym own));
     }
 
 pub invariant_of-self-in_default : goal.invariant_of-self-in_default
 invariant_of-self-in_default c =
     let r = c.self.inside.objects in
     let k = c.args.key.now in
-    subst (λ (s : Reg). IsIndexed s c.self.inside.indexes) (sym (c.remove.ensures.rest ∙ take_nothing r k (sym c.remove.ensures.old ∙ c.in_default.is))) c.self.invariant
+    subst (λ (s : Reg). IsIndexed s c.self.inside.indexes)
+    (sym (c.remove.ensures.rest ∙ take_nothing r k
+    (sym c.remove.ensures.old ∙ c.in_default.is))) c.self.invariant

@@ -11,5 +11,6 @@ use Rattle.rr_index.proofs.indexed_book.IndexedBookSetBook.aut_nums.Goals as goa
 pub returns-clause-lists : goal.returns-clause-lists
 returns-clause-lists c =
     IfOk-weaker c.aut_nums.result _ _
-    (λ found is. lists_aut_nums c.args.self.now (subst Sound c.self.view_is c.self.invariant.sound) found.items (is ∙ ap (λ r. filter (is_of_class AutNum) (values r)) c.self.view_is))
+    (λ found is. lists_aut_nums c.args.self.now (subst Sound c.self.view_is c.self.invariant.sound)
+    found.items (is ∙ ap (λ r. filter (is_of_class AutNum) (values r)) c.self.view_is))
     c.aut_nums.ensures

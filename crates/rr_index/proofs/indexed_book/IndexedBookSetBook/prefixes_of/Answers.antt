@@ -10,6 +10,8 @@ pub returns-clause-found : goal.returns-clause-found
 returns-clause-found c =
     IfOk-weaker c.prefixes_of.result _ _
     (λ found is. is
-    ∙ prefixes_listed c.self.inside.objects c.self.invariant.sound c.self.inside.indexes.origins.routes c.self.invariant.indexes.keys.origins c.args.origin c.prefixes_of.ensures.ordered
+    ∙ prefixes_listed c.self.inside.objects c.self.invariant.sound
+    c.self.inside.indexes.origins.routes c.self.invariant.indexes.keys.origins c.args.origin
+    c.prefixes_of.ensures.ordered
     ∙ ap (λ s. filter_map (λ o. prefix_from c.args.origin o.key) (values s)) c.self.view_is)
     c.prefixes_of.ensures.found

@@ -8,11 +8,15 @@ pub returns-in-Some-clause-lists : goal.returns-in-Some-clause-lists
 returns-in-Some-clause-lists c =
     IfOk-weaker c.at_keys.result _ _
     (λ found is. subst (λ r. ListsOnce (IsReferrer r c.args.name.now) found.items) c.self.view_is
-    (referrers_listed c.self.inside.objects c.self.invariant.sound c.self.inside.indexes.referrers.keys c.self.invariant.indexes.keys.referrers c.args.name.now c.in-Some.keys.now found.items
+    (referrers_listed c.self.inside.objects c.self.invariant.sound
+    c.self.inside.indexes.referrers.keys c.self.invariant.indexes.keys.referrers
+    c.args.name.now c.in-Some.keys.now found.items
     c.in-Some.ensures is c.at_keys.ensures.ordered))
     c.at_keys.ensures.found
 
 pub returns-in-None-clause-lists : goal.returns-in-None-clause-lists
 returns-in-None-clause-lists c =
     subst (λ r. ListsOnce (IsReferrer r c.args.name.now) c.new.result.items) c.self.view_is
-    (no_referrers c.self.inside.objects c.self.invariant.sound c.self.inside.indexes.referrers.keys c.self.invariant.indexes.keys.referrers c.args.name.now c.new.result.items c.in-None.ensures c.new.ensures.items)
+    (no_referrers c.self.inside.objects c.self.invariant.sound c.self.inside.indexes.referrers.keys
+    c.self.invariant.indexes.keys.referrers c.args.name.now c.new.result.items
+    c.in-None.ensures c.new.ensures.items)

@@ -10,6 +10,7 @@ pub returns : goal.returns
 returns c =
     IfOk-weaker c.routes_of.result _ _
     (λ found is. is
-    ∙ listed_from c.self.inside.objects c.self.invariant.sound c.self.inside.indexes.origins.routes c.self.invariant.indexes.keys.origins c.args.origin c.routes_of.ensures.ordered
+    ∙ listed_from c.self.inside.objects c.self.invariant.sound c.self.inside.indexes.origins.routes
+    c.self.invariant.indexes.keys.origins c.args.origin c.routes_of.ensures.ordered
     ∙ ap (λ s. filter (is_originated c.args.origin) (values s)) c.self.view_is)
     c.routes_of.ensures.found

@@ -20,7 +20,9 @@ use Rattle.rr_index.proofs.indexes.Indexes.enter_keys.Goals as goal
 pub add-requires : goal.add-requires
 add-requires c = λ n k meant.
     let o = c.args.object.now in
-    c.requires.fresh n k (subst (λ b. IsTrue (eq_by_cmp key_cmp o.key k && (names_set n o && not b))) (ap (list_any (is_at (slice_cmp nat_cmp n))) c.new-none.ensures.empty) meant)
+    c.requires.fresh n k
+    (subst (λ b. IsTrue (eq_by_cmp key_cmp o.key k && (names_set n o && not b)))
+    (ap (list_any (is_at (slice_cmp nat_cmp n))) c.new-none.ensures.empty) meant)
 
 pub returns-in-Ok-clause-ok : goal.returns-in-Ok-clause-ok
 returns-in-Ok-clause-ok c = λ r has free.
@@ -30,15 +32,20 @@ returns-in-Ok-clause-ok c = λ r has free.
       spans = entered.0.0;
       origins = entered.0.1;
       names = entered.1;
-      referrers = subst (λ (s : SetIndex). HasReferrers (insert r o.key o) s.keys) (sym c.enter_key.ensures.aside)
-          (referrers_first r c.args.self.now.referrers.keys has.referrers o (contains (slice_cmp nat_cmp) c.new-none.result) c.add.new.self.keys free
-          (λ n. ap (list_any (is_at (slice_cmp nat_cmp n))) c.new-none.ensures.empty) c.in_ok-add.ensures.ok);
+      referrers = subst (λ (s : SetIndex). HasReferrers (insert r o.key o) s.keys)
+          (sym c.enter_key.ensures.aside)
+          (referrers_first r c.args.self.now.referrers.keys has.referrers o
+          (contains (slice_cmp nat_cmp) c.new-none.result) c.add.new.self.keys free
+          (λ n. ap (list_any (is_at (slice_cmp nat_cmp n))) c.new-none.ensures.empty)
+          c.in_ok-add.ensures.ok);
     }
 
 pub returns-in_err-add-clause-err : goal.returns-in_err-add-clause-err
 returns-in_err-add-clause-err c =
     let now = c.args.self.now in
-    let kept : (r : Reg) → HasKeys r now.spans now.origins now.names now.referrers → get r c.args.object.now.key ≡ None → HasKeys r now.spans now.origins now.names c.add.new.self =
+    let kept : (r : Reg) → HasKeys r now.spans now.origins now.names now.referrers →
+    get r c.args.object.now.key ≡ None → HasKeys r now.spans now.origins now.names
+    c.add.new.self =
     λ r has free. record {
       spans = has.spans;
       origins = has.origins;
@@ -51,14 +58,18 @@ pub returns-clause-err : goal.returns-clause-err
 returns-clause-err c = λ r has free.
     let o = c.args.object.now in
     let left = c.in-Err.ensures.err r (has.spans, has.origins) has.names free in
-    let empty : (n : List ℕ) → contains (slice_cmp nat_cmp) c.new-none.result n ≡ false = λ n. ap (list_any (is_at (slice_cmp nat_cmp n))) c.new-none.ensures.empty in
+    let empty : (n : List ℕ) → contains (slice_cmp nat_cmp) c.new-none.result n ≡ false = λ n.
+    ap (list_any (is_at (slice_cmp nat_cmp n))) c.new-none.ensures.empty in
     record {
       spans = left.0.0;
       origins = left.0.1;
       names = left.1;
-      referrers = taken_back r c.args.self.now.referrers.keys has.referrers o (contains (slice_cmp nat_cmp) c.new-none.result) (λ other. false) c.enter_key.new.self.referrers.keys c.take_all.new.self.keys
+      referrers = taken_back r c.args.self.now.referrers.keys has.referrers o
+          (contains (slice_cmp nat_cmp) c.new-none.result) (λ other. false)
+          c.enter_key.new.self.referrers.keys c.take_all.new.self.keys
           (λ n. empty n ∙ sym (ap (λ v. option_map_or (names_set n) v false) free))
           (λ n. sym (empty n))
-          (λ n k. ap (λ (s : SetIndex). stands_under s.keys n k) c.enter_key.ensures.aside ∙ c.in_ok-add.ensures.ok n k)
+          (λ n k. ap (λ (s : SetIndex). stands_under s.keys n k) c.enter_key.ensures.aside
+          ∙ c.in_ok-add.ensures.ok n k)
           c.take_all.ensures;
     }

@@ -18,13 +18,21 @@ use Rattle.rr_index.proofs.indexes.Indexes.enter_names.Goals as goal
 pub add-requires : goal.add-requires
 add-requires c = λ n k meant.
     let o = c.args.object.now in
-    c.requires n k (subst (λ b. IsTrue (eq_by_cmp key_cmp o.key k && (names_set n o && not b))) (c.in_ok-before.ensures n) meant)
+    c.requires n k (subst (λ b. IsTrue (eq_by_cmp key_cmp o.key k && (names_set n o && not b)))
+    (c.in_ok-before.ensures n) meant)
 
 pub returns-in_err-add-clause-err : goal.returns-in_err-add-clause-err
 returns-in_err-add-clause-err c =
     let now = c.args.self.now in
-    let kept : (r : Reg) → HasIndexes r now → option_copied c.args.standing ≡ get r c.args.object.now.key
-    → HasIndexes r (record { spans = now.spans; origins = now.origins; names = now.names; referrers = c.add.new.self; namings = now.namings }) =
+    let kept : (r : Reg) → HasIndexes r now → option_copied c.args.standing
+    ≡ get r c.args.object.now.key
+    → HasIndexes r (record {
+      spans = now.spans;
+      origins = now.origins;
+      names = now.names;
+      referrers = c.add.new.self;
+      namings = now.namings;
+    }) =
     λ r has stood. record {
       keys = record {
         spans = has.keys.spans;
@@ -40,7 +48,9 @@ pub returns-in-Ok-clause-ok : goal.returns-in-Ok-clause-ok
 returns-in-Ok-clause-ok c =
     let o = c.args.object.now in
     record {
-      under = λ n k. c.in_ok-add.ensures.ok n k ∙ ap (λ b. stands_under c.args.self.now.referrers.keys n k || (eq_by_cmp key_cmp o.key k && (names_set n o && not b))) (c.in_ok-before.ensures n);
+      under = λ n k. c.in_ok-add.ensures.ok n k
+          ∙ ap (λ b. stands_under c.args.self.now.referrers.keys n k ||
+          (eq_by_cmp key_cmp o.key k && (names_set n o && not b))) (c.in_ok-before.ensures n);
       counts = c.in-Ok.ensures.ok;
       spans = refl;
       origins = refl;
@@ -56,9 +66,11 @@ returns-clause-err c = λ r has stood.
         spans = has.keys.spans;
         origins = has.keys.origins;
         names = has.keys.names;
-        referrers = taken_back r c.args.self.now.referrers.keys has.keys.referrers o before before c.add.new.self.keys c.take.new.self.keys
+        referrers = taken_back r c.args.self.now.referrers.keys has.keys.referrers o before before
+            c.add.new.self.keys c.take.new.self.keys
             (λ n. c.in_ok-before.ensures n ∙ ap (λ y. option_map_or (names_set n) y false) stood)
             (λ n. refl) c.in_ok-add.ensures.ok c.take.ensures;
       };
-      namings = namings_same r c.args.self.now.namings.counts has.namings c.add-2.new.self.counts c.in-Err.ensures.err;
+      namings = namings_same r c.args.self.now.namings.counts has.namings c.add-2.new.self.counts
+          c.in-Err.ensures.err;
     }

@@ -10,6 +10,7 @@ returns-in-Err-clause-err c = λ r places free.
     let k = c.key-key.result.now in
     let o = c.args.object.now in (
       c.in-Err.ensures.err r places.0,
-      subst (λ (m : Reg). HasOrigins m c.take.new.self.routes) (put_and_taken r k o (ap (get r) c.key-key.ensures.value ∙ free))
+      subst (λ (m : Reg). HasOrigins m c.take.new.self.routes)
+          (put_and_taken r k o (ap (get r) c.key-key.ensures.value ∙ free))
           (c.take.ensures (insert r k o) (c.in_ok-add.ensures.ok r o places.1)),
     )

@@ -12,13 +12,22 @@ use Rattle.rr_index.proofs.indexes.Indexes.leave.Goals as goal
 
 pub returns : goal.returns
 returns c = λ r has stood rest.
-    let left : c.args.objects.now ≡ remove r c.key-key.result.now = rest ∙ ap (remove r) (sym c.key-key.ensures.value) in
+    let left : c.args.objects.now ≡ remove r c.key-key.result.now = rest ∙ ap (remove r)
+    (sym c.key-key.ensures.value) in
     record {
       keys = record {
-        spans = subst (λ (m : Reg). HasSpans m c.take.new.self.inetnums c.take.new.self.blocks c.take.new.self.routes) (sym left) (c.take.ensures r has.keys.spans (c.is_routed-is_routed.ensures r left));
-        origins = subst (λ (m : Reg). HasOrigins m c.take-2.new.self.routes) (sym left) (c.take-2.ensures r has.keys.origins);
-        names = subst (λ (m : Reg). HasNames m c.take-3.new.self.keys) (sym left) (c.take-3.ensures r has.keys.names);
-        referrers = subst (λ (m : Reg). HasReferrers m c.take_all.new.self.keys) (sym rest) (referrers_gone r c.args.self.now.referrers.keys has.keys.referrers c.args.gone.now c.take_all.new.self.keys stood c.take_all.ensures);
+        spans = subst (λ (m : Reg). HasSpans m c.take.new.self.inetnums c.take.new.self.blocks
+            c.take.new.self.routes) (sym left)
+            (c.take.ensures r has.keys.spans (c.is_routed-is_routed.ensures r left));
+        origins = subst (λ (m : Reg). HasOrigins m c.take-2.new.self.routes) (sym left)
+            (c.take-2.ensures r has.keys.origins);
+        names = subst (λ (m : Reg). HasNames m c.take-3.new.self.keys) (sym left)
+            (c.take-3.ensures r has.keys.names);
+        referrers = subst (λ (m : Reg). HasReferrers m c.take_all.new.self.keys) (sym rest)
+            (referrers_gone r c.args.self.now.referrers.keys has.keys.referrers c.args.gone.now
+            c.take_all.new.self.keys stood c.take_all.ensures);
       };
-      namings = subst (λ (m : Reg). HasNamings m c.take-4.new.self.counts) (sym rest) (namings_gone r c.args.self.now.namings.counts has.namings c.args.gone.now c.take-4.new.self.counts stood c.take-4.ensures);
+      namings = subst (λ (m : Reg). HasNamings m c.take-4.new.self.counts) (sym rest)
+          (namings_gone r c.args.self.now.namings.counts has.namings c.args.gone.now
+          c.take-4.new.self.counts stood c.take-4.ensures);
     }

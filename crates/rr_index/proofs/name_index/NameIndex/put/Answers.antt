@@ -4,5 +4,6 @@ use Rattle.rr_index.proofs.name_index.NameIndex.put.Goals as goal
 
 pub returns-clause-ok : goal.returns-clause-ok
 returns-clause-ok c = λ r o has.
-    names_in r o c.args.name.now c.in_ok-under.under c.in_ok-kept.kept c.args.self.now.keys c.insert.new.self has
+    names_in r o c.args.name.now c.in_ok-under.under c.in_ok-kept.kept c.args.self.now.keys
+    c.insert.new.self has
     c.in_ok-under.ensures (c.in_ok-kept.ensures ∙ c.requires) c.in_ok-insert.ensures.updates.0

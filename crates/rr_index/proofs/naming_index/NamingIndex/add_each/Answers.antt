@@ -12,21 +12,28 @@ loop-name-init c =
 pub loop-name-preserved : goal.loop-name-preserved
 loop-name-preserved c =
     let o = c.args.object.now in
-    counts_on (names_of o) c.loop-name.name-iterator c.next.new.self o.key c.loop-name.counted c.in-Some-checked_add.more c.in-Some.name.now c.args.self.now.counts c.loop-name.self.counts c.raise.new.self.counts
-    c.loop-name.invariant c.in-Some.ensures.steps c.in-Some-checked_add.ensures.1 (rw c.key.ensures.value at c.in-Ok.ensures.ok)
+    counts_on (names_of o) c.loop-name.name-iterator c.next.new.self o.key c.loop-name.counted
+    c.in-Some-checked_add.more c.in-Some.name.now c.args.self.now.counts
+    c.loop-name.self.counts c.raise.new.self.counts
+    c.loop-name.invariant c.in-Some.ensures.steps c.in-Some-checked_add.ensures.1
+    (rw c.key.ensures.value at c.in-Ok.ensures.ok)
 
 pub returns-in_default-clause-some : goal.returns-in_default-clause-some
 returns-in_default-clause-some c =
     let o = c.args.object.now in
-    counts_first (names_of o) c.loop-name.name-iterator o.key c.loop-name.counted c.args.self.now.counts c.loop-name.self.counts c.loop-name.invariant
+    counts_first (names_of o) c.loop-name.name-iterator o.key c.loop-name.counted
+    c.args.self.now.counts c.loop-name.self.counts c.loop-name.invariant
 
 pub returns-in-Err-clause-some : goal.returns-in-Err-clause-some
 returns-in-Err-clause-some c = λ n.
     let o = c.args.object.now in
     c.in-Err.ensures.err n
-    ∙ counts_first (names_of o) c.loop-name.name-iterator o.key c.loop-name.counted c.args.self.now.counts c.loop-name.self.counts c.loop-name.invariant n
+    ∙ counts_first (names_of o) c.loop-name.name-iterator o.key c.loop-name.counted
+    c.args.self.now.counts c.loop-name.self.counts c.loop-name.invariant n
 
 pub returns-clause-ok : goal.returns-clause-ok
 returns-clause-ok c =
     let o = c.args.object.now in
-    counts_all (names_of o) c.loop-name.name-iterator o.key c.loop-name.counted c.args.self.now.counts c.loop-name.self.counts c.loop-name.invariant c.in-None.ensures.steps.0
+    counts_all (names_of o) c.loop-name.name-iterator o.key c.loop-name.counted
+    c.args.self.now.counts c.loop-name.self.counts c.loop-name.invariant
+    c.in-None.ensures.steps.0

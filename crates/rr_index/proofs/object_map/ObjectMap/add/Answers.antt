@@ -13,7 +13,11 @@ invariant_of-self c = rising c.insert.new.self c.insert.ensures.ordered
 pub returns-in-Ok-insert-clause-ok : goal.returns-in-Ok-insert-clause-ok
 returns-in-Ok-insert-clause-ok c =
     let o = c.args.object in
-    let placed = subst (λ (p : Obj). Updates (derived.ghosts).cmp c.self.inside.entries c.insert.new.self c.in-Ok.key (Some p)) c.in_ok-placed.ensures.ok c.in-Ok-insert.ensures.updates in
-    let update = subst (λ (k : Key). Updates (derived.ghosts).cmp c.self.inside.entries c.insert.new.self k (Some o)) (c.in-Ok.ensures ∙ c.key.ensures.value) placed in
-    registry_inserted c.self.inside.entries c.insert.new.self o.key o c.self.invariant (rising c.insert.new.self c.insert.ensures.ordered) update
+    let placed = subst (λ (p : Obj). Updates (derived.ghosts).cmp c.self.inside.entries
+    c.insert.new.self c.in-Ok.key (Some p)) c.in_ok-placed.ensures.ok
+    c.in-Ok-insert.ensures.updates in
+    let update = subst (λ (k : Key). Updates (derived.ghosts).cmp c.self.inside.entries
+    c.insert.new.self k (Some o)) (c.in-Ok.ensures ∙ c.key.ensures.value) placed in
+    registry_inserted c.self.inside.entries c.insert.new.self o.key o c.self.invariant
+    (rising c.insert.new.self c.insert.ensures.ordered) update
     ∙ ap (λ r. insert r o.key o) c.self.view_is

@@ -9,4 +9,7 @@ use Rattle.rr_index.proofs.object_map.ObjectMap.add_routes.Given as goal
 
 abbrev pub invariant-loop-prefix : goal.invariant-loop-prefix
 invariant-loop-prefix l =
-    (k : Key) → contains key_cmp l.keys k ≡ (contains key_cmp l.fn.keys k || (contains_key l.self k && is_chosen [] (map span_of (take l.prefix-index l.prefixes)) k))
+    (k : Key) → contains key_cmp l.keys k
+    ≡
+    (contains key_cmp l.fn.keys k || (contains_key l.self k && is_chosen []
+    (map span_of (take l.prefix-index l.prefixes)) k))

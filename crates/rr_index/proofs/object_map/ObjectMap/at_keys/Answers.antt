@@ -5,10 +5,14 @@ use Rattle.rr_index.proofs.object_map.ObjectMap.at_keys.Goals as goal
 
 pub loop-key-preserved-in-Continue-1 : goal.loop-key-preserved-in-Continue-1
 loop-key-preserved-in-Continue-1 c =
-    found_more (λ key. get c.args.self.now key) c.args.keys.now.keys c.loop-key.found.items c.push.new.self.items c.in-Some-get.object c.in-Some.key.now c.loop-key.key-iterator c.next.new.self
-    c.loop-key.invariant c.in-Some.ensures.steps (sym c.in-Some-get.ensures) c.in_ok-push.ensures.items
+    found_more (λ key. get c.args.self.now key) c.args.keys.now.keys c.loop-key.found.items
+    c.push.new.self.items c.in-Some-get.object c.in-Some.key.now c.loop-key.key-iterator
+    c.next.new.self
+    c.loop-key.invariant c.in-Some.ensures.steps (sym c.in-Some-get.ensures)
+    c.in_ok-push.ensures.items
 
 pub loop-key-preserved : goal.loop-key-preserved
 loop-key-preserved c =
-    found_no_more (λ key. get c.args.self.now key) c.args.keys.now.keys c.loop-key.found.items c.in-Some.key.now c.loop-key.key-iterator c.next.new.self
+    found_no_more (λ key. get c.args.self.now key) c.args.keys.now.keys c.loop-key.found.items
+    c.in-Some.key.now c.loop-key.key-iterator c.next.new.self
     c.loop-key.invariant c.in-Some.ensures.steps (sym c.in_default.ensures)

@@ -11,13 +11,19 @@ use Rattle.rr_index.specs.KeyRangeParts.{lies_between}
 use Rattle.rr_index.proofs.object_map.ObjectMap.aut_nums.Goals as goal
 
 pub listed-requires : goal.listed-requires
-listed-requires c = (λ i. is_gt (key_cmp (AutNum (c.new-lowest.ensures i)) (AutNum (c.new-highest.ensures i)))) ∙ aut_nums_forward
+listed-requires c =
+    (λ i. is_gt (key_cmp (AutNum (c.new-lowest.ensures i)) (AutNum (c.new-highest.ensures i))))
+    ∙ aut_nums_forward
 
 pub returns : goal.returns
 returns c =
     IfOk-weaker c.listed.result _ _
     (λ found is.
     is
-    ∙ (λ i. values_of (filter (λ e. lies_between (AutNum (c.new-lowest.ensures i)) (AutNum (c.new-highest.ensures i)) e.0) (entries c.args.self.now)))
+    ∙
+    (λ i.
+    values_of
+    (filter (λ e. lies_between (AutNum (c.new-lowest.ensures i))
+    (AutNum (c.new-highest.ensures i)) e.0) (entries c.args.self.now)))
     ∙ listed_aut_nums c.args.self.now c.requires)
     c.listed.ensures

@@ -6,4 +6,6 @@ use Rattle.rr_index.proofs.object_map.ObjectMap.between.Goals as goal
 pub returns : goal.returns
 returns c =
     c.range.ensures.between (search rules)
-    ∙ part_of c.self.inside.entries c.args.self.now (range_inclusive_start c.new.result) (range_inclusive_end c.new.result) c.args.first c.args.last c.new.ensures.start c.new.ensures.end c.self.invariant c.self.view_is
+    ∙ part_of c.self.inside.entries c.args.self.now (range_inclusive_start c.new.result)
+    (range_inclusive_end c.new.result) c.args.first c.args.last c.new.ensures.start
+    c.new.ensures.end c.self.invariant c.self.view_is

@@ -11,6 +11,8 @@ returns c =
     let spans = c.args.spans.now in
     let routed = map span_of c.args.prefixes.now in
     IfOk-weaker c.at_keys.result _ _
-    (λ found is. is ∙ led_to r c.requires (is_chosen spans routed) c.add_routes.new.keys c.at_keys.ensures.ordered
-    (chosen_both r c.requires spans routed c.in_ok-keys.keys c.add_routes.new.keys c.in_ok-keys.ensures c.in_ok-add_routes.ensures))
+    (λ found is. is ∙ led_to r c.requires (is_chosen spans routed) c.add_routes.new.keys
+    c.at_keys.ensures.ordered
+    (chosen_both r c.requires spans routed c.in_ok-keys.keys c.add_routes.new.keys
+    c.in_ok-keys.ensures c.in_ok-add_routes.ensures))
     c.at_keys.ensures.found

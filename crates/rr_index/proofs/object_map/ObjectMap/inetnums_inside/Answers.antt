@@ -15,7 +15,8 @@ pub picked-requires : goal.picked-requires
 picked-requires c =
     let low = c.inetnum_at.ensures ∙ ap inetnum_at c.first-first.ensures in
     let high = c.inetnum_at-2.ensures ∙ ap inetnum_at c.last-last.ensures.value in
-    (λ i. is_gt (key_cmp (low i) (high i))) ∙ inetnums_forward c.args.span.first c.args.span.last c.last-last.ensures.ordered.ordered
+    (λ i. is_gt (key_cmp (low i) (high i))) ∙ inetnums_forward c.args.span.first c.args.span.last
+    c.last-last.ensures.ordered.ordered
 
 pub returns : goal.returns
 returns c =
@@ -24,6 +25,8 @@ returns c =
     IfOk-weaker c.picked.result _ _
     (λ found is.
     is
-    ∙ (λ i. filter (lies_in c.args.span) (values_of (filter (λ e. lies_between (low i) (high i) e.0) (entries c.args.self.now))))
+    ∙
+    (λ i. filter (lies_in c.args.span)
+    (values_of (filter (λ e. lies_between (low i) (high i) e.0) (entries c.args.self.now))))
     ∙ inetnums_are c.args.self.now c.requires c.args.span)
     c.picked.ensures

@@ -6,5 +6,7 @@ use Rattle.rr_index.proofs.object_map.ObjectMap.listed.Goals as goal
 
 pub loop-placed-init : goal.loop-placed-init
 loop-placed-init c =
-    ap (λ (xs : List (Bor Obj)). lent xs ++ values_of c.into_iter-placed-iterator.result) c.new-found.ensures.items
-    ∙ ap values_of (c.into_iter-placed-iterator.ensures.into_iter_gives ∙ c.between-placed-items.ensures)
+    ap (λ (xs : List (Bor Obj)). lent xs ++ values_of c.into_iter-placed-iterator.result)
+    c.new-found.ensures.items
+    ∙ ap values_of (c.into_iter-placed-iterator.ensures.into_iter_gives
+    ∙ c.between-placed-items.ensures)

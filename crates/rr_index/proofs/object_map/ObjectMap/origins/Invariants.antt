@@ -5,4 +5,5 @@ use Rattle.rr_auth.specs.Closest.{origins_among}
 use Rattle.rr_index.proofs.object_map.ObjectMap.origins.Given as goal
 
 abbrev pub invariant-loop-placed : goal.invariant-loop-placed
-invariant-loop-placed l = l.origins.items ++ origins_among (values_of l.placed-iterator) l.prefix ≡ origins_among (values l.self) l.prefix
+invariant-loop-placed l = l.origins.items ++ origins_among (values_of l.placed-iterator) l.prefix
+    ≡ origins_among (values l.self) l.prefix

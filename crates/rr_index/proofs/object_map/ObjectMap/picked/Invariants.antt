@@ -11,4 +11,5 @@ use Rattle.rr_index.proofs.object_map.ObjectMap.picked.Given as goal
 abbrev pub invariant-loop-placed : goal.invariant-loop-placed
 invariant-loop-placed l =
     lent l.found.items ++ filter (lies_in l.fn.span) (values_of l.placed-iterator)
-    ≡ filter (lies_in l.fn.span) (values_of (filter (λ e. lies_between l.fn.first l.fn.last e.0) (entries l.self)))
+    ≡ filter (lies_in l.fn.span)
+    (values_of (filter (λ e. lies_between l.fn.first l.fn.last e.0) (entries l.self)))

@@ -16,7 +16,8 @@ pub invariant_of-self : goal.invariant_of-self
 invariant_of-self c = elim c.match-get_mut.branch [
   | in-Some w ↦
       ap (λ (x : Inside). is_sorted key_cmp x.entries.entries) w.self-inside-is
-      ∙ rising (c.get_mut.follows.lender w.replace.new.self) (c.get_mut.follows.holds w.replace.new.self).4
+      ∙ rising (c.get_mut.follows.lender w.replace.new.self)
+      (c.get_mut.follows.holds w.replace.new.self).4
   | in-None w ↦
       ap (λ (x : Inside). is_sorted key_cmp x.entries.entries) w.self-inside-is
       ∙ ap (λ (m : BTreeMap Key Obj). is_sorted key_cmp m.entries) c.get_mut.follows.holds-at-none
@@ -28,47 +29,58 @@ returns-clause-ok c = elim c.match-get_mut.branch [
   | in-Some w ↦
       let o = c.args.object in
       let after = c.get_mut.follows.lender w.replace.new.self in
-      subst (λ (r : Result Obj Obj). OnOk r (registry_of c.match-get_mut.self-inside.entries ≡ insert c.args.self.now o.key o)) (sym w.result-is)
+      subst (λ (r : Result Obj Obj). OnOk r (registry_of c.match-get_mut.self-inside.entries
+      ≡ insert c.args.self.now o.key o)) (sym w.result-is)
       (ap (λ (x : Inside). registry_of x.entries) w.self-inside-is
-      ∙ registry_replaced c.self.inside.entries after c.key.result.now o.key w.replace.new.self o c.self.invariant (rising after (c.get_mut.follows.holds w.replace.new.self).4)
-      c.key.ensures.value w.replace.ensures.after ((c.get_mut.follows.holds w.replace.new.self).3 (subst IsSome w.in-Some.ensures.value refl)).0
+      ∙ registry_replaced c.self.inside.entries after c.key.result.now o.key w.replace.new.self o
+      c.self.invariant (rising after (c.get_mut.follows.holds w.replace.new.self).4)
+      c.key.ensures.value w.replace.ensures.after ((c.get_mut.follows.holds w.replace.new.self).3
+      (subst IsSome w.in-Some.ensures.value refl)).0
       ∙ ap (λ r. insert r o.key o) c.self.view_is)
   | in-None w ↦
       let o = c.args.object in
-      subst (λ (r : Result Obj Obj). OnOk r (registry_of c.match-get_mut.self-inside.entries ≡ insert c.args.self.now o.key o)) (sym w.result-is) tt
+      subst (λ (r : Result Obj Obj). OnOk r (registry_of c.match-get_mut.self-inside.entries
+      ≡ insert c.args.self.now o.key o)) (sym w.result-is) tt
 ]
 
 pub returns-clause-old : goal.returns-clause-old
 returns-clause-old c = elim c.match-get_mut.branch [
   | in-Some w ↦
       let o = c.args.object in
-      subst (λ (r : Result Obj Obj). IfOk r (λ old. get c.args.self.now o.key ≡ Some old)) (sym w.result-is)
+      subst (λ (r : Result Obj Obj). IfOk r (λ old. get c.args.self.now o.key ≡ Some old))
+      (sym w.result-is)
       (ap (λ r. get r o.key) (sym c.self.view_is)
       ∙ sym (looked_up c.self.inside.entries o.key c.self.invariant)
-      ∙ sym (ap (λ (k : Key). at_key (derived.ghosts).cmp c.self.inside.entries k) c.key.ensures.value)
+      ∙ sym (ap (λ (k : Key). at_key (derived.ghosts).cmp c.self.inside.entries k)
+      c.key.ensures.value)
       ∙ sym w.in-Some.ensures.value
       ∙ ap Some (sym w.replace.ensures.old))
   | in-None w ↦
       let o = c.args.object in
-      subst (λ (r : Result Obj Obj). IfOk r (λ old. get c.args.self.now o.key ≡ Some old)) (sym w.result-is) tt
+      subst (λ (r : Result Obj Obj). IfOk r (λ old. get c.args.self.now o.key ≡ Some old))
+      (sym w.result-is) tt
 ]
 
 pub returns-clause-none : goal.returns-clause-none
 returns-clause-none c = elim c.match-get_mut.branch [
   | in-Some w ↦
       let o = c.args.object in
-      subst (λ (r : Result Obj Obj). OnErr r (get c.args.self.now o.key ≡ None)) (sym w.result-is) tt
+      subst (λ (r : Result Obj Obj). OnErr r (get c.args.self.now o.key ≡ None)) (sym w.result-is)
+      tt
   | in-None w ↦
       let o = c.args.object in
       subst (λ (r : Result Obj Obj). OnErr r (get c.args.self.now o.key ≡ None)) (sym w.result-is)
       (ap (λ r. get r o.key) (sym c.self.view_is)
       ∙ sym (looked_up c.self.inside.entries o.key c.self.invariant)
-      ∙ sym (ap (λ (k : Key). at_key (derived.ghosts).cmp c.self.inside.entries k) c.key.ensures.value)
+      ∙ sym (ap (λ (k : Key). at_key (derived.ghosts).cmp c.self.inside.entries k)
+      c.key.ensures.value)
       ∙ sym w.in-None.ensures.value)
 ]
 
 pub returns-clause-back : goal.returns-clause-back
 returns-clause-back c = elim c.match-get_mut.branch [
-  | in-Some w ↦ subst (λ (r : Result Obj Obj). IfErr r (λ back. back ≡ c.args.object)) (sym w.result-is) tt
-  | in-None w ↦ subst (λ (r : Result Obj Obj). IfErr r (λ back. back ≡ c.args.object)) (sym w.result-is) refl
+  | in-Some w ↦ subst (λ (r : Result Obj Obj). IfErr r (λ back. back ≡ c.args.object))
+      (sym w.result-is) tt
+  | in-None w ↦ subst (λ (r : Result Obj Obj). IfErr r (λ back. back ≡ c.args.object))
+      (sym w.result-is) refl
 ]

@@ -8,10 +8,16 @@ use Rattle.rr_index.proofs.object_map.ObjectMap.routes_of.Goals as goal
 
 pub loop-route-preserved-in-Continue-1 : goal.loop-route-preserved-in-Continue-1
 loop-route-preserved-in-Continue-1 c =
-    found_more (λ route. get c.args.self.now (Route route.1 route.0)) (filter (is_from c.args.origin) c.args.origins.now.routes.keys) c.loop-route.found.items c.push.new.self.items c.in-Some-route.object c.in-Some.route.now c.loop-route.route-iterator c.next.new.self
-    c.loop-route.invariant c.in-Some.ensures.steps (sym c.in-Some-route.ensures) c.in_ok-push.ensures.items
+    found_more (λ route. get c.args.self.now (Route route.1 route.0))
+    (filter (is_from c.args.origin) c.args.origins.now.routes.keys) c.loop-route.found.items
+    c.push.new.self.items c.in-Some-route.object c.in-Some.route.now
+    c.loop-route.route-iterator c.next.new.self
+    c.loop-route.invariant c.in-Some.ensures.steps (sym c.in-Some-route.ensures)
+    c.in_ok-push.ensures.items
 
 pub loop-route-preserved : goal.loop-route-preserved
 loop-route-preserved c =
-    found_no_more (λ route. get c.args.self.now (Route route.1 route.0)) (filter (is_from c.args.origin) c.args.origins.now.routes.keys) c.loop-route.found.items c.in-Some.route.now c.loop-route.route-iterator c.next.new.self
+    found_no_more (λ route. get c.args.self.now (Route route.1 route.0))
+    (filter (is_from c.args.origin) c.args.origins.now.routes.keys) c.loop-route.found.items
+    c.in-Some.route.now c.loop-route.route-iterator c.next.new.self
     c.loop-route.invariant c.in-Some.ensures.steps (sym c.in_default.ensures)

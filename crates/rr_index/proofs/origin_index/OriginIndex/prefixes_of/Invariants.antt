@@ -5,4 +5,5 @@ use Rattle.rr_index.proofs.origin_index.OriginIndex.prefixes_of.Given as goal
 
 -- the prefixes found and those of the routes to come are all
 abbrev pub invariant-loop-route : goal.invariant-loop-route
-invariant-loop-route l = l.found.items ++ map (λ route. route.1) l.route-iterator ≡ map (λ route. route.1) (filter (is_from l.fn.origin) l.fn.self.routes.keys)
+invariant-loop-route l = l.found.items ++ map (λ route. route.1) l.route-iterator
+    ≡ map (λ route. route.1) (filter (is_from l.fn.origin) l.fn.self.routes.keys)

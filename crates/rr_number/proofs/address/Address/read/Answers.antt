@@ -9,4 +9,5 @@ returns-clause-found c =
     IfSome-each _ _ (λ address is. address_of-spelled _ address (sym c.read_address.ensures ∙ is))
 
 pub returns-clause-only : goal.returns-clause-only
-returns-clause-only c = λ address spelled. c.read_address.ensures ∙ address_of-read _ address spelled
+returns-clause-only c = λ address spelled. c.read_address.ensures ∙ address_of-read _ address
+    spelled

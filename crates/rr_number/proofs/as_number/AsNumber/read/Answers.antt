@@ -1,5 +1,6 @@
 use Rattle.std.proofs.Common.{sym, ◌∙◌}
-use Rattle.rr_number.proofs.AsNumberLemmas.{as_number_of-spelled, as_number_of-read, as_number_of-bound}
+use Rattle.rr_number.proofs.AsNumberLemmas.{as_number_of-spelled, as_number_of-read}
+use Rattle.rr_number.proofs.AsNumberLemmas.{as_number_of-bound}
 use Rattle.rr_number.proofs.as_number.AsNumber.read.Goals as goal
 
 pub invariant_of-result : goal.invariant_of-result

@@ -5,4 +5,8 @@ use Rattle.rr_number.proofs.number_text.NumberText.push_byte.Goals as goal
 
 pub returns-clause-short : goal.returns-clause-short
 returns-clause-short c =
-    omega (arith, simp length-append at (ap length c.push_number.ensures), three_digits c.from.result (omega arith))
+    omega (
+      arith,
+      simp length-append at (ap length c.push_number.ensures),
+      three_digits c.from.result (omega arith),
+    )

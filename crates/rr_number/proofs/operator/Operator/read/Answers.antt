@@ -6,7 +6,9 @@ use Rattle.rr_number.proofs.operator.Operator.read.Goals as goal
 
 pub returns-clause-found : goal.returns-clause-found
 returns-clause-found c =
-    IfSome-each _ _ (λ operator is. operator_of-spelled _ operator (sym c.read_operator.ensures ∙ is))
+    IfSome-each _ _ (λ operator is. operator_of-spelled _ operator (sym c.read_operator.ensures
+    ∙ is))
 
 pub returns-clause-only : goal.returns-clause-only
-returns-clause-only c = λ operator spelled. c.read_operator.ensures ∙ operator_of-read _ operator spelled
+returns-clause-only c = λ operator spelled. c.read_operator.ensures ∙ operator_of-read _ operator
+    spelled

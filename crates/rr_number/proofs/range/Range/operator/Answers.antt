@@ -2,7 +2,9 @@
 use Rattle.std.proofs.Common.{arith}
 use Rattle.rr_number.proofs.RangeLemmas.{for_plain, for_plus, for_minus, for_lengths}
 use Rattle.rr_number.proofs.range.Range.operator.Goals as goal
-use Rattle.rr_number.proofs.range.Range.operator.Goals.{in_default-via-in-0-default+else-high-length+in_default, in_default-via-in-1+in_default, in_default-via-in_default}
+use Rattle.rr_number.proofs.range.Range.operator.Goals.{in_default-via-in-0-default+else-high-length+in_default}
+use Rattle.rr_number.proofs.range.Range.operator.Goals.{in_default-via-in-1+in_default}
+use Rattle.rr_number.proofs.range.Range.operator.Goals.{in_default-via-in_default}
 
 pub returns-in-0-default : goal.returns-in-0-default
 returns-in-0-default c =

@@ -9,8 +9,13 @@ shared s t p q e =
     let a : s.first ≤ t.last = grind (arith, common_steps) in
     let b : t.first ≤ s.last = grind (arith, common_steps) in
     let c : s.first ≤ s.last = p.ordered in
-    let d : t.first ≤ t.last = q.ordered in
-    (max s.first t.first, (record { from = omega arith; to = omega arith }, record { from = omega arith; to = omega arith }))
+    let d : t.first ≤ t.last = q.ordered in (
+      max s.first t.first,
+      (
+        record { from = omega arith; to = omega arith },
+        record { from = omega arith; to = omega arith },
+      ),
+    )
 
 meeting : (s t : Ends) → (n : ℕ) → IsIn n s → IsIn n t → meets s t ≡ true
 meeting s t n p q = grind (arith, common_steps)

@@ -12,19 +12,33 @@ pub returns-in-Ok-clause-ok : goal.returns-in-Ok-clause-ok
 returns-in-Ok-clause-ok c =
     let os = values c.args.self.now.objects in
     let o = c.args.object in
-    on_ok_weaker c.put.result (λ put. (entered_is_taken c.args.self.now (record { objects = c.put.new.objects; spans = c.enter.new.self.spans }) c.args.n o c.requires c.key.ensures.formed
-    (rw c.key.ensures.value at c.in-Ok.ensures.new) (rw c.key.ensures.value at c.in-Ok.ensures.entered)
-    (grown_entries c.args.self.now.objects.entries c.put.new.objects.entries os c.in-Ok.key o c.requires.keyed (c.in-Ok.ensures.copy ∙ c.key.ensures.value)
-    (put ∙ ap (λ held. insert_entry (derived.ghosts).cmp held.entries c.in-Ok.key o) c.enter.ensures.same))).0) c.put.ensures.ok
+    on_ok_weaker c.put.result
+    (λ put.
+    (entered_is_taken c.args.self.now
+    (record { objects = c.put.new.objects; spans = c.enter.new.self.spans }) c.args.n o
+    c.requires c.key.ensures.formed
+    (rw c.key.ensures.value at c.in-Ok.ensures.new)
+    (rw c.key.ensures.value at c.in-Ok.ensures.entered)
+    (grown_entries c.args.self.now.objects.entries c.put.new.objects.entries os c.in-Ok.key o
+    c.requires.keyed (c.in-Ok.ensures.copy ∙ c.key.ensures.value)
+    (put ∙ ap (λ held. insert_entry (derived.ghosts).cmp held.entries c.in-Ok.key o)
+    c.enter.ensures.same))).0) c.put.ensures.ok
 
 pub returns-in-Ok-clause-consistent : goal.returns-in-Ok-clause-consistent
 returns-in-Ok-clause-consistent c =
     let os = values c.args.self.now.objects in
     let o = c.args.object in
-    on_ok_weaker c.put.result (λ put. (entered_is_taken c.args.self.now (record { objects = c.put.new.objects; spans = c.enter.new.self.spans }) c.args.n o c.requires c.key.ensures.formed
-    (rw c.key.ensures.value at c.in-Ok.ensures.new) (rw c.key.ensures.value at c.in-Ok.ensures.entered)
-    (grown_entries c.args.self.now.objects.entries c.put.new.objects.entries os c.in-Ok.key o c.requires.keyed (c.in-Ok.ensures.copy ∙ c.key.ensures.value)
-    (put ∙ ap (λ held. insert_entry (derived.ghosts).cmp held.entries c.in-Ok.key o) c.enter.ensures.same))).1) c.put.ensures.ok
+    on_ok_weaker c.put.result
+    (λ put.
+    (entered_is_taken c.args.self.now
+    (record { objects = c.put.new.objects; spans = c.enter.new.self.spans }) c.args.n o
+    c.requires c.key.ensures.formed
+    (rw c.key.ensures.value at c.in-Ok.ensures.new)
+    (rw c.key.ensures.value at c.in-Ok.ensures.entered)
+    (grown_entries c.args.self.now.objects.entries c.put.new.objects.entries os c.in-Ok.key o
+    c.requires.keyed (c.in-Ok.ensures.copy ∙ c.key.ensures.value)
+    (put ∙ ap (λ held. insert_entry (derived.ghosts).cmp held.entries c.in-Ok.key o)
+    c.enter.ensures.same))).1) c.put.ensures.ok
 
 pub returns-in-Ok-clause-err : goal.returns-in-Ok-clause-err
 returns-in-Ok-clause-err c = IfErr-weaker c.put.result _ _ (λ fault is. inl is) c.put.ensures.err
@@ -32,7 +46,8 @@ returns-in-Ok-clause-err c = IfErr-weaker c.put.result _ _ (λ fault is. inl is)
 pub returns-in-Err-clause-err : goal.returns-in-Err-clause-err
 returns-in-Err-clause-err c =
     let os = values c.args.self.now.objects in
-    elim c.in-Err.ensures.err as (λ _. (c.in-Err.fault ≡ Memory) ⊎ (clash_of os c.args.n c.args.object ≡ Some c.in-Err.fault)) [
+    elim c.in-Err.ensures.err as (λ _. (c.in-Err.fault ≡ Memory)
+    ⊎ (clash_of os c.args.n c.args.object ≡ Some c.in-Err.fault)) [
       | inl memory ↦ inl memory
       | inr clash ↦ inr (clash c.args.object (sym c.key.ensures.value))
     ]

@@ -6,6 +6,8 @@ use Rattle.rr_registry.proofs.registry.Registry.delete.Goals as goal
 
 pub invariant_of-self : goal.invariant_of-self
 invariant_of-self g c =
-    kept_without (g.B.Book.contents c.self.inside.book) (g.B.Book.contents c.remove.new.self) c.args.key.now c.self.inside.known c.forget.new.self
+    kept_without (g.B.Book.contents c.self.inside.book) (g.B.Book.contents c.remove.new.self)
+    c.args.key.now c.self.inside.known c.forget.new.self
     c.self.invariant c.forget.ensures c.remove.ensures
-    (subst (λ (r : Reg). Sound (remove r c.args.key.now)) (sym c.self.view_is) (c.requires.deleted c.in-Delete.is))
+    (subst (λ (r : Reg). Sound (remove r c.args.key.now)) (sym c.self.view_is)
+    (c.requires.deleted c.in-Delete.is))

@@ -7,25 +7,29 @@ pub of-requires : goal.of-requires
 of-requires g c =
     let os = c.args.objects.items in
     let place = rw c.deref.ensures.value at c.in_ok-unnamed.ensures.value in
-    gathered_is_book os c.in-Ok.gathered.items c.in-Ok.ensures (found_fault os _ (sym c.in-None.is ∙ place))
+    gathered_is_book os c.in-Ok.gathered.items c.in-Ok.ensures
+    (found_fault os _ (sym c.in-None.is ∙ place))
 
 pub of-requires-in-None : goal.of-requires-in-None
 of-requires-in-None g c =
     let os = c.args.objects.items in
     let place = rw c.deref.ensures.value at c.in_ok-unnamed.ensures.value in
-    subst Sound (sym c.in_ok-of-in-None.ensures) (gathered_is_book os c.in-Ok.gathered.items c.in-Ok.ensures (found_fault os _ (sym c.in-None.is ∙ place))).sound
+    subst Sound (sym c.in_ok-of-in-None.ensures) (gathered_is_book os c.in-Ok.gathered.items
+    c.in-Ok.ensures (found_fault os _ (sym c.in-None.is ∙ place))).sound
 
 pub returns-in-Some-clause-taken : goal.returns-in-Some-clause-taken
 returns-in-Some-clause-taken g c =
     let os = c.args.objects.items in
     let place = rw c.deref.ensures.value at c.in_ok-unnamed.ensures.value in
-    inr (fault_after os c.in-Ok.gathered.items _ c.in-Ok.ensures (found_fault os _ (sym c.in-Some.is ∙ place)))
+    inr (fault_after os c.in-Ok.gathered.items _ c.in-Ok.ensures
+    (found_fault os _ (sym c.in-Some.is ∙ place)))
 
 pub returns-in_ok-of-in-None-clause-taken : goal.returns-in_ok-of-in-None-clause-taken
 returns-in_ok-of-in-None-clause-taken g c =
     let os = c.args.objects.items in
     let place = rw c.deref.ensures.value at c.in_ok-unnamed.ensures.value in
     record {
-      faultless = fault_after os c.in-Ok.gathered.items _ c.in-Ok.ensures (found_fault os _ (sym c.in-None.is ∙ place));
+      faultless = fault_after os c.in-Ok.gathered.items _ c.in-Ok.ensures
+          (found_fault os _ (sym c.in-None.is ∙ place));
       whole = c.of-in-None.ensures ∙ c.in_ok-of-in-None.ensures ∙ c.in-Ok.ensures.whole;
     }

@@ -9,9 +9,13 @@ pub invariant_of-self : goal.invariant_of-self
 invariant_of-self g c =
     let o = c.args.object in
     elim c.match-insert.branch [
-      | in-Ok w ↦ kept_put (g.B.Book.contents c.self.inside.book) (g.B.Book.contents c.insert.new.self) c.key.result.now c.self.inside.known c.forget.new.self
+      | in-Ok w ↦ kept_put (g.B.Book.contents c.self.inside.book)
+          (g.B.Book.contents c.insert.new.self) c.key.result.now c.self.inside.known
+          c.forget.new.self
           c.self.invariant c.forget.ensures o c.key.ensures.value w.in-Ok.ensures.ok
           (subst (λ (r : Reg). Sound (insert r o.key o)) (sym c.self.view_is) c.requires)
-      | in-Err w ↦ kept_still (g.B.Book.contents c.self.inside.book) (g.B.Book.contents c.insert.new.self) c.key.result.now c.self.inside.known c.forget.new.self
+      | in-Err w ↦ kept_still (g.B.Book.contents c.self.inside.book)
+          (g.B.Book.contents c.insert.new.self) c.key.result.now c.self.inside.known
+          c.forget.new.self
           c.self.invariant c.forget.ensures w.in-Err.ensures.err
     ]

@@ -10,7 +10,8 @@ invariant_of-result g c = record {
   autocommit = c.create_where_vacant-made.ensures.makes.autocommit c.requires.autocommit;
   held = λ clean on.
       let store = (c.in-Ok.ensures.makes.done clean).rows in
-      filled_held (lent c.args.objects.now) (state g.S.Store c.create_where_vacant-made.new.conn).now store.read store.filled;
+      filled_held (lent c.args.objects.now)
+      (state g.S.Store c.create_where_vacant-made.new.conn).now store.read store.filled;
 }
 
 pub returns-in-Ok-clause-makes : goal.returns-in-Ok-clause-makes
@@ -20,7 +21,9 @@ returns-in-Ok-clause-makes g c =
       tables = λ clean. (made.done clean).tables;
       was_open = λ clean. made.opened clean (made.is_open clean);
       is_open = made.is_open;
-      settled = settles g.S.Store g.met.S.Store.settled c.create_where_vacant-made.new.conn (c.is_autocommit.ensures.settled (c.is_autocommit.ensures.value ∙ ap not (made.autocommit c.requires.autocommit)));
+      settled = settles g.S.Store g.met.S.Store.settled c.create_where_vacant-made.new.conn
+          (c.is_autocommit.ensures.settled (c.is_autocommit.ensures.value
+          ∙ ap not (made.autocommit c.requires.autocommit)));
       vacant = λ clean. (made.done clean).vacant;
       crash = made.crash;
     }
@@ -31,7 +34,9 @@ returns-in-Err-clause-fails g c =
       autocommit = made.autocommit c.requires.autocommit;
       was_open = made.opened;
       kept = made.kept;
-      settled = settles g.S.Store g.met.S.Store.settled c.create_where_vacant-made.new.conn (c.is_autocommit.ensures.settled (c.is_autocommit.ensures.value ∙ ap not (made.autocommit c.requires.autocommit)));
+      settled = settles g.S.Store g.met.S.Store.settled c.create_where_vacant-made.new.conn
+          (c.is_autocommit.ensures.settled (c.is_autocommit.ensures.value
+          ∙ ap not (made.autocommit c.requires.autocommit)));
       not_empty = λ is clean. c.in-Err.ensures.filled clean is;
       crash = made.crash;
       store = c.in-Err.ensures.cause;

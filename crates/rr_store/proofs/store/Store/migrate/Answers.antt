@@ -9,7 +9,8 @@ invariant_of-result g c = record {
   autocommit = c.migrate_rows-migrated.ensures.migrates.autocommit c.requires.autocommit;
   held = λ clean on.
       let migrated = c.in-Ok.ensures.migrates.done clean in
-      stored_held c.args.source.now (migrated.objects ++ migrated.upper ∷ []) (state g.S.Store c.migrate_rows-migrated.new.conn).now migrated.after;
+      stored_held c.args.source.now (migrated.objects ++ migrated.upper ∷ [])
+      (state g.S.Store c.migrate_rows-migrated.new.conn).now migrated.after;
 }
 
 pub returns-in-Ok-clause-migrates : goal.returns-in-Ok-clause-migrates
@@ -18,7 +19,9 @@ returns-in-Ok-clause-migrates g c =
       migrated = migrated.done;
       was_open = λ clean. migrated.opened clean (migrated.is_open clean);
       is_open = migrated.is_open;
-      settled = settles g.S.Store g.met.S.Store.settled c.migrate_rows-migrated.new.conn (c.is_autocommit.ensures.settled (c.is_autocommit.ensures.value ∙ ap not (migrated.autocommit c.requires.autocommit)));
+      settled = settles g.S.Store g.met.S.Store.settled c.migrate_rows-migrated.new.conn
+          (c.is_autocommit.ensures.settled (c.is_autocommit.ensures.value
+          ∙ ap not (migrated.autocommit c.requires.autocommit)));
       crash = migrated.crash;
     }
 
@@ -28,7 +31,9 @@ returns-in-Err-clause-fails g c =
       autocommit = migrated.autocommit c.requires.autocommit;
       was_open = migrated.opened;
       kept = migrated.kept;
-      settled = settles g.S.Store g.met.S.Store.settled c.migrate_rows-migrated.new.conn (c.is_autocommit.ensures.settled (c.is_autocommit.ensures.value ∙ ap not (migrated.autocommit c.requires.autocommit)));
+      settled = settles g.S.Store g.met.S.Store.settled c.migrate_rows-migrated.new.conn
+          (c.is_autocommit.ensures.settled (c.is_autocommit.ensures.value
+          ∙ ap not (migrated.autocommit c.requires.autocommit)));
       why = c.in-Err.ensures.why;
       crash = migrated.crash;
       store = c.in-Err.ensures.cause;

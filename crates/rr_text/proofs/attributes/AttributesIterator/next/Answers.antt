@@ -15,14 +15,25 @@ pub returns-clause-steps : goal.returns-clause-steps
 returns-clause-steps c =
     let some : 0 < length c.self.inside.line.now = grind (arith, nat_tests) in
     sym c.self.view_is ∙ (kept_next _ _ _ _ c.self.invariant some c.next_opening.ensures.fields
-    ∙ ap (λ field. field ∷ kept_fields (c.next_opening.result.0.now ∷ text_lines c.next_opening.result.1.now)) (sym c.opened-attribute.ensures))
+    ∙ ap
+    (λ field. field ∷ kept_fields (c.next_opening.result.0.now ∷ text_lines
+    c.next_opening.result.1.now)) (sym c.opened-attribute.ensures))
 
 pub returns-clause-goes : goal.returns-clause-goes
 returns-clause-goes c =
     let some : 0 < length c.self.inside.line.now = grind (arith, nat_tests) in
-    let next = sym c.self.view_is ∙ kept_next _ _ _ _ c.self.invariant some c.next_opening.ensures.fields in
+    let next = sym c.self.view_is ∙ kept_next _ _ _ _ c.self.invariant some
+    c.next_opening.ensures.fields in
     record {
-      on = λ _. (tt, tt, subst (λ fields. length (kept_fields (c.next_opening.result.0.now ∷ text_lines c.next_opening.result.1.now)) < length fields) (sym next) (omega arith));
+      on = λ _. (
+        tt,
+        tt,
+        subst
+            (λ fields.
+            length
+            (kept_fields (c.next_opening.result.0.now ∷ text_lines c.next_opening.result.1.now)) <
+            length fields) (sym next) (omega arith),
+      );
       keeps = tt;
       rests = λ _. tt;
     }

@@ -7,4 +7,5 @@ use Rattle.rr_text.proofs.paragraph.Paragraph.has.Goals as goal
 pub returns : goal.returns
 returns c =
     any_from_yields_List (has_name c.args.name.now) _ _ _ c.any.ensures.ran
-    (YieldsList-from_first (λ field. field) (λ fields. fields) c.args.self.now c.attributes.ensures.value) (λ x b q k. search (rules, tests))
+    (YieldsList-from_first (λ field. field) (λ fields. fields) c.args.self.now
+    c.attributes.ensures.value) (λ x b q k. search (rules, tests))

@@ -10,11 +10,17 @@ reads-init g c = (gathering_none _ _ (unclosed_none _ c.restart.ensures), refl)
 
 pub returns-in-Some-clause-gathers : goal.returns-in-Some-clause-gathers
 returns-in-Some-clause-gathers g c =
-    let rest = gathered_rest _ _ _ _ _ c.take_held.new.self c.reads.invariant.0 c.take_held.ensures.reads (λ past unclosed. c.take_held.ensures.unclosed past unclosed c.if-take_held.false) in
+    let rest = gathered_rest _ _ _ _ _ c.take_held.new.self c.reads.invariant.0
+    c.take_held.ensures.reads (λ past unclosed. c.take_held.ensures.unclosed past unclosed
+    c.if-take_held.false) in
     let more : reads_of c.take_held.new.self < 16777216 = omega (arith, c.take_held.new.self.few) in
     gathers_end _ _ _ _ _ _ _ _ rest more c.in-Some.ensures.fills c.in-Some.ensures.draft
 
 pub reads-preserved : goal.reads-preserved
 reads-preserved g c =
-    let rest = gathered_rest _ _ _ _ _ c.take_held.new.self c.reads.invariant.0 c.take_held.ensures.reads (λ past unclosed. c.take_held.ensures.unclosed past unclosed c.if-take_held.false) in
-    (gathering_more _ _ _ _ _ _ _ rest c.in_default.ensures.fills c.in_default.ensures.draft, c.in_default.ensures.aside ∙ c.reads.invariant.1)
+    let rest = gathered_rest _ _ _ _ _ c.take_held.new.self c.reads.invariant.0
+    c.take_held.ensures.reads (λ past unclosed. c.take_held.ensures.unclosed past unclosed
+    c.if-take_held.false) in (
+      gathering_more _ _ _ _ _ _ _ rest c.in_default.ensures.fills c.in_default.ensures.draft,
+      c.in_default.ensures.aside ∙ c.reads.invariant.1,
+    )

@@ -5,7 +5,9 @@ use Rattle.rr_text.proofs.paragraphs.Paragraphs.gather.Given as goal
 
 abbrev pub invariant-reads : goal.invariant-reads
 invariant-reads g l =
-    IsGathering (g.R.Source.told l.initial.reader) (g.R.Source.told l.reader) (held l.initial.self) (reads_of l.initial.self) l.self × (g.R.Source.aside l.reader ≡ g.R.Source.aside l.initial.reader)
+    IsGathering (g.R.Source.told l.initial.reader) (g.R.Source.told l.reader) (held l.initial.self)
+    (reads_of l.initial.self) l.self
+    × (g.R.Source.aside l.reader ≡ g.R.Source.aside l.initial.reader)
 
 abbrev pub decreases-reads : goal.decreases-reads
 decreases-reads g l = 16777216 - reads_of l.self

@@ -10,6 +10,8 @@ returns-in-Some-clause-closed c = λ past unclosed closed.
     record {
       prefix = take c.in-Some.taken c.part.result.now;
       cut = sym text ∙ (sym (take-append-drop c.in-Some.taken c.part.result.now)
-          ∙ ap (λ t. take c.in-Some.taken c.part.result.now ++ t) (ap (drop c.in-Some.taken) text ∙ drop-drop c.in-Some.taken c.args.self.now.from (take c.args.self.now.to c.args.self.now.block)));
+          ∙ ap (λ t. take c.in-Some.taken c.part.result.now ++ t) (ap (drop c.in-Some.taken) text
+          ∙ drop-drop c.in-Some.taken c.args.self.now.from
+          (take c.args.self.now.to c.args.self.now.block)));
       closed = c.in-Some.ensures.adds past unclosed;
     }

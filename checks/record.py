@@ -13,11 +13,14 @@ MOST = 900
 
 class Record:
     """Writes the lines of a run into a file. A check whose parts are cases has a line for each
-    part, and one of its own where something besides its parts failed."""
+    part, and one of its own where something besides its parts failed. The checks that failed are
+    named in a second file, each as pytest takes it."""
 
     def __init__(self, path: Path) -> None:
         path.parent.mkdir(parents=True, exist_ok=True)
         self.out = open(path, "w", encoding="utf-8", buffering=1)
+        self.failed = path.with_suffix(".failed")
+        self.failed.unlink(missing_ok=True)
         self.parted: set[str] = set()
 
     def pytest_runtest_logreport(self, report: Any) -> None:
@@ -45,10 +48,16 @@ class Record:
             print(f"skipped: {name}: {reason(report)}", file=self.out)
         else:
             print(f"not ok: {name}: {found(report)}{time}", file=self.out)
+            self.put_failed(report.nodeid)
 
     def pytest_collectreport(self, report: pytest.CollectReport) -> None:
         if report.failed:
             print(f"not ok: {report.nodeid}: {found(report)}", file=self.out)
+            self.put_failed(report.nodeid)
+
+    def put_failed(self, check: str) -> None:
+        with open(self.failed, "a", encoding="utf-8") as out:
+            print(check, file=out)
 
     def pytest_unconfigure(self) -> None:
         self.out.close()

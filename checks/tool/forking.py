@@ -22,11 +22,8 @@ def begun(
 ) -> int:
     """The number of a fork that does what `irr` does with these words, with these files as its
     standard streams, once it has done what comes first."""
-    number = os.fork()
-    if number:
-        return number
-    status = 70
-    try:
+
+    def work() -> int:
         for place, stream in enumerate(streams):
             os.dup2(stream, place)
         sys.stdout, sys.stderr = open(1, "w", closefd=False), open(
@@ -37,7 +34,19 @@ def begun(
         os.environ.update(environment)
         tempfile.tempdir = None
         first()
-        status = main(words)
+        return main(words)
+
+    return forked(work)
+
+
+def forked(work: Callable[[], int | None]) -> int:
+    """The number of a fork that does this work, and ends with the status that it gives."""
+    number = os.fork()
+    if number:
+        return number
+    status = 70
+    try:
+        status = work() or 0
     except SystemExit as ended:
         status = ended.code if isinstance(ended.code, int) else int(ended.code is not None)
     except BaseException:

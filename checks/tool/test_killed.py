@@ -3,6 +3,7 @@ the next run goes on by itself."""
 
 import contextlib
 import gzip
+import itertools
 import os
 import re
 import shutil
@@ -19,12 +20,13 @@ import pytest
 from checks.keeping import PATIENCE, is_served, running, said_by, state, wait_until, whois_answer
 from checks.running import Failure, Tell, Trial, expect, needs, write_settings
 from checks.serving import free_port
-from checks.tool.forking import begun, run_forked
+from checks.tool.forking import begun, forked, run_forked
 from checks.worlds import Tool, World, items
 from irr.local import replicas, temporary
 from irr.local.history import Repository
 from irr.local.serials import Serials
 from irr.local.temporary import TemporaryRegistry
+from irr.main import leave
 
 IN_MEMORY, SECONDS = True, 40
 # What a command does to files, and the programs that it starts: it is ended before one of these.
@@ -98,6 +100,25 @@ def mirroring(tool: Tool, words: list[str], folder: Path, port: int) -> Iterator
         yield said
 
 
+def end_before(step: int, by: int, counted: int = -1) -> None:
+    """Has this process end by a signal before its step of this number. Each step is a byte of the
+    file in which they are counted, if there is one."""
+    seen, own = 0, os.getpid()
+
+    def hook(event: str, args: tuple[Any, ...]) -> None:
+        nonlocal seen
+        is_step = event in STEPS or event == "open" and isinstance(args[2], int)
+        if not is_step or event == "open" and not args[2] & WRITES or os.getpid() != own:
+            return
+        seen += 1
+        if counted >= 0:
+            os.write(counted, b".")
+        if seen == step:
+            os.kill(own, by)
+
+    sys.addaudithook(hook)
+
+
 class Kills:
     """Runs of one command, each in a copy of a folder, which are ended at steps and moments."""
 
@@ -160,27 +181,12 @@ class Kills:
     ) -> int:
         """A fork that ends before its step of this number; without one it counts them."""
         out = os.open(counted, os.O_WRONLY | os.O_CREAT) if counted else -1
-        seen, own = 0, 0
-
-        def hook(event: str, args: tuple[Any, ...]) -> None:
-            nonlocal seen
-            is_step = event in STEPS or event == "open" and isinstance(args[2], int)
-            if not is_step or event == "open" and not args[2] & WRITES or os.getpid() != own:
-                return
-            seen += 1
-            if out >= 0:
-                os.write(out, b".")
-            if seen == step:
-                os.kill(own, signal.SIGKILL)
-
-        def first() -> None:
-            nonlocal own
-            own = os.getpid()
-            sys.addaudithook(hook)
-
         with open(os.devnull, "r+b") as nothing:
             number = begun(
-                given(words, folder), self.tool.environment, [nothing.fileno()] * 3, first
+                given(words, folder),
+                self.tool.environment,
+                [nothing.fileno()] * 3,
+                lambda: end_before(step, signal.SIGKILL, out),
             )
         if counted:
             os.close(out)
@@ -384,12 +390,58 @@ def test_a_mirror_serves_one_of_two_states(trial: Trial, places: Places, tell: T
                     what = f"{folder.parent.name} {place}: {there} {said_by(said)[:2_000]}"
                     raise Failure(f"{failure}: {what}") from None
             expect(left.exists(), False, "whether what was begun before is left")
-            # What is begun again each second may be cut off by the end of the mirror.
-            found = set(os.listdir(folder)) - {"made.next"}
-            expect(found, {".lock", str(port), "made"}, "what is left")
+            expect(set(os.listdir(folder)), {".lock", str(port), "made"}, "what is left")
             names = set(os.listdir(folder / "made")) - {"irr.db-wal"}
             expect(names, {"dump.rpsl", "irr.db", "irr.toml"}, "what is left of what was made")
     tell(f"{kills.killed} ended")
+
+
+# What a mirror has made, and what it makes next.
+MADE = {"dump.rpsl": "% end 1\n", "irr.db": "old", "irr.toml": "limit = 10\n"}
+NEXT = {"dump.rpsl": "% end 2\n", "irr.db": "new", "irr.toml": "limit = 10\n"}
+
+
+@pytest.mark.parametrize("by", [signal.SIGTERM, signal.SIGKILL])
+def test_a_mirror_that_ends_before_any_step_keeps_one_state(tmp_path: Path, by: int) -> None:
+    """And leaves nothing else: at once if it may tidy up, else once the next one begins."""
+    for step in itertools.count(1):
+        folder = tmp_path / str(step)
+        made_in(folder / "made", MADE)
+        was_ended = is_ended(folder, step, by)
+        if by == signal.SIGKILL:
+            replicas.Keeper(folder, [], None, 0).start(10)
+        left = {str(path.relative_to(folder)) for path in folder.rglob("*")}
+        expect(left, {"made", *map("made/{}".format, MADE)}, f"what is left at step {step}")
+        found = {name: (folder / "made" / name).read_text(encoding="ascii") for name in MADE}
+        if not was_ended:
+            return expect((found, step > 12), (NEXT, True), f"the state after {step - 1} steps")
+        expect(found in (MADE, NEXT), True, f"whether it is one state at step {step}: {found}")
+
+
+def made_in(folder: Path, texts: dict[str, str]) -> replicas.Made:
+    folder.mkdir(parents=True, exist_ok=True)
+    for name, text in texts.items():
+        (folder / name).write_text(text, encoding="ascii")
+    return replicas.Made(folder)
+
+
+def is_ended(folder: Path, step: int, by: int) -> bool:
+    """Whether a mirror without replicas was ended by a signal before its step of this number. It
+    ends by itself once it has come to the next state."""
+    keeper, nexts = replicas.Keeper(folder, [], None, 0), [NEXT]
+
+    def mirror() -> None:
+        signal.signal(signal.SIGTERM, leave)
+        end_before(step, by)
+        try:
+            keeper.keep(lambda work, _: made_in(work, nexts.pop()) if nexts else sys.exit(), 10, 0)
+        finally:
+            keeper.end()
+
+    number = forked(mirror)
+    status = os.waitstatus_to_exitcode(os.waitpid(number, 0)[1])
+    expect(status in (0, -by, 128 + by), True, f"status {status} at step {step}")
+    return status != 0
 
 
 def test_a_registry_of_its_own_ends_with_it(program: str, monkeypatch: pytest.MonkeyPatch) -> None:

@@ -347,8 +347,8 @@ class Keeper:
 
     def renew(self, make: Maker) -> bool:
         """Lets the replicas serve what is made now. Whether that differs from before."""
+        self.settle()
         work, now = self.folder / "made.next", time.time()
-        shutil.rmtree(work, ignore_errors=True)
         work.mkdir()
         try:
             made = make(work, self.known)
@@ -404,8 +404,11 @@ class Keeper:
                 replica.start()
 
     def end(self) -> None:
+        """Ends the replicas, and tidies up where a renewal was cut off."""
         for replica in self.replicas:
             replica.end(2)
+        with contextlib.suppress(OSError):
+            self.settle()
 
 
 def told(made: Made) -> str:

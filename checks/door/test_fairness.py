@@ -2,6 +2,8 @@
 bounds that OPEN.md tells."""
 
 import contextlib
+import socket
+import socketserver
 import statistics
 import subprocess
 import sys
@@ -16,6 +18,8 @@ from checks.door.opened import HEAD, PYTHON, SPACE, Opened, Registries, read_all
 from checks.pace import pace
 from checks.running import Failure, Tell, Trial, expect
 from checks.serving import free_port
+from irr.door.cache import DEAR
+from irr.door.upstreams import PROBE
 
 pytestmark = pytest.mark.alone
 SECONDS = 120
@@ -256,30 +260,84 @@ def streams(above: int) -> Iterator[tuple[int, int]]:
         process.stdout.close()
 
 
+# The seconds for which an answer is kept; a question whose answer is long, and another one.
+KEEP = 60
+LONG, SMALL = b"!iRS-0,1\n", b"!iAS-SMALL,1\n"
+
+
+@contextlib.contextmanager
+def slowed(above: int) -> Iterator[tuple[str, list[bytes]]]:
+    """The address of a registry that lets whoever asks wait, so that on any machine each answer
+    costs enough to be kept; and what it is asked."""
+    asked: list[bytes] = []
+
+    class Handler(socketserver.StreamRequestHandler):
+        def handle(self) -> None:
+            line = self.rfile.readline()
+            if not line:
+                # A look whether anybody listens.
+                return
+            if line != PROBE:
+                asked.append(line)
+                time.sleep(4 * DEAR)
+            with socket.create_connection(("127.0.0.1", above)) as registry:
+                registry.sendall(line)
+                registry.shutdown(socket.SHUT_WR)
+                self.wfile.write(read_all(registry))
+
+    with socketserver.ThreadingTCPServer(("127.0.0.1", 0), Handler) as server:
+        server.daemon_threads = True
+        threading.Thread(target=server.serve_forever, daemon=True).start()
+        try:
+            yield f"http://127.0.0.1:{server.server_address[1]}", asked
+        finally:
+            server.shutdown()
+
+
 def test_kept_answers_are_given_ten_thousand_times_a_second(
     trial: Trial, crowd: Registries, tell: Tell
 ) -> None:
-    count = trial.pick(10_000, 200_000)
-    with Opened(trial, "kept", crowd.words, "refill = 1000\nburst = 1000\n") as door:
-        question = b"!iRS-0,1"
-        first = door.whois(question + b"\n")
+    count, batch = trial.pick(10_000, 200_000), 50
+    config = f"refill = 1000\nburst = 1000\nkeep = {KEEP}\n"
+    with (
+        slowed(crowd.ports[0]) as (url, asked),
+        Opened(trial, "kept", [f"--registry={url}"], config) as door,
+    ):
+        begun = time.monotonic()
+
+        def need_kept() -> None:
+            """That the registry was asked once for each, and again when that had been kept."""
+            most = 1 + (time.monotonic() - begun) // KEEP
+            times = [asked.count(b"expand RS-0\r\n"), asked.count(b"expand AS-SMALL\r\n")]
+            is_so = sum(times) == len(asked) and all(1 <= one <= most for one in times)
+            expect(is_so, True, f"whether it was kept: {times} of {len(asked)}, at most {most:.0f}")
+
+        long, small = door.whois(LONG), door.whois(SMALL)
+        expect(small, b"A8\nAS2 AS3\nC\n", "a short answer")
         with contextlib.closing(door.connect(door.whois_port)) as peer:
             peer.sendall(b"!!\n")
             before = door.seconds()
-            batch = 50
             for _ in range(count // batch):
-                peer.sendall((question + b"\n") * batch)
-                rest = len(first) * batch
-                while rest:
-                    rest -= len(peer.recv(min(rest, 1 << 20)))
+                peer.sendall(LONG * batch)
+                came = read_exactly(peer, len(long) * batch)
+                expect(came == long * batch, True, "whether all answers are the first one")
+                need_kept()
             took = door.seconds() - before
+        expect((door.whois(LONG), door.whois(SMALL)), (long, small), "the answers at the end")
+        need_kept()
         hits = door.status()["cache"]["hits"]
+    expect(hits, count + 4 - len(asked), "how many were kept")
     slower = pace()
-    tell(
-        f"{count / took:.0f} a second of the processor, {len(first)} bytes each, pace {slower:.1f}"
-    )
-    expect(hits >= count - 1, True, f"whether it was kept: {hits}")
+    tell(f"{count / took:.0f} a second of the processor, {len(long)} bytes each, pace {slower:.1f}")
     at_most(took / count, 1e-4 * slower, "seconds for a kept answer")
+
+
+def read_exactly(peer: socket.socket, size: int) -> bytes:
+    """So many bytes, or all before the end."""
+    came = bytearray()
+    while len(came) < size and (part := peer.recv(min(size - len(came), 1 << 20))):
+        came += part
+    return bytes(came)
 
 
 if __name__ == "__main__":

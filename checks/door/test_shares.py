@@ -4,6 +4,7 @@ upstreams that take as long as they are told."""
 import asyncio
 import contextlib
 import time
+from types import SimpleNamespace
 from typing import Any
 
 import pytest
@@ -293,6 +294,24 @@ def test_a_kept_answer_lasts_until_a_submission_changes_something(word: str) -> 
                 return len(timed.lines)
 
     expect(inside.run(ask()), REPORTS[word], "queries after")
+
+
+def test_a_kept_answer_lasts_as_long_as_it_is_set(monkeypatch: pytest.MonkeyPatch) -> None:
+    """By a clock that is put on, with which it is looked for."""
+    later = [0]
+    clock = SimpleNamespace(monotonic=lambda: time.monotonic() + later[0])
+    monkeypatch.setattr("irr.door.queries.time", clock)
+
+    async def ask() -> list[int]:
+        timed, counts = Timed(2 * DEAR), list[int]()
+        async with answering(timed) as at:
+            async with inside.opened(lambda _: CHEAP, registry=at, keep=2 * SOON) as (door, _):
+                for later[0] in 0, SOON, 2 * SOON:
+                    await inside.asked(door.settings.whois[0], b"expand AS-X")
+                    counts.append(len(timed.lines))
+        return counts
+
+    expect(inside.run(ask()), [1, 1, 2], "queries, at once, within its time and after it")
 
 
 def test_a_kept_answer_lasts_until_a_replica_is_renewed(monkeypatch: pytest.MonkeyPatch) -> None:

@@ -117,6 +117,37 @@ def test_an_answer_that_drips_from_the_only_one_ends(monkeypatch: pytest.MonkeyP
     expect(inside.run(ask()), b"% the registry does not answer\n", "the answer")
 
 
+@pytest.mark.parametrize(("cost", "count"), [(0.0, 2), (0.8, 1)], ids=["cheap", "dear"])
+def test_a_silent_one_is_given_up_for_what_is_cheap_alone(
+    monkeypatch: pytest.MonkeyPatch, cost: float, count: int
+) -> None:
+    """Else a dear query would be paid for by each upstream at once."""
+    monkeypatch.setattr(pool, "SILENT", 0.2)
+    monkeypatch.setattr(pool, "STALLED", 0.1)
+    monkeypatch.setattr(pool, "DEAR", 0.5)
+    lines: list[bytes] = []
+
+    async def silent(line: bytes, writer: asyncio.StreamWriter) -> None:
+        if line != LOOK:
+            lines.append(line)
+            await asyncio.sleep(cost if len(lines) == 1 else 2)
+        await good(line, writer)
+
+    async def ask() -> list[bytes]:
+        async with answering(silent) as strange, answering(silent) as other:
+            settings: dict[str, Any] = {"replica": [strange, other], "keep": 0}
+            async with inside.opened(lambda line: ANSWER, **settings) as (door, upstream):
+                found = []
+                async with asyncio.timeout(SOON):
+                    for _ in range(2):
+                        found.append(await inside.asked(door.settings.whois[0], b"AS1"))
+                lines.extend(upstream.lines)
+                return found
+
+    expect(inside.run(ask()), [ANSWER, ANSWER], "the answers")
+    expect(len(lines) - 1, count, "how many were asked the second time")
+
+
 # What an agent says, each a whole reply: the door goes on with what it knew.
 SAID = {
     "nothing": b"",

@@ -16,6 +16,7 @@ from checks.door.inside import answering
 from checks.running import expect
 from checks.serving import free_port
 from irr.door import pool
+from irr.door.cache import Costs
 from irr.door.upstreams import MOST
 
 LOOK = b"less 0.0.0.0/0\r\n"
@@ -117,35 +118,33 @@ def test_an_answer_that_drips_from_the_only_one_ends(monkeypatch: pytest.MonkeyP
     expect(inside.run(ask()), b"% the registry does not answer\n", "the answer")
 
 
-@pytest.mark.parametrize(("cost", "count"), [(0.0, 2), (0.8, 1)], ids=["cheap", "dear"])
-def test_a_silent_one_is_given_up_for_what_is_cheap_alone(
+@pytest.mark.parametrize(("cost", "count"), [(0.0, 2), (0.2, 1)], ids=["cheap", "dear"])
+def test_another_one_is_asked_for_what_is_cheap_alone(
     monkeypatch: pytest.MonkeyPatch, cost: float, count: int
 ) -> None:
-    """Else a dear query would be paid for by each upstream at once."""
+    """While the first is silent. Else a dear query would be paid for by each upstream at once."""
     monkeypatch.setattr(pool, "SILENT", 0.2)
     monkeypatch.setattr(pool, "STALLED", 0.1)
-    monkeypatch.setattr(pool, "DEAR", 0.5)
+    monkeypatch.setattr(Costs, "known", lambda costs, key: cost)
     lines: list[bytes] = []
 
     async def silent(line: bytes, writer: asyncio.StreamWriter) -> None:
         if line != LOOK:
             lines.append(line)
-            await asyncio.sleep(cost if len(lines) == 1 else 2)
+            await asyncio.sleep(2)
         await good(line, writer)
 
-    async def ask() -> list[bytes]:
+    async def ask() -> bytes:
         async with answering(silent) as strange, answering(silent) as other:
-            settings: dict[str, Any] = {"replica": [strange, other], "keep": 0}
+            settings: dict[str, Any] = {"replica": [strange, other]}
             async with inside.opened(lambda line: ANSWER, **settings) as (door, upstream):
-                found = []
                 async with asyncio.timeout(SOON):
-                    for _ in range(2):
-                        found.append(await inside.asked(door.settings.whois[0], b"AS1"))
+                    found = await inside.asked(door.settings.whois[0], b"AS1")
                 lines.extend(upstream.lines)
                 return found
 
-    expect(inside.run(ask()), [ANSWER, ANSWER], "the answers")
-    expect(len(lines) - 1, count, "how many were asked the second time")
+    expect(inside.run(ask()), ANSWER, "the answer")
+    expect(len(lines), count, "how often it was asked")
 
 
 # What an agent says, each a whole reply: the door goes on with what it knew.

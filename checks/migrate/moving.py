@@ -99,6 +99,15 @@ def is_cut(text: bytes, paragraphs: list[list[bytes]]) -> bool:
     return end == own.rstrip(b" \t\r") or (is_usual and not last)
 
 
+def without_end(block: list[bytes], text: bytes) -> list[bytes]:
+    """The last paragraph of a text without its last line, if that may go on."""
+    last = re.split(rb"[\n\r]", text)[-1]
+    if not last.strip(b" \t\r"):
+        return block
+    own = block[-1].removesuffix(last)
+    return [*block[:-1], own] if own.strip(b" \t\r") else block[:-1]
+
+
 class Second:
     """What was read of files: each object as its other attributes in order, and the items of each
     list, whatever their spelling."""
@@ -121,7 +130,8 @@ class Second:
                             raise Out("cut off")
                         order, one = self.mended(attributes)
                     except Out:
-                        self.withhold(block)
+                        is_last = place == len(paragraphs)
+                        self.withhold(without_end(block, text) if is_last else block)
                         raise
                     source = b"".join(values(attributes, b"source")).upper()
                     self.last = source or self.last
@@ -147,7 +157,17 @@ class Second:
         self.settle()
 
     def withhold(self, block: list[bytes]) -> None:
-        """Keeps the name of what can't be read, by its lines that can be."""
+        """Keeps the names of what can't be read, one of which may begin at each class."""
+        begun: list[list[bytes]] = [[]]
+        for line in block:
+            if begun[-1] and line.partition(b":")[0].rstrip(b" \t\r").lower() in OF_CLASSES:
+                begun.append([])
+            begun[-1].append(line)
+        for lines in filter(None, begun):
+            self.withhold_one(lines)
+
+    def withhold_one(self, block: list[bytes]) -> None:
+        """Keeps the name that the lines tell which can be read."""
         kept: list[bytes] = []
         goes_on = False
         for line in block:

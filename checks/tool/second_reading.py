@@ -196,6 +196,14 @@ def is_cut(dump: bytes, found: list[Piece]) -> bool:
     return is_within_line or (is_usual and "source" not in last.names[1:])
 
 
+def without_end(piece: Piece) -> Piece:
+    """A piece without its last line, of which an end may be missing: all that is after a CR."""
+    *others, (name, lines) = piece.attributes
+    front, mark, _ = lines[-1].rpartition("\r")
+    kept = [*lines[:-1], front.strip(BLANKS)] if mark else lines[:-1]
+    return piece._replace(attributes=[*others, (name, kept)] if kept else others)
+
+
 def refusal(piece: Piece, is_cut_off: bool) -> str:
     """A word of the cause for which a piece by itself is left out; nothing where it is taken."""
     if any(name in CLASSES + OTHERS for name in piece.names[1:]):
@@ -381,11 +389,13 @@ class Registry:
         self.withheld: dict[tuple[str, Any], str] = {}
         last = ""
         is_last_cut = is_cut(dump, self.pieces)
+        is_ended = not re.split("[\n\r]", dump.decode("latin-1"))[-1].strip(BLANKS)
         for piece in self.pieces:
-            cause = refusal(piece, is_last_cut and piece is self.pieces[-1])
+            is_last = piece is self.pieces[-1]
+            cause = refusal(piece, is_last_cut and is_last)
             own = "".join(piece.values("source")).upper()
             if cause:
-                self.withhold(piece, last)
+                self.withhold(piece if is_ended or not is_last else without_end(piece), last)
                 self.causes[piece.line] = cause
                 continue
             last = own or last
@@ -409,18 +419,25 @@ class Registry:
         self.lines = {place: piece.line for place, piece in taken.items()}
 
     def withhold(self, piece: Piece, last: str) -> None:
-        """Keeps the name of what can't be read, if it tells one; without a `source` it is of the
-        registry of the last object."""
-        known: Attributes = []
+        """Keeps the names of what can't be read, as far as it tells them: one may begin at each
+        class. Without a `source` it is of the registry of the last object."""
+        begun: list[Attributes] = [[]]
         for name, lines in piece.attributes:
-            if known and name in CLASSES + OTHERS:
-                break
-            if name and not CONTROL.search(lines[0]):
-                known.append((name, [line for line in lines if not CONTROL.search(line)]))
-        read = piece._replace(attributes=known)
-        if read.kind in NAMED and read.kind == piece.kind and key_of(read):
-            own = next(filter(NAME.fullmatch, read.values("source")), last)
-            self.withheld.setdefault((read.kind, key_of(read)), own.upper())
+            if begun[-1] and name in CLASSES + OTHERS:
+                begun.append([])
+            begun[-1].append((name, lines))
+        for attributes in begun:
+            read = piece._replace(
+                attributes=[
+                    (name, [line for line in lines if not CONTROL.search(line)])
+                    for name, lines in attributes
+                    if name and not CONTROL.search(lines[0])
+                ]
+            )
+            is_whole = read.attributes[:1] and read.kind == attributes[0][0]
+            if is_whole and read.kind in NAMED and key_of(read):
+                own = next(filter(NAME.fullmatch, read.values("source")), last)
+                self.withheld.setdefault((read.kind, key_of(read)), own.upper())
 
     def leave_out_crossing(self, taken: dict[tuple[str, Any], Piece], kind: str) -> None:
         stay: list[tuple[int, int]] = []

@@ -121,7 +121,9 @@ OTHER_DUMPS = [
     ("s/AS64497/AS64498/", "object 7 of the registry differs from that of the result, `as-set: "),
     ("/^aut-num/,/^$/d", "object 5 of the registry differs from that of the result, `aut-num: "),
     ("/^as-set/,/^$/d", "object 7 of the registry differs from that of the result, `as-set: "),
-    ("s/^% end 7/% end 6/", "the registry has 7 objects and not 7; "),
+    ("s/^% end 7/% end 6/", "the dump of the registry does not end by `% end 7`; "),
+    ("$d", "the dump of the registry does not end by `% end 7`; "),
+    ("$i x: y\\n", "object 8 of the registry differs from that of the result, `x: y"),
 ]
 
 

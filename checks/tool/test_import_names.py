@@ -5,6 +5,8 @@ import re
 import pytest
 
 from checks.tool.importing import left_out, made, obj, texts_of
+from irr.migrate import conversion
+from irr.rpsl import syntax
 
 SET = ("as-set: AS-X", "mnt-by: A-MNT", "source: RIPE")
 UNREAD = "a name of another registry, where it can't be read"
@@ -87,3 +89,56 @@ def test_a_piece_of_text_takes_no_name_of_its_own_registry() -> None:
     text = obj(*SET, "route-set: RS-X", "members: AS666")
     own = obj("route-set: RS-X", "members: AS1", "source: RIPE")
     assert b"members:        AS1\n" in made(text + own)[0]
+
+
+# What stands in a paragraph that is left out, besides its first object.
+
+SOURCE = "source: RIPE"
+BESIDE = [
+    ("aut-num: AS1", "mnt-by: A-MNT", "KIND", "mnt-by: A-MNT", SOURCE),
+    ("KIND", "mnt-by: A-MNT", "aut-num: AS1", "mnt-by: A-MNT", SOURCE),
+    ("aut-num: AS1", "descr: x\rKIND\rmnt-by: A-MNT\rsource: RIPE"),
+    ("aut-num: AS1\rmnt-by: A-MNT\rsource: RIPE\r\rKIND\rmnt-by: A-MNT\rsource: RIPE",),
+    ("KIND\rmnt-by: A-MNT\rsource: RIPE\r\raut-num: AS1\rmnt-by: A-MNT\rsource: RIPE",),
+]
+
+
+@pytest.mark.parametrize("kind", ["mntner: A-MNT", "as-set: AS-X", "route-set: RS-X"])
+@pytest.mark.parametrize("lines", BESIDE)
+def test_a_name_inside_what_is_left_out_is_of_no_other_registry(
+    kind: str, lines: tuple[str, ...]
+) -> None:
+    """Where a blank line is missing, or lines end in CR alone."""
+    first = obj("aut-num: AS2", SOURCE) + obj(*(line.replace("KIND", kind) for line in lines))
+    other = obj(kind, "mnt-by: B-MNT", "source: RADB")
+    text, tally = made(first, other)
+    assert tally.causes[UNREAD] == 1 and b"B-MNT" not in text
+    assert b"B-MNT" in made(first, other.replace(b"RADB", b"RIPE"))[0]
+    assert made(other, first)[1].causes[UNREAD] == 0
+
+
+def test_a_name_beyond_what_is_kept_of_a_paragraph_is_of_no_other_registry(
+    monkeypatch: pytest.MonkeyPatch,
+) -> None:
+    monkeypatch.setattr(conversion, "MOST", 1_000)
+    monkeypatch.setattr(syntax, "CHUNK", 700)
+    first = obj("aut-num: AS1", *["x: y"] * 1_000, "as-set: AS-X", SOURCE)
+    assert made(first, obj("as-set: AS-X", "source: RADB"))[1].causes[UNREAD] == 1
+
+
+@pytest.mark.parametrize(
+    "end",
+    [
+        "as-set: AS-EX",
+        "aut-num: AS1\nas-set: AS-EX",
+        "aut-num: AS1\ras-set: AS-EX",
+        "as-set:\n AS-EX",
+    ],
+)
+def test_a_name_that_was_cut_off_is_none(end: str) -> None:
+    """It is the beginning of a longer one."""
+    first = obj("aut-num: AS2", SOURCE) + end.encode()
+    other = obj("as-set: AS-EX", "members: AS1", "source: RADB")
+    assert b"members:        AS1\n" in made(first, other)[0]
+    for rest in b"\nmnt-by: A", b"\rmnt-by: A", b"\n":
+        assert b"members:        AS1\n" not in made(first + rest, other)[0]

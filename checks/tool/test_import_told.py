@@ -273,6 +273,30 @@ def test_what_may_be_objects_is_told_of_a_paragraph_of_any_size(
         ], end
 
 
+def test_what_may_be_objects_inside_a_line_is_told() -> None:
+    """Of a file whose lines end in CR alone, of which each paragraph is one line."""
+    one, other = (text.replace(b"\n", b"\r") for text in (obj(*A), obj("Route : x", *A[2:])))
+    key = "a key that can't be read"
+    cases: list[tuple[bytes, str, list[str]]] = [
+        (one + other + one, key, ["Route : x", "as-set: AS-A"]),
+        (
+            obj(*A[:-1], f"source: X\r{other.decode()}"),
+            "a `source` that can't be read",
+            ["Route : x"],
+        ),
+        (obj("person: x\r\r as-set: AS-A\r+as-set: AS-A\rsource: X"), "class person", []),
+    ]
+    for text, cause, lines in cases:
+        text = text + b"\n\n" + obj("aut-num: AS1", "source: X")
+        found = [line.split("\t") for line in listed(text)]
+        assert [line[:2] for line in found] == [
+            ["left out", cause],
+            *[["left out with it", cause]] * len(lines),
+        ]
+        assert [line[3] for line in found[1:]] == lines
+        assert all(line[2].endswith(":1") for line in found if "key" in cause)
+
+
 def test_a_class_after_what_is_kept_is_told(monkeypatch: pytest.MonkeyPatch) -> None:
     monkeypatch.setattr(conversion, "MOST", 1_000)
     monkeypatch.setattr(syntax, "CHUNK", 700)

@@ -218,3 +218,33 @@ def test_a_set_that_a_source_between_has_and_cannot_be_read_is_apart(
     expect(asked(program, folder, "expand", "AS-X"), "AS1\n", "AS-X")
     expect(asked(program, folder, "expand", "AS-Y"), "AS7\n", "AS-Y")
     expect(asked(program, folder, "object", "as-set", "AS-Z"), "% no entries\n", "AS-Z")
+
+
+def test_a_set_inside_what_an_earlier_source_has_is_no_other_one(
+    program: str, tmp_path: Path, monkeypatch: pytest.MonkeyPatch
+) -> None:
+    """Where a blank line is missing in a dump. A change is of one object, whatever is in it."""
+    monkeypatch.setenv("IRRDESK", program)
+    sources = {
+        "TEST": """
+            aut-num: AS1|mnt-by: T-MNT|as-set: AS-X|members: AS1|mnt-by: T-MNT
+            as-set: AS-ALL|members: AS-X|mnt-by: T-MNT
+        """,
+        "RIPE": "route: 10.5.0.0/16|origin: AS5|mnt-by: X-MNT",
+        "RADB": """
+            as-set: AS-X|members: AS6|mnt-by: X-MNT
+            as-set: AS-Y|members: AS7|mnt-by: X-MNT
+        """,
+    }
+    view = written(tmp_path, several_of(sources))
+    folder = made(view)
+    expect(asked(program, folder, "expand", "AS-ALL"), "% missing AS-X\n", "AS-ALL")
+    view.commit()
+    state = view.states["TEST"]
+    change = "aut-num: AS2\nmnt-by: T-MNT\nas-set: AS-Y\rsource: TEST\ras-set: AS-Y\nsource: TEST\n"
+    state.changes.write_bytes(f"ADD\n\n{change}\n".encode())
+    view.states["TEST"] = state._replace(serial=1)
+    folder = tmp_path / "view" / "again"
+    folder.mkdir()
+    assert view.make(folder, "") is not None
+    expect(asked(program, folder, "expand", "AS-Y"), "AS7\n", "AS-Y")

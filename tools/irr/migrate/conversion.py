@@ -186,8 +186,7 @@ class Import:
                     )
                 raise LeftOut(self.cause_beside(mended))
         except LeftOut as cause:
-            further = part.further() if part.doubt else ()
-            self.tally.leave_out(str(cause), place, part.block.text, further, cause.item)
+            self.tally.leave_out(str(cause), place, part.block.text, part.further(), cause.item)
             return
         self.keep(mended, part)
 
@@ -197,9 +196,9 @@ class Import:
         try:
             mended = self.mender.mend(part, is_cut)
         except LeftOut as cause:
-            name = self.mender.left(part, cause)
-            if name and name.number in NAMED:
-                self.withheld.setdefault(name[:2], self.number_of(name.source or self.before))
+            for name in self.mender.left(part, cause):
+                if name.number in NAMED:
+                    self.withheld.setdefault(name[:2], self.number_of(name.source or self.before))
             raise
         self.before = mended.source or self.before
         return mended

@@ -131,9 +131,10 @@ class Mender:
         text = self.written(names, mended)
         return Mended(number, key, source, names, text, frozenset(self.kinds), tuple(self.drops))
 
-    def left(self, part: parting.Part, cause: LeftOut) -> Name | None:
-        """What object was left out; None where it is none of a registry that is asked for."""
-        return self.name_in(part.block)
+    def left(self, part: parting.Part, cause: LeftOut) -> list[Name]:
+        """What objects were left out, of the registries that are asked for."""
+        found = (self.name_in(block) or self.name_in(by_crs(block)) for block in part.begun())
+        return [name for name in found if name]
 
     def name_in(self, block: syntax.Block) -> Name | None:
         """Which object it is that may be none, by the lines that can be read; None where they tell
@@ -462,6 +463,11 @@ def readable(text: bytes) -> bytes:
             goes_on = is_good
         kept += [line] if is_good else []
     return b"\n".join(kept)
+
+
+def by_crs(block: syntax.Block) -> syntax.Block:
+    """A block whose lines end in CR too."""
+    return block._replace(text=parting.CR_INSIDE.sub(b"\n", block.text))
 
 
 def not_mended(kind: str) -> str:

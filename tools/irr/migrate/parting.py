@@ -4,7 +4,7 @@ No class of RFC 2622, 2725, 2726 and 4012, of the RIPE Database or of IRRd has a
 name of another class. So a class's name after the first line begins another object, and a second
 `source` ends one. A name that is none of theirs is an attribute."""
 import re
-from typing import NamedTuple
+from typing import Iterator, NamedTuple
 
 from irr.migrate.dumps import MARK
 from irr.rpsl import keys
@@ -27,7 +27,10 @@ CLASS_LINE = rb"(?:%s)?(?=[%s])(?:%s)[ \t\r]*:" % (
 SOURCE_LINE = rb"\nsource[ \t\r]*:"
 LATER_CLASS = re.compile(rb"\n" + CLASS_LINE)
 LATER_SOURCE = re.compile(SOURCE_LINE)
-LATER = re.compile(rb"\n" + CLASS_LINE + rb"|" + SOURCE_LINE)
+# Also within a line, whose parts end in a CR alone where a file of another kind has them.
+BEGINNING = re.compile(rb"[\n\r]" + CLASS_LINE)
+LATER = re.compile(BEGINNING.pattern + rb"|" + SOURCE_LINE)
+LINE_END = re.compile(rb"[\n\r]")
 # A `source` after the first line, with the lines that continue it and those that are skipped,
 # directly before a class, or before a file that begins with comments and one.
 SEAM = re.compile(
@@ -40,8 +43,9 @@ HEAD = re.compile(rb"%s(?:[ \t\r]*\n)?(?:[#%%][^\n]*\n)*" % MARK)
 JOINED_ITEM = re.compile(rb".*(?:%s):(?!:).*|:(?!:).*|.*(?<!:):" % b"|".join(CLASSES), re.I)
 # What a line has, such as one of an `auth`, that was joined to one which begins with a class.
 JOINED_LINE = re.compile(rb"(?:%s)[ \t\r]*:(?!:)" % b"|".join(CLASSES), re.I)
-# A CR that ends no line.
+# A CR that ends no line, with what is after it, and alone.
 CR_BEFORE = re.compile(rb"\r[ \t\r]*[^ \t\r\n]")
+CR_INSIDE = re.compile(rb"\r(?=[ \t\r]*[^ \t\r\n])")
 CUT_OFF = "cut off at the end of the file"
 CLASS_AGAIN = "a class again after the first line"
 SOURCE_AGAIN = "`source` twice"
@@ -60,14 +64,36 @@ class Part(NamedTuple):
     has_source: bool
 
     def further(self) -> list[tuple[int, bytes]]:
-        """The lines at which further objects may begin, or end, in what is not one: each with its
-        number in the file."""
-        block, (_, _, after) = self.block, self.block.text.partition(b"\n")
-        if block.size > len(block.text):
+        """The lines at which further objects may begin, or end, in what is not one, or inside a
+        line of what is: each with its number in the file."""
+        block = self.block
+        if not self.may_have_more():
+            return []
+        text = block.text
+        if block.size > len(text):
             # Its last line is not whole, and told of as the others that are not kept.
-            after = after[: after.rfind(b"\n") + 1]
-        found = [*later(after, block.line + 1), *block.beyond]
-        return [one for one in found if not is_source(one[1])] or found[1:]
+            text = text[: text.rfind(b"\n") + 1]
+        end = LINE_END.search(text)
+        after, line = (text[end.end() :], block.line + (end[0] == b"\n")) if end else (b"", 0)
+        found = [*later(after, line), *block.beyond]
+        classes = [one for one in found if not is_source(one[1])]
+        return classes or (found[1:] if self.doubt else [])
+
+    def begun(self) -> Iterator[Block]:
+        """What may be an object of this, each from where it begins to the next one; without a last
+        line that has no end, which may say more."""
+        text = self.block.text
+        text = text[: max(text.rfind(b"\n"), text.rfind(b"\r")) + 1]
+        found = BEGINNING.finditer(text.lower()) if self.may_have_more() else ()
+        starts = [0, *(one.start() + 1 for one in found)]
+        for start, end in zip(starts, [*starts[1:], len(text)]):
+            yield Block(self.block.line, end - start, text[start:end])
+        for number, line in self.block.beyond:
+            yield Block(number, len(line), line)
+
+    def may_have_more(self) -> bool:
+        """Whether there may be further objects in it."""
+        return bool(self.doubt) or CR_BEFORE.search(self.block.text) is not None
 
     def odd_lines(self) -> tuple[tuple[int, bytes], ...]:
         """The lines with `#` or `%` first, which are not kept, those with a CR first, which go on
@@ -133,8 +159,9 @@ def later(text: bytes, line: int) -> list[tuple[int, bytes]]:
     for one in LATER.finditer(small):
         line += small.count(b"\n", start + 1, one.start() + 1)
         start = one.start()
-        end = text.find(b"\n", start)
-        found.append((line, (text[start:] if end < 0 else text[start:end]).removeprefix(MARK)))
+        end = LINE_END.search(text, start)
+        own = text[start : end.start()] if end else text[start:]
+        found.append((line, own.removeprefix(MARK)))
     return found
 
 

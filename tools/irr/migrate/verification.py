@@ -1,4 +1,5 @@
 """Whether `irrdesk` makes of a dump the registry that it is to be."""
+import os
 import subprocess
 from itertools import zip_longest
 from pathlib import Path
@@ -50,10 +51,17 @@ def check(path: str | Path, source: str, root: str, auth: str, count: int) -> No
                         f"object {place} of the registry differs from that of the result, "
                         f"`{first}`; this is a fault of irr: report it",
                     )
-            found.seek(-len(b"%% end %d\n" % count), 2)
-            if place != count or found.read() != b"% end " + str(count).encode() + b"\n":
+            if place != count:
                 raise Failure(
                     "--check",
                     f"the registry has {place:,} objects and not {count:,}; this is a fault of "
                     "irr: report it",
+                )
+            end = b"%% end %d\n" % count
+            found.seek(max(0, found.seek(0, os.SEEK_END) - len(end)))
+            if found.read() != end:
+                raise Failure(
+                    "--check",
+                    f"the dump of the registry does not end by `{end.decode().strip()}`; this is a "
+                    "fault of irr: report it",
                 )

@@ -65,6 +65,8 @@ class ViewMender(Mender):
         super().__init__(view, VIEW_ROOT)
         self.table, self.keeps_invalid = table, keeps_invalid
         self.own, self.is_irrdesk, self.is_apart = "", False, False
+        # Whether what is read now is one object, whatever stands in its text.
+        self.is_one = False
         # What is of before the changes of the source; how many objects it has of each class; how
         # many of its routes are invalid.
         self.superseded: Collection[tuple[int, int | str]] = ()
@@ -76,20 +78,24 @@ class ViewMender(Mender):
         self.own, self.is_irrdesk, self.is_apart = source, is_irrdesk, is_apart
         self.counts, self.invalid = [0] * (len(NUMBERS) + 1), 0
 
-    def left(self, part: Part, cause: LeftOut) -> Name | None:
-        name = super().left(part, cause)
-        is_own = str(cause) != OTHER_SOURCE and name and name.source in ("", self.own)
-        if not name or not is_own or name[:2] in self.superseded:
-            return None
-        return name._replace(source=self.own)
+    def left(self, part: Part, cause: LeftOut) -> list[Name]:
+        if str(cause) == OTHER_SOURCE:
+            return []
+        own = self.name_in(part.block)
+        found = super().left(part, cause) if not self.is_one else [own] if own else []
+        return [
+            name._replace(source=self.own)
+            for name in found
+            if name.source in ("", self.own) and name[:2] not in self.superseded
+        ]
 
     def key_changed(self, part: Part) -> tuple[int, int | str] | None:
         """Which object of the source a change is of."""
         try:
             mended = super().mend(part)
         except LeftOut as cause:
-            name = self.left(part, cause)
-            return name[:2] if name else None
+            names = self.left(part, cause)
+            return names[0][:2] if names else None
         return mended.number, mended.key
 
     def mend(self, part: Part, is_cut: bool = False) -> Mended:
@@ -230,10 +236,12 @@ class Merge(conversion.Import):
         self.sources.setdefault(name, len(self.sources))
         for path in (*state.parts, state.changes):
             self.by_source.source_of[str(path)] = name
+        self.own.is_one = True
         added = self.changed(state)
+        self.own.is_one = self.own.is_apart
         for path in state.parts:
             self.read_file(str(path))
-        self.own.superseded = ()
+        self.own.superseded, self.own.is_one = (), True
         self.paths.append(str(state.changes))
         for part in added:
             self.take(part, str(state.changes))

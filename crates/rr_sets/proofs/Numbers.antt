@@ -9,7 +9,6 @@ use Rattle.rr_object.specs.Objects.{Obj}
 use Rattle.rr_object.specs.declared.key.Key.{Key}
 use Rattle.rr_object.specs.declared.key.Key.TheVariants.{Mntner, AsBlock, AutNum, Inetnum, Route}
 use Rattle.rr_object.specs.declared.key.Key.TheVariants.{AsSet, RouteSet}
-use Rattle.rr_object.specs.Parts.{ByRefParts}
 use Rattle.rr_object.specs.declared.member.Member.{Member}
 use Rattle.std.proofs.Common.{◌++◌, ◌+◌, ◌<◌, length, get_or, take}
 use Rattle.rr_graph.proofs.Backwards.{Contains-take, Contains-take_cases}
@@ -136,21 +135,20 @@ module _ (r : Reg) (sound : Sound r) where
 
   -- the numbers that a registered set lists and those that belong to it
   pub numbers_of_set : (name : List ℕ) (set : Obj) (objects : List (Bor Obj))
-      (members : List Member) (by_ref : ByRefParts) (numbers : List ℕ) → get r (AsSet name)
-      ≡ Some set → members ≡ set.members → by_ref ≡ set.by_ref
-      → ((o : Obj) → Contains (lent objects) o ↔ (IsReferrer r name o × IsTrue (takes by_ref o))) →
-      numbers ≡ filter_map number_listed members ++ filter_map (λ o. number_of_key o.now.key)
+      (members : List Member) (numbers : List ℕ) → get r (AsSet name) ≡ Some set →
+      members ≡ set.members
+      → ((o : Obj) → Contains (lent objects) o
+      ↔ (IsReferrer r name o × IsTrue (takes set.by_ref o))) → numbers ≡ filter_map number_listed
+      members ++ filter_map (λ o. number_of_key o.now.key)
       objects → (n : ℕ) → Contains numbers n ↔ (ListsNumber r name n ⊎ BelongsTo r name n)
-  numbers_of_set name set objects members by_ref numbers registered is_members is_by_ref belong is =
+  numbers_of_set name set objects members numbers registered is_members belong is =
       Contains-both (filter_map number_listed set.members)
       (filter_map (λ o. number_of_key o.now.key) objects) numbers (ListsNumber r name)
       (BelongsTo r name)
       (is ∙ ap (λ (l : List Member). filter_map number_listed l ++ filter_map
       (λ (o : Bor Obj). number_of_key o.now.key) objects) is_members)
       (numbers_that_are_listed name set registered)
-      (numbers_that_belong name set objects registered
-      (subst (λ (b : ByRefParts). (o : Obj) → Contains (lent objects) o
-      ↔ (IsReferrer r name o × IsTrue (takes b o))) is_by_ref belong))
+      (numbers_that_belong name set objects registered belong)
 
   -- no set of the name is registered, so nothing is listed and nothing belongs
   pub numbers_of_none : (name : List ℕ) (numbers : List ℕ) → get r (AsSet name) ≡ None →

@@ -177,12 +177,11 @@ module _ (r : Reg) (sound : Sound r) where
 
 -- the ranges of a registered set
 pub ranges_of_set : (r : Reg) (name : List ℕ) (set : Obj) (members : List Member)
-    (by_ref : ByRefParts) (ranges taken : List RangeParts) → registered_set r name ≡ Some set →
-    members ≡ set.members → by_ref ≡ set.by_ref → ((range : RangeParts) → Contains taken range
-    ↔ IsRangeTaken r by_ref name range) → ranges ≡ filter_map range_listed members ++ taken →
-    (range : RangeParts) → Contains ranges range
-    ↔ (ListsRange r name range ⊎ IsByReference r name range)
-ranges_of_set r name set members by_ref ranges taken registered is_members is_by_ref are is =
+    (ranges taken : List RangeParts) → registered_set r name ≡ Some set → members ≡ set.members
+    → ((range : RangeParts) → Contains taken range ↔ IsRangeTaken r set.by_ref name range)
+    → ranges ≡ filter_map range_listed members ++ taken → (range : RangeParts)
+    → Contains ranges range ↔ (ListsRange r name range ⊎ IsByReference r name range)
+ranges_of_set r name set members ranges taken registered is_members are is =
     Contains-both (filter_map range_listed members) taken ranges (ListsRange r name)
     (IsByReference r name) is listed belong where
       listed : (range : RangeParts) → Contains (filter_map range_listed members) range
@@ -203,12 +202,10 @@ ranges_of_set r name set members by_ref ranges taken registered is_members is_by
         λ has. (
           set,
           registered,
-          subst (λ (b : ByRefParts). IsRangeTaken r b name range) is_by_ref
-              ((are range).0 has),
+          (are range).0 has,
         ),
-        λ (o, found, is_taken). let same : o ≡ set = cc in
-            (are range).1 (subst (λ (b : ByRefParts). IsRangeTaken r b name range) (sym is_by_ref)
-            (subst (λ (x : Obj). IsRangeTaken r x.by_ref name range) same is_taken)),
+        λ (o, found, is_taken). let same : o ≡ set = cc in (are range).1
+            (subst (λ (x : Obj). IsRangeTaken r x.by_ref name range) same is_taken),
       )
 
 -- no set of the name is registered, so it lists nothing and nothing belongs to it

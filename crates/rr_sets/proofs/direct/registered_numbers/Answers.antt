@@ -17,9 +17,9 @@ returns-in_ok-extend_from_slice-in-Some g c =
     let registered : get r (AsSet c.args.name.now) ≡ Some c.in-Some.object.now =
     sym c.in_ok-object.ensures.found ∙ ap option_copied c.in-Some.is in
     let belong : (o : Obj) → Contains (lent c.deref.result.now) o
-    ↔ (IsReferrer r c.args.name.now o × IsTrue (takes c.by_ref.result.now o)) =
+    ↔ (IsReferrer r c.args.name.now o × IsTrue (takes c.in-Some.object.now.by_ref o)) =
     subst (λ (l : List (Bor Obj)). (o : Obj) → Contains (lent l) o
-    ↔ (IsReferrer r c.args.name.now o × IsTrue (takes c.by_ref.result.now o)))
+    ↔ (IsReferrer r c.args.name.now o × IsTrue (takes c.in-Some.object.now.by_ref o)))
     (sym c.deref.ensures.value) c.in_ok-objects-in-Some.ensures in
     let numbers : c.extend_from_slice.new.self.items ≡ filter_map number_listed
     c.members.result.now ++ filter_map (λ (o : Bor Obj). number_of_key o.now.key)
@@ -29,6 +29,5 @@ returns-in_ok-extend_from_slice-in-Some g c =
     ∙ ap (λ (l : List ℕ). filter_map number_listed c.members.result.now ++ l)
     (c.deref-in-Some.ensures.value ∙ c.in_ok-numbers_of-in-Some.ensures) in
     numbers_of_set r c.in_ok-object.ensures.sound c.args.name.now c.in-Some.object.now
-    c.deref.result.now c.members.result.now c.by_ref.result.now
-    c.extend_from_slice.new.self.items
-    registered c.members.ensures c.by_ref.ensures belong numbers
+    c.deref.result.now c.members.result.now c.extend_from_slice.new.self.items
+    registered c.members.ensures belong numbers

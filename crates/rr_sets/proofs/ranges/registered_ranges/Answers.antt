@@ -18,11 +18,11 @@ returns-in_ok-extend_from_slice-in-Some g c =
     let registered : registered_set r c.args.name.now ≡ Some c.in-Some.object.now =
     sym c.in_ok-object.ensures.found ∙ ap option_copied c.in-Some.is in
     let belong : (o : Obj) → Contains (lent c.deref.result.now) o
-    ↔ (IsReferrer r c.args.name.now o × IsTrue (takes c.by_ref.result.now o)) =
+    ↔ (IsReferrer r c.args.name.now o × IsTrue (takes c.in-Some.object.now.by_ref o)) =
     subst (λ (l : List (Bor Obj)). (o : Obj) → Contains (lent l) o
-    ↔ (IsReferrer r c.args.name.now o × IsTrue (takes c.by_ref.result.now o)))
+    ↔ (IsReferrer r c.args.name.now o × IsTrue (takes c.in-Some.object.now.by_ref o)))
     (sym c.deref.ensures.value) c.in_ok-objects-in-Some.ensures in
-    let taken = ranges_that_are_taken r c.in_ok-object.ensures.sound c.by_ref.result.now
+    let taken = ranges_that_are_taken r c.in_ok-object.ensures.sound c.in-Some.object.now.by_ref
     c.args.name.now c.deref.result.now belong in
     let own = filter_map (λ (o : Bor Obj). range_of_key o.now.key) c.deref.result.now in
     let ranges : c.extend_from_slice.new.self.items ≡ filter_map range_listed c.members.result.now
@@ -31,6 +31,5 @@ returns-in_ok-extend_from_slice-in-Some g c =
     ∙ ap (λ (l : List RangeParts). l ++ c.deref-in-Some.result.now) c.in_ok-ranges-in-Some.ensures
     ∙ ap (λ (l : List RangeParts). filter_map range_listed c.members.result.now ++ l)
     (c.deref-in-Some.ensures.value ∙ c.in_ok-ranges_of-in-Some.ensures) in
-    ranges_of_set r c.args.name.now c.in-Some.object.now c.members.result.now c.by_ref.result.now
-    c.extend_from_slice.new.self.items own
-    registered c.members.ensures c.by_ref.ensures taken ranges
+    ranges_of_set r c.args.name.now c.in-Some.object.now c.members.result.now
+    c.extend_from_slice.new.self.items own registered c.members.ensures taken ranges

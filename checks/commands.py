@@ -1,5 +1,5 @@
 """Commands of the program in one folder, and how each ended: its status, what it printed, and what
-it said on standard error. Each comparison is a case."""
+it reported on standard error. Each comparison is a case."""
 
 import hashlib
 import os
@@ -33,8 +33,8 @@ SETTINGS = {
     "auth": f'auth = "SHA256-PW a:{DIGEST}"',
     "limit": "limit = 10000",
 }
-# What is said of a file and of settings that are missing, and of databases; DATABASE stands for the
-# name of one.
+# What is reported of a file and of settings that are missing, and of databases; DATABASE stands for
+# the name of one.
 NO_FILE = (
     "irrdesk: none.rpsl: the file cannot be opened: there is none of that name: correct the path"
 )
@@ -63,12 +63,17 @@ LONGEST = 300
 
 
 class Commands:
-    """Runs of the program in a folder. `each` makes a case of a comparison; what is said goes to
-    `said`, a list."""
+    """Runs of the program in a folder. `each` makes a case of a comparison; what is reported goes
+    to `reported`, a list."""
 
-    def __init__(self, program: str, folder: str, each: Each, said: list[str]) -> None:
-        self.program, self.folder, self.each, self.all_said = program, Path(folder), each, said
-        self.status, self.printed, self.said = 0, "", ""
+    def __init__(self, program: str, folder: str, each: Each, reported: list[str]) -> None:
+        self.program, self.folder, self.each, self.all_reported = (
+            program,
+            Path(folder),
+            each,
+            reported,
+        )
+        self.status, self.printed, self.reported = 0, "", ""
         for name, text in [("added.rpsl", ADDED), ("refused.rpsl", REFUSED), ("sets.rpsl", SETS)]:
             self.write(name, text)
 
@@ -166,32 +171,36 @@ class Commands:
         printed = (made.stdout or b"").decode("utf-8", "replace")
         return self.ended(made.returncode, printed, made.stderr.decode("utf-8", "replace"))
 
-    def ended(self, status: int, printed: str, said: str) -> Self:
+    def ended(self, status: int, printed: str, reported: str) -> Self:
         """Takes how a run ended that another way began."""
-        self.status, self.printed, self.said = status, printed, said
-        self.all_said.extend(said.splitlines())
+        self.status, self.printed, self.reported = status, printed, reported
+        self.all_reported.extend(reported.splitlines())
         return self
 
     # Cases, of what ran just before.
 
-    def gives(self, name: str, status: int, said: str, printed: str | None = None) -> Self:
+    def gives(self, name: str, status: int, reported: str, printed: str | None = None) -> Self:
         """That it ended so; what it printed is compared if it is given, without line ends at the
         end."""
         with self.each(name):
             expect(
-                (self.status, self.said.rstrip("\n")), (status, said), "the status and what is said"
+                (self.status, self.reported.rstrip("\n")),
+                (status, reported),
+                "the status and what is reported",
             )
             if printed is not None:
                 expect(self.printed.rstrip("\n"), printed, "what is printed")
         return self
 
-    def begins(self, name: str, status: int, said: str) -> Self:
+    def begins(self, name: str, status: int, reported: str) -> Self:
         """That it ended with a status, and one line that begins so."""
         with self.each(name):
             expect(
-                (self.status, self.said.count("\n")), (status, 1), f"status, lines of {self.said!r}"
+                (self.status, self.reported.count("\n")),
+                (status, 1),
+                f"status, lines of {self.reported!r}",
             )
-            expect(self.said[: len(said)], said, "how the line begins")
+            expect(self.reported[: len(reported)], reported, "how the line begins")
         return self
 
     def check(self, name: str, holds: str | bool, **variables: Any) -> None:
@@ -223,8 +232,8 @@ def of(database: str, text: str) -> str:
     return text.replace("DATABASE", database)
 
 
-def keep_said(program: str, lines: list[str], path: Path) -> None:
-    """Keeps what was said, below the digest of the program that said it."""
+def keep_reported(program: str, lines: list[str], path: Path) -> None:
+    """Keeps what was reported, below the digest of the program that did it."""
     digest = hashlib.sha256(Path(program).read_bytes()).hexdigest()
     path.parent.mkdir(parents=True, exist_ok=True)
     path.write_text("\n".join([digest, *lines, ""]), encoding="utf-8", errors="surrogateescape")

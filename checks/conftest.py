@@ -14,7 +14,7 @@ import pytest
 sys.dont_write_bytecode = True
 
 from checks import record  # noqa: E402
-from checks.commands import Commands, keep_said  # noqa: E402
+from checks.commands import Commands, keep_reported  # noqa: E402
 from checks.running import MEMORY_ROOM, TOP, Trial, memory_folder  # noqa: E402
 from checks.worlds import Tool  # noqa: E402
 
@@ -144,10 +144,10 @@ def tool(trial: Trial) -> Tool:
 def tell(request: pytest.FixtureRequest) -> Callable[..., Any]:
     """Puts figures into the line of a case: how many inputs there were, what they took."""
 
-    def told(words: str) -> None:
-        request.node.user_properties.append(("told", str(words)))
+    def add(words: str) -> None:
+        request.node.user_properties.append(("figures", str(words)))
 
-    return told
+    return add
 
 
 @pytest.fixture
@@ -158,17 +158,19 @@ def each(subtests: Any) -> Callable[..., Any]:
 
 
 @pytest.fixture(scope="module")
-def said(request: pytest.FixtureRequest, program: str) -> Iterator[Any]:
+def reported(request: pytest.FixtureRequest, program: str) -> Iterator[Any]:
     """What the program says in the commands of a module, which is kept for the check of all
     messages."""
     lines: list[str] = []
     yield lines
     name = request.module.__name__.removeprefix("checks.")
-    keep_said(program, lines, Path(TOP, "out/said", name))
+    keep_reported(program, lines, Path(TOP, "out/reported", name))
 
 
 @pytest.fixture
-def case(request: pytest.FixtureRequest, trial: Trial, subtests: Any, said: list[str]) -> Commands:
+def case(
+    request: pytest.FixtureRequest, trial: Trial, subtests: Any, reported: list[str]
+) -> Commands:
     """Commands of the program in a folder of the check."""
     folder = trial.place(request.node.name[:60].replace("/", "-"))
-    return Commands(trial.program, folder, subtests.test, said)
+    return Commands(trial.program, folder, subtests.test, reported)

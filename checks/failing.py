@@ -17,11 +17,11 @@ NEVER_MADE = (b"there is no such database", b"the database has no registry that 
 
 
 class Failing:
-    """The library of a script, and all that the program said under it."""
+    """The library of a script, and all that the program reported under it."""
 
     def __init__(self, trial: Trial) -> None:
         self.trial = trial
-        self.said: set[bytes] = set()
+        self.reported: set[bytes] = set()
         # Not in the script's folder: nothing in memory may be executed on some machines.
         self.folder = tempfile.TemporaryDirectory(prefix="irrdesk-")
         self.library = os.path.join(self.folder.name, "failing.so")
@@ -42,12 +42,15 @@ class Failing:
         self, folder: str, words: list[str], environment: dict[str, str], **options: Any
     ) -> Ran:
         ran = run([self.trial.program, *words], folder, environment=environment, **options)
-        self.said.add(ran.said)
+        self.reported.add(ran.reported)
         return ran
 
-    def said_is_of_the_page(self) -> str:
-        """That each line that was said so far is of docs/MESSAGES.md; how many lines those are."""
-        lines = [line for text in self.said for line in text.decode(errors="replace").splitlines()]
+    def reported_is_of_the_page(self) -> str:
+        """That each line that was reported so far is of docs/MESSAGES.md; how many lines those
+        are."""
+        lines = [
+            line for text in self.reported for line in text.decode(errors="replace").splitlines()
+        ]
         expect(messages.unknown(lines), [], "the lines that docs/MESSAGES.md does not have")
         met = messages.met(lines) or "none"
         return f"{len(set(lines))} lines; of those that nothing else meets: {met}"
@@ -80,10 +83,10 @@ class Failing:
     def rows_of(self, folder: str) -> bytes | None:
         """The rows that stand, as they are dumped; nothing where no registry was made."""
         ran = self.trial.run(folder, "dump", "s.toml", "--full")
-        if ran.status == 4 and any(words in ran.said for words in NEVER_MADE):
+        if ran.status == 4 and any(words in ran.reported for words in NEVER_MADE):
             return None
-        if (ran.status, ran.said) != (0, b""):
-            raise Failure(f"the dump afterwards: {ran.status}, {short(ran.said)}")
+        if (ran.status, ran.reported) != (0, b""):
+            raise Failure(f"the dump afterwards: {ran.status}, {short(ran.reported)}")
         return ran.printed
 
     def sweep(
@@ -108,7 +111,7 @@ class Failing:
             try:
                 ran = self.run(folder, words, self.environment(kind, how, number))
                 if ran.status < 0 or ran.status > 5 and ran.status != 137:
-                    raise Failure(f"status {ran.status}, {short(ran.said)}")
+                    raise Failure(f"status {ran.status}, {short(ran.reported)}")
                 rows = self.rows_of(folder)
                 if number == NONE:
                     expect(

@@ -46,9 +46,9 @@ def wait_until(what: str, seconds: int, is_so: Callable[..., Any]) -> None:
 
 
 @contextlib.contextmanager
-def running(words: list[str], said: str, **options: Any) -> Iterator[subprocess.Popen[bytes]]:
+def running(words: list[str], reported: str, **options: Any) -> Iterator[subprocess.Popen[bytes]]:
     """A process while the block runs; what it prints and says goes into a file."""
-    with open(said, "ab") as out:
+    with open(reported, "ab") as out:
         process = subprocess.Popen(
             words, stdin=subprocess.DEVNULL, stdout=out, stderr=out, **options
         )
@@ -64,7 +64,7 @@ def running(words: list[str], said: str, **options: Any) -> Iterator[subprocess.
                 process.wait()
 
 
-def said_by(path: str) -> str:
+def reported_by(path: str) -> str:
     with open(path, encoding="utf-8", errors="replace") as file:
         return file.read()
 
@@ -99,7 +99,7 @@ def restored(trial: Trial, ran: Ran, number: int) -> int:
         rb"(\S+): [0-9,]+ objects, the database was held for [0-9.]+ s\n", ran.printed
     )
     if not found:
-        raise Failure(f"what is printed: {ran.printed!r} {ran.said!r}")
+        raise Failure(f"what is printed: {ran.printed!r} {ran.reported!r}")
     place, dumps = found[1].decode(), []
     for path, mode in [
         (place, 0o700),
@@ -119,7 +119,7 @@ def restored(trial: Trial, ran: Ran, number: int) -> int:
             shutil.copy(os.path.join(place, name), work)
         else:
             loaded = trial.run(work, "load", "irr.toml", os.path.join(place, name))
-            expect((loaded.status, loaded.said), (0, b""), "load")
+            expect((loaded.status, loaded.reported), (0, b""), "load")
         dumps.append(trial.run(work, "dump", "irr.toml", "--full").printed)
     expect(dumps[0], dumps[1], "the dumps of both")
     found = re.search(rb"version ([0-9]+)", dumps[0])

@@ -131,19 +131,19 @@ def read_forms() -> tuple[list[str], list[tuple[str, str]]]:
     return known, wanted
 
 
-def bare(said: Iterable[str]) -> list[str]:
-    return sorted({line.removeprefix("irrdesk: ") for line in said})
+def bare(reported: Iterable[str]) -> list[str]:
+    return sorted({line.removeprefix("irrdesk: ") for line in reported})
 
 
-def unknown(said: Iterable[str]) -> list[str]:
+def unknown(reported: Iterable[str]) -> list[str]:
     """The lines that are not of the page."""
     known, _ = read_forms()
-    return [line for line in bare(said) if not any(re.fullmatch(one, line) for one in known)]
+    return [line for line in bare(reported) if not any(re.fullmatch(one, line) for one in known)]
 
 
-def met(said: Iterable[str]) -> str:
-    """Which of UNMET were said."""
-    lines, (_, wanted) = bare(said), read_forms()
+def met(reported: Iterable[str]) -> str:
+    """Which of UNMET were reported."""
+    lines, (_, wanted) = bare(reported), read_forms()
     found = [
         text
         for text, form in wanted
@@ -152,10 +152,10 @@ def met(said: Iterable[str]) -> str:
     return "; ".join(dict.fromkeys(found))
 
 
-def unsaid(said: Iterable[str]) -> list[str]:
-    """What the page has, and was not said, but for UNMET; and what is of UNMET and not in the
+def unreported(reported: Iterable[str]) -> list[str]:
+    """What the page has, and was not reported, but for UNMET; and what is of UNMET and not in the
     page."""
-    lines, (_, wanted) = bare(said), read_forms()
+    lines, (_, wanted) = bare(reported), read_forms()
     missing = [
         text
         for text, form in wanted

@@ -31,19 +31,19 @@ class Record:
             name += f" [{' '.join(str(context.msg).split())}]"
         elif report.passed and (report.when != "call" or report.nodeid in self.parted):
             return
-        told = ": ".join(
+        figures = ": ".join(
             [
                 "",
                 *(
                     words
                     for key, words in report.user_properties
-                    if key == "told" and context is None
+                    if key == "figures" and context is None
                 ),
             ]
         )
         time = f" ({report.duration:.1f} s)"
         if report.passed:
-            print(f"ok: {name}{told}{time}", file=self.out)
+            print(f"ok: {name}{figures}{time}", file=self.out)
         elif report.skipped:
             print(f"skipped: {name}: {reason(report)}", file=self.out)
         else:

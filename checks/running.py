@@ -40,17 +40,17 @@ class Failure(AssertionError):
 
 
 class Ran:
-    """How a run of the program ended: its status, negative for a signal, what it printed and said,
-    the seconds of the processor that it took, and the most memory in KiB that it was seen to
-    hold."""
+    """How a run of the program ended: its status, negative for a signal, what it printed and
+    reported, the seconds of the processor that it took, and the most memory in KiB that it was seen
+    to hold."""
 
     def __init__(
-        self, status: int, printed: bytes, said: bytes, seconds: float, memory: int
+        self, status: int, printed: bytes, reported: bytes, seconds: float, memory: int
     ) -> None:
-        self.status, self.printed, self.said, self.seconds, self.memory = (
+        self.status, self.printed, self.reported, self.seconds, self.memory = (
             status,
             printed,
-            said,
+            reported,
             seconds,
             memory,
         )
@@ -147,7 +147,7 @@ def run(
     """Runs the program to its end. The input is bytes, or a file."""
     with (
         tempfile.TemporaryFile() as printed,
-        tempfile.TemporaryFile() as said,
+        tempfile.TemporaryFile() as reported,
         tempfile.TemporaryFile() as given,
     ):
         if isinstance(stdin, bytes):
@@ -159,14 +159,14 @@ def run(
             cwd=folder,
             stdin=source,
             stdout=output or printed,
-            stderr=said,
+            stderr=reported,
             env=environment,
             preexec_fn=limited(**limits) if limits else None,
         )
         memory, status, seconds = watched(process, timeout)
         printed.seek(0)
-        said.seek(0)
-        return Ran(status, printed.read(), said.read(), seconds, memory)
+        reported.seek(0)
+        return Ran(status, printed.read(), reported.read(), seconds, memory)
 
 
 def run_in_pieces(
@@ -174,16 +174,18 @@ def run_in_pieces(
 ) -> Ran:
     """Runs the program with an input that it reads in pieces of just these sizes, over and over."""
     reader, writer = os.pipe2(os.O_DIRECT | os.O_CLOEXEC)
-    with tempfile.TemporaryFile() as printed, tempfile.TemporaryFile() as said:
-        process = subprocess.Popen(command, cwd=folder, stdin=reader, stdout=printed, stderr=said)
+    with tempfile.TemporaryFile() as printed, tempfile.TemporaryFile() as reported:
+        process = subprocess.Popen(
+            command, cwd=folder, stdin=reader, stdout=printed, stderr=reported
+        )
         os.close(reader)
         with contextlib.suppress(BrokenPipeError):
             send_pieces(writer, text, sizes)
         os.close(writer)
         memory, status, seconds = watched(process, timeout)
         printed.seek(0)
-        said.seek(0)
-        return Ran(status, printed.read(), said.read(), seconds, memory)
+        reported.seek(0)
+        return Ran(status, printed.read(), reported.read(), seconds, memory)
 
 
 def send_pieces(writer: int, text: bytes, sizes: list[int]) -> None:
@@ -251,24 +253,26 @@ def short(value: bytes | str | bool) -> str:
 def check_integrity(folder: str, what: str = "the database") -> None:
     """What sqlite3 says of the database of a folder with its log, as they were left."""
     ran = run(["sqlite3", "-batch", "irr.db", "PRAGMA integrity_check"], folder)
-    expect((ran.status, ran.printed, ran.said), (0, b"ok\n", b""), f"{what}: integrity_check")
+    expect((ran.status, ran.printed, ran.reported), (0, b"ok\n", b""), f"{what}: integrity_check")
 
 
 def is_fault(ran: Ran) -> bool:
     """Whether it ended as at a fault: with a status of one, and one line on standard error that
     says so."""
-    is_line = ran.said.startswith(b"irrdesk: ") and ran.said.find(b"\n") == len(ran.said) - 1
+    is_line = (
+        ran.reported.startswith(b"irrdesk: ") and ran.reported.find(b"\n") == len(ran.reported) - 1
+    )
     return ran.status in (2, 3, 4, 5) and is_line
 
 
 def is_answer(ran: Ran) -> bool:
-    return ran.status in (0, 1) and ran.said == b""
+    return ran.status in (0, 1) and ran.reported == b""
 
 
 def expect_ended(ran: Ran, what: str) -> None:
     """That it ended by itself, with an answer or with one line that tells a fault."""
     if not is_fault(ran) and not is_answer(ran):
-        raise Failure(f"{what}: status {ran.status}, saying {short(ran.said)}")
+        raise Failure(f"{what}: status {ran.status}, saying {short(ran.reported)}")
 
 
 def difference(found: bytes, wanted: bytes) -> str:

@@ -97,9 +97,9 @@ class Serving:
         assert self.process.stdout and self.process.stderr
         first = self.process.stdout.readline()
         if first != b"listening on 127.0.0.1:%d\n" % self.port:
-            said = b"" if first else self.process.stderr.read()
+            reported = b"" if first else self.process.stderr.read()
             self.__exit__()
-            raise Failure(f"the first line of serve: {first!r}, saying {said!r}")
+            raise Failure(f"the first line of serve: {first!r}, saying {reported!r}")
 
     def __enter__(self) -> Self:
         return self
@@ -149,9 +149,9 @@ class Server(Serving):
 
     def expect_end(self, failed: int = 0) -> None:
         """That it ends by itself, once it has served all."""
-        printed, said = self.process.communicate(timeout=LONGEST)
+        printed, reported = self.process.communicate(timeout=LONGEST)
         wanted = b"served %d, failed %d\n" % (self.count - failed, failed)
-        expect((self.process.returncode, printed, said), (0, wanted, b""), "how serve ended")
+        expect((self.process.returncode, printed, reported), (0, wanted, b""), "how serve ended")
 
     def ended(self) -> float:
         """The seconds of the processor that it took, once it has ended by itself with status 0."""

@@ -46,8 +46,8 @@ def maintainer(name: bytes) -> bytes:
 
 
 class Submission:
-    """Texts of one paragraph each, submitted to a new registry: what is said of each item, and the
-    rows before the first and after each."""
+    """Texts of one paragraph each, submitted to a new registry: what is reported of each item, and
+    the rows before the first and after each."""
 
     def __init__(self, texts: list[bytes]) -> None:
         self.texts, self.text = texts, b"\n".join(texts)
@@ -86,7 +86,7 @@ class Submission:
 
     def expect_status(self, ran: Ran, lines: list[str]) -> None:
         expect(
-            (ran.status, ran.said),
+            (ran.status, ran.reported),
             (1 if any(": refused" in line for line in lines) else 0, b""),
             "how it ended",
         )
@@ -103,7 +103,7 @@ class Submission:
         expect(
             ran.status in (3, 4, 5) and is_fault(ran),
             True,
-            f"a fault told: {ran.status}, {short(ran.said)}, {lines}",
+            f"a fault told: {ran.status}, {short(ran.reported)}, {lines}",
         )
         items = self.stopped_after(lines)
         if items is not None:
@@ -129,18 +129,18 @@ class Submission:
         """With no memory from one call on: the items before, and then refusals for want of it; or a
         fault."""
         lines = lines_of(ran)
-        told = [
+        reported = [
             line
             for line in lines
             if not line.startswith("% ") and not line.endswith((": refused E90", ": refused E91"))
         ]
-        expect(told, numbered(self.words)[: len(told)], "the items before")
-        expect(lines[: len(told)], told, "nothing but refusals behind")
+        expect(reported, numbered(self.words)[: len(reported)], "the items before")
+        expect(lines[: len(reported)], reported, "nothing but refusals behind")
         if not is_fault(ran):
             self.expect_status(ran, lines)
             expect(lines[-1:], [f"% items {len(lines) - 1}"], "the last line")
         stopped = any(line.endswith(": refused E91") for line in lines)
-        check_rows(rows, *self.dumps[len(told) : len(told) + (2 if stopped else 1)])
+        check_rows(rows, *self.dumps[len(reported) : len(reported) + (2 if stopped else 1)])
 
     def check_front(self, ran: Ran, rows: bytes, _: int) -> None:
         """That the report is a front of the worked one, and the rows those of its items, or with
@@ -152,7 +152,9 @@ class Submission:
             True,
             f"a front of the report: {short(ran.printed)}",
         )
-        expect(ran.status in (0, 1, 5, 137), True, f"the status {ran.status}, {short(ran.said)}")
+        expect(
+            ran.status in (0, 1, 5, 137), True, f"the status {ran.status}, {short(ran.reported)}"
+        )
         check_rows(rows, *self.dumps[items : items + 2])
 
     def check_read(self, ran: Ran, rows: bytes, _: int) -> None:
@@ -160,7 +162,7 @@ class Submission:
         lines = lines_of(ran)
         if lines == self.lines():
             return check_rows(rows, self.dumps[-1])
-        expect(is_fault(ran), True, f"a fault told: {ran.status}, {short(ran.said)}")
+        expect(is_fault(ran), True, f"a fault told: {ran.status}, {short(ran.reported)}")
         items = max(len(lines) - 1, 0)
         wanted = numbered(self.words)[:items] + [f"% read fault after {items} items"]
         expect(lines in ([], wanted), True, f"the report {lines}")
@@ -175,7 +177,7 @@ class Submission:
             return check_rows(rows, self.dumps[-1])
         items = min(ran.printed.count(b"\n") + 1, len(self.words))
         expect(
-            (ran.status, ran.said.decode()),
+            (ran.status, ran.reported.decode()),
             (5, f"irrdesk: {REPORT_CUT.format(DISK_FULL, items)}\n"),
             "how it ended",
         )
@@ -203,7 +205,7 @@ class Submission:
                 "the report",
             )
             expect(
-                (ran.status, ran.said.decode()),
+                (ran.status, ran.reported.decode()),
                 (5, f"irrdesk: {READING_CUT.format(name, NOT_READ, items)}\n"),
                 "how it ended",
             )

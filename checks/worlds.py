@@ -185,7 +185,7 @@ class World:
                 write(template, "first.rpsl", WORLD),
             ]:
                 ran = trial.run(template, *words)
-                expect((ran.status, ran.said), (0, b""), " ".join(words))
+                expect((ran.status, ran.reported), (0, b""), " ".join(words))
         shutil.copytree(template, self.folder)
         self.at_all, self.tool, self.url = tool, tool, ""
         self.server: Server
@@ -202,7 +202,7 @@ class World:
         self.tool = self.at_all.at(IRR_SERVER=self.url)
         if self.more:
             ran = self.tool("submit", "-", stdin=self.more)
-            expect(ran.status, 0, f"what was submitted first: {ran.printed!r} {ran.said!r}")
+            expect(ran.status, 0, f"what was submitted first: {ran.printed!r} {ran.reported!r}")
         return self
 
     def __exit__(self, *_: object) -> None:
@@ -211,11 +211,13 @@ class World:
 
 def expect_line(ran: Ran, status: int, pattern: str, what: str) -> None:
     """That it ended with a status and one line on standard error, and with nothing printed."""
-    text = ran.said.decode()
+    text = ran.reported.decode()
     if (ran.status, ran.printed) != (status, b"") or not re.fullmatch(
         rf"irr[^\n]*: {pattern}\n", text
     ):
-        raise Failure(f"{what}: status {ran.status}, printed {ran.printed[:200]!r}, said {text!r}")
+        raise Failure(
+            f"{what}: status {ran.status}, printed {ran.printed[:200]!r}, reported {text!r}"
+        )
 
 
 def items(count: int, tail: bytes = b"") -> list[bytes]:

@@ -29,7 +29,7 @@ def dumped(case: Commands) -> None:
     case.run("dump", "s.toml", "--full", to="full.rpsl")
 
 
-def test_loads_are_whole_or_told(case: Commands) -> None:
+def test_loads_are_whole_or_reported(case: Commands) -> None:
     dumped(case)
     case.fresh("new.db")
     case.run("load", "none.toml", "full.rpsl").gives(
@@ -187,9 +187,9 @@ def test_loads_are_whole_or_told(case: Commands) -> None:
     case.fresh("new.db")
     case.write("bad.rpsl", f"{BLOCK}\n")
     ended = case.sh(
-        'cat bad.rpsl | { set +e; "$program" load s.toml /dev/stdin >printed 2>said; echo $?; }'
+        'cat bad.rpsl | { set +e; "$program" load s.toml /dev/stdin >printed 2>reported; echo $?; }'
     )
-    case.ended(int(ended), case.read("printed"), case.read("said"))
+    case.ended(int(ended), case.read("printed"), case.read("reported"))
     case.gives(
         "a dump in a pipe, which is not read twice",
         5,

@@ -1,5 +1,5 @@
-"""What the program said in the checks of how commands end, beside docs/MESSAGES.md: each line is of
-the page, and each message of the page was said."""
+"""What the program reported in the checks of how commands end, beside docs/MESSAGES.md: each line
+is of the page, and each message of the page was reported."""
 
 import hashlib
 from pathlib import Path
@@ -22,12 +22,12 @@ KEPT = [
 
 
 @pytest.fixture(scope="module")
-def said(program: str) -> list[str]:
+def reported(program: str) -> list[str]:
     """All lines that those modules heard of this program."""
     digest = hashlib.sha256(Path(program).read_bytes()).hexdigest()
     lines = []
     for name in KEPT:
-        path = Path(TOP, "out/said", name)
+        path = Path(TOP, "out/reported", name)
         of, *found = path.read_text(errors="replace").splitlines() if path.exists() else [""]
         if of != digest:
             module = f"checks/{name.replace('.', '/')}.py"
@@ -36,10 +36,10 @@ def said(program: str) -> list[str]:
     return lines
 
 
-def test_each_line_that_was_said_is_of_the_page(said: list[str]) -> None:
-    assert not messages.unknown(said)
+def test_each_line_that_was_reported_is_of_the_page(reported: list[str]) -> None:
+    assert not messages.unknown(reported)
 
 
-def test_each_message_of_the_page_was_said(said: list[str], tell: Tell) -> None:
-    tell(f"{len(set(said))} lines")
-    assert not messages.unsaid(said)
+def test_each_message_of_the_page_was_reported(reported: list[str], tell: Tell) -> None:
+    tell(f"{len(set(reported))} lines")
+    assert not messages.unreported(reported)

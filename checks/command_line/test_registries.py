@@ -16,7 +16,7 @@ from checks.commands import (
 )
 
 
-def test_submissions_are_reported_and_faults_told(case: Commands) -> None:
+def test_submissions_are_reported_with_their_faults(case: Commands) -> None:
     fresh(case)
     case.run("submit", "s.toml", "none.rpsl").gives(
         "a file that is missing",
@@ -97,7 +97,7 @@ def test_submissions_are_reported_and_faults_told(case: Commands) -> None:
     )
 
 
-def test_queries_are_answered_and_faults_told(case: Commands) -> None:
+def test_queries_are_answered_and_faults_reported(case: Commands) -> None:
     added(case)
     case.run("query", "none.toml", "AS1").gives(
         "a query with settings that are missing",
@@ -177,7 +177,7 @@ def test_queries_are_answered_and_faults_told(case: Commands) -> None:
     case.settings("irr.db")
 
 
-def test_dumps_are_whole_or_told(case: Commands) -> None:
+def test_dumps_are_whole_or_reported(case: Commands) -> None:
     sets(case)
     case.run("dump", "s.toml", to="public.rpsl").gives("a dump", 0, "")
     case.check(
@@ -196,9 +196,9 @@ def test_dumps_are_whole_or_told(case: Commands) -> None:
         "",
     )
     ended = case.sh(
-        '{ set +e; "$program" dump s.toml 2>said; echo $? >ended; } | sleep 0; cat ended'
+        '{ set +e; "$program" dump s.toml 2>reported; echo $? >ended; } | sleep 0; cat ended'
     )
-    case.ended(int(ended), "", case.read("said"))
+    case.ended(int(ended), "", case.read("reported"))
     if case.status:
         case.gives(
             "a dump whose reader has ended",

@@ -85,7 +85,7 @@ def test_objects_are_read_from_standard_input_without_arguments(case: Commands) 
     )
 
 
-def test_wrong_arguments_are_told_with_their_usage(case: Commands) -> None:
+def test_wrong_arguments_are_reported_with_their_usage(case: Commands) -> None:
     case.run("start").gives(
         "an unknown command",
         2,
@@ -210,7 +210,7 @@ def test_wrong_arguments_are_told_with_their_usage(case: Commands) -> None:
         case.run(*line.split()).begins(f"the arguments {line}", 2, "irrdesk: ")
 
 
-def test_settings_are_read_or_their_fault_is_told(case: Commands) -> None:
+def test_settings_are_read_or_their_fault_is_reported(case: Commands) -> None:
     case.run("init", "none.toml").gives(
         "settings that are missing",
         3,

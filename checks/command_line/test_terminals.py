@@ -104,7 +104,7 @@ class Seen:
             f"whether the last count, {numbers[-1]}, is at most {most}",
         )
 
-    def told(self) -> str:
+    def figures(self) -> str:
         return f"{len(set(self.screen.counts))} counts"
 
 
@@ -121,7 +121,7 @@ def run(
     folder: str,
     words: list[str],
     shared: bool = True,
-    said: IO[bytes] | None = None,
+    reported: IO[bytes] | None = None,
     fed: Sequence[bytes] = (),
     step: int = 65_536,
     pause: float = 0.0,
@@ -138,7 +138,7 @@ def run(
         cwd=folder,
         stdin=subprocess.DEVNULL,
         stdout=slave if shared else writer,
-        stderr=said or slave,
+        stderr=reported or slave,
     )
     os.close(slave)
     os.close(writer)
@@ -221,7 +221,7 @@ def emptied(trial: Trial, name: str) -> str:
     return folder
 
 
-def reported(count: int) -> tuple[list[bytes], bytes]:
+def submission(count: int) -> tuple[list[bytes], bytes]:
     """Texts of one item each, the report on them in a new registry, and that report on a
     terminal."""
     texts = [PASSWORD] + [item(b"aut-num", b"AS%d" % number) + b"\n" for number in range(count)]
@@ -234,32 +234,34 @@ def reported(count: int) -> tuple[list[bytes], bytes]:
 
 def test_a_count_is_shown_beside_a_report_in_a_pipe(trial: Trial, tell: Tell) -> None:
     folder = made(trial, "submit beside", Registry(auth=AUTH.encode()))
-    texts, report = reported(8)
+    texts, report = submission(8)
     seen = run(trial, folder, ["submit", "s.toml", "slow"], shared=False, fed=texts)
     seen.expect_end(0, b"", report)
     seen.expect_counts("items", 8)
-    tell(seen.told())
+    tell(seen.figures())
 
 
 def test_a_count_stands_below_the_report_on_one_terminal(trial: Trial, tell: Tell) -> None:
     folder = made(trial, "submit above", Registry(auth=AUTH.encode()))
-    texts, report = reported(8)
+    texts, report = submission(8)
     seen = run(trial, folder, ["submit", "s.toml", "slow"], fed=texts)
     seen.expect_end(0, report)
     seen.expect_counts("items", 8)
-    tell(seen.told())
+    tell(seen.figures())
 
 
 def test_a_count_is_removed_before_a_report_cannot_be_written(trial: Trial, tell: Tell) -> None:
     """A report that nobody reads any more: the message stands where the count did."""
     folder = made(trial, "submit unread", Registry(auth=AUTH.encode()))
-    texts, report = reported(10)
+    texts, report = submission(10)
     seen = run(trial, folder, ["submit", "s.toml", "slow"], shared=False, fed=texts, leaves=True)
-    said = f"irrdesk: {REPORT_CUT}\n".format(READER_ENDED, seen.printed.count(b"\n") + 1).encode()
+    reported = f"irrdesk: {REPORT_CUT}\n".format(
+        READER_ENDED, seen.printed.count(b"\n") + 1
+    ).encode()
     expect(report.startswith(seen.printed), True, f"a front of the report: {short(seen.printed)}")
-    seen.expect_end(5, said, seen.printed)
+    seen.expect_end(5, reported, seen.printed)
     seen.expect_counts("items", 10)
-    tell(seen.told())
+    tell(seen.figures())
 
 
 def test_a_count_is_shown_while_a_dump_goes_to_a_slow_pipe(trial: Trial, tell: Tell) -> None:
@@ -268,7 +270,7 @@ def test_a_count_is_shown_while_a_dump_goes_to_a_slow_pipe(trial: Trial, tell: T
     seen = run(trial, folder, ["dump", "s.toml", "--full"], shared=False, step=8_192, pause=0.01)
     seen.expect_end(0, b"", registry.dump())
     seen.expect_counts("objects", len(registry.objects))
-    tell(seen.told())
+    tell(seen.figures())
 
 
 def test_a_count_stands_below_a_dump_on_one_terminal(trial: Trial, tell: Tell) -> None:
@@ -277,7 +279,7 @@ def test_a_count_stands_below_a_dump_on_one_terminal(trial: Trial, tell: Tell) -
     seen = run(trial, folder, ["dump", "s.toml"], step=1_024, pause=0.01)
     seen.expect_end(0, registry.dump(full=False))
     seen.expect_counts("objects", len(registry.objects))
-    tell(seen.told())
+    tell(seen.figures())
 
 
 def parts_of(text: bytes, count: int) -> list[bytes]:
@@ -293,7 +295,7 @@ def test_a_count_of_a_load_is_removed(trial: Trial, shared: bool, tell: Tell) ->
     seen = run(trial, folder, ["load", "s.toml", "slow"], shared=shared, fed=parts_of(text, 6))
     seen.expect_end(0, *([line] if shared else [b"", line]))
     seen.expect_counts("bytes", len(text))
-    tell(seen.told())
+    tell(seen.figures())
 
 
 def test_a_count_is_removed_before_the_fault_of_a_dump(trial: Trial, tell: Tell) -> None:
@@ -301,13 +303,13 @@ def test_a_count_is_removed_before_the_fault_of_a_dump(trial: Trial, tell: Tell)
     folder = emptied(trial, "refused")
     text = registry_of(50, 2_000).dump() + b"\nperson: X\n"
     seen = run(trial, folder, ["load", "s.toml", "slow"], fed=parts_of(text, 6))
-    said = (
+    reported = (
         b"irrdesk: slow: nothing is loaded, because paragraph 55 is not an object: E02, its class"
         b" is unknown: take it out\n"
     )
-    seen.expect_end(5, said)
+    seen.expect_end(5, reported)
     seen.expect_counts("bytes", len(text))
-    tell(seen.told())
+    tell(seen.figures())
 
 
 def test_a_large_database_is_shown_as_it_is_opened(trial: Trial, tell: Tell) -> None:
@@ -346,11 +348,11 @@ def test_a_quick_command_shows_nothing(trial: Trial, tell: Tell) -> None:
 def test_nothing_is_shown_where_standard_error_is_a_file(trial: Trial, tell: Tell) -> None:
     """Without a terminal as standard error there is no count, on the terminal or in the file."""
     folder = made(trial, "unshown", Registry(auth=AUTH.encode()))
-    texts, report = reported(8)
-    with open(os.path.join(folder, "said"), "w+b") as said:
-        seen = run(trial, folder, ["submit", "s.toml", "slow"], said=said, fed=texts)
-        said.seek(0)
-        expect(said.read(), b"", "what the file has")
+    texts, report = submission(8)
+    with open(os.path.join(folder, "reported"), "w+b") as reported:
+        seen = run(trial, folder, ["submit", "s.toml", "slow"], reported=reported, fed=texts)
+        reported.seek(0)
+        expect(reported.read(), b"", "what the file has")
     expect(seen.screen.written, report.replace(b"\n", b"\r\n"), "what was written to the terminal")
     expect(seen.status, 0, "the status")
     tell("a submission")
@@ -369,7 +371,7 @@ def test_a_pane_of_tmux_shows_one_count_at_a_time(trial: Trial, tell: Tell) -> N
     if shutil.which("tmux") is None:
         raise Skipped("tmux is not there")
     folder = made(trial, "submit in tmux", Registry(auth=AUTH.encode()))
-    texts, report = reported(8)
+    texts, report = submission(8)
     tmux = ["tmux", "-S", os.path.join(folder, "socket"), "-f", "/dev/null"]
     command = f"{shlex.quote(trial.program)} submit s.toml slow >report; echo done; exec cat"
     subprocess.run(

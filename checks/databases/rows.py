@@ -1,4 +1,5 @@
-"""What is said of databases whose rows, keys or tables were changed, and SQL that changes them."""
+"""What is reported of databases whose rows, keys or tables were changed, and SQL that changes
+them."""
 
 import os
 
@@ -8,7 +9,7 @@ from checks.running import TOP
 INETNUM = os.path.join(TOP, "examples", "inetnum.rpsl")
 TEN = "okey = '0a000000-0affffff'"
 REPORT = "1 inetnum 10.0.0.0 - 10.255.255.255: {}\n% items 1"
-# Tables of another version; the last is said by a migration.
+# Tables of another version; the last is reported by a migration.
 OLDER = (
     "irrdesk: DATABASE: the tables of the database are of version 1, and this program reads version"
     " 2: `irrdesk migrate SETTINGS` turns them into that"
@@ -45,7 +46,7 @@ ORDERS = [
 
 
 def other_rows(table: str) -> str:
-    """What is said if this table has other rows than the objects need."""
+    """What is reported if this table has other rows than the objects need."""
     return (
         f"irrdesk: DATABASE, table {table}: its rows are not those of a registry: restore a backup,"
         " or mend the table"
@@ -53,7 +54,7 @@ def other_rows(table: str) -> str:
 
 
 def bad_row(kind: int, key: str) -> str:
-    """What is said of the row of an object that is none."""
+    """What is reported of the row of an object that is none."""
     return (
         f"irrdesk: DATABASE, class {kind}, okey {key}: the row is not as irrdesk writes one:"
         ' restore a backup, or go by "A damaged file" in docs/BACKUP.md'
@@ -61,7 +62,7 @@ def bad_row(kind: int, key: str) -> str:
 
 
 def unnamed(kind: int, key: str) -> str:
-    """What is said of a row whose object names a maintainer who is not there."""
+    """What is reported of a row whose object names a maintainer who is not there."""
     return (
         f"irrdesk: DATABASE, class {kind}, okey {key}: the object of the row names a maintainer who"
         ' is not there: restore a backup, or go by "A damaged file" in docs/BACKUP.md'
@@ -69,7 +70,7 @@ def unnamed(kind: int, key: str) -> str:
 
 
 def of_another(kind: int, key: str) -> str:
-    """What is said of a row whose object is of another source."""
+    """What is reported of a row whose object is of another source."""
     return (
         f"irrdesk: DATABASE, class {kind}, okey {key}: the object of the row is of another source:"
         " restore a backup, or correct it or `source`"
@@ -77,7 +78,7 @@ def of_another(kind: int, key: str) -> str:
 
 
 def obstacle(part: str) -> str:
-    """What is said if this was added to a table."""
+    """What is reported if this was added to a table."""
     return (
         f"irrdesk: DATABASE, {part}: it keeps the tables of the registry from being read: take"
         " it out"

@@ -1,4 +1,4 @@
-"""Databases that cannot be used, and what is said of them."""
+"""Databases that cannot be used, and what is reported of them."""
 
 from checks.commands import Commands
 

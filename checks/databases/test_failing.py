@@ -22,13 +22,13 @@ def serve_three(case: Commands, port: int, closed: Sequence[int] = ()) -> str:
         limit()
         close()
 
-    with open(case.folder / "said", "wb") as said:
+    with open(case.folder / "reported", "wb") as reported:
         process = subprocess.Popen(
             [case.program, "serve", "s.toml", "--port", str(port), "--count", "3"],
             cwd=case.folder,
             stdin=subprocess.DEVNULL,
             stdout=subprocess.PIPE,
-            stderr=said,
+            stderr=reported,
             preexec_fn=prepare,
         )
     first, replies = process.stdout.readline(), []
@@ -39,7 +39,7 @@ def serve_three(case: Commands, port: int, closed: Sequence[int] = ()) -> str:
             reply = error
         replies.append(reply.read().decode())
     rest = process.communicate(timeout=PATIENCE)[0]
-    case.ended(process.returncode, (first + rest).decode(), case.read("said"))
+    case.ended(process.returncode, (first + rest).decode(), case.read("reported"))
     return "".join(replies)
 
 

@@ -62,7 +62,7 @@ def changed(case: Commands, text: str) -> None:
     )
 
 
-def test_old_and_changed_databases_are_migrated_or_told(case: Commands) -> None:
+def test_old_and_changed_databases_are_migrated_or_reported(case: Commands) -> None:
     dumped(case)
     case.run("migrate", "none.toml").gives(
         "a migration with settings that are missing",

@@ -275,8 +275,8 @@ def migrated(case: Commands, name: str, wanted: str, status: int = 0, version: s
     """That the migration of old.db ends so, and the version of its tables then."""
     case.run("migrate", "s.toml")
     found = ask(case, "old.db", "SELECT value FROM meta WHERE name = 'version'")
-    printed, said = ("", of("old.db", wanted)) if status else (wanted, "")
-    case.gives(name, status, said, printed)
+    printed, reported = ("", of("old.db", wanted)) if status else (wanted, "")
+    case.gives(name, status, reported, printed)
     case.check(f"{name}: its version then", found == version)
 
 
@@ -399,7 +399,7 @@ def test_tables_of_version_1_are_migrated(case: Commands) -> None:
 FEW_ROWS = added(*OLD_ROWS[0]) + added(3, "0001", "ROOT-MNT", "aut-num:        AS1")
 
 
-def test_rows_of_version_1_that_were_changed_are_told_and_stay(case: Commands) -> None:
+def test_rows_of_version_1_that_were_changed_are_reported_and_stay(case: Commands) -> None:
     begun(case)
     case.settings("old.db")
     for name, wanted, status, version, text in OLD_CHANGES:

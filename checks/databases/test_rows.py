@@ -35,7 +35,7 @@ IN_MEMORY, SECONDS = True, 20
 RANGE = f"inetnum:        10.0.0.0 - 10.255.255.255\n{OWNED}"
 WHOLE = f"{ROOT}\n{BLOCK}\n\n{OTHERS}\n\n{ADDRESSES}\n\n{RANGE}\n\n% end 5"
 WHOLE_AND_ONE = WHOLE.replace("% end 5", f"inetnum:        10.1.0.0/16\n{OWNED}\n\n% end 6")
-# What is said of a database; DATABASE stands for its name.
+# What is reported of a database; DATABASE stands for its name.
 CROSSING = (
     "irrdesk: DATABASE, class 4, okey 0a000000-0affffff: the object of the row has a range that"
     " overlaps one before it: restore a backup, or take one of the two out of `object` and `named`"
@@ -47,7 +47,7 @@ OLD_KEYS = (
 
 
 def no_object(kind: int, key: str) -> str:
-    """What is said of a row of names without an object."""
+    """What is reported of a row of names without an object."""
     return (
         f"irrdesk: DATABASE, class {kind}, okey {key}: `named` has a row of this class and okey,"
         " and `object` has none: restore a backup, or take that row out"
@@ -106,7 +106,7 @@ FOUND = [
     ),
     ("the text of the inetnum", RANGE, "SELECT CAST(body AS TEXT) FROM object WHERE TEN"),
 ]
-# What is said of a copy that sqlite3 changed; WHOLE is its dump where nothing is wrong.
+# What is reported of a copy that sqlite3 changed; WHOLE is its dump where nothing is wrong.
 CHANGES = [
     ("nothing is changed", WHOLE, ""),
     ("another version", LATER, "UPDATE meta SET value = '3'"),
@@ -311,7 +311,7 @@ def test_the_rows_follow_changes_and_deletions(case: Commands) -> None:
     case.check("the row of the other table", ask(case, "irr.db", "SELECT text FROM note") == "kept")
 
 
-def test_rows_that_were_changed_are_told(case: Commands) -> None:
+def test_rows_that_were_changed_are_reported(case: Commands) -> None:
     begun(case)
     case.settings("changed.db")
     for name, wanted, text in CHANGES:

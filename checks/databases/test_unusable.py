@@ -114,17 +114,17 @@ def within_each(case: Commands, option: str, limits: Sequence[int], *words: str)
     wrong = []
     for limit in limits:
         case.run(*words, preexec=within(option, limit))
-        count = case.said.count("\n")
+        count = case.reported.count("\n")
         is_good = case.status in (0, 1) and not count or case.status in (3, 4, 5) and count == 1
-        if not is_good or "does not say why" in case.said:
-            wrong.append((limit, case.status, case.said))
+        if not is_good or "does not say why" in case.reported:
+            wrong.append((limit, case.status, case.reported))
     case.check(
         f"{' '.join(words)} within ulimit {option} {limits[-1]} and less",
         not wrong and case.status == 0,
     )
 
 
-def test_a_database_that_cannot_be_used_is_told(case: Commands) -> None:
+def test_a_database_that_cannot_be_used_is_reported(case: Commands) -> None:
     case.settings("none/irr.db")
     case.run("init", "s.toml").gives(
         "a database in no folder",
@@ -293,7 +293,7 @@ def test_what_is_made_is_its_owners_alone(case: Commands) -> None:
     os.umask(old)
 
 
-def test_files_limits_and_other_processes_are_told(case: Commands) -> None:
+def test_files_limits_and_other_processes_are_reported(case: Commands) -> None:
     dumped(case)
     case.fresh("limits.db")
     case.run("init", "s.toml/none").gives(

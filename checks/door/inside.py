@@ -65,9 +65,9 @@ async def opened(
     }
     door = service.Service(WATCH.get(), settings.read(None, {**words, **given}))
     troubles: list[dict[str, Any]] = []
-    said: list[str] = []
-    running = asyncio.create_task(door.run(said.append))
-    await until(lambda: said and door.pool.source or running.done())
+    reported: list[str] = []
+    running = asyncio.create_task(door.run(reported.append))
+    await until(lambda: reported and door.pool.source or running.done())
     asyncio.get_running_loop().set_exception_handler(lambda _, told: troubles.append(told))
     try:
         yield door, upstream

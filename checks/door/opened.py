@@ -100,20 +100,24 @@ class Opened:
         if not any(word.startswith("--agent") for word in words):
             # Nobody listens there.
             self.words.append(f"--agent=127.0.0.1:{free_port()}")
-        self.said = os.path.join(self.folder, "said")
+        self.reported = os.path.join(self.folder, "reported")
 
     def __enter__(self) -> Self:
         paths = [os.path.join(TOP, "tools"), os.environ.get("PYTHONPATH", "")]
         environment = {**os.environ, "PYTHONPATH": os.pathsep.join(filter(None, paths))}
-        with open(self.said, "wb") as said:
+        with open(self.reported, "wb") as reported:
             self.process = subprocess.Popen(
-                self.words, stdin=subprocess.DEVNULL, stdout=said, stderr=said, env=environment
+                self.words,
+                stdin=subprocess.DEVNULL,
+                stdout=reported,
+                stderr=reported,
+                env=environment,
             )
         end = time.monotonic() + 60
-        while "open at" not in self.words_said():
+        while "open at" not in self.words_reported():
             if self.process.poll() is not None or time.monotonic() > end:
                 self.__exit__()
-                raise Failure(f"the door does not open: {self.words_said()[-800:]}")
+                raise Failure(f"the door does not open: {self.words_reported()[-800:]}")
             time.sleep(0.05)
         wait_until("that it knows its upstreams", 20, lambda: self.status()["source"])
         return self
@@ -127,8 +131,8 @@ class Opened:
                 self.process.kill()
                 self.process.wait()
 
-    def words_said(self) -> str:
-        with open(self.said, encoding="utf-8", errors="replace") as file:
+    def words_reported(self) -> str:
+        with open(self.reported, encoding="utf-8", errors="replace") as file:
             return file.read()
 
     def items(self) -> list[dict[str, Any]]:

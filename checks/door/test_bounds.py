@@ -136,8 +136,8 @@ def test_an_answer_has_a_bound(trial: Trial, tell: Tell) -> None:
                 answer = door.whois(line)
                 named = b"%d MiB" % (largest >> 20) in answer and b"/dump" in answer
                 expect((named, answer.count(b"route:")), (True, 0), f"{line}: {answer[:300]!r}")
-            status, _, said = door.http("GET", "/query/inverse%20mnt%20ROOT-MNT")
-            expect((status, b"/dump" in said), (422, True), f"{said!r}")
+            status, _, body = door.http("GET", "/query/inverse%20mnt%20ROOT-MNT")
+            expect((status, b"/dump" in body), (422, True), f"{body!r}")
             expect(door.status()["answers_bytes"] < 1 << 20, True, "that nothing of it is kept")
             status, _, whole = door.http("GET", "/dump")
             expect(

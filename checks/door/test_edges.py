@@ -37,5 +37,5 @@ def test_no_object_of_a_stranger_is_too_long_for_replicas(trial: Trial, door: Op
     copy = trial.place("loaded")
     write_settings(copy, limit=1_000)
     done = trial.run(copy, "load", "s.toml", write(copy, "dump", b"".join(loadable)))
-    expect((done.status, done.said), (0, b""), "load")
+    expect((done.status, done.reported), (0, b""), "load")
     expect(trial.run(copy, "dump", "s.toml").printed == dump, True, "the same dump")

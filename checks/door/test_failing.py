@@ -142,8 +142,8 @@ def test_a_long_answer_is_told_in_the_dialect(trial: Trial, big: str) -> None:
             for line in "inverse mnt ROOT-MNT", "!gAS1", "-i origin AS1":
                 answer = door.whois(line)
                 expect(b"/dump" in answer and len(answer) < 500, True, f"{line}: {answer!r}")
-            status, _, said = door.http("GET", "/query/more%200.0.0.0%2F0")
-            expect((status, b"/dump" in said), (422, True), f"{said!r}")
+            status, _, body = door.http("GET", "/query/more%200.0.0.0%2F0")
+            expect((status, b"/dump" in body), (422, True), f"{body!r}")
             status, _, dump = door.http("GET", "/dump")
             expect((status, dump[-12:]), (200, b"%% end %d\n" % (COUNT + 3)), "the dump")
             expect(door.whois("AS1")[:8], b"aut-num:", "a short answer")
@@ -317,8 +317,8 @@ def test_replicas_are_found_by_the_agent_and_old_ones_left_out(trial: Trial) -> 
                     "that the registry is down", 20, lambda: not door.status()["upstreams"][0]["up"]
                 )
                 expect(door.whois("AS2"), worlds.AS2 + b"\n", "an old answer in place of none")
-                status, _, said = door.http("GET", "/status", port=door.status_port)
-                expect((status, said[:7]), (200, b"in part"), "the status")
+                status, _, body = door.http("GET", "/status", port=door.status_port)
+                expect((status, body[:7]), (200, b"in part"), "the status")
 
 
 def test_nobody_pays_for_a_registry_that_stands_still(trial: Trial) -> None:
@@ -338,4 +338,4 @@ def test_nobody_pays_for_a_registry_that_stands_still(trial: Trial) -> None:
             begun = time.monotonic()
             expect(door.whois("AS2", 2), worlds.AS2 + b"\n", "an answer")
             expect(time.monotonic() - begun < 5, True, "how long it took")
-        expect("Task was destroyed" in door.words_said(), False, door.words_said())
+        expect("Task was destroyed" in door.words_reported(), False, door.words_reported())

@@ -66,12 +66,12 @@ class Ports:
     @contextlib.contextmanager
     def served(self) -> Iterator[subprocess.Popen[bytes]]:
         """A door, which ends by itself where a signal asks it to."""
-        with open(self.door.said, "ab") as said:
+        with open(self.door.reported, "ab") as reported:
             process = subprocess.Popen(
                 self.door.words,
                 stdin=subprocess.DEVNULL,
-                stdout=said,
-                stderr=said,
+                stdout=reported,
+                stderr=reported,
                 env=self.environment,
                 pass_fds=self.handed,
             )
@@ -204,8 +204,8 @@ def test_no_answer_is_lost_between_two_doors(trial: Trial, ports: Ports, tell: T
             client.join(WAIT)
     tell(f"{count} times, {sum(client.asked for client in clients)} times asked")
     expect([dict(one.missed) for one in clients if one.missed], [], "what was missed")
-    with open(ports.door.said, encoding="utf-8") as said:
-        expect("Traceback" in said.read(), False, "whether a door failed")
+    with open(ports.door.reported, encoding="utf-8") as reported:
+        expect("Traceback" in reported.read(), False, "whether a door failed")
 
 
 # What was sent when the door is told to end, what is sent after that, and all that comes.

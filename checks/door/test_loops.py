@@ -37,4 +37,4 @@ def test_it_answers_with_each_loop(trial: Trial, loop: str) -> None:
             for peer in peers:
                 peer.close()
             expect(door.whois("AS-M699")[:7], b"as-set:", "afterwards")
-            expect("Traceback" in door.words_said(), False, door.words_said())
+            expect("Traceback" in door.words_reported(), False, door.words_reported())

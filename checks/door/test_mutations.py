@@ -142,8 +142,8 @@ def test_lines_of_chance_end_and_leave_no_trace(trial: Trial, door: Opened, tell
         if not part:
             middle, sent = door.memory(), sum(client.sent for client in clients)
     last = door.memory()
-    said = door.words_said()
-    expect("Traceback" in said or "report this" in said, False, said[-1_000:])
+    reported = door.words_reported()
+    expect("Traceback" in reported or "report this" in reported, False, reported[-1_000:])
     expect(door.metrics()["irrdesk_door_faults_total"], 0.0, "faults of the door")
     expect(door.whois("AS1"), worlds.AS1 + b"\n", "a query afterwards")
     state = door.status()

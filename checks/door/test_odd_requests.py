@@ -93,8 +93,8 @@ def asked(door: Opened, text: bytes, port: int = 0) -> bytes:
 
 
 def has_no_trace(door: Opened) -> None:
-    said = door.words_said()
-    expect("Traceback" in said or "report this" in said, False, said[-600:])
+    reported = door.words_reported()
+    expect("Traceback" in reported or "report this" in reported, False, reported[-600:])
     expect(door.metrics()["irrdesk_door_faults_total"], 0.0, "faults of the door")
 
 

@@ -207,7 +207,11 @@ def test_what_is_none_ends_in_words(told: Opened, each: Each) -> None:
             expect(len(body) < 300 and body.endswith(b"\n"), True, f"{path[:80]}: {body!r}")
     for method in "POST", "HEAD", "PUT":
         expect(told.http(method, "/why/10.0.0.0/8/AS1", b"")[0], 405, method)
-    expect("Traceback" in told.words_said() or "report this" in told.words_said(), False, "faults")
+    expect(
+        "Traceback" in told.words_reported() or "report this" in told.words_reported(),
+        False,
+        "faults",
+    )
 
 
 def test_a_history_has_the_states_of_an_object(told: Opened) -> None:
@@ -309,7 +313,7 @@ def test_a_git_that_hangs_is_ended(trial: Trial, monkeypatch: pytest.MonkeyPatch
     with pytest.raises(Hung):
         asyncio.run(kept.found(ROUTE))
     # It may have been ended before it had said who it is.
-    if number := said_by(Path(folder, "pid")):
+    if number := reported_by(Path(folder, "pid")):
         wait_until("that it is gone", 60, lambda: not is_running(number))
     # Who does not wait for it has it ended too.
     monkeypatch.setattr(history, "LASTS", 600)
@@ -318,7 +322,7 @@ def test_a_git_that_hangs_is_ended(trial: Trial, monkeypatch: pytest.MonkeyPatch
     wait_until("that the other one is gone", 60, lambda: not is_running(number))
 
 
-def said_by(pid: Path) -> int:
+def reported_by(pid: Path) -> int:
     """The number that the stand-in has written; 0 before."""
     text = pid.read_text() if pid.exists() else ""
     return int(text) if text.endswith("\n") else 0
@@ -328,12 +332,12 @@ async def left_alone(kept: History, pid: Path) -> int:
     """Asks, and goes away once git runs: the number of that."""
     task = asyncio.create_task(kept.found(ROUTE))
     async with asyncio.timeout(60):
-        while not said_by(pid):
+        while not reported_by(pid):
             await asyncio.sleep(0.01)
     task.cancel()
     with contextlib.suppress(asyncio.CancelledError):
         await task
-    return said_by(pid)
+    return reported_by(pid)
 
 
 def is_running(number: int) -> bool:
@@ -363,7 +367,7 @@ def test_a_history_that_is_damaged_ends_in_words(
                 status, _, body = door.http("GET", path)
                 words = b"% the history does not have it, or can't be read\n"
                 expect((status, body), (503, words), "the reply")
-        expect("report this" in door.words_said(), False, door.words_said())
+        expect("report this" in door.words_reported(), False, door.words_reported())
 
 
 def wide(deep: int, across: int) -> str:
@@ -410,7 +414,7 @@ def test_why_is_bounded_and_others_are_answered_meanwhile(
                 with contextlib.closing(door.connect(door.http_port, 4)) as peer:
                     peer.sendall(line % 5)
             expect(asked(door, "/why/10.0.0.0/16/AS-L7-0", last=5)["found"], True, "afterwards")
-        expect("report this" in door.words_said(), False, door.words_said())
+        expect("report this" in door.words_reported(), False, door.words_reported())
 
 
 @pytest.mark.parametrize("bound", ["MOST_WORK", "MOST_READ", "LARGEST"])

@@ -42,7 +42,7 @@ class Prometheus:
         self.port, self.folder = free_port(), folder
         path = Path(folder, "prometheus.yml")
         path.write_text(SETTINGS.format(rules=ALERTS, door=door, node=node), "utf-8")
-        with open(Path(folder, "said"), "wb") as said:
+        with open(Path(folder, "reported"), "wb") as reported:
             self.process = subprocess.Popen(
                 [
                     "prometheus",
@@ -51,8 +51,8 @@ class Prometheus:
                     f"--web.listen-address=127.0.0.1:{self.port}",
                 ],
                 stdin=subprocess.DEVNULL,
-                stdout=said,
-                stderr=said,
+                stdout=reported,
+                stderr=reported,
             )
 
     def ask(self, expression: str) -> list[dict[str, Any]]:

@@ -46,7 +46,7 @@ def test_no_line_of_a_log_has_a_secret(door: Opened, size: int) -> None:
     door.whois(f"-x password: {SECRET}")
     door.whois(f"!m{SECRET},{SECRET}")
     with open(door.log, encoding="utf-8") as file:
-        told = file.read() + door.words_said() + log_of(door)
+        told = file.read() + door.words_reported() + log_of(door)
     for word in SECRET, "PASSWORD", "password:", "0" * 64:
         found = [line for line in told.splitlines() if word.lower() in line.lower()]
         expect([line for line in found if "413 passwords" not in line], [], f"lines with {word}")

@@ -80,8 +80,8 @@ def test_each_bound_is_a_413_that_says_which(door: Opened, each: Each) -> None:
         ("32 lines of passwords", "\n\n".join(f"PassWord \t: {number}" for number in range(33))),
     ]:
         with each(what):
-            status, _, said = door.submit(text)
-            expect((status, what.encode() in said), (413, True), f"{said!r}")
+            status, _, body = door.submit(text)
+            expect((status, what.encode() in body), (413, True), f"{body!r}")
     expect(door.submit("password: x\n" * 31 + "\n" + ITEM.format("AS-T"))[0], 200, "32 passwords")
 
 
@@ -345,16 +345,16 @@ def irr(door: Opened, *words: str, stdin: bytes = b"") -> tuple[int, bytes, byte
 
 
 def test_irr_submits_and_reads_the_log_through_it(door: Opened) -> None:
-    status, printed, said = irr(door, "submit", "-", stdin=ITEM.format("AS-TOOL").encode())
-    expect((status, b"as-set AS-TOOL: added" in printed), (0, True), f"{printed!r} {said!r}")
+    status, printed, reported = irr(door, "submit", "-", stdin=ITEM.format("AS-TOOL").encode())
+    expect((status, b"as-set AS-TOOL: added" in printed), (0, True), f"{printed!r} {reported!r}")
     many = "password: bc\n\n" + "".join(
         f"as-set: AS-M{n}\nmnt-by: ROOT-MNT\nsource: TEST\n\n" for n in range(2_500)
     )
-    status, printed, said = irr(door, "submit", "-", stdin=many.encode())
+    status, printed, reported = irr(door, "submit", "-", stdin=many.encode())
     expect(
         (status, b"2500 as-set AS-M2499: added" in printed),
         (0, True),
-        f"{printed[-200:]!r} {said!r}",
+        f"{printed[-200:]!r} {reported!r}",
     )
     expect(irr(door, "query", "AS-TOOL")[1][:7], b"as-set:", "a query")
     expect(
@@ -380,8 +380,8 @@ def test_a_registry_that_is_down_takes_nothing(trial: Trial) -> None:
         with Opened(trial, "down-door", registries.words) as door:
             registries.kill(0)
             begun = time.monotonic()
-            status, _, said = door.submit(ITEM.format("AS-T"))
-            expect((status, said), (503, b"% the registry does not answer\n"), "the status")
+            status, _, body = door.submit(ITEM.format("AS-T"))
+            expect((status, body), (503, b"% the registry does not answer\n"), "the status")
             expect(time.monotonic() - begun < 15, True, "how soon it is told")
             expect(door.whois("AS1"), worlds.AS1 + b"\n", "a query")
             registries.start(0)

@@ -128,11 +128,16 @@ def ask(server: Server, *words: str) -> bytes:
     return server.ask(" ".join(words).encode() + b"\n")
 
 
-def expect_refused(ran: Ran, said: str, what: str) -> None:
-    """That bgpq4 ended with a status other than 0, without a list, and said why."""
-    if ran.status == 0 or ran.printed or b"ERROR" not in ran.said or said.encode() not in ran.said:
+def expect_refused(ran: Ran, reported: str, what: str) -> None:
+    """That bgpq4 ended with a status other than 0, without a list, and reported why."""
+    if (
+        ran.status == 0
+        or ran.printed
+        or b"ERROR" not in ran.reported
+        or reported.encode() not in ran.reported
+    ):
         raise Failure(
-            f"{what}: status {ran.status}, printed {ran.printed[:200]!r}, said {ran.said!r}"
+            f"{what}: status {ran.status}, printed {ran.printed[:200]!r}, reported {ran.reported!r}"
         )
 
 

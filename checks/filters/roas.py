@@ -265,5 +265,5 @@ class Tree:
                     shutil.chown(os.path.join(path, name), USER)
         ran = run([PROGRAM, "-n", "-j", "-t", "example.tal", "-d", "cache", "out"], self.folder)
         path = os.path.join(self.folder, "out", "json")
-        expect(os.path.exists(path), True, f"whether rpki-client writes JSON: {ran.said!r}")
+        expect(os.path.exists(path), True, f"whether rpki-client writes JSON: {ran.reported!r}")
         return path

@@ -113,7 +113,7 @@ def test_bgpq4_prints_each_format_which_routers_read(trial: Trial, tool: Tool, t
                     # Without -A each prefix of a range is a line: 200,000 of them.
                     continue
                 ran = bgpq4(port, "-4", "-l", "NAME", *words, name)
-                expect((ran.status, ran.said), (0, b""), f"{words} {name}")
+                expect((ran.status, ran.reported), (0, b""), f"{words} {name}")
                 expect(of_lists(ran.printed), prefixes, f"the prefixes of {words} {name}")
         for name, numbers in [(AS_SET, {1, 2}), ("AS1:AS-TAKES", {1, 2, 7})]:
             for words in (
@@ -125,7 +125,7 @@ def test_bgpq4_prints_each_format_which_routers_read(trial: Trial, tool: Tool, t
             ):
                 ran = bgpq4(port, *words, name)
                 expect(
-                    (ran.status, ran.said, path_numbers(ran.printed)),
+                    (ran.status, ran.reported, path_numbers(ran.printed)),
                     (0, b"", numbers),
                     f"{words} {name}",
                 )
@@ -169,7 +169,9 @@ def read_by(router: str, folder: str, text: bytes) -> bool:
         path = write(folder, f"{router}.conf", around[router] + given)
         os.chmod(path, 0o600)
         ran = run([*command, path], folder)
-        expect(ran.status == 0, is_good, f"whether {router} reads {given[-200:]!r}: {ran.said!r}")
+        expect(
+            ran.status == 0, is_good, f"whether {router} reads {given[-200:]!r}: {ran.reported!r}"
+        )
     return True
 
 
@@ -178,7 +180,7 @@ def test_bgpq4_makes_no_list_of_what_is_not_whole(trial: Trial, tool: Tool, tell
     list, and a status other than 0."""
     with worked(tool, trial, "faults", limit=3) as (tool, folder, server):
         with bridge_of(tool) as port:
-            for words, said in [
+            for words, reported in [
                 (["AS1:AS-NONE"], "not registered"),
                 (["AS1:AS-HALF"], "AS1:AS-GONE"),
                 (["AS1:RS-HALF"], "AS1:RS-GONE"),
@@ -191,7 +193,7 @@ def test_bgpq4_makes_no_list_of_what_is_not_whole(trial: Trial, tool: Tool, tell
                 (["-S", "RIPE", "AS1"], "RIPE"),
                 (["-A", "-b", "AS1:RS-GONE"], "not registered"),
             ]:
-                expect_refused(bgpq4(port, *words), said, " ".join(words))
+                expect_refused(bgpq4(port, *words), reported, " ".join(words))
         canned = {"LESS": [SPACE]}
         stops = {
             "% error 6": b"% error 6\n",
@@ -307,7 +309,7 @@ def compared(
         counts["refused"] += 1
         return expect_refused(ran, "", f"{what}: {answer[-60:]!r}")
     counts["whole"] += 1
-    expect((ran.status, ran.said), (0, b""), what)
+    expect((ran.status, ran.reported), (0, b""), what)
     if query == "prefixes":
         wanted: set[Any] = inside(answer)
     else:

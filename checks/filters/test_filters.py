@@ -60,7 +60,7 @@ def test_filters_of_a_set_an_as_and_a_part_are_read_and_judge_prefixes(
             ),
         ]:
             ran = tool("filter", *words, "made", folder=folder)
-            expect(ran.status, 0, f"the status of {words}: {ran.said!r}")
+            expect(ran.status, 0, f"the status of {words}: {ran.reported!r}")
             with open(os.path.join(folder, "made"), "rb") as made:
                 first, _, rest = made.read().partition(b"\n")
             expect(
@@ -97,15 +97,17 @@ def judged_by_bird(folder: str) -> str:
         ),
     )
     read = run([program("bird"), "-p", "-c", path], folder)
-    expect((read.status, read.said), (0, b""), "BIRD")
+    expect((read.status, read.reported), (0, b""), "BIRD")
     with started(
         [program("bird"), "-f", "-c", path, "-s", "bird.ctl", "-P", "bird.pid"], folder, "bird.ctl"
     ):
         for prefix, wanted in probes():
-            said = run(
+            reported = run(
                 [program("birdc"), "-s", "bird.ctl", f"eval {prefix} ~ CUSTOMERS"], folder
             ).printed
-            expect(b"TRUE" in said, wanted == "yes", f"whether BIRD takes {prefix}: {said!r}")
+            expect(
+                b"TRUE" in reported, wanted == "yes", f"whether BIRD takes {prefix}: {reported!r}"
+            )
     return f"BIRD judges {len(probes())} prefixes"
 
 
@@ -142,10 +144,10 @@ def judged_by_frr(folder: str) -> str:
             for prefix, _ in probes()
             for word in ("-c", f"debug prefix-list CUSTOMERS match {prefix}")
         ]
-        said = run(
+        reported = run(
             [program("vtysh"), "--vty_socket", f"{folder}/vty", "-d", "bgpd", *asked], folder
         ).printed
-        found = re.findall(rb"PERMIT|DENY", said)
+        found = re.findall(rb"PERMIT|DENY", reported)
         expect(
             [word == b"PERMIT" for word in found],
             [wanted == "yes" for _, wanted in probes()],
@@ -221,12 +223,12 @@ def test_what_makes_no_filter_says_why(trial: Trial, tool: Tool, tell: Tell) -> 
                 for name in canned
                 if name not in ("AS-STOPPED", "AS-CUT")
             ]
-            for words, status, said in cases:
+            for words, status, reported in cases:
                 *options, name = words
                 ran = tool("filter", *options, "frr", "CUSTOMERS", name, path)
-                expect_line(ran, status, f".*({said}).*", " ".join(words))
+                expect_line(ran, status, f".*({reported}).*", " ".join(words))
                 expect(
-                    (b"\x1b" in ran.said, open(path, "rb").read()),
+                    (b"\x1b" in ran.reported, open(path, "rb").read()),
                     (False, b"old\n"),
                     f"the terminal and the old filter after {words}",
                 )
@@ -240,7 +242,7 @@ def test_what_makes_no_filter_says_why(trial: Trial, tool: Tool, tell: Tell) -> 
                 path,
             )
             expect(
-                (ran.status, b"secret" in ran.said, b"user" in ran.said.split(b";")[0]),
+                (ran.status, b"secret" in ran.reported, b"user" in ran.reported.split(b";")[0]),
                 (2, False, False),
                 "a password in the address",
             )
@@ -253,8 +255,8 @@ def test_what_makes_no_filter_says_why(trial: Trial, tool: Tool, tell: Tell) -> 
             (["frr", "customers", "AS1", "-"], "customers: this is not the name of a filter"),
             (["frr", "9X", "AS1", "-"], "9X: this is not the name of a filter"),
         ]
-        for words, said in bad:
-            expect_line(tool("filter", *words), 2, f"{said}.*", " ".join(words))
+        for words, reported in bad:
+            expect_line(tool("filter", *words), 2, f"{reported}.*", " ".join(words))
         expect(
             sorted(name for name in os.listdir(folder) if name.startswith(".")),
             [],
@@ -303,14 +305,14 @@ def test_filters_of_the_timer_take_their_place_once_their_router_reads_them(
             old = write(folder, file, b"# old\n")
             os.utime(old, (time.time() - 30 * 3_600,) * 2)
         ran = tool("filter", "--settings", path)
-        expect(ran.status, 1, f"the status: {ran.said!r}")
+        expect(ran.status, 1, f"the status: {ran.reported!r}")
         for file, _, _, what in cases:
             with open(os.path.join(folder, file), "rb") as found:
                 made = found.read()
             line = next(
                 (
                     line
-                    for line in (ran.printed + ran.said).decode().splitlines()
+                    for line in (ran.printed + ran.reported).decode().splitlines()
                     if f"{folder}/{file}" in line
                 ),
                 "",
@@ -333,10 +335,10 @@ def test_filters_of_the_timer_take_their_place_once_their_router_reads_them(
             if what == "made":
                 write(folder, file, b"<html>\n")
         ran = tool("filter", "--settings", path)
-        expect(ran.status, 4, f"the status over lists that are none: {ran.said!r}")
-        told = ran.said.decode().count("which can't be read: it does not read the filter")
-        expect(told, sum(what == "made" for *_, what in cases), f"{ran.said!r}")
-        for bad, said in [
+        expect(ran.status, 4, f"the status over lists that are none: {ran.reported!r}")
+        told = ran.reported.decode().count("which can't be read: it does not read the filter")
+        expect(told, sum(what == "made" for *_, what in cases), f"{ran.reported!r}")
+        for bad, reported in [
             (b"x = 1\n", "it has no filter|there is no key x"),
             (b"[[filter]]\n", "has the texts"),
             (b"stale = 0\n", "hours"),
@@ -347,7 +349,7 @@ def test_filters_of_the_timer_take_their_place_once_their_router_reads_them(
             expect_line(
                 tool("filter", "--settings", write(folder, "bad.toml", bad)),
                 3,
-                f".*({said}).*",
+                f".*({reported}).*",
                 repr(bad[:20]),
             )
     tell(f"{len(cases)} filters")

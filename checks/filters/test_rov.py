@@ -59,10 +59,10 @@ def test_irr_rov_judges_routes_by_what_rpki_client_made(
         ]
         for words, wanted in cases:
             ran = tool("rov", *words, made)
-            expect((ran.status, ran.printed), (1, wanted), f"what `irr rov` says, {ran.said!r}")
+            expect((ran.status, ran.printed), (1, wanted), f"what `irr rov` says, {ran.reported!r}")
             expect(
-                ran.said.split(b": ")[2:],
+                ran.reported.split(b": ")[2:],
                 [b"2 valid, 3 invalid, 1 not found\n"],
-                f"its last line {ran.said!r}",
+                f"its last line {ran.reported!r}",
             )
     tell("6 routes, 4 ROAs of rpki-client")

@@ -52,7 +52,7 @@ def made(tool: Tool, folder: Path, server: Server, text: str) -> tuple[int, byte
     settings.write_text(text.replace("/var/lib/irrdesk-filters", str(folder)))
     where = f"{bin_folder}:{os.environ['PATH']}:/usr/sbin"
     ran = tool.at(IRR_SERVER=server.url, PATH=where)("filter", "--settings", str(settings))
-    return ran.status, ran.said, path.read_text()
+    return ran.status, ran.reported, path.read_text()
 
 
 def by_bgpq4(port: int) -> str:
@@ -65,9 +65,9 @@ def by_bgpq4(port: int) -> str:
 def test_the_shipped_filter_is_not_made_without_a_set_that_is_reached(
     tool: Tool, tmp_path: Path, half: Server
 ) -> None:
-    status, said, kept = made(tool, tmp_path, half, SHIPPED)
+    status, reported, kept = made(tool, tmp_path, half, SHIPPED)
     assert (status, kept) == (1, OLD)
-    assert b"not registered: AS64496:AS-GONE" in said
+    assert b"not registered: AS64496:AS-GONE" in reported
 
 
 @needs("bird")
@@ -75,8 +75,8 @@ def test_the_shipped_filter_is_made_of_a_whole_set(
     tool: Tool, tmp_path: Path, program: str
 ) -> None:
     with registries.served(program, registry("AS64496")) as place:
-        status, said, found = made(tool, tmp_path, place, SHIPPED)
-    assert (status, said, registries.BIRD.findall(found)) == (
+        status, reported, found = made(tool, tmp_path, place, SHIPPED)
+    assert (status, reported, registries.BIRD.findall(found)) == (
         0,
         b"",
         [("192.0.2.0/24", "24", "24")],
@@ -90,9 +90,9 @@ def test_the_shipped_command_of_bgpq4_needs_a_strict_door(
 ) -> None:
     """As the comment there says. The journal names the set that is missing."""
     with Bridge(half.url) as port:
-        status, said, kept = made(tool, tmp_path, half, by_bgpq4(port))
+        status, reported, kept = made(tool, tmp_path, half, by_bgpq4(port))
         assert (status, kept) == (1, OLD)
-        assert b"AS64496:AS-GONE" in said
+        assert b"AS64496:AS-GONE" in reported
     with Bridge(half.url, strict=False) as port:
-        status, said, found = made(tool, tmp_path, half, by_bgpq4(port))
-        assert (status, said) == (0, b"") and "192.0.2.0/24" in found and found != OLD
+        status, reported, found = made(tool, tmp_path, half, by_bgpq4(port))
+        assert (status, reported) == (0, b"") and "192.0.2.0/24" in found and found != OLD

@@ -217,5 +217,5 @@ def made(trial: Trial, name: str, limit: int = 10_000, dump: str | None = None) 
         write(folder, "dump.rpsl", dump.encode())
         words = ["load", "s.toml", "dump.rpsl"]
     ran = trial.run(folder, *words, timeout=LONGEST)
-    expect((ran.status, ran.said), (0, b""), words[0])
+    expect((ran.status, ran.reported), (0, b""), words[0])
     return folder

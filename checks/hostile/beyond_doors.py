@@ -258,7 +258,7 @@ def tried_all(
     tries: list[Callable[..., Any]],
 ) -> str:
     """How much longer another waits during each attack."""
-    told = []
+    figures = []
     for size in (65_000, attacks.MOST_BODY):
         secrets_body(size)
     folder = made(trial, f"{kind.__name__}-{ask.__name__}", dump=large())
@@ -266,8 +266,8 @@ def tried_all(
         with guarded(trial, kind, attack.__name__, folder) as (_, door):
             waited, most = waiting(door, ask(door), attack)
             at_most(waited, most, f"{attack.__name__}: another client waits longer by")
-            told.append(f"{attack.__name__} {waited:.2f} s of {most:.1f}")
-    return ", ".join(told)
+            figures.append(f"{attack.__name__} {waited:.2f} s of {most:.1f}")
+    return ", ".join(figures)
 
 
 @case("no client keeps another waiting, over HTTPS")

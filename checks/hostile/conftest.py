@@ -10,7 +10,7 @@ from checks.running import Trial
 
 @pytest.fixture(scope="module")
 def failing(trial: Trial) -> Failing:
-    """Runs of the program in which calls fail, and all that it said under them."""
+    """Runs of the program in which calls fail, and all that it reported under them."""
     if shutil.which("gcc") is None or shutil.which("sqlite3") is None:
         pytest.skip("gcc or sqlite3 is not here")
     return Failing(trial)

@@ -233,7 +233,7 @@ def weighed(trial: Trial) -> str:
 def reopened(trial: Trial) -> str:
     """Under each limit, a registry that took submissions until memory ran out is opened again
     within a tenth more."""
-    told = []
+    figures = []
     for limit in trial.pick([64, 96], range(48, 400, 32)):
         folder, count = made(trial, f"filled{limit}"), 0
         with (
@@ -256,8 +256,8 @@ def reopened(trial: Trial) -> str:
             f"filled under {limit} MB by {count} submissions it is opened within",
             "times that",
         )
-        told.append(f"{limit} MB: {needed} %")
-    return f"what opening takes of the limit under which it was filled: {', '.join(told)}"
+        figures.append(f"{limit} MB: {needed} %")
+    return f"what opening takes of the limit under which it was filled: {', '.join(figures)}"
 
 
 def within(memory: int) -> list[str]:
@@ -512,11 +512,11 @@ def checked(trial: Trial) -> str:
         expect(status(f"http://{place}/nothing"), 1, "another server's answer")
         expect(status(url, "127.0.0.1:1"), 11, "a door that does not listen")
         for word, wanted in ("well", 0), ("in part", 1), ("DOWN", 1):
-            with told(b"HTTP/1.0 200 OK\r\n\r\n%s: TEST\nwhy\n" % word.encode()) as door:
+            with answering(b"HTTP/1.0 200 OK\r\n\r\n%s: TEST\nwhy\n" % word.encode()) as door:
                 expect(status(url, door), wanted, f"a door that says `{word}`")
-        with told(b"HTTP/1.0 200 OK\r\n\r\nwell: TEST\n") as door:
+        with answering(b"HTTP/1.0 200 OK\r\n\r\nwell: TEST\n") as door:
             for fault, wanted in ("", 0), ("x: other objects", 1):
-                with told(b'{"replicas": [], "fault": "%s"}\n' % fault.encode()) as agent:
+                with answering(b'{"replicas": [], "fault": "%s"}\n' % fault.encode()) as agent:
                     expect(status(url, door, "5", agent), wanted, f"an agent that says `{fault}`")
             expect(status(url, door, "5", "127.0.0.1:1"), 1, "an agent that does not listen")
         with contextlib.closing(registry.connect()):
@@ -537,7 +537,7 @@ def checked(trial: Trial) -> str:
 
 
 @contextlib.contextmanager
-def told(text: bytes) -> Iterator[str]:
+def answering(text: bytes) -> Iterator[str]:
     """The place of a server that says this to whoever asks, while the block runs."""
     listener = socket.create_server(("127.0.0.1", 0))
 

@@ -15,7 +15,7 @@ class Worst:
         self.seconds, self.memory = max(self.seconds, ran.seconds), max(self.memory, ran.memory)
         return ran
 
-    def told(self) -> str:
+    def figures(self) -> str:
         return f"at most {self.seconds:.3f} s and {self.memory} KiB"
 
 

@@ -67,10 +67,10 @@ def modelled(trial: Trial, registry: Registry, files: dict[str, str], line: str)
     words = line.split()
     if words[:1] == ["printf"] and words[-2:-1] == [">>"]:
         added = run(["sh", "-c", line.rpartition(">>")[0]], trial.work)
-        expect((added.status, added.said), (0, b""), f"how {short(line)} ended")
+        expect((added.status, added.reported), (0, b""), f"how {short(line)} ended")
         files[words[-1]] += added.printed.decode()
     if words[:2] == ["irrdesk", "submit"]:
-        return "".join(told + "\n" for told in registry.submit(files[words[3]].encode()))
+        return "".join(reported + "\n" for reported in registry.submit(files[words[3]].encode()))
     if words[:2] == ["irrdesk", "query"]:
         return answer(registry, " ".join(words[3:]).encode(), 10_000).decode()
     return ""
@@ -100,11 +100,11 @@ def test_texts_of_chance_get_the_reports_of_the_model(trial: Trial, tell: Tell) 
                     f"turn {turn}, {kept('text.rpsl', text)}: {difference(ran.printed, wanted)}"
                 )
             expect(
-                (ran.status, ran.said),
+                (ran.status, ran.reported),
                 (1 if b": refused" in wanted else 0, b""),
                 f"turn {turn}: how it ended",
             )
-    tell(f"{turns * 20} texts in {turns} submissions, each whole and in pieces; {worst.told()}")
+    tell(f"{turns * 20} texts in {turns} submissions, each whole and in pieces; {worst.figures()}")
 
 
 def test_texts_of_chance_leave_what_the_model_has(trial: Trial, tell: Tell) -> None:
@@ -140,7 +140,9 @@ def test_texts_of_chance_leave_what_the_model_has(trial: Trial, tell: Tell) -> N
             f"turn {turn}: the dump of what was loaded",
             worst,
         )
-    tell(f"{turns * 20} texts in {turns} submissions, their rows, dumps and loads; {worst.told()}")
+    tell(
+        f"{turns * 20} texts in {turns} submissions, their rows, dumps and loads; {worst.figures()}"
+    )
 
 
 def remove_databases(folder: str) -> None:
@@ -197,7 +199,7 @@ def test_queries_of_chance_are_answered_as_by_the_model(trial: Trial, tell: Tell
         for query in listed[::25]:
             ask_command(trial, folder, registry, query)
         asked += len(listed)
-    tell(f"{asked} queries; {worst.told()}")
+    tell(f"{asked} queries; {worst.figures()}")
 
 
 def any_queries(chance: random.Random) -> Iterator[bytes]:
@@ -234,10 +236,12 @@ def ask_command(trial: Trial, folder: str, registry: Registry, query: bytes) -> 
     )
     if ran.printed != wanted:
         raise Failure(
-            f"query {query!r}: {difference(ran.printed, wanted)}, saying {short(ran.said)}"
+            f"query {query!r}: {difference(ran.printed, wanted)}, saying {short(ran.reported)}"
         )
     expect(
-        (ran.status, ran.said), (1 if wanted.startswith(b"% error") else 0, b""), f"query {query!r}"
+        (ran.status, ran.reported),
+        (1 if wanted.startswith(b"% error") else 0, b""),
+        f"query {query!r}",
     )
 
 
@@ -267,7 +271,7 @@ def test_requests_of_chance_are_answered_by_the_rules(trial: Trial, tell: Tell) 
         expect_dump(
             trial, folder, "s.toml", registry.dump(), f"turn {turn}: the rows after all submissions"
         )
-    tell(f"{count} connections; {worst.told()}")
+    tell(f"{count} connections; {worst.figures()}")
 
 
 def send_one(chance: random.Random, server: Server, registry: Registry) -> None:
@@ -348,7 +352,7 @@ def told_place(text: bytes, number: int) -> tuple[int, str]:
         return at, ""
 
 
-def test_dumps_of_chance_are_loaded_or_their_fault_is_told(trial: Trial, tell: Tell) -> None:
+def test_dumps_of_chance_are_loaded_or_their_fault_is_reported(trial: Trial, tell: Tell) -> None:
     """Dumps that were changed: the registry that the model makes of one, or its first fault with
     the line and the key."""
     count = trial.count or trial.pick(200, 100_000)
@@ -362,8 +366,8 @@ def test_dumps_of_chance_are_loaded_or_their_fault_is_told(trial: Trial, tell: T
         if isinstance(wanted, Registry):
             if (ran.status, ran.printed) != (0, b"loaded %d objects\n" % len(wanted.objects)):
                 raise Failure(
-                    f"turn {turn}, {kept('d.rpsl', text)}: it is to be loaded, and it is said"
-                    f" {short(ran.said)}"
+                    f"turn {turn}, {kept('d.rpsl', text)}: it is to be loaded, and it reported"
+                    f" {short(ran.reported)}"
                 )
             expect_dump(trial, folder, "s.toml", wanted.dump(), f"turn {turn}", worst)
             loaded += 1
@@ -371,14 +375,19 @@ def test_dumps_of_chance_are_loaded_or_their_fault_is_told(trial: Trial, tell: T
         number, fault = wanted
         line, key = told_place(text, number)
         wrong = DUMP_WORDS.get(fault, f"is not an object: {fault}")
-        said = (
+        reported = (
             f"irrdesk: d.rpsl, line {line}{key}: nothing is loaded, because paragraph"
             f" {number} {wrong}"
         )
-        if ran.status != 5 or ran.printed or not ran.said.decode(errors="replace").startswith(said):
+        if (
+            ran.status != 5
+            or ran.printed
+            or not ran.reported.decode(errors="replace").startswith(reported)
+        ):
             raise Failure(
-                f"turn {turn}, {kept('d.rpsl', text)}: status {ran.status}, {short(ran.said)} and"
-                f" not {said}"
+                f"turn {turn}, {kept('d.rpsl', text)}: status {ran.status},"
+                f" {short(ran.reported)} and"
+                f" not {reported}"
             )
         if turn % 10 == 0:
             expect(
@@ -388,7 +397,7 @@ def test_dumps_of_chance_are_loaded_or_their_fault_is_told(trial: Trial, tell: T
             )
     tell(
         f"{turns * CHANGED} dumps of {turns} registries, {loaded} of which are loaded;"
-        f" {worst.told()}"
+        f" {worst.figures()}"
     )
 
 
@@ -421,4 +430,4 @@ def test_words_of_chance_end_with_an_answer_or_a_fault(trial: Trial, tell: Tell)
                     (before, b""),
                     f"turn {turn}, {given}: files and output",
                 )
-    tell(f"{count} lists of words, {wrong} of which are wrong; {worst.told()}")
+    tell(f"{count} lists of words, {wrong} of which are wrong; {worst.figures()}")

@@ -69,12 +69,12 @@ class Served:
         )
         try:
             replies = [ask(port, text) for text in self.asked] if process.stdout.readline() else []
-            printed, said = process.communicate(timeout=LONGEST)
-            self.failing.said.add(said)
+            printed, reported = process.communicate(timeout=LONGEST)
+            self.failing.reported.add(reported)
             self.check(
                 kind,
                 how,
-                Ran(process.returncode, printed, said, 0.0, 0),
+                Ran(process.returncode, printed, reported, 0.0, 0),
                 replies,
                 self.failing.rows_of(folder),
             )
@@ -96,12 +96,12 @@ class Served:
             expect(
                 (ran.status in (3, 4, 5), is_fault(ran)),
                 (True, True),
-                f"a start that failed: {ran.status}, {short(ran.said)}",
+                f"a start that failed: {ran.status}, {short(ran.reported)}",
             )
             return check_rows(rows, self.submission.dumps[0])
         stopped = b"% stopped after" in replies[2] or kind == "disk" and is_unavailable(replies[3])
         expect(
-            (ran.status, len(FAILED.findall(ran.said)), FAILED.sub(b"", ran.said)),
+            (ran.status, len(FAILED.findall(ran.reported)), FAILED.sub(b"", ran.reported)),
             (0, int(stopped), b""),
             "how serve ended",
         )
@@ -155,17 +155,17 @@ class Served:
         items = row.stopped_after(lines)
         if items is not None:
             return check_rows(rows, *row.dumps[items : items + 2])
-        told = [line for line in lines if not line.startswith("%")]
-        expect(told, numbered(row.words)[: len(told)], "the lines told")
-        if len(lines) > len(told):
-            ends = [f"% {fault} after {len(told)} items" for fault in ("read fault", "memory")]
+        reported = [line for line in lines if not line.startswith("%")]
+        expect(reported, numbered(row.words)[: len(reported)], "the lines reported")
+        if len(lines) > len(reported):
+            ends = [f"% {fault} after {len(reported)} items" for fault in ("read fault", "memory")]
             expect(
-                lines[len(told) :] in ([end] for end in ends),
+                lines[len(reported) :] in ([end] for end in ends),
                 True,
-                f"the end of the report: {lines[len(told):]}",
+                f"the end of the report: {lines[len(reported):]}",
             )
-            return check_rows(rows, row.dumps[len(told)])
-        return check_rows(rows, row.dumps[min(len(told) + 1, len(row.words))])
+            return check_rows(rows, row.dumps[len(reported)])
+        return check_rows(rows, row.dumps[min(len(reported) + 1, len(row.words))])
 
 
 # Which replies, by their places, may be 503: where memory is refused, and of the dump once the
@@ -194,5 +194,5 @@ def test_a_server_tells_what_stands(trial: Trial, failing: Failing, name: str, e
             served.sweep(kind, how)
 
 
-def test_each_line_that_was_said_is_of_the_page(failing: Failing, tell: Tell) -> None:
-    tell(failing.said_is_of_the_page())
+def test_each_line_that_was_reported_is_of_the_page(failing: Failing, tell: Tell) -> None:
+    tell(failing.reported_is_of_the_page())

@@ -63,7 +63,7 @@ def made(trial: Trial, name: str, texts: list[bytes]) -> str:
     if texts:
         write(folder, "items.rpsl", b"\n".join(texts))
         ran = trial.run(folder, "submit", "s.toml", "items.rpsl", timeout=120)
-        expect((ran.status, ran.said), (0, b""), "submit")
+        expect((ran.status, ran.reported), (0, b""), "submit")
     return folder
 
 
@@ -87,7 +87,7 @@ def over_pipe(trial: Trial, folder: str, most: int, *words: str) -> Ran:
     return ran
 
 
-def test_what_was_told_of_a_submission_stands_on_a_full_disk(trial: Trial, tell: Tell) -> None:
+def test_what_was_reported_of_a_submission_stands_on_a_full_disk(trial: Trial, tell: Tell) -> None:
     """A submission at file sizes of chance: what was told stands, and no more."""
     count, tries = trial.pick(80, 400), trial.pick(12, 200)
     chance = trial.chance("full")
@@ -125,28 +125,28 @@ def told_stands(
     """Whether a submission was stopped; what was told before that stands, and no more."""
     expect_ended(ran, what)
     lines = ran.printed.decode().splitlines()
-    told = sum(line.endswith((": added", ": changed", ": deleted")) for line in lines)
+    reported = sum(line.endswith((": added", ": changed", ": deleted")) for line in lines)
     after = dump(trial, folder)
-    expect((after.status, after.said), (0, b""), f"{what}: the dump afterwards")
+    expect((after.status, after.reported), (0, b""), f"{what}: the dump afterwards")
     expect(
-        told in found.get(digest(after.printed), []),
+        reported in found.get(digest(after.printed), []),
         True,
-        f"{what}: whether the rows of {told} items stand",
+        f"{what}: whether the rows of {reported} items stand",
     )
     if ran.status == 0:
         return 0
-    expect(ran.status, 4, f"{what}: the status, saying {short(ran.said)}")
+    expect(ran.status, 4, f"{what}: the status, saying {short(ran.reported)}")
     if lines:
-        number = told + 1
+        number = reported + 1
         expect(
             (lines[-2].split()[0], lines[-2][-11:]),
             (str(number), "refused E91"),
             f"{what}: the item at which it stopped",
         )
-        expect(lines[-1], f"% stopped after {told} items", f"{what}: the last line")
+        expect(lines[-1], f"% stopped after {reported} items", f"{what}: the last line")
         expect(
-            ran.said.decode(),
-            f"irrdesk: irr.db: {failed}; items decided before that: {told}\n",
+            ran.reported.decode(),
+            f"irrdesk: irr.db: {failed}; items decided before that: {reported}\n",
             what,
         )
     return 1
@@ -180,7 +180,7 @@ def test_loads_and_new_registries_are_whole_or_nothing_on_a_full_disk(
             expect(
                 (ran.status, is_fault(after)),
                 (4, True),
-                f"{words[0]} within {most} bytes: nothing stands, {short(ran.said)}",
+                f"{words[0]} within {most} bytes: nothing stands, {short(ran.reported)}",
             )
             expect(trial.run(folder, *words).status, 0, f"{words[0]} again")
             expect(
@@ -190,7 +190,7 @@ def test_loads_and_new_registries_are_whole_or_nothing_on_a_full_disk(
     tell(f"{tries} sizes of files; {whole} stood whole, the others not at all")
 
 
-def test_what_was_told_stands_on_a_full_file_system(trial: Trial, tell: Tell) -> None:
+def test_what_was_reported_stands_on_a_full_file_system(trial: Trial, tell: Tell) -> None:
     """The same on a small file system of its own, where one can be mounted."""
     sizes = trial.pick([400, 800, 32_000], [*range(320, 1_200, 40), *range(1_500, 32_000, 3_000)])
     chance = trial.chance("tmpfs")
@@ -225,7 +225,7 @@ def test_a_database_that_may_not_be_written_is_read(trial: Trial, tell: Tell) ->
     program = shutil.copy(trial.program, os.path.join(trial.work, "program"))
     os.chmod(program, 0o755)
     texts = changing_items(trial.chance("read"), 40, [20])
-    base, registry, told = made(trial, "read", texts), last_of(texts), []
+    base, registry, usable = made(trial, "read", texts), last_of(texts), []
     for folder_mode, file_mode in [
         (0o755, 0o444),
         (0o555, 0o644),
@@ -244,19 +244,21 @@ def test_a_database_that_may_not_be_written_is_read(trial: Trial, tell: Tell) ->
             os.chmod(path, mode)
         what = f"folder {folder_mode:o}, file {file_mode:o}"
         can_be_asked, is_added = tried_read_only(trial, settings, program, user, registry, what)
-        told.append(can_be_asked)
+        usable.append(can_be_asked)
         os.chmod(folder, 0o755)
         os.chmod(os.path.join(folder, "irr.db"), 0o644)
         shown = dump(trial, settings)
         expect(
-            (shown.status, shown.said), (0, b""), f"{what}: the dump once it may be written again"
+            (shown.status, shown.reported),
+            (0, b""),
+            f"{what}: the dump once it may be written again",
         )
         expect(
             shown.printed == (with_new(registry) if is_added else registry).dump(),
             True,
             f"{what}: whether its rows are right",
         )
-    tell(f"5 modes of file and folder, of which {sum(told)} can still be asked")
+    tell(f"5 modes of file and folder, of which {sum(usable)} can still be asked")
 
 
 def with_new(registry: Registry) -> Registry:
@@ -289,7 +291,7 @@ def tried_read_only(
     return is_answer(asked), is_added
 
 
-def test_what_is_no_database_is_told(trial: Trial, tell: Tell) -> None:
+def test_what_is_no_database_is_reported(trial: Trial, tell: Tell) -> None:
     """Folders, devices, links and other files in the places of a database, of its log, and of each
     file that is named."""
     tried = 0
@@ -313,7 +315,7 @@ def test_what_is_no_database_is_told(trial: Trial, tell: Tell) -> None:
             if not is_fault(ran) and not right:
                 raise Failure(
                     f"{place}: {words[0]}: status {ran.status},"
-                    f" {short(ran.said)} {short(ran.printed)}"
+                    f" {short(ran.reported)} {short(ran.printed)}"
                 )
             tried += 1
     tell(f"{tried} commands over {len(PLACES)} kinds of places")
@@ -381,7 +383,7 @@ def test_no_file_takes_the_place_of_a_closed_stream(trial: Trial, tell: Tell) ->
                 expect(
                     fronts(texts).get(digest(shown.printed)),
                     [1],
-                    f"{what}: the items whose rows stand, {short(shown.said)}",
+                    f"{what}: the items whose rows stand, {short(shown.reported)}",
                 )
             tried += 1
             shutil.rmtree(folder)
@@ -449,7 +451,7 @@ class Damaged:
             if after.printed != expected.dump():
                 raise Failure(f"{what}: the dump of what was submitted")
 
-    def told(self) -> str:
+    def figures(self) -> str:
         return ", ".join(f"{kind} {count}" for kind, count in sorted(self.kinds.items()))
 
 
@@ -462,7 +464,7 @@ def changed_copy(trial: Trial, base: str, name: str, file: str, place: int, byte
 
 
 def before_damage(trial: Trial, name: str) -> tuple[random.Random, str, Damaged]:
-    """Chance, the folder of a registry by it, and what is said of damage to that."""
+    """Chance, the folder of a registry by it, and what is reported of damage to that."""
     chance = trial.chance(name)
     texts = changing_items(chance, 300, [0, 20, 20, 300, 6_000])
     base = made(trial, name, texts)
@@ -493,7 +495,7 @@ def test_of_a_changed_byte_nothing_wrong_is_answered(trial: Trial, tell: Tell) -
         folder = changed_copy(trial, base, f"bytes-{turn}", "irr.db", place, bytes([byte]))
         damaged.judge(folder, f"byte {place} from {content[place]} to {byte}")
         shutil.rmtree(folder)
-    tell(f"{count} bytes of {len(content)}: {damaged.told()}")
+    tell(f"{count} bytes of {len(content)}: {damaged.figures()}")
 
 
 def changed_byte(chance: random.Random, old: int, turn: int) -> int:
@@ -533,7 +535,7 @@ def test_of_a_changed_log_nothing_wrong_is_answered(trial: Trial, tell: Tell) ->
             what = f"byte {place} of the log from {content[place]} to {byte}"
         damaged.judge(folder, what)
         shutil.rmtree(folder)
-    tell(f"{count} changes in {len(content)} bytes: {damaged.told()}")
+    tell(f"{count} changes in {len(content)} bytes: {damaged.figures()}")
 
 
 def killed_before_end(trial: Trial, folder: str, count: int) -> None:
@@ -583,4 +585,4 @@ def test_of_a_file_cut_short_nothing_wrong_is_answered(trial: Trial, tell: Tell)
             os.truncate(os.path.join(folder, "irr.db"), place)
         damaged.judge(folder, f"{place} of {size} bytes, turn {turn}")
         shutil.rmtree(folder)
-    tell(f"{count} files: {damaged.told()}")
+    tell(f"{count} files: {damaged.figures()}")

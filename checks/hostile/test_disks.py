@@ -63,7 +63,7 @@ def test_a_disk_that_fails_from_the_second_item_on(
         "the report",
     )
     expect(
-        (ran.status, ran.said.decode()),
+        (ran.status, ran.reported.decode()),
         (4, f"irrdesk: irr.db: {STORE_FAILED}; items decided before that: 1\n"),
         "how it ended",
     )
@@ -101,7 +101,7 @@ def test_a_disk_that_fails_once_a_registry_is_open(
     # A query makes the calls of opening and closing alone.
     number = failing.count(base, ["query", "s.toml", "AS1"], "disk", "once") + 1
     folder, ran = failed_from(failing, base, words, number)
-    expect((ran.status, ran.printed == right, ran.said), (0, True, b""), "the answer")
+    expect((ran.status, ran.printed == right, ran.reported), (0, True, b""), "the answer")
     shutil.rmtree(folder)
     replies = served_from(
         trial,
@@ -174,5 +174,5 @@ REFUSED = (
 )
 
 
-def test_each_line_that_was_said_is_of_the_page(failing: Failing, tell: Tell) -> None:
-    tell(failing.said_is_of_the_page())
+def test_each_line_that_was_reported_is_of_the_page(failing: Failing, tell: Tell) -> None:
+    tell(failing.reported_is_of_the_page())

@@ -98,13 +98,13 @@ def served(failing: Failing, folder: str, how: str, number: int, count: int, ask
                 time.sleep(0.3)
                 peer.setsockopt(socket.SOL_SOCKET, socket.SO_LINGER, b"\1\0\0\0\0\0\0\0")
         # The first line was read, and maybe more with it.
-        printed, said = server.process.stdout.read(), server.process.stderr.read()
+        printed, reported = server.process.stdout.read(), server.process.stderr.read()
         status = server.process.wait(LONGEST)
-        return Ran(status, printed, said.replace(b"%d" % port, b"PORT"), 0.0, 0)
+        return Ran(status, printed, reported.replace(b"%d" % port, b"PORT"), 0.0, 0)
 
 
 @pytest.mark.parametrize(
-    "how, number, count, asked, status, said",
+    "how, number, count, asked, status, reported",
     [
         ("once", 1, 1, 0, 5, MANY_FILES),
         ("on", 1, 3, 0, 5, MANY_FILES),
@@ -121,12 +121,13 @@ def test_serve_says_why_nobody_could_be_accepted_in_its_last_turn(
     count: int,
     asked: int,
     status: int,
-    said: str | None,
+    reported: str | None,
 ) -> None:
     ran = served(failing, folder, how, number, count, asked)
-    line = f"irrdesk: 127.0.0.1:PORT: no connection could be accepted: {said}\n" if said else ""
+    head = "irrdesk: 127.0.0.1:PORT: no connection could be accepted: "
+    line = f"{head}{reported}\n" if reported else ""
     expect(
-        (ran.status, ran.printed, ran.said.decode()),
+        (ran.status, ran.printed, ran.reported.decode()),
         (status, b"served 0, failed %d\n" % count, line),
         "how serving ended",
     )
@@ -134,8 +135,8 @@ def test_serve_says_why_nobody_could_be_accepted_in_its_last_turn(
 
 def test_probe_says_why_it_could_not_be_accepted(failing: Failing, folder: str) -> None:
     ran = failing.run(folder, ["probe", "s.toml"], failing.environment("accept", "once", 1))
-    said = f"irrdesk: the program's own listener cannot be asked: {MANY_FILES}\n"
-    expect((ran.status, ran.printed, ran.said.decode()), (5, b"", said), "how it ended")
+    reported = f"irrdesk: the program's own listener cannot be asked: {MANY_FILES}\n"
+    expect((ran.status, ran.printed, ran.reported.decode()), (5, b"", reported), "how it ended")
 
 
 # How long a peer is given.

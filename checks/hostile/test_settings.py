@@ -107,24 +107,24 @@ def test_settings_of_chance_are_taken_or_named(trial: Trial, tell: Tell) -> None
         write(folder, "f.toml", text)
         ran = worst.note(trial.run(folder, "query", "f.toml", "ROOT-MNT"))
         expect_ended(ran, f"turn {turn}, {text!r}")
-        wanted, told = settings_outcome(text), ran.said.decode(errors="replace")
+        wanted, reported = settings_outcome(text), ran.reported.decode(errors="replace")
         other += (
             wanted != "no text"
-            and "the settings are not TOML" not in told
+            and "the settings are not TOML" not in reported
             and read_toml(text) is None
         )
-        if not fits_outcome(wanted, ran.status, told):
+        if not fits_outcome(wanted, ran.status, reported):
             raise Failure(
-                f"turn {turn}, {kept('f.toml', text)}: {wanted}: status {ran.status}, {told}"
+                f"turn {turn}, {kept('f.toml', text)}: {wanted}: status {ran.status}, {reported}"
             )
-    tell(f"{count} files, {other} of them TOML of 1.1 alone; {worst.told()}")
+    tell(f"{count} files, {other} of them TOML of 1.1 alone; {worst.figures()}")
 
 
-def fits_outcome(wanted: str, status: int, told: str) -> bool:
+def fits_outcome(wanted: str, status: int, reported: str) -> bool:
     """Whether a status and words fit an outcome of the settings."""
     if wanted.startswith("`"):
-        return status == 3 and told.startswith(f"irrdesk: f.toml: {wanted} is missing or bad: ")
-    says_so = status == 3 and told.startswith("irrdesk: f.toml: the settings are not TOML: ")
+        return status == 3 and reported.startswith(f"irrdesk: f.toml: {wanted} is missing or bad: ")
+    says_so = status == 3 and reported.startswith("irrdesk: f.toml: the settings are not TOML: ")
     fits = {
         "good": status != 3,
         "no text": status == 3,

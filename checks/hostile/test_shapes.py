@@ -39,9 +39,10 @@ def shape(name: str, short_size: int, long_size: int) -> Callable[..., Any]:
 
 def run(trial: Trial, folder: str, *words: str, stdin: bytes | None = None, status: int = 0) -> Ran:
     ran = trial.run(folder, *words, stdin=stdin, timeout=300, limits={"stack": STACK})
-    if ran.status != status or ran.said:
+    if ran.status != status or ran.reported:
         raise Failure(
-            f"{' '.join(words)}: status {ran.status}, {short(ran.said)} {short(ran.printed[-200:])}"
+            f"{' '.join(words)}: status {ran.status}, {short(ran.reported)}"
+            f" {short(ran.printed[-200:])}"
         )
     return ran
 
@@ -549,13 +550,13 @@ def measured(trial: Trial, size: int, function: Callable[..., Any]) -> str:
         half, whole = min(half, taken(trial, size // 2, function, turn)[0]), min(whole, seconds)
         if whole <= half * most + SLACK:
             break
-    told = (
+    figures = (
         f"{size:,}: {whole:.2f} s, {whole / max(half, 0.001):.2f} times that of {size // 2:,},"
         f" {memory / 1024:.0f} MiB"
     )
     if whole > half * most + SLACK:
-        raise Failure(told)
-    return told
+        raise Failure(figures)
+    return figures
 
 
 @pytest.mark.parametrize(

@@ -44,7 +44,7 @@ def opened() -> Registry:
 
 
 def outcome(trial: Trial, paragraph: bytes) -> str:
-    """What is said of one item with the root's password."""
+    """What is reported of one item with the root's password."""
     ran = trial.run(trial.work, stdin=b"password: bc\n\n" + paragraph)
     return ran.printed.partition(b"\n")[0].rpartition(b": ")[2].decode()
 
@@ -334,7 +334,9 @@ def reads(trial: Trial) -> str:
         ran = run_in_pieces([trial.program], trial.work, text, [1], timeout=600)
         wanted = (0, b"% items 0\n") if whole else (5, b"% read fault after 0 items\n")
         expect(
-            (ran.status, ran.printed), wanted, f"a submission in {size} pieces, saying {ran.said!r}"
+            (ran.status, ran.printed),
+            wanted,
+            f"a submission in {size} pieces, saying {ran.reported!r}",
         )
     folder = trial.place("reads")
     write_settings(folder)
@@ -345,8 +347,10 @@ def reads(trial: Trial) -> str:
         [1],
         timeout=600,
     )
-    said = b"irrdesk: /dev/stdin: the dump has no end within 16777216 reads: name a whole dump\n"
-    expect((ran.status, ran.said), (5, said), "a dump in too many pieces")
+    reported = (
+        b"irrdesk: /dev/stdin: the dump has no end within 16777216 reads: name a whole dump\n"
+    )
+    expect((ran.status, ran.reported), (5, reported), "a dump in too many pieces")
     return f"submissions of {MOST_READS - 1} and {MOST_READS} pieces, and a dump"
 
 

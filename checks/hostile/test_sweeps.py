@@ -51,7 +51,7 @@ def sweep(
 
 
 @pytest.mark.parametrize("name", SUBMISSIONS)
-def test_what_was_told_of_a_submission_stands(
+def test_what_was_reported_of_a_submission_stands(
     trial: Trial, failing: Failing, name: str, each: Each
 ) -> None:
     submission = SUBMISSIONS[name]
@@ -109,7 +109,7 @@ def check_made(right: bytes) -> Callable[..., Any]:
         expect(
             is_fault(ran) or ran.status == 137,
             True,
-            f"a fault told: {ran.status}, {short(ran.said)}",
+            f"a fault told: {ran.status}, {short(ran.reported)}",
         )
         return check_rows(rows, None, right)
 
@@ -117,13 +117,13 @@ def check_made(right: bytes) -> Callable[..., Any]:
 
 
 def check_not_made(stands: bytes | None) -> Callable[..., Any]:
-    """That a command that can't make a registry said so and left what stood."""
+    """That a command that can't make a registry reported so and left what stood."""
 
     def check(ran: Ran, rows: bytes, _: int) -> None:
         expect(
             is_fault(ran) or ran.status == 137,
             True,
-            f"a fault told: {ran.status}, {short(ran.said)}",
+            f"a fault told: {ran.status}, {short(ran.reported)}",
         )
         return check_rows(rows, stands)
 
@@ -136,9 +136,9 @@ def expect_refused(trial: Trial, failing: Failing, base: str, words: list[str], 
     ran = trial.run(folder, *words)
     shutil.rmtree(folder)
     expect(
-        is_fault(ran) and fault in ran.said.decode(),
+        is_fault(ran) and fault in ran.reported.decode(),
         True,
-        f"{' '.join(words)} is refused: {short(ran.said)}",
+        f"{' '.join(words)} is refused: {short(ran.reported)}",
     )
 
 
@@ -230,7 +230,7 @@ def migration(
         expect(
             ran.status in (0, 137) or is_fault(ran),
             True,
-            f"{what}: a fault told: {ran.status}, {short(ran.said)}",
+            f"{what}: a fault told: {ran.status}, {short(ran.reported)}",
         )
         if number == NONE or ran.status == 0:
             expect(
@@ -268,7 +268,7 @@ def check_answer(query: bytes, kind: str) -> Callable[..., Any]:
             )
         expect(ran.printed in (right, *errors), True, f"the answer {short(ran.printed)}")
         return expect(
-            (ran.status, ran.said),
+            (ran.status, ran.reported),
             (1 if ran.printed.startswith(b"% error") else 0, b""),
             "how it ended",
         )
@@ -280,14 +280,14 @@ def check_dump(right: bytes) -> Callable[..., Any]:
     def check(ran: Ran, rows: bytes, _: int) -> None:
         check_rows(rows, ASKED.dumps[-1])
         if ran.status == 0:
-            return expect((ran.printed, ran.said), (right, b""), "the dump")
-        expect(is_fault(ran), True, f"a fault told: {ran.status}, {short(ran.said)}")
+            return expect((ran.printed, ran.reported), (right, b""), "the dump")
+        expect(is_fault(ran), True, f"a fault told: {ran.status}, {short(ran.reported)}")
         return expect(right.startswith(ran.printed), True, "a front of the dump")
 
     return check
 
 
-def test_an_answer_or_dump_is_whole_or_its_fault_is_told(
+def test_an_answer_or_dump_is_whole_or_its_fault_is_reported(
     trial: Trial, failing: Failing, each: Each
 ) -> None:
     base, rows = made_registry(trial, "asked", ASKED), ASKED.dumps[-1]
@@ -348,20 +348,20 @@ def test_an_answer_or_dump_is_whole_or_its_fault_is_told(
 # Messages.
 
 
-def expect_said(ran: Ran, status: int, said: bytes) -> None:
+def expect_reported(ran: Ran, status: int, reported: bytes) -> None:
     expect(
-        (ran.status, ran.printed, ran.said),
-        (status, b"", b"irrdesk: " + said + b"\n"),
+        (ran.status, ran.printed, ran.reported),
+        (status, b"", b"irrdesk: " + reported + b"\n"),
         "how it ended",
     )
 
 
 def test_rare_messages(trial: Trial, failing: Failing, tell: Tell) -> None:
-    """What is said where the disk is full from the first call on, where no socket is to be had, and
-    of a dump without end."""
+    """What is reported where the disk is full from the first call on, where no socket is to be had,
+    and of a dump without end."""
     folder = trial.place("rare")
     write_settings(folder, limit=LIMIT)
-    expect_said(
+    expect_reported(
         failing.run(folder, ["init", "s.toml"], failing.environment("room", "on", 1)),
         4,
         b"irr.db: the disk is full: make room",
@@ -371,14 +371,14 @@ def test_rare_messages(trial: Trial, failing: Failing, tell: Tell) -> None:
         b"the program has too many open files: raise the limit, as `ulimit -n` shows it (system"
         b" error 24)"
     )
-    for number, said in [
+    for number, reported in [
         (1, b"it cannot listen: " + many),
         (2, b"the program's own listener cannot be asked: " + many),
     ]:
-        expect_said(
+        expect_reported(
             failing.run(folder, ["probe", "s.toml"], failing.environment("socket", "once", number)),
             5,
-            said,
+            reported,
         )
     folder = trial.place("endless")
     write_settings(folder, limit=LIMIT)
@@ -391,9 +391,11 @@ def test_rare_messages(trial: Trial, failing: Failing, tell: Tell) -> None:
             timeout=600,
         )
         endless.kill()
-    expect_said(ran, 5, b"/dev/stdin: the dump has no end within 16777216 reads: name a whole dump")
+    expect_reported(
+        ran, 5, b"/dev/stdin: the dump has no end within 16777216 reads: name a whole dump"
+    )
     tell("4 messages")
 
 
-def test_each_line_that_was_said_is_of_the_page(failing: Failing, tell: Tell) -> None:
-    tell(failing.said_is_of_the_page())
+def test_each_line_that_was_reported_is_of_the_page(failing: Failing, tell: Tell) -> None:
+    tell(failing.reported_is_of_the_page())

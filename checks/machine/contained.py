@@ -142,7 +142,7 @@ class Contained(Machine):
             {
                 "status": made.returncode,
                 "printed": made.stdout.decode("latin-1"),
-                "said": made.stderr.decode("latin-1"),
+                "reported": made.stderr.decode("latin-1"),
             }
         )
 

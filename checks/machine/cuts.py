@@ -33,12 +33,12 @@ KEPT = os.path.join(TOP, "out", "drive-after-cut")
 
 class Work:
     """A command that was carried out on a drive, in a folder of its own: what it is to leave, and
-    what had been told when.
+    what had been reported when.
 
-    `told` are pairs: how many lines were read, and where the log ended afterwards."""
+    `reported` are pairs: how many lines were read, and where the log ended afterwards."""
 
     def __init__(self, kind: str, folder: str, begin: int) -> None:
-        self.kind, self.folder, self.begin, self.end, self.told = (
+        self.kind, self.folder, self.begin, self.end, self.reported = (
             kind,
             folder,
             begin,
@@ -46,16 +46,16 @@ class Work:
             [(0, 0)],
         )
 
-    def told_at(self, place: int) -> int:
-        """How many lines had been told, for certain, when the log ended there."""
-        return max(lines for lines, end in self.told if end <= place)
+    def reported_at(self, place: int) -> int:
+        """How many lines had been reported, for certain, when the log ended there."""
+        return max(lines for lines, end in self.reported if end <= place)
 
 
 class Cuts:
     """All commands that write, recorded on one drive, and the states that cuts leave of it."""
 
     def __init__(self, trial: Trial) -> None:
-        self.trial, self.folder, self.told = trial, trial.place("drive"), ""
+        self.trial, self.folder, self.figures = trial, trial.place("drive"), ""
         self.works: list[Work] = []
         self.drive: Drive
         self.log: Log
@@ -103,9 +103,9 @@ class Cuts:
         ran = self.trial.run(
             folder, kind, "s.toml", *[os.path.join(self.folder, file)] * bool(file)
         )
-        expect((ran.status, ran.said), (0, b""), kind)
+        expect((ran.status, ran.reported), (0, b""), kind)
         work.end = self.drive.position()
-        work.told.append((1, work.end))
+        work.reported.append((1, work.end))
         self.works.append(work)
 
     def submit(self) -> None:
@@ -124,7 +124,7 @@ class Cuts:
         with process.stdout:
             while part := os.read(process.stdout.fileno(), 65_536):
                 lines += part.count(b"\n")
-                work.told.append((min(lines, self.count), self.drive.position()))
+                work.reported.append((min(lines, self.count), self.drive.position()))
         expect((process.wait(), lines), (0, self.count + 1), "the submission")
         work.end = self.drive.position()
         self.works.append(work)
@@ -182,24 +182,24 @@ class Cuts:
 
     def stands(self, work: Work, place: int, what: str) -> int:
         """How many items of a work stand, and of another one whether it does. Behind a cut this is
-        all, or a front, and what was told."""
-        folder, told = os.path.join(self.drive.place, work.folder), work.told_at(place)
+        all, or a front, and what was reported."""
+        folder, reported = os.path.join(self.drive.place, work.folder), work.reported_at(place)
         copy = os.path.join(self.folder, "copy")
         shutil.copytree(folder, copy)
         ran = self.trial.run(folder, "dump", "s.toml", "--full")
         stands, is_old = (
             sum_of(ran.printed),
-            b"the tables of the database are of version 1" in ran.said,
+            b"the tables of the database are of version 1" in ran.reported,
         )
         if ran.status == 0 or is_old:
             check_integrity(copy, what)
         shutil.rmtree(copy)
         if work.kind == "submit":
-            expect((ran.status, ran.said), (0, b""), f"{what}: the dump")
-            found = [front for front in self.fronts.get(stands, []) if front >= told]
+            expect((ran.status, ran.reported), (0, b""), f"{what}: the dump")
+            found = [front for front in self.fronts.get(stands, []) if front >= reported]
             if not found:
                 raise Failure(
-                    f"{what}: {told} lines were told, and the rows are those of"
+                    f"{what}: {reported} lines were reported, and the rows are those of"
                     f" {self.fronts.get(stands)} items"
                 )
             return found[0]
@@ -207,10 +207,12 @@ class Cuts:
             expect(stands == self.wanted[work.kind], True, f"{what}: whether the rows are whole")
             return True
         is_none = (
-            is_old if work.kind == "migrate" else any(words in ran.said for words in NEVER_MADE)
+            is_old if work.kind == "migrate" else any(words in ran.reported for words in NEVER_MADE)
         )
-        if ran.status != 4 or not is_none or told:
-            raise Failure(f"{what}: {told} told, status {ran.status}, {short(ran.said)}")
+        if ran.status != 4 or not is_none or reported:
+            raise Failure(
+                f"{what}: {reported} reported, status {ran.status}, {short(ran.reported)}"
+            )
         self.again(work, folder, what)
         return False
 
@@ -218,7 +220,7 @@ class Cuts:
         """What does not stand is carried out again."""
         words = [os.path.join(self.folder, "dump.rpsl")] if work.kind == "load" else []
         ran = self.trial.run(folder, work.kind, "s.toml", *words)
-        expect((ran.status, ran.said), (0, b""), f"{what}: {work.kind} again")
+        expect((ran.status, ran.reported), (0, b""), f"{what}: {work.kind} again")
         after = self.trial.run(folder, "dump", "s.toml", "--full")
         expect(
             sum_of(after.printed) == self.wanted[work.kind],

@@ -73,8 +73,8 @@ QUIET = [
 RECIPE = json.dumps([PACKAGES, SIZE, FILES, QUIET], indent=1)
 AGENT = """import json, os, subprocess
 port = os.open("/dev/virtio-ports/asked", os.O_RDWR)
-def tell(**told):
-    left = json.dumps(told).encode() + b"\\n"
+def tell(**ended):
+    left = json.dumps(ended).encode() + b"\\n"
     while left:
         left = left[os.write(port, left):]
 tell(boot=open("/proc/sys/kernel/random/boot_id").read().strip())
@@ -85,12 +85,13 @@ for line in os.fdopen(os.dup(port), "rb"):
     made = subprocess.Popen(["bash", "-c", asked["command"]], stdin=pipe, stdout=pipe, stderr=pipe,
                             start_new_session=True, cwd="/root", env=environment)
     try:
-        printed, said = made.communicate(asked["given"].encode("latin-1"), asked["seconds"])
+        printed, reported = made.communicate(asked["given"].encode("latin-1"), asked["seconds"])
     except subprocess.TimeoutExpired:
         os.killpg(made.pid, 9)
-        printed, said = made.communicate()
-        said += b"trial: not done in time"
-    tell(status=made.returncode, printed=printed.decode("latin-1"), said=said.decode("latin-1"))
+        printed, reported = made.communicate()
+        reported += b"trial: not done in time"
+    tell(status=made.returncode, printed=printed.decode("latin-1"),
+         reported=reported.decode("latin-1"))
 """
 # The most seconds until a boot answers: an emulated machine is slow, and slower beside other work.
 PATIENCE = 600
@@ -122,7 +123,7 @@ class Image:
         self.disk, self.kernel, self.first = (
             os.path.join(self.folder, name) for name in ["disk", "kernel", "initrd"]
         )
-        self.record, self.told = os.path.join(self.folder, "made"), ""
+        self.record, self.figures = os.path.join(self.folder, "made"), ""
 
     def is_made(self) -> bool:
         """Whether the disk is there, of this recipe."""
@@ -221,7 +222,7 @@ class Machine(abc.ABC):
         ended = self.ended(command, **options)
         if ended.status:
             raise Failure(
-                f"{command}: status {ended.status}, {short(ended.printed[-400:] + ended.said)}"
+                f"{command}: status {ended.status}, {short(ended.printed[-400:] + ended.reported)}"
             )
         return ended.printed
 
@@ -231,7 +232,7 @@ class Machine(abc.ABC):
         while (ended := self.ended(command)).status:
             if time.monotonic() > end:
                 raise Failure(
-                    f"{what}: not within {seconds} s: {short(ended.printed + ended.said)}"
+                    f"{what}: not within {seconds} s: {short(ended.printed + ended.reported)}"
                 )
             time.sleep(0.3)
         return ended.printed
@@ -249,19 +250,20 @@ class Machine(abc.ABC):
 class Ended:
     """How a command in a machine ended."""
 
-    def __init__(self, told: dict[str, Any]) -> None:
-        self.status, self.printed, self.said = told["status"], told["printed"], told["said"]
+    def __init__(self, ended: dict[str, Any]) -> None:
+        self.status, self.printed = ended["status"], ended["printed"]
+        self.reported = ended["reported"]
 
 
 class Guest(Machine):
-    """A machine that is on, from a disk that is a copy of the image's at first. Its `told` are
+    """A machine that is on, from a disk that is a copy of the image's at first. Its `reported` are
     files of this system, into which what it writes to its ports told0, told1 .. comes at once.
 
     A cut is SIGKILL for qemu: what it had handed to this system by then is on the disk, and nothing
     else, whatever was flushed."""
 
     def __init__(self, image: Image, folder: str, disk: str, given: Given, ports: int = 0) -> None:
-        self.folder, self.told = folder, [
+        self.folder, self.reported = folder, [
             os.path.join(folder, f"told{number}") for number in range(ports)
         ]
         self.console, self.buffer = os.path.join(folder, "console"), b""
@@ -304,7 +306,7 @@ class Guest(Machine):
             "-device",
             "virtserialport,chardev=asked,name=asked",
         ]
-        for number, path in enumerate(self.told):
+        for number, path in enumerate(self.reported):
             with open(path, "wb"):
                 pass
             command += [

@@ -57,11 +57,15 @@ class Outages:
                 f"apt-get install --yes /run/given/irrdesk.deb; {EDITED}; systemctl enable irrdesk"
             )
             for turn in range(count):
-                told = self.submit(guest, self.chance.randrange(self.trial.pick(1_000, COUNT)))
+                reported = self.submit(guest, self.chance.randrange(self.trial.pick(1_000, COUNT)))
                 guest = self.on()
                 mended = guest.ended(MENDED).status == 0
                 seen.append(
-                    (told, self.stands(guest, told, f"cut {turn + 1}, after {told} lines"), mended)
+                    (
+                        reported,
+                        self.stands(guest, reported, f"cut {turn + 1}, after {reported} lines"),
+                        mended,
+                    )
                 )
         finally:
             self.end()
@@ -75,22 +79,22 @@ class Outages:
         )
         guest.done(
             f"{AS_OWNER} irrdesk submit {SETTINGS} /run/given/items.rpsl > /dev/virtio-ports/told0"
-            " 2> /root/said < /dev/null &"
+            " 2> /root/reported < /dev/null &"
         )
         end = time.monotonic() + 900
-        while (told := lines_in(guest.told[0])) < wanted:
+        while (reported := lines_in(guest.reported[0])) < wanted:
             if self.is_over:
                 raise Failure("the trial is over")
             if time.monotonic() > end:
                 raise Failure(
-                    f"{told} lines came within 900 s, of {wanted}:"
-                    f" {guest.ended('cat /root/said').printed}"
+                    f"{reported} lines came within 900 s, of {wanted}:"
+                    f" {guest.ended('cat /root/reported').printed}"
                 )
             time.sleep(0.02)
         guest.cut()
-        return min(lines_in(guest.told[0]), COUNT)
+        return min(lines_in(guest.reported[0]), COUNT)
 
-    def stands(self, guest: Guest, told: int, what: str) -> int:
+    def stands(self, guest: Guest, reported: int, what: str) -> int:
         """Of how many items the registry is that the service serves by itself, after the machine
         has come up again."""
         guest.until(ASKED, f"{what}: that the registry is served")
@@ -104,9 +108,9 @@ class Outages:
             f"{AS_OWNER} irrdesk dump {SETTINGS} --full | python3 /run/given/sums", seconds=600
         ).strip()
         stands = self.fronts.get(int(found), []) if found.isdigit() else []
-        if not {told, told + 1} & set(stands):
+        if not {reported, reported + 1} & set(stands):
             raise Failure(f"{what}: the rows are those of {stands} items ({found})")
-        return told if told in stands else told + 1
+        return reported if reported in stands else reported + 1
 
 
 class Fleet:
@@ -125,7 +129,7 @@ class Fleet:
         seen = [cut for cuts in self.cuts for cut in cuts.result()]
         return (
             f"{len(seen)} cuts in {COUNT} items, after {min(seen)[0]} to {max(seen)[0]};"
-            f" {sum(stands > told for told, stands, _ in seen)} between an item and its line;"
+            f" {sum(stands > lines for lines, stands, _ in seen)} between an item and its line;"
             f" {sum(mended for _, _, mended in seen)} file systems had to be mended"
         )
 

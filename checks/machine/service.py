@@ -141,9 +141,11 @@ class Service:
             1,
             "whether the system is a plain one",
         )
-        told = guest.done("apt-get install --yes /run/given/irrdesk.deb")
+        printed = guest.done("apt-get install --yes /run/given/irrdesk.deb")
         expect(
-            "no registry yet" in told, True, f"whether apt says what is next: {short(told[-600:])}"
+            "no registry yet" in printed,
+            True,
+            f"whether apt says what is next: {short(printed[-600:])}",
         )
         expect(guest.ended("dpkg --verify irrdesk").printed, "", "what dpkg finds changed")
         files = {path: mode for mode, path in files_of_package()}
@@ -177,9 +179,9 @@ class Service:
         )
         ended = guest.ended(f"{AS_OWNER} irrdesk init {SETTINGS}")
         expect(
-            (ended.status, "`auth`" in ended.said),
+            (ended.status, "`auth`" in ended.reported),
             (3, True),
-            f"init before the settings are edited: {ended.said!r}",
+            f"init before the settings are edited: {ended.reported!r}",
         )
         return f"{len(guest.done('dpkg --listfiles irrdesk').split())} files and folders"
 
@@ -219,17 +221,19 @@ class Service:
         )
         text = b"inetnum: 192.0.2.0/24\nmnt-by: OPS-MNT\nsource: TRIAL\n"
         signed = "irr submit /root/root.password /root/ops.password -"
-        told = guest.done(signed, given=text)
-        expect("added" in told, True, f"what both sign: {told}")
+        printed = guest.done(signed, given=text)
+        expect("added" in printed, True, f"what both sign: {printed}")
         guest.done("systemctl start irrdesk-backup irrdesk-history", seconds=600)
         # The door looks at the registry again after a moment.
         guest.until("systemctl start irrdesk-check", "that the check finds nothing wrong")
-        said = self.journal("irrdesk-check")
-        expect("not checked" in said, False, f"whether there is what it could not see: {said}")
+        reported = self.journal("irrdesk-check")
+        expect(
+            "not checked" in reported, False, f"whether there is what it could not see: {reported}"
+        )
         again = guest.ended("irr setup --yes --source TRIAL")
-        expect((again.status, "a registry is here" in again.said), (4, True), "a second one")
-        told = guest.done("dpkg --purge irrdesk")
-        kept = re.findall(r"^  (/var/\S+)$", told, re.MULTILINE)
+        expect((again.status, "a registry is here" in again.reported), (4, True), "a second one")
+        printed = guest.done("dpkg --purge irrdesk")
+        kept = re.findall(r"^  (/var/\S+)$", printed, re.MULTILINE)
         names = ["lib/irrdesk", "lib/irrdesk-backup", "lib/irrdesk-history"]
         expect(kept[:3], [f"/var/{name}" for name in names], "what a purge keeps")
         guest.done(f"rm -r {' '.join(kept)} /root/*.password; ! test -e /etc/irrdesk")
@@ -255,7 +259,7 @@ class Service:
         expect(
             (ended.status, "no registry yet" in ended.printed),
             (0, False),
-            f"the upgrade: {short(ended.printed + ended.said)}",
+            f"the upgrade: {short(ended.printed + ended.reported)}",
         )
         self.serves("the upgrade")
         expect(
@@ -311,8 +315,10 @@ class Service:
     def served(self) -> str:
         """Whois, HTTP, a submission and the dump, beside the model."""
         guest, lines = self.guest, self.registry.submit(self.first)
-        told = guest.done(f"curl --silent --data-binary @/run/given/first.rpsl {URL}/submissions")
-        expect(told.splitlines(), lines, "the report")
+        printed = guest.done(
+            f"curl --silent --data-binary @/run/given/first.rpsl {URL}/submissions"
+        )
+        expect(printed.splitlines(), lines, "the report")
         for query in ["ROOT-MNT", "192.0.2.1", "AS64496", "inverse mnt HOLDER-MNT"]:
             wanted = answer(self.registry, query.encode(), LIMIT)
             for asked in [
@@ -335,27 +341,28 @@ class Service:
         wanted = self.trial.chance("restart").randrange(20, 200)
         guest.done(
             f"curl --silent --no-buffer --data-binary @/run/given/items.rpsl {URL}/submissions >"
-            " report 2> said < /dev/null &"
+            " report 2> reported < /dev/null &"
         )
         guest.until(f"test $(wc -l < report) -ge {wanted}", "the report")
         guest.done("systemctl restart irrdesk")
         self.serves("the restart")
-        told = len(
+        reported = len(
             re.findall(
                 r"^\d+ .*: (?:added|changed|deleted)$", guest.done("cat report"), re.MULTILINE
             )
         )
         stands = self.fronts.get(sum_of(self.full_dump()), [])
-        if told >= count or not {told, told + 1} & set(stands):
+        if reported >= count or not {reported, reported + 1} & set(stands):
             raise Failure(
-                f"{told} lines were told of {count}, and the rows are those of {stands} items"
+                f"{reported} lines were reported of {count}, and the rows are those of"
+                f" {stands} items"
             )
         guest.done(
             "systemctl stop irrdesk; rm /var/lib/irrdesk/irr.db*; mv /root/kept/* /var/lib/irrdesk;"
             " systemctl start irrdesk"
         )
         self.serves("the first registry again")
-        return f"{told} told, {stands[0]} stand"
+        return f"{reported} reported, {stands[0]} stand"
 
     def counted(self) -> str:
         """That a server which comes to the end of its count is started again."""
@@ -391,12 +398,12 @@ class Service:
             self.show("irrdesk", value) for value in ["ActiveState", "ExecMainStatus", "NRestarts"]
         ]
         expect(state, ["failed", "3", "0"], "the unit's state, status and starts")
-        said = found(
+        reported = found(
             rf"^(irrdesk: {SETTINGS}.*limit.*)$", self.journal("irrdesk"), "what the journal says"
         )
         guest.done(f"sed -i 's/^limit = .*/limit = {LIMIT}/' {SETTINGS}; systemctl start irrdesk")
         self.serves("after the settings are right again")
-        return said
+        return reported
 
     def held(self) -> str:
         """That a server whose database another process has says so, and goes on trying until it is
@@ -433,7 +440,7 @@ class Service:
 
     def disk_full(self) -> str:
         """A disk that fills up while a registry is served: the check starts it again, and says so,
-        and nothing that was told is lost."""
+        and nothing that was reported is lost."""
         guest = self.guest
         guest.done(
             "systemctl stop irrdesk; truncate -s 16M /root/small; mkfs.ext4 -q -m 0 /root/small"
@@ -450,7 +457,7 @@ class Service:
         )
         submit = f"curl --silent --data-binary @/run/given/items.rpsl {URL}/submissions"
         report = guest.done(submit, seconds=600)
-        told = int(found(r"^% stopped after (\d+) items$", report, "the report's end"))
+        decided = int(found(r"^% stopped after (\d+) items$", report, "the report's end"))
         expect("E91" in report, True, "whether an item is refused by E91")
         status = guest.ended(
             f"curl --silent --output /dev/null --write-out '%{{http_code}}' {URL}/query/ROOT-MNT"
@@ -462,14 +469,16 @@ class Service:
         expect(
             self.show("irrdesk", "MainPID") != before, True, "whether the server was started again"
         )
-        said = found(
+        reported = found(
             r"^registry-failed: (.* status 503.*)$",
             self.journal("irrdesk-check"),
             "what the check says",
         )
         stood = self.full_dump()
         expect(
-            told in self.fronts.get(sum_of(stood), []), True, f"whether the {told} items told stand"
+            decided in self.fronts.get(sum_of(stood), []),
+            True,
+            f"whether the {decided} items decided stand",
         )
         guest.done("rm /var/lib/irrdesk/filler")
         again = load(stood, b"TEST")
@@ -481,7 +490,7 @@ class Service:
         expect(self.full_dump() == again.dump(), True, "whether the registry is then whole")
         guest.done("systemctl stop irrdesk; umount /var/lib/irrdesk; systemctl start irrdesk")
         self.serves("the first registry again")
-        return f"after {told} items: {said}"
+        return f"after {decided} items: {reported}"
 
     def checked(self) -> str:
         """That the timer has the check run, and the check finds nothing wrong."""
@@ -507,14 +516,14 @@ class Service:
             "what the clients get",
         )
         asking = "for n in $(seq 40); do whois -h 127.0.0.1 -p 43 ROOT-MNT | grep -c ^mntner; done"
-        told = guest.done(
+        printed = guest.done(
             (
                 f"({asking}) > /tmp/asked & sleep 1; systemctl restart irrdesk-door; wait; sort"
                 " /tmp/asked | uniq -c"
             ),
             seconds=600,
         )
-        expect(told.split(), ["40", "1"], "answers while the door is started again")
+        expect(printed.split(), ["40", "1"], "answers while the door is started again")
         expect(self.show("irrdesk-door.service", "ActiveState"), "active", "the door")
         guest.done("systemctl start irrdesk-check", seconds=600)
         return "64 answers from 16 addresses, and 40 while the door was started again"
@@ -527,9 +536,9 @@ class Service:
         expect(
             json.loads(guest.done(f"{asked}/about"))["history"], True, "whether a history is told"
         )
-        told = json.loads(guest.done(f"{asked}/history/mntner/ROOT-MNT"))
-        expect([one["word"] for one in told["states"]], ["added"], "the states of an object")
-        state = told["states"][0]["state"]
+        found = json.loads(guest.done(f"{asked}/history/mntner/ROOT-MNT"))
+        expect([one["word"] for one in found["states"]], ["added"], "the states of an object")
+        state = found["states"][0]["state"]
         lines = json.loads(guest.done(f"{asked}/history/mntner/ROOT-MNT?to={state}"))["lines"]
         expect(lines[0], ["+", "mntner:         ROOT-MNT"], "the first line of a state")
         ended = guest.ended(f"{asked}/history/mntner/ROOT-MNT?to={'0' * 40}")
@@ -545,8 +554,8 @@ class Service:
         ended = guest.ended(
             f"systemd-analyze verify --man=no {' '.join(unit.replace('@', '@1') for unit in units)}"
         )
-        told = [line for line in ended.said.splitlines() if "irrdesk" in line]
-        expect((ended.status, told), (0, []), "what systemd-analyze verify says")
+        faults = [line for line in ended.reported.splitlines() if "irrdesk" in line]
+        expect((ended.status, faults), (0, []), "what systemd-analyze verify says")
         with open(os.path.join(TOP, "docs", "OPERATING.md"), encoding="utf-8") as opened:
             wanted = found(
                 r"exposure of the\s+server at (\d+\.\d)",

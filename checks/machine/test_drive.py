@@ -18,17 +18,17 @@ def cuts(trial: Trial) -> Cuts:
     if lacking := drive.lacking():
         pytest.skip(lacking)
     made = Cuts(trial)
-    made.told = made.record()
+    made.figures = made.record()
     return made
 
 
 def test_writes_are_logged(cuts: Cuts, tell: Tell) -> None:
-    tell(cuts.told)
+    tell(cuts.figures)
 
 
 @pytest.mark.parametrize("is_losing", [False, True], ids=["", "less what was not flushed"])
 @pytest.mark.parametrize("kind", KINDS)
-def test_what_was_told_stands_after_a_cut(
+def test_what_was_reported_stands_after_a_cut(
     trial: Trial, cuts: Cuts, kind: str, is_losing: bool, tell: Tell
 ) -> None:
     tell(cuts.cut(kind, trial.pick(5, KINDS[kind]), is_losing))

@@ -77,7 +77,7 @@ def package(trial: Trial, options: argparse.Namespace) -> str:
 def image(options: argparse.Namespace) -> guest.Image:
     """The machine's disk."""
     made = guest.Image(options.image or os.path.join(TOP, "out", "machine"))
-    made.told = made.make()
+    made.figures = made.make()
     return made
 
 
@@ -110,7 +110,7 @@ def test_lintian_finds_nothing_in_the_package(package: str, tell: Tell) -> None:
 
 
 def test_the_disk_of_the_machine_is_made(image: guest.Image, tell: Tell) -> None:
-    tell(image.told)
+    tell(image.figures)
 
 
 @pytest.mark.parametrize("part, step", STEPS)
@@ -122,7 +122,7 @@ def test_the_machine_does_as_it_should(
     tell(getattr(parts[part], step)())
 
 
-def test_what_was_told_stands_after_the_power_was_cut(fleet: Fleet | None, tell: Tell) -> None:
+def test_what_was_reported_stands_after_the_power_was_cut(fleet: Fleet | None, tell: Tell) -> None:
     if fleet is None:
         pytest.skip("a container has no power")
     tell(fleet.seen())

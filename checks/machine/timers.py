@@ -84,8 +84,8 @@ class Timers:
                 True,
             ),
         ]:
-            told = guest.done(f"({change}) > /dev/null 2>&1; irr restore {place}", seconds=600)
-            expect("replaced-" in told, is_kept, f"whether something is kept: {told}")
+            printed = guest.done(f"({change}) > /dev/null 2>&1; irr restore {place}", seconds=600)
+            expect("replaced-" in printed, is_kept, f"whether something is kept: {printed}")
             expect(service.dump() == wanted, True, f"whether the registry is the same: {change}")
             expect(guest.done(f"cat {SETTINGS}"), settings, "the settings")
         owned = f"stat -c '%U:%G %a' {SETTINGS} /var/lib/irrdesk/irr.db"
@@ -214,8 +214,8 @@ class Timers:
         expect((names[0][-13:], len(names)), ("CURRENTSERIAL", 9), f"what is exported: {names}")
         serial = guest.done("cat /var/cache/irrdesk-export/*.CURRENTSERIAL").strip()
         asked = "exec 3<>/dev/tcp/127.0.0.1/43; echo '-q sources' >&3; cat <&3"
-        told = guest.done(f'bash -c "{asked}"')
-        expect(f"-{serial}\n" in told, True, f"whether serial {serial} is told: {told}")
+        printed = guest.done(f'bash -c "{asked}"')
+        expect(f"-{serial}\n" in printed, True, f"whether serial {serial} is told: {printed}")
         return f"serial {serial}"
 
     def untouched(self) -> str:

@@ -92,9 +92,11 @@ def test_a_dump_of_another_registry_is_loaded_as_its_rules_say(
         folder=folder,
     )
     expect(
-        (ran.status, ran.said[:8]), (0, b"checked:"), f"status, and the first line of {ran.said!r}"
+        (ran.status, ran.reported[:8]),
+        (0, b"checked:"),
+        f"status, and the first line of {ran.reported!r}",
     )
-    report = ran.said.decode()
+    report = ran.reported.decode()
     read, taken, left = map(
         int,
         re.search(
@@ -229,7 +231,7 @@ def test_dumps_of_chance_are_as_a_second_reading_has_them(
             expect(
                 (ran.status, ran.printed),
                 (0, result) if tally.taken else (1, b""),
-                f"{what}: by the program, {ran.said!r}",
+                f"{what}: by the program, {ran.reported!r}",
             )
         taken, left = taken + tally.taken, left + tally.causes.total()
     tell(f"{count} dumps: {taken} taken, {left} left out")
@@ -285,7 +287,7 @@ def test_an_import_of_a_dump_gives_the_same_bytes_again(
         path = write(folder, f"full-{number}", made)
         write_settings(folder, store=f"{number}.db")
         ran = trial.run(folder, "load", "s.toml", path)
-        expect((ran.status, ran.said), (0, b""), "load")
+        expect((ran.status, ran.reported), (0, b""), "load")
         with Server(trial.program, folder, COUNT) as server:
             tool = tool.at(IRR_SERVER=f"http://127.0.0.1:{server.port}")
             dump = tool("dump", timeout=WAIT).printed
@@ -309,7 +311,7 @@ def test_an_import_of_a_dump_gives_the_same_bytes_again(
         expect(
             (again.status, again.printed == hidden),
             (0, True),
-            f"the import of a public dump, {again.said!r}",
+            f"the import of a public dump, {again.reported!r}",
         )
         pieces = [os.path.join(folder, "split", name) for name in split[1:]]
         expect(
@@ -347,7 +349,7 @@ def test_texts_as_long_as_they_may_be_and_longer(trial: Trial, tool: Tool, tell:
     expect(
         (ran.status, [len(text) for text in texts[:2]]),
         (0, [65_535, 65_536]),
-        f"texts that fit, {ran.said!r}",
+        f"texts that fit, {ran.reported!r}",
     )
     expect(texts[2:], [text.encode() for text in made[2:]], "texts that do not")
     tell(f"{len(texts)} sizes")
@@ -408,7 +410,7 @@ def test_bad_files_and_words_end_as_one_line_and_leave_nothing(
     ]
     for words, status, pattern in tries:
         ran = irr(tool, *words, folder=folder)
-        ran.said = ran.said.replace(folder.encode() + b"/", b"")
+        ran.reported = ran.reported.replace(folder.encode() + b"/", b"")
         expect_line(ran, status, pattern, " ".join(words))
     with answering(
         b"HTTP/1.1 200 OK\r\nContent-Type: text/plain\r\n\r\naut-num:        AS1\nmnt-by:        "
@@ -432,7 +434,7 @@ def test_bad_files_and_words_end_as_one_line_and_leave_nothing(
     expect(
         (ran.status, os.stat(os.path.join(folder, "full")).st_mode & 0o777),
         (0, 0o600),
-        f"a file of lines, {ran.said!r}",
+        f"a file of lines, {ran.reported!r}",
     )
     with open(os.path.join(folder, "full"), "rb") as made:
         expect(
@@ -465,9 +467,9 @@ def test_a_large_dump_is_served_after_two_commands(trial: Trial, tool: Tool, tel
     words = [sys.executable, tool.path, "import", "dump.gz", *WORDS]
     with open(os.path.join(folder, "full"), "wb") as out:
         made = run(words, folder, timeout=LONGEST, output=out, environment=tool.environment)
-    expect(made.status, 0, f"the status of the import, {made.said!r}")
-    found = REPORT.search(made.said)
-    expect(bool(found), True, f"the report, {made.said[:300]!r}")
+    expect(made.status, 0, f"the status of the import, {made.reported!r}")
+    found = REPORT.search(made.reported)
+    expect(bool(found), True, f"the report, {made.reported[:300]!r}")
     read, taken, left, written, added = (
         int(number.replace(b",", b"")) for number in found.groups()
     )
@@ -477,7 +479,7 @@ def test_a_large_dump_is_served_after_two_commands(trial: Trial, tool: Tool, tel
     expect(
         (loaded.status, loaded.printed),
         (0, b"loaded %d objects\n" % written),
-        f"load, {loaded.said!r}",
+        f"load, {loaded.reported!r}",
     )
     with Server(trial.program, folder, COUNT, patience=LONGEST) as server:
         answer = server.page(b"/query/closest%2010.0.0.1")

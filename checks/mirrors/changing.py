@@ -139,7 +139,7 @@ class Changing:
 
     def ran(self, *words: str) -> None:
         ran = run_forked(self.tool, *words)
-        expect((ran.status, b"Traceback" in ran.said), (0, False), f"{words}: {ran.said!r}")
+        expect((ran.status, b"Traceback" in ran.reported), (0, False), f"{words}: {ran.reported!r}")
 
     def record(self) -> None:
         """Lets the history see the state, and remembers the dump of its serial."""

@@ -43,17 +43,17 @@ class Mirror4:
 
     def follow(self) -> bool:
         """Takes what is new. Whether there was anything."""
-        said = self.notification()
-        if said["session_id"] == self.session:
-            if said["version"] < self.version:
-                raise Failure(f"version {said['version']} after {self.version}")
-            if said["version"] == self.version:
+        notice = self.notification()
+        if notice["session_id"] == self.session:
+            if notice["version"] < self.version:
+                raise Failure(f"version {notice['version']} after {self.version}")
+            if notice["version"] == self.version:
                 return False
-        deltas = {one["version"]: one for one in said["deltas"]}
-        if said["session_id"] != self.session or self.version + 1 not in deltas:
-            self.session, self.version = said["session_id"], said["snapshot"]["version"]
-            self.begin(self.records("snapshot", said["snapshot"]))
-        for version in range(self.version + 1, said["version"] + 1):
+        deltas = {one["version"]: one for one in notice["deltas"]}
+        if notice["session_id"] != self.session or self.version + 1 not in deltas:
+            self.session, self.version = notice["session_id"], notice["snapshot"]["version"]
+            self.begin(self.records("snapshot", notice["snapshot"]))
+        for version in range(self.version + 1, notice["version"] + 1):
             self.change(self.records("delta", deltas[version]))
             self.version = version
         return True
@@ -61,29 +61,29 @@ class Mirror4:
     # The notification file.
 
     def notification(self) -> Record:
-        said: Record = json.loads(self.payload((self.folder / NOTIFICATION).read_bytes()))
-        need_fields(said, COMMON | {"timestamp", "snapshot", "deltas"}, {"next_signing_key"})
-        self.need_head(said, "notification")
-        told = datetime.strptime(said["timestamp"], "%Y-%m-%dT%H:%M:%S%z")
+        notice: Record = json.loads(self.payload((self.folder / NOTIFICATION).read_bytes()))
+        need_fields(notice, COMMON | {"timestamp", "snapshot", "deltas"}, {"next_signing_key"})
+        self.need_head(notice, "notification")
+        told = datetime.strptime(notice["timestamp"], "%Y-%m-%dT%H:%M:%S%z")
         if told < self.told or told < datetime.now(timezone.utc) - timedelta(hours=24):
             raise Failure(f"it was told at {told}, and the one before at {self.told}")
-        self.told, self.next_key = told, said.get("next_signing_key", "")
-        files = [said["snapshot"], *said["deltas"]]
+        self.told, self.next_key = told, notice.get("next_signing_key", "")
+        files = [notice["snapshot"], *notice["deltas"]]
         for one in files:
             need_fields(one, FILE, set())
             if not re.fullmatch("[0-9a-f]{64}", one["hash"]) or "/" in one["url"]:
                 raise Failure(f"no file is named by {one}")
-        versions = [one["version"] for one in said["deltas"]]
-        last = versions[-1] if versions else said["snapshot"]["version"]
+        versions = [one["version"] for one in notice["deltas"]]
+        last = versions[-1] if versions else notice["snapshot"]["version"]
         if versions != list(range(last + 1 - len(versions), last + 1)):
             raise Failure(f"the changes have the versions {versions}")
-        if max(last, said["snapshot"]["version"]) != said["version"]:
-            raise Failure(f"version {said['version']} is named, and there is {last}")
-        if versions and said["snapshot"]["version"] < versions[0] - 1:
-            raise Failure(f"what changed after the snapshot is not named: {said}")
+        if max(last, notice["snapshot"]["version"]) != notice["version"]:
+            raise Failure(f"version {notice['version']} is named, and there is {last}")
+        if versions and notice["snapshot"]["version"] < versions[0] - 1:
+            raise Failure(f"what changed after the snapshot is not named: {notice}")
         if len({one["url"] for one in files}) < len(files):
-            raise Failure(f"a file is named twice: {said}")
-        return said
+            raise Failure(f"a file is named twice: {notice}")
+        return notice
 
     def payload(self, signed: bytes) -> bytes:
         """What a signed text says: by the key that is trusted, or by the next one, which is trusted

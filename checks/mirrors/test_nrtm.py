@@ -157,7 +157,9 @@ def test_an_export_is_of_one_state_and_its_serial_never_ahead(
     history, out = world.history, world.out + "-again"
     world.record()
     refused = run_forked(world.tool, "export", "--history", out, out)
-    expect((refused.status, refused.said.count(b"\n")), (2, 1), f"no history: {refused.said!r}")
+    expect(
+        (refused.status, refused.reported.count(b"\n")), (2, 1), f"no history: {refused.reported!r}"
+    )
     ran = run_forked(world.tool, "export", "--history", history, out)
     expect(ran.status, 0, "the first")
     names = sorted(os.listdir(out))
@@ -168,7 +170,7 @@ def test_an_export_is_of_one_state_and_its_serial_never_ahead(
     expect(objects_of(text), world.dump(), "the dump")
     before = {name: os.stat(f"{out}/{name}").st_ino for name in names}
     ran = run_forked(world.tool, "export", "--history", history, out)
-    expect((ran.status, ran.said), (0, b""), "one without a change")
+    expect((ran.status, ran.reported), (0, b""), "one without a change")
     expect({name: os.stat(f"{out}/{name}").st_ino for name in names}, before, "its files")
     count = 0
     for turn in range(trial.pick(4, 40)):
@@ -186,7 +188,7 @@ def test_an_export_is_of_one_state_and_its_serial_never_ahead(
     with open(f"{out}/TEST.CURRENTSERIAL", "w", encoding="ascii") as file:
         file.write(f"{world.last() + 1}\n")
     ran = run_forked(world.tool, "export", "--history", history, out)
-    expect((ran.status, b"serials went back" in ran.said), (5, True), "a serial that went back")
+    expect((ran.status, b"serials went back" in ran.reported), (5, True), "a serial that went back")
     tell(f"{count} readers")
 
 

@@ -260,7 +260,11 @@ def test_the_bytes_of_old_imports_are_text(states: Publishing) -> None:
 def test_the_keys_are_shown_and_changed(trial: Trial, tool: Tool) -> None:
     folder = trial.place("keys")
     refused = run_forked(tool, "nrtm4", folder)
-    expect((refused.status, b"it has no key" in refused.said), (2, True), f"none: {refused.said!r}")
+    expect(
+        (refused.status, b"it has no key" in refused.reported),
+        (2, True),
+        f"none: {refused.reported!r}",
+    )
     ran = run_forked(tool, "nrtm4", "--new", folder)
     head = b"% signs now: EdDSA\n-----BEGIN PUBLIC KEY-----\n"
     expect((ran.status, ran.printed[: len(head)]), (0, head), "the first")
@@ -268,13 +272,13 @@ def test_the_keys_are_shown_and_changed(trial: Trial, tool: Tool) -> None:
     modes = [os.stat(path).st_mode & 0o777 for path in (folder, f"{folder}/now.pem")]
     expect(modes[1], 0o600, "who can read it")
     refused = run_forked(tool, "nrtm4", "--roll", folder)
-    expect((refused.status, b"no next key" in refused.said), (5, True), "no next one")
+    expect((refused.status, b"no next key" in refused.reported), (5, True), "no next one")
     ran = run_forked(tool, "nrtm4", "--new", "--algorithm", "ES256", folder)
     expect(b"\n% is announced as the next: ES256\n" in ran.printed, True, "the next one")
     refused = run_forked(tool, "nrtm4", "--new", folder)
-    expect((refused.status, b"a next key already" in refused.said), (5, True), "a third one")
+    expect((refused.status, b"a next key already" in refused.reported), (5, True), "a third one")
     refused = run_forked(tool, "nrtm4", "--roll", folder)
-    expect((refused.status, b"0.0 days ago" in refused.said), (5, True), "at once")
+    expect((refused.status, b"0.0 days ago" in refused.reported), (5, True), "at once")
     ran = run_forked(tool, "nrtm4", "--roll", "--now", folder)
     expect((ran.status, ran.printed[:20]), (0, b"% signs now: ES256\n-"), "at once, by --now")
     for words in ["--now"], ["--algorithm", "ES256"]:
@@ -283,12 +287,14 @@ def test_the_keys_are_shown_and_changed(trial: Trial, tool: Tool) -> None:
     bad = trial.place("bad")
     Path(bad, "now.pem").write_text("x")
     refused = run_forked(tool, "nrtm4", bad)
-    expect((refused.status, b"openssl pkey: " in refused.said), (5, True), f"{refused.said!r}")
+    expect(
+        (refused.status, b"openssl pkey: " in refused.reported), (5, True), f"{refused.reported!r}"
+    )
     refused = run_forked(tool.at(PATH=trial.place("none")), "nrtm4", "--new", trial.place("more"))
-    said = b"irr nrtm4: openssl: it is not installed; install it\n"
-    expect((refused.status, refused.said), (5, said), "without openssl")
+    reported = b"irr nrtm4: openssl: it is not installed; install it\n"
+    expect((refused.status, refused.reported), (5, reported), "without openssl")
     refused = run_forked(tool, "export", "--nrtm4", folder, folder)
-    expect((refused.status, b"it needs --history" in refused.said), (2, True), "no history")
+    expect((refused.status, b"it needs --history" in refused.reported), (2, True), "no history")
 
 
 # The long form, on a busy machine.
@@ -329,10 +335,10 @@ def test_a_mirror_has_the_public_dump_at_every_version(
                     process.kill()
                     is_killed = True
                 look()
-            said = process.communicate()[1]
+            reported = process.communicate()[1]
             counts["killed"] += is_killed
             if seconds is None:
-                expect((process.returncode, said), (0, b""), "a run")
+                expect((process.returncode, reported), (0, b""), "a run")
             state = nrtm4.published_in(keys.folder)
             assert state
             dumps[state.session, state.version] = world.dumps[state.serial]

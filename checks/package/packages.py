@@ -53,9 +53,9 @@ def released(folder: str) -> list[str]:
     """The packages that were released, as git has them, written into a folder, by version."""
     git = ["git", "-C", TOP]
     log = [*git, "log", "--format=", "--raw", "--no-abbrev", "--diff-filter=d", "--", "dist/*.deb"]
-    told = subprocess.run(log, stdout=subprocess.PIPE, text=True, check=False).stdout
+    printed = subprocess.run(log, stdout=subprocess.PIPE, text=True, check=False).stdout
     found = []
-    for blob, path in re.findall(r"(\w+) \w\tdist/(\S+\.deb)$", told, re.MULTILINE):
+    for blob, path in re.findall(r"(\w+) \w\tdist/(\S+\.deb)$", printed, re.MULTILINE):
         place = os.path.join(folder, f"{blob[:8]}-{path}")
         with open(place, "wb") as out:
             subprocess.run([*git, "cat-file", "blob", blob], stdout=out, check=True)

@@ -66,12 +66,12 @@ def test_mandoc_finds_nothing_in_the_manual(tell: Tell) -> None:
                 made = subprocess.run(
                     command, capture_output=True, text=True, timeout=PATIENCE, check=False
                 )
-                told = [
+                reported = [
                     line
                     for line in (made.stdout + made.stderr).splitlines()
                     if "mandoc.db" not in line and "referenced manual not found" not in line
                 ]
-                expect(told, [], f"what {command[0]} says of {name}")
+                expect(reported, [], f"what {command[0]} says of {name}")
     tell(f"mandoc -Tlint and groff of {len(pages)} pages")
 
 
@@ -173,8 +173,8 @@ def test_systemd_finds_no_fault_in_the_units(trial: Trial, tell: Tell) -> None:
         timeout=PATIENCE,
         check=False,
     )
-    told = [line for line in made.stderr.splitlines() if any(name in line for name in units)]
-    expect((made.returncode, told), (0, []), "what systemd-analyze says")
+    reported = [line for line in made.stderr.splitlines() if any(name in line for name in units)]
+    expect((made.returncode, reported), (0, []), "what systemd-analyze says")
     tell(f"{len(units)} units")
 
 
@@ -242,8 +242,10 @@ def test_the_command_of_the_unit_does_within_its_limits(trial: Trial, tell: Tell
                 expect(
                     read_all(peer)[:1] in (b"m", b"H"), True, f"whether {text[:20]!r} is answered"
                 )
-        printed, said = process.communicate(timeout=PATIENCE)
-        expect((process.returncode, printed, said), (0, b"served 3, failed 0\n", b""), "its end")
+        printed, reported = process.communicate(timeout=PATIENCE)
+        expect(
+            (process.returncode, printed, reported), (0, b"served 3, failed 0\n", b""), "its end"
+        )
     finally:
         process.kill()
     with open(seen, encoding="ascii") as opened:

@@ -55,8 +55,8 @@ def test_a_command_has_a_manual_by_its_name(prefix: Path, name: str) -> None:
     page = prefix / f"share/man/man1/irr-{name}.1"
     if found := re.fullmatch(r"\.so (man1/\S+)\n", page.read_text("utf-8")):
         page = prefix / "share/man" / found[1]
-    told = page.read_text("utf-8")
-    expect(bool(re.search(rf"^\.(It )?Cm {name}\b", told, re.M)), True, f"{name} in {page.name}")
+    text = page.read_text("utf-8")
+    expect(bool(re.search(rf"^\.(It )?Cm {name}\b", text, re.M)), True, f"{name} in {page.name}")
     if shutil.which("man"):
         words = ["man", "-M", str(prefix / "share/man"), f"irr-{name}"]
         shown = subprocess.run(words, capture_output=True, text=True, check=False)

@@ -58,8 +58,8 @@ KEPT = re.compile(
 
 
 class Ended:
-    """How a command in the root ended: its status, what it printed and said, and the seconds that
-    it took."""
+    """How a command in the root ended: its status, what it printed and reported, and the seconds
+    that it took."""
 
     def __init__(
         self,
@@ -84,7 +84,7 @@ class Ended:
             words, input=given, capture_output=True, env=env, timeout=patience, check=False
         )
         self.seconds = time.monotonic() - start
-        self.status, self.printed, self.said = (
+        self.status, self.printed, self.reported = (
             made.returncode,
             made.stdout.decode(),
             made.stderr.decode(),
@@ -114,7 +114,7 @@ def done(root: str, command: str, **options: Any) -> str:
     """What a command in the root prints, which has to end with status 0."""
     ended = Ended(root, command, **options)
     if ended.status:
-        raise Failure(f"{command}: status {ended.status}, {short(ended.printed + ended.said)}")
+        raise Failure(f"{command}: status {ended.status}, {short(ended.printed + ended.reported)}")
     return ended.printed
 
 
@@ -192,10 +192,10 @@ def test_the_first_command_prints_what_the_page_says_in_time(root: str, tell: Te
     while len(times) < 3 and min(times, default=3) > 2:
         shutil.rmtree(inside(root, f"{CLONE}/out"), ignore_errors=True)
         ended = Ended(root, command, user=VISITOR, folder=CLONE)
-        expect((ended.status, ended.said, ended.printed), wanted, command)
+        expect((ended.status, ended.reported, ended.printed), wanted, command)
         times.append(ended.seconds)
     again = Ended(root, command, user=VISITOR, folder=CLONE)
-    expect((again.status, again.said, again.printed), wanted, f"{command}, once more")
+    expect((again.status, again.reported, again.printed), wanted, f"{command}, once more")
     if min(times) > 2:
         raise Failure(f"{command} answers after {min(times):.1f} s")
     tell(f"`{command}` within {min(times):.1f} s, and then {again.seconds:.1f} s")
@@ -212,7 +212,7 @@ def test_changed_sources_are_told_what_a_build_takes(root: str, tell: Tell) -> N
         opened.truncate(os.path.getsize(source) - 1)
     expect((ended.status, ended.printed), (2, ""), "its end")
     for word in ["scripts/build", "55 minutes", "7 GB", "toolchain", "out/build.log"]:
-        expect(word in ended.said, True, f"whether it says {word!r}")
+        expect(word in ended.reported, True, f"whether it says {word!r}")
     done(root, "./irrdesk --version", user=VISITOR, folder=CLONE)
     tell(f"after {ended.seconds:.1f} s")
 
@@ -230,7 +230,9 @@ def test_a_damaged_package_runs_nothing(root: str, tell: Tell) -> None:
     ended = Ended(root, "./irrdesk --version", user=VISITOR, folder=CLONE)
     write(os.path.dirname(proof), "PROOF", text.encode())
     expect((ended.status, ended.printed), (2, ""), "its end")
-    expect("not the one of dist/PROOF" in ended.said, True, f"whether {ended.said!r} says so")
+    expect(
+        "not the one of dist/PROOF" in ended.reported, True, f"whether {ended.reported!r} says so"
+    )
     tell("a damaged program is unpacked again, another one is refused")
 
 
@@ -270,13 +272,13 @@ def test_the_package_is_installed(before: set[str], root: str, tell: Tell) -> No
     """That apt installs the package, says what to do next, and neither makes a registry nor starts
     anything."""
     ended = Ended(root, f"apt-get install --yes --no-install-recommends {package(root)}")
-    expect(ended.status, 0, f"apt-get: {short(ended.printed + ended.said)}")
-    told = [
+    expect(ended.status, 0, f"apt-get: {short(ended.printed + ended.reported)}")
+    reported = [
         line.strip()
         for line in ended.printed.partition("no registry yet")[2].splitlines()
         if line.startswith("  ")
     ]
-    expect(told, ["irr setup"], "what it says is next")
+    expect(reported, ["irr setup"], "what it says is next")
     seen = done(root, "stat -c '%U:%G %a %n' /etc/irrdesk /etc/irrdesk/irr.toml /var/lib/irrdesk")
     expect(
         seen.splitlines(),
@@ -295,9 +297,9 @@ def test_the_package_is_installed(before: set[str], root: str, tell: Tell) -> No
     )
     ended = Ended(root, "runuser -u irrdesk -- irrdesk init /etc/irrdesk/irr.toml")
     expect(
-        (ended.status, "`auth`" in ended.said),
+        (ended.status, "`auth`" in ended.reported),
         (3, True),
-        f"init before the settings are edited: {ended.said!r}",
+        f"init before the settings are edited: {ended.reported!r}",
     )
     tell(f"version {VERSION}")
 
@@ -346,8 +348,8 @@ def test_a_registry_of_the_package_is_served(root: str, tell: Tell) -> None:
         expect(ask(port, b"ROOT-MNT\r\n").splitlines()[0].split(), ["mntner:", "ROOT-MNT"], "whois")
         with urllib.request.build_opener(urllib.request.ProxyHandler({})).open(
             f"http://127.0.0.1:{port}/submissions", text, 30
-        ) as told:
-            report = told.read().decode().splitlines()
+        ) as reported:
+            report = reported.read().decode().splitlines()
         expect(
             [line.split(": ")[-1] for line in report],
             [
@@ -370,7 +372,7 @@ def test_the_package_is_installed_again(root: str, tell: Tell) -> None:
     registry to be made."""
     before = done(root, "cat /etc/irrdesk/irr.toml; stat -c '%U:%G %a' /etc/irrdesk/irr.toml")
     ended = Ended(root, f"dpkg --install {package(root)}")
-    expect((ended.status, ended.said), (0, ""), "its end")
+    expect((ended.status, ended.reported), (0, ""), "its end")
     expect("no registry yet" in ended.printed, False, "whether it says that there is no registry")
     expect(
         done(root, "cat /etc/irrdesk/irr.toml; stat -c '%U:%G %a' /etc/irrdesk/irr.toml"),
@@ -432,7 +434,7 @@ def test_the_package_is_taken_away_to_the_last_file(
         place, last = os.path.split(name)
         os.symlink(f"private/{last}", inside(root, f"/var/{place}/{last}"))
     ended = Ended(root, "dpkg --purge irrdesk")
-    expect((ended.status, ended.said), (0, ""), "the purge")
+    expect((ended.status, ended.reported), (0, ""), "the purge")
     kept = re.findall(r"^  (/\S+)$", ended.printed, re.MULTILINE)
     wanted = [
         own[0].rpartition("/")[0],
@@ -503,7 +505,7 @@ def test_apt_takes_it_from_a_folder_that_is_signed(trial: Trial, root: str, tell
         opened.write(b"\n")
     done(root, "rm -f /var/lib/apt/lists/*srv_apt*")
     ended = Ended(root, f"{update}; apt-get install --yes irrdesk")
-    expect(ended.status != 0, True, f"whether apt refuses a changed index: {short(ended.said)}")
+    expect(ended.status != 0, True, f"whether apt refuses a changed index: {short(ended.reported)}")
     tell("installed by apt, and refused with a changed index")
 
 

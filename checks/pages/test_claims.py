@@ -39,9 +39,9 @@ def example(trial: Trial) -> str:
     write_settings(folder)
     write(folder, "first.rpsl", text_of("examples/first.rpsl").encode())
     expect(trial.run(folder, "init", "s.toml").status, 0, "the status of init")
-    told = trial.run(folder, "submit", "s.toml", "first.rpsl").printed.decode()
+    printed = trial.run(folder, "submit", "s.toml", "first.rpsl").printed.decode()
     expect(
-        f"```text\n{told}```\n" in text_of("README.md"), True, "whether README prints the report"
+        f"```text\n{printed}```\n" in text_of("README.md"), True, "whether README prints the report"
     )
     return folder
 

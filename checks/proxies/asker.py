@@ -69,13 +69,13 @@ def main() -> None:
                 came = repr(error).encode()
             found = VERSION.search(came)
             is_right = VERSION.sub(b"version 0", came) == answer
-            said = (
+            reported = (
                 (found[0].split()[1].decode() if found else "-")
                 if is_right
                 else f"wrong {query!r} {came[:300]!r}"
             )
             with guard:
-                print(f"{start:.3f} {time.time():.3f} {way} {said}", flush=True)
+                print(f"{start:.3f} {time.time():.3f} {way} {reported}", flush=True)
 
     threads = [threading.Thread(target=lane, args=(number,)) for number in range(lanes)]
     for thread in threads:

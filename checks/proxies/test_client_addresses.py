@@ -80,11 +80,11 @@ def proxy(trial: Trial, door: Opened, name: str) -> Iterator[int]:
     words = {"port": port, "door": door.whois_port, "send": send, "folder": folder}
     path = write(folder, "config", config.format(module=module, **words).encode())
     command = ["haproxy", "-db", "-f", path] if kind == "haproxy" else ["nginx", "-c", path]
-    with open(os.path.join(folder, "said"), "wb") as said:
-        process = subprocess.Popen(command, stdout=said, stderr=said, cwd=folder)
+    with open(os.path.join(folder, "reported"), "wb") as reported:
+        process = subprocess.Popen(command, stdout=reported, stderr=reported, cwd=folder)
     try:
         wait_until(name, 30, lambda: listens(port) or process.poll() is not None)
-        expect(process.poll(), None, Path(folder, "said").read_text(encoding="utf-8"))
+        expect(process.poll(), None, Path(folder, "reported").read_text(encoding="utf-8"))
         yield port
     finally:
         process.terminate()
@@ -92,8 +92,8 @@ def proxy(trial: Trial, door: Opened, name: str) -> Iterator[int]:
 
 
 def has_stream() -> bool:
-    said = subprocess.run(["nginx", "-V"], capture_output=True, text=True, check=False).stderr
-    return os.path.exists(STREAM) or "--with-stream " in said
+    reported = subprocess.run(["nginx", "-V"], capture_output=True, text=True, check=False).stderr
+    return os.path.exists(STREAM) or "--with-stream " in reported
 
 
 def listens(port: int) -> bool:
@@ -178,8 +178,8 @@ def sent(door: Opened, *parts: bytes) -> bytes:
 
 
 def has_no_trace(door: Opened) -> None:
-    said = door.words_said()
-    expect("Traceback" in said or "report this" in said, False, said[-600:])
+    reported = door.words_reported()
+    expect("Traceback" in reported or "report this" in reported, False, reported[-600:])
     expect(door.metrics()["irrdesk_door_faults_total"], 0.0, "faults of the door")
 
 

@@ -14,7 +14,7 @@ from checks.keeping import (
     VERSIONED,
     is_served,
     running,
-    said_by,
+    reported_by,
     wait_until,
     whois_answer,
 )
@@ -46,11 +46,11 @@ def test_replicas_answer_as_the_registry_does_while_it_changes(
         ]
         tools = [tool.at(IRR_SERVER=f"http://127.0.0.1:{port}") for port in ports]
         with running(words, log, env=tool.environment) as mirror:
-            wait_until("replicas", PATIENCE, lambda: "the replicas have" in said_by(log))
+            wait_until("replicas", PATIENCE, lambda: "the replicas have" in reported_by(log))
             same_answers(world, ports, tools)
-            before = said_by(log)
+            before = reported_by(log)
             time.sleep(2.5)
-            expect(said_by(log), before, "what is said while nothing changes")
+            expect(reported_by(log), before, "what is reported while nothing changes")
             # Each second it is made anew and removed.
             wait_until(
                 "that nothing is left",
@@ -103,7 +103,7 @@ def test_replicas_answer_as_the_registry_does_while_it_changes(
                 wanted,
                 "answers without a registry",
             )
-            wait_until("a word of it", 30, lambda: "no server listens there" in said_by(log))
+            wait_until("a word of it", 30, lambda: "no server listens there" in reported_by(log))
             second = tool("mirror", "-s", world.url, folder)
             expect_line(
                 second, 5, ".*another irr works in this folder.*", "a second mirror in the folder"
@@ -160,7 +160,7 @@ def always(world: World, ports: list[int], log: str) -> None:
         expect(bool(answers), True, f"that a replica answers, after {asked} questions")
         asked += 1
         time.sleep(0.01)
-    expect(seen, set(ports), f"replicas with what was submitted; {said_by(log)[-300:]}")
+    expect(seen, set(ports), f"replicas with what was submitted; {reported_by(log)[-300:]}")
 
 
 def children(number: int) -> list[int]:

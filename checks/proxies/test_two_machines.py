@@ -13,7 +13,7 @@ import time
 from pathlib import Path
 from typing import Any, Self
 
-from checks.keeping import PATIENCE, QUERIES, SLACK, VERSIONED, running, said_by, wait_until
+from checks.keeping import PATIENCE, QUERIES, SLACK, VERSIONED, running, reported_by, wait_until
 from checks.model.queries import answer
 from checks.model.registry import Registry
 from checks.proxied import HOST, example, replaced
@@ -107,8 +107,11 @@ class Machines:
         self, side: int, name: str, *words: str, **options: Any
     ) -> tuple[subprocess.Popen[bytes], str]:
         """A process on a machine, which ends with the machines, and the file of what it says."""
-        said = os.path.join(self.folder, f"{name}.log")
-        return self.stack.enter_context(running(self.words(side, *words), said, **options)), said
+        reported = os.path.join(self.folder, f"{name}.log")
+        return (
+            self.stack.enter_context(running(self.words(side, *words), reported, **options)),
+            reported,
+        )
 
 
 def doors(trial: Trial, machines: Machines, tool: Tool) -> None:
@@ -202,7 +205,7 @@ def test_a_replica_on_another_machine_outlives_the_network(
             os.path.join(world.folder, "m"),
             env=environment,
         )
-        wait_until("replicas", PATIENCE, lambda: "the replicas have" in said_by(log))
+        wait_until("replicas", PATIENCE, lambda: "the replicas have" in reported_by(log))
         time.sleep(3)
         count = trial.pick(4_000, 100_000)
         # Each turn of the client is over before the next change is.
@@ -236,9 +239,9 @@ def test_a_replica_on_another_machine_outlives_the_network(
             for number in range(1, trial.pick(4, 12)):
                 change(tool, machines, world, number, changes, environment)
                 wait_until(
-                    f"version {number} with the replicas; {said_by(log)[-200:]}",
+                    f"version {number} with the replicas; {reported_by(log)[-200:]}",
                     SLACK,
-                    lambda: said_by(log).count("the replicas have") > number,
+                    lambda: reported_by(log).count("the replicas have") > number,
                 )
                 if number % 4 == 1:
                     primary.kill()

@@ -19,9 +19,9 @@ def make_registry(program: str, folder: str, submission: str) -> None:
     with open(os.path.join(folder, "first.rpsl"), "w", encoding="ascii") as out:
         out.write("password: bc\n\n" + submission)
     for words in [["init", "s.toml"], ["submit", "s.toml", "first.rpsl"]]:
-        status, printed, said = run(program, folder, *words)
+        status, printed, reported = run(program, folder, *words)
         if status != 0:
-            raise Failure(f"{' '.join(words)} ended with {status}: {said}{printed[-300:]}")
+            raise Failure(f"{' '.join(words)} ended with {status}: {reported}{printed[-300:]}")
 
 
 @pytest.fixture(scope="module")

@@ -54,14 +54,16 @@ class Server(Serving):
     def __init__(self, program: str, folder: str, count: int, **given: Any) -> None:
         super().__init__([program], folder, count, **given)
 
-    def end(self, said: str = "") -> str:
-        """The last line, once it has served all, and said this."""
+    def end(self, reported: str = "") -> str:
+        """The last line, once it has served all, and reported this."""
         printed, found = (text.decode() for text in self.process.communicate(timeout=LONGEST))
-        expect((self.process.returncode, found), (0, said), "status and standard error of serve")
+        expect(
+            (self.process.returncode, found), (0, reported), "status and standard error of serve"
+        )
         return printed
 
-    def expect_end(self, served: int, failed: int, said: str = "") -> None:
-        expect(self.end(said), f"served {served}, failed {failed}\n", "the last line")
+    def expect_end(self, served: int, failed: int, reported: str = "") -> None:
+        expect(self.end(reported), f"served {served}, failed {failed}\n", "the last line")
 
     def connect(self, window: int | None = None) -> socket.socket:
         peer = socket.socket()

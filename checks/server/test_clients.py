@@ -349,13 +349,13 @@ def taken_port(program: str, folder: str) -> None:
         taken.bind(("127.0.0.1", 0))
         taken.listen()
         port = taken.getsockname()[1]
-        said = (
+        reported = (
             f"irrdesk: 127.0.0.1:{port}: it cannot listen: the address is in use: take another"
             " port\n"
         )
         expect(
             run(program, folder, "serve", "s.toml", "--port", str(port), "--count", "1"),
-            (5, "", said),
+            (5, "", reported),
             "status and streams",
         )
 
@@ -387,10 +387,10 @@ def closed_output(program: str, folder: str) -> None:
         # The children of other cases hold the stream until they become the program.
         time.sleep(5)
         expect(server.ask("root-mnt\n"), ROOT, "an answer")
-        said = server.process.stderr.read().decode()
+        reported = server.process.stderr.read().decode()
         status = server.process.wait(LONGEST)
         expect(
-            (status, said),
+            (status, reported),
             (5, UNWRITTEN.format("its reader has ended: let it read to the end")),
             "status and words",
         )
@@ -414,9 +414,9 @@ def wrong_words(program: str, folder: str) -> None:
         ["probe"],
         ["probe", "s.toml", "t.toml"],
     ]:
-        status, printed, said = run(program, folder, *words)
+        status, printed, reported = run(program, folder, *words)
         expect(
-            (status, printed, said.startswith("irrdesk: "), said.count("\n")),
+            (status, printed, reported.startswith("irrdesk: "), reported.count("\n")),
             (2, "", True, 1),
             " ".join(words),
         )

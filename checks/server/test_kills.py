@@ -108,7 +108,8 @@ def timed(trial: Trial, folder: str, *words: str) -> float:
     ran = trial.run(folder, *words, timeout=600)
     if ran.status != 0:
         raise Failure(
-            f"{' '.join(words)}: status {ran.status}, {short(ran.said)} {short(ran.printed[-200:])}"
+            f"{' '.join(words)}: status {ran.status}, {short(ran.reported)}"
+            f" {short(ran.printed[-200:])}"
         )
     return time.monotonic() - start
 
@@ -120,7 +121,7 @@ def before_submission(trial: Trial, name: str, texts: list[bytes]) -> str:
     return base
 
 
-def test_of_a_killed_submission_what_was_told_stands(trial: Trial, tell: Tell) -> None:
+def test_of_a_killed_submission_what_was_reported_stands(trial: Trial, tell: Tell) -> None:
     """Kills of a submission: by turns after a line, and after some time."""
     count, kills = trial.pick(400, 2_000), trial.pick(20, 200)
     chance = trial.chance("submit")
@@ -142,7 +143,7 @@ def test_of_a_killed_submission_what_was_told_stands(trial: Trial, tell: Tell) -
         seen.append(after_kill(trial, folder, moment, turn, found, count))
         shutil.rmtree(folder)
     again(trial, base, texts)
-    behind = sum(stands > told for told, stands in seen)
+    behind = sum(stands > reported for reported, stands in seen)
     fewest, most = min(stands for _, stands in seen), max(stands for _, stands in seen)
     tell(
         f"{kills} kills in {count} items, after {fewest} to {most}; {behind} between an item and"
@@ -161,19 +162,19 @@ def after_kill(
     """Kills one submission, and gives how many lines it printed and of how many items the rows
     are."""
     _, printed = killed(trial, folder, ["submit", "s.toml", "items.rpsl"], **moment)
-    told = min(printed.count(b"\n"), count)
+    reported = min(printed.count(b"\n"), count)
     if turn % 4 < 2:
         check_copy(folder)
     ran = full_dump(trial, folder)
-    expect((ran.status, ran.said), (0, b""), f"kill {turn}, {moment}: the dump")
+    expect((ran.status, ran.reported), (0, b""), f"kill {turn}, {moment}: the dump")
     check_integrity(folder)
     stands = found.get(digest(ran.printed), [])
-    if told not in stands and told + 1 not in stands:
+    if reported not in stands and reported + 1 not in stands:
         raise Failure(
-            f"kill {turn}, {moment}: {told} lines were printed, and the rows are those of"
+            f"kill {turn}, {moment}: {reported} lines were printed, and the rows are those of"
             f" {stands} items"
         )
-    return told, told if told in stands else told + 1
+    return reported, reported if reported in stands else reported + 1
 
 
 def again(trial: Trial, base: str, texts: list[bytes]) -> None:
@@ -210,7 +211,7 @@ def held_still(process: subprocess.Popen[bytes]) -> Iterator[None]:
         os.kill(process.pid, signal.SIGCONT)
 
 
-def test_a_copy_of_a_submission_held_still_has_what_was_told(trial: Trial, tell: Tell) -> None:
+def test_a_copy_of_a_submission_held_still_has_what_was_reported(trial: Trial, tell: Tell) -> None:
     """Copies of the database of a submission that is held still: each is that of a front of the
     items, as after a kill."""
     count, copies = trial.pick(400, 2_000), trial.pick(10, 100)
@@ -252,21 +253,21 @@ def test_a_copy_of_a_submission_held_still_has_what_was_told(trial: Trial, tell:
 
 
 def stands_copied(
-    trial: Trial, folder: str, told: int, found: dict[bytes, list[int]], what: str
+    trial: Trial, folder: str, reported: int, found: dict[bytes, list[int]], what: str
 ) -> int:
     """Of how many items the rows of a copy are."""
     check_copy(folder)
     ran = full_dump(trial, folder)
-    expect((ran.status, ran.said), (0, b""), f"{what}: the dump")
+    expect((ran.status, ran.reported), (0, b""), f"{what}: the dump")
     stands = found.get(digest(ran.printed), [])
-    if told not in stands and told + 1 not in stands:
+    if reported not in stands and reported + 1 not in stands:
         raise Failure(
-            f"{what}: {told} lines were printed, and the rows are those of {stands} items"
+            f"{what}: {reported} lines were printed, and the rows are those of {stands} items"
         )
-    return told if told in stands else told + 1
+    return reported if reported in stands else reported + 1
 
 
-def test_a_copy_of_a_server_held_still_has_what_was_told(trial: Trial, tell: Tell) -> None:
+def test_a_copy_of_a_server_held_still_has_what_was_reported(trial: Trial, tell: Tell) -> None:
     """Copies of the database of a server that is held still while it waits for the rest of a query:
     the peer has its whole answer afterwards, since the system breaks off the call that waits and
     the program makes it again."""
@@ -336,8 +337,8 @@ def stands_loaded(trial: Trial, folder: str, what: str, dump: bytes) -> int:
     if ran.status == 0:
         expect(ran.printed == dump, True, f"{what}: whether the rows are those of the dump")
         return 1
-    if ran.status != 4 or not any(words in ran.said for words in NEVER_MADE):
-        raise Failure(f"{what}: status {ran.status}, {short(ran.said)}")
+    if ran.status != 4 or not any(words in ran.reported for words in NEVER_MADE):
+        raise Failure(f"{what}: status {ran.status}, {short(ran.reported)}")
     timed(trial, folder, "load", "s.toml", "dump.rpsl")
     after = full_dump(trial, folder)
     if after.printed != dump:
@@ -374,14 +375,14 @@ def test_a_killed_migration_is_whole_or_nothing(trial: Trial, tell: Tell) -> Non
 def stands_migrated(trial: Trial, folder: str, what: str, dump: bytes) -> int:
     check_copy(folder)
     ran = full_dump(trial, folder)
-    if ran.status == 4 and b"the tables of the database are of version 1" in ran.said:
+    if ran.status == 4 and b"the tables of the database are of version 1" in ran.reported:
         timed(trial, folder, "migrate", "s.toml")
         after = full_dump(trial, folder)
         if after.printed != dump:
             raise Failure(f"{what}, migrated again: {difference(after.printed, dump)}")
         check_integrity(folder)
         return 0
-    expect((ran.status, ran.said), (0, b""), f"{what}: the dump")
+    expect((ran.status, ran.reported), (0, b""), f"{what}: the dump")
     if ran.printed != dump:
         raise Failure(f"{what}: {difference(ran.printed, dump)}")
     return 1

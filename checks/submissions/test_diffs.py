@@ -39,16 +39,17 @@ def faulty(place: Server, text: bytes) -> list[bool]:
 )
 @given(given_case=any_case())
 def test_diff_then_submit(program: str, given_case: tuple[Registry, list[str], bytes]) -> None:
-    """Each item that is not refused does what was said; what can't be taken is refused for it."""
+    """Each item that is not refused does what was printed; what can't be taken is refused for
+    it."""
     held, _, text = given_case
     note(held.text())
     note(text.decode("latin-1"))
     with registry(program, held.text()) as scratch, scratch.serve() as url:
-        said, bad = compared(Server(url), text), faulty(Server(url), text)
+        reported, bad = compared(Server(url), text), faulty(Server(url), text)
         report = lines_of(b"".join(Server(url).submit(text)))
-    note("\n".join(said))
+    note("\n".join(reported))
     refused: set[str] = set()
-    for line, is_bad, item in zip(said, bad, report, strict=True):
+    for line, is_bad, item in zip(reported, bad, report, strict=True):
         note(item.text())
         assert is_bad is (item.code[:2] == "E0")
         if item.name not in refused and item.word != "refused":

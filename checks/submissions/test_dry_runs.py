@@ -29,17 +29,17 @@ few = settings(some, max_examples=300 if LONG else 15)
 
 def tried(place: Server, names: list[str], text: bytes, has_excerpt: bool) -> tuple[str, str]:
     """What a dry run prints and says, of an excerpt or of the whole registry."""
-    out, said = io.StringIO(), io.StringIO()
+    out, reported = io.StringIO(), io.StringIO()
     most = excerpts.MOST_ITEMS if has_excerpt else -1
     with mock.patch.object(excerpts, "MOST_ITEMS", most):
-        with contextlib.redirect_stdout(out), contextlib.redirect_stderr(said):
+        with contextlib.redirect_stdout(out), contextlib.redirect_stderr(reported):
             others = len(submissions.given(items_of(text))) - len(names)
             whose = [*([name] for name in names), *[["-"]] * others]
             dry_run.run(
                 place, [], items_of(text), whose, lambda asked: submit.Printer(asked, False)
             )
-    assert ("all of the registry was copied" in said.getvalue()) is not has_excerpt
-    return out.getvalue(), said.getvalue()
+    assert ("all of the registry was copied" in reported.getvalue()) is not has_excerpt
+    return out.getvalue(), reported.getvalue()
 
 
 def agree(dry: str, real: str) -> None:
@@ -139,8 +139,8 @@ def test_much_is_copied_whole(program: str) -> None:
     held = rpsl.Registry(tuple(rpsl.any_registry(rpsl.Choices(b""), 1).objects))
     text = b"\n".join(b"aut-num: AS%d\nmnt-by: ROOT-MNT\nsource: TEST\n" % n for n in range(201))
     with served(program, held.text()) as place:
-        out, said = io.StringIO(), io.StringIO()
-        with contextlib.redirect_stdout(out), contextlib.redirect_stderr(said):
+        out, reported = io.StringIO(), io.StringIO()
+        with contextlib.redirect_stdout(out), contextlib.redirect_stderr(reported):
             dry_run.run(place, [], items_of(text), [], lambda asked: submit.Printer(asked, True))
-    assert "so that all of the registry was copied" in said.getvalue()
+    assert "so that all of the registry was copied" in reported.getvalue()
     assert out.getvalue().endswith("% items 201\n")

@@ -57,16 +57,16 @@ def forked(work: Callable[[], int | None]) -> int:
 
 def run_forked(tool: Tool, *words: str) -> Ran:
     """How it ends."""
-    with tempfile.TemporaryFile() as printed, tempfile.TemporaryFile() as said, open(
+    with tempfile.TemporaryFile() as printed, tempfile.TemporaryFile() as reported, open(
         os.devnull, "rb"
     ) as nothing:
         number = begun(
-            list(words), tool.environment, [nothing.fileno(), printed.fileno(), said.fileno()]
+            list(words), tool.environment, [nothing.fileno(), printed.fileno(), reported.fileno()]
         )
         _, status = os.waitpid(number, 0)
         printed.seek(0)
-        said.seek(0)
-        return Ran(os.waitstatus_to_exitcode(status), printed.read(), said.read(), 0, 0)
+        reported.seek(0)
+        return Ran(os.waitstatus_to_exitcode(status), printed.read(), reported.read(), 0, 0)
 
 
 class Forks:

@@ -45,7 +45,7 @@ def run(module: ModuleType, *words: str) -> int:
 
 
 @pytest.mark.parametrize(
-    ("words", "status", "said"),
+    ("words", "status", "reported"),
     [
         (["--json", "AS1"], DONE, ""),
         (["--json", "AS2"], REFUSED, "irr query: AS2: nothing is registered there\n"),
@@ -58,11 +58,11 @@ def run(module: ModuleType, *words: str) -> int:
     ],
 )
 def test_nothing(
-    words: list[str], status: int, said: str, capsysbinary: pytest.CaptureFixture[bytes]
+    words: list[str], status: int, reported: str, capsysbinary: pytest.CaptureFixture[bytes]
 ) -> None:
     assert run(query, *words) == status
     written = capsysbinary.readouterr()
-    assert written.err.decode() == said and bool(written.out) == (status == DONE)
+    assert written.err.decode() == reported and bool(written.out) == (status == DONE)
 
 
 def test_dump_to_standard_output(
@@ -165,7 +165,7 @@ def test_a_host_of_netrc_is_found_in_any_letter_case(
 
 @pytest.mark.skipif(os.geteuid() != 0, reason="it takes root")
 @pytest.mark.parametrize("is_given", [True, False])
-def test_a_netrc_that_cannot_be_read_is_told(
+def test_a_netrc_that_cannot_be_read_is_reported(
     trial: Trial, monkeypatch: pytest.MonkeyPatch, is_given: bool
 ) -> None:
     """One of another user, who alone may read it: not as if there were none."""
@@ -176,10 +176,10 @@ def test_a_netrc_that_cannot_be_read_is_told(
     monkeypatch.setenv("HOME", folder)
     remedy = "correct NETRC" if is_given else "look at it"
     wanted = f"{path}: it cannot be opened: permission denied; {remedy}"
-    assert said_as_nobody(Server("https://other.example").credentials) == wanted
+    assert reported_as_nobody(Server("https://other.example").credentials) == wanted
 
 
-def said_as_nobody(do: Callable[[], object]) -> str:
+def reported_as_nobody(do: Callable[[], object]) -> str:
     """The failure of a call in a fork that has no rights."""
     reader, writer = os.pipe()
     number = os.fork()
@@ -195,5 +195,5 @@ def said_as_nobody(do: Callable[[], object]) -> str:
             os._exit(0)
     os.close(writer)
     os.waitpid(number, 0)
-    with open(reader, encoding="utf-8") as said:
-        return said.read()
+    with open(reader, encoding="utf-8") as reported:
+        return reported.read()

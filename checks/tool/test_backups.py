@@ -18,7 +18,7 @@ from checks.keeping import (
     is_served,
     restored,
     running,
-    said_by,
+    reported_by,
     state,
     wait_until,
 )
@@ -66,7 +66,7 @@ def test_a_backup_is_whole_and_restored_as_its_page_says(
                     folder=world.folder,
                     timeout=PATIENCE,
                 )
-                expect((ran.status, ran.said), (0, b""), f"backup {turn}")
+                expect((ran.status, ran.reported), (0, b""), f"backup {turn}")
                 version = restored(trial, ran, least)
                 expect(
                     least <= version <= numbers[-1] + 1,
@@ -80,7 +80,7 @@ def test_a_backup_is_whole_and_restored_as_its_page_says(
         expect(-1 in numbers, False, "a submission that failed")
         expect(is_served(world.server.port), True, "that the server goes on")
     ran = tool("backup", "--settings", settings, "--keep", "2", folder, folder=world.folder)
-    expect((ran.status, ran.said), (0, b""), "a backup of a registry that is not served")
+    expect((ran.status, ran.reported), (0, b""), "a backup of a registry that is not served")
     expect(restored(trial, ran, 0), numbers[-1], "the version in it")
     as_its_user(tool, trial)
     names = sorted(name for name in os.listdir(folder) if name != ".lock")
@@ -120,13 +120,17 @@ def as_its_user(tool: Tool, trial: Trial) -> None:
     }
     shutil.copy(tool.path, os.path.join(folder, "irr"))
     subprocess.run([program, "init", "s.toml"], check=True, **options)
-    said = os.path.join(folder, "serve.log")
+    reported = os.path.join(folder, "serve.log")
     options.pop("capture_output")
     settings = os.path.join(folder, "s.toml")
     with running(
-        [program, "serve", settings, "--port", str(free_port()), "--count", "9"], said, **options
+        [program, "serve", settings, "--port", str(free_port()), "--count", "9"],
+        reported,
+        **options,
     ) as server:
-        wait_until("a server of another user", PATIENCE, lambda: "listening" in said_by(said))
+        wait_until(
+            "a server of another user", PATIENCE, lambda: "listening" in reported_by(reported)
+        )
         # Another user may not be allowed to run the Python that runs this.
         python = shutil.which("python3", path="/usr/bin") or sys.executable
         words = [
@@ -319,7 +323,7 @@ def test_a_full_or_read_only_disk_costs_nothing_that_was_kept(
                 )
     # It writes the log into the database, so that the copies are small.
     expect(trial.run(world.folder, "query", "s.toml", "A-MNT").status, 0, "a query")
-    settings, said, size = os.path.join(world.folder, "s.toml"), set(), 600
+    settings, reported, size = os.path.join(world.folder, "s.toml"), set(), 600
     with disk(folder := os.path.join(world.folder, "full"), size):
         for day in range(1, 4):
             os.makedirs(os.path.join(folder, f"2026010{day}T000000Z"))
@@ -343,11 +347,13 @@ def test_a_full_or_read_only_disk_costs_nothing_that_was_kept(
                 kept,
                 f"what is kept after a backup into {size} KiB",
             )
-            said.add(ran.said.decode().removeprefix(f"irr backup: {folder}: ").split(":")[0])
+            reported.add(
+                ran.reported.decode().removeprefix(f"irr backup: {folder}: ").split(":")[0]
+            )
             size += trial.pick(150, 20)
             remount(folder, f"size={size}k")
         expect(
-            said
+            reported
             >= {
                 "it cannot be written",
                 "SQLite cannot copy the database",
@@ -355,7 +361,7 @@ def test_a_full_or_read_only_disk_costs_nothing_that_was_kept(
                 "irrdesk dump",
             },
             True,
-            f"what found no room: {said}",
+            f"what found no room: {reported}",
         )
         expect(len(set(os.listdir(folder)) - {".lock"}), 2, "the backups after one that found room")
     with disk(

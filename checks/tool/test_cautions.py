@@ -200,8 +200,8 @@ def test_grave_ones_come_first_and_refuse() -> None:
     assert (first[1], second[1]) == (True, False)
 
 
-def test_many_are_told_in_part(capsys: pytest.CaptureFixture[str]) -> None:
-    cautions.tell("submit", [cautions.Caution("a", "x")] * 25)
+def test_many_are_reported_in_part(capsys: pytest.CaptureFixture[str]) -> None:
+    cautions.report("submit", [cautions.Caution("a", "x")] * 25)
     lines = capsys.readouterr().err.split("\n")
     assert lines[:20] == ["irr submit: a: x"] * 20
     assert lines[20:] == ["irr submit: the text: there are 5 more of these", ""]

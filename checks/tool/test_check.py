@@ -291,12 +291,12 @@ def test_a_fault_is_one_line_with_its_remedy(
         with contextlib.ExitStack() as stack:
             ran = machine(*provoke(machine, stack))
         lines = ran.printed.decode().splitlines()
-        expect((ran.status, len(lines)), (1, 1), f"status and lines: {lines} {ran.said!r}")
+        expect((ran.status, len(lines)), (1, 1), f"status and lines: {lines} {ran.reported!r}")
         is_line = lines[0].startswith(f"{word}: ") and lines[0].endswith(f"; {REMEDIES[word]}")
         expect(is_line, True, lines[0])
 
 
-def test_nothing_is_said_of_a_registry_that_is_well(trial: Trial, tool: Tool) -> None:
+def test_nothing_is_reported_of_a_registry_that_is_well(trial: Trial, tool: Tool) -> None:
     """That all of it is looked at, and each bound is one of the settings, too."""
     well = answering(*[reply(b"well: TEST\n"), serials(19_999)] * 2)
     with World(trial, tool, "well") as world, standing(trial, tool, "all") as machine:
@@ -315,7 +315,7 @@ def test_nothing_is_said_of_a_registry_that_is_well(trial: Trial, tool: Tool) ->
             )
             words = ["--door", place_of(door), "--agent", place_of(replicas)]
             ran = machine(*words)
-            expect((ran.status, ran.printed, ran.said), (0, b"", b""), "what is said")
+            expect((ran.status, ran.printed, ran.reported), (0, b"", b""), "what is reported")
             told = json.loads(machine(*words, "--json").printed)
             expect(told, {"well": True, "faults": [], "unseen": []}, "the same as JSON")
 
@@ -342,7 +342,11 @@ def test_bounds_are_those_of_the_settings_unless_told(trial: Trial, tool: Tool) 
         ]:
             machine.settings.write_text(f"{text}[check]\n{line}", encoding="ascii")
             ran = machine()
-            expect((ran.status, pattern in ran.said.decode()), (3, True), f"{line}: {ran.said!r}")
+            expect(
+                (ran.status, pattern in ran.reported.decode()),
+                (3, True),
+                f"{line}: {ran.reported!r}",
+            )
 
 
 def test_irrdesk_takes_settings_with_bounds_of_the_check(trial: Trial) -> None:
@@ -355,7 +359,7 @@ def test_irrdesk_takes_settings_with_bounds_of_the_check(trial: Trial) -> None:
     ]
     write(folder, "s.toml", f"{text}\n[check]\n{chr(10).join(lines)}\n".encode())
     ran = trial.run(folder, "init", "s.toml")
-    expect((ran.status, ran.said), (0, b""), "what it says")
+    expect((ran.status, ran.reported), (0, b""), "what it says")
 
 
 def test_what_a_user_may_not_see_is_no_fault(trial: Trial, tool: Tool) -> None:
@@ -366,7 +370,9 @@ def test_what_a_user_may_not_see_is_no_fault(trial: Trial, tool: Tool) -> None:
             machine.backups.chmod(0)
         ran = machine()
         expect((ran.status, ran.printed), (0, b""), "what is wrong")
-        expect(b"systemd: it cannot be asked" in ran.said, True, f"what it says: {ran.said!r}")
+        expect(
+            b"systemd: it cannot be asked" in ran.reported, True, f"what it says: {ran.reported!r}"
+        )
         machine.backups.chmod(0o700)
 
 

@@ -39,7 +39,7 @@ def measured(tool: Tool, trial: Trial, folder: str) -> str:
                 world.folder,
                 environment=world.tool.environment,
             )
-            expect((ran.status, ran.said), (0, b""), "a query")
+            expect((ran.status, ran.reported), (0, b""), "a query")
             clock.append(time.monotonic() - start)
             processor.append(ran.seconds)
             least.append(

@@ -36,8 +36,8 @@ class Registry:
         raise AssertionError("the dump is asked for")
 
 
-def said(text: str, registry: Registry, capsys: pytest.CaptureFixture[str]) -> list[str]:
-    """What is said of each item, after its class and key."""
+def reported(text: str, registry: Registry, capsys: pytest.CaptureFixture[str]) -> list[str]:
+    """What is reported of each item, after its class and key."""
     items = [Item("f", block) for block in syntax.blocks([text.encode()], syntax.LARGEST + 1)]
     comparison = Comparison(Reasons(registry), items)
     for number, item in enumerate((item for item in items if item.is_item), 1):
@@ -61,7 +61,7 @@ def test_whose_password_is_given(capsys: pytest.CaptureFixture[str]) -> None:
         ("B-MNT", other, "changed or unchanged"),
     ]:
         registry = Registry(object_mntner_A__MNT=mntner(by, "# filtered"))
-        (line,) = said(PASSWORD + mntner(by, auth), registry, capsys)
+        (line,) = reported(PASSWORD + mntner(by, auth), registry, capsys)
         assert line.partition(",")[0] == word, (by, auth)
 
 
@@ -74,4 +74,4 @@ def test_what_is_refused_stands_for_nothing(capsys: pytest.CaptureFixture[str]) 
         ([AS1.replace("source", "remarks: x\nsource"), AS1], ["changed", "changed"]),
     ]:
         registry = Registry(**{"object_aut__num_AS1": AS1})
-        assert said("\n".join(texts), registry, capsys) == words
+        assert reported("\n".join(texts), registry, capsys) == words

@@ -63,7 +63,9 @@ def test_dry_runs_of_chance_say_what_comes(trial: Trial, tool: Tool, tell: Tell)
                     real.printed.decode().splitlines(),
                     f"submission {number}: the model's report",
                 )
-                expect(dry.status, real.status, f"submission {number}: the status, {dry.said!r}")
+                expect(
+                    dry.status, real.status, f"submission {number}: the status, {dry.reported!r}"
+                )
                 for one, other in zip(
                     dry.printed.splitlines(), real.printed.splitlines(), strict=True
                 ):

@@ -82,7 +82,7 @@ def test_an_object_near_the_bound_is_loaded_by_replicas(
     copy = trial.place(f"copy-{part}")
     write_settings(copy, limit=1_000)
     done = trial.run(copy, "load", "s.toml", write(copy, "dump", b"".join(loadable)))
-    expect((done.status, done.said), (0, b""), "load")
+    expect((done.status, done.reported), (0, b""), "load")
     expect(
         trial.run(copy, "dump", "s.toml").printed == dump,
         True,
@@ -117,7 +117,7 @@ def test_an_object_without_its_last_line_end_is_loaded_by_replicas(
             dump = trial.run(folder, "dump", "s.toml").printed
             made = b"".join(temporary.Loadable([dump]))
             done = trial.run(copy, "load", "s.toml", write(copy, "dump", made))
-            expect((done.status, done.said), (0, b""), "load")
+            expect((done.status, done.reported), (0, b""), "load")
             expect(trial.run(copy, "dump", "s.toml").printed == dump, True, "the same dump")
 
 

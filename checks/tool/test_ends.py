@@ -98,10 +98,10 @@ class Ends(unittest.TestCase):
         )
         self.assertRegex(made.stderr, f"^irr[ a-z]*: {words}\n$", line)
 
-    def test_a_closed_output_is_told(self) -> None:
+    def test_a_closed_output_is_reported(self) -> None:
         self.ended("irr --version >&-", "standard output: it is closed; .*")
 
-    def test_a_full_output_is_told(self) -> None:
+    def test_a_full_output_is_reported(self) -> None:
         for words in [
             "--version",
             "help",
@@ -135,7 +135,7 @@ class Ends(unittest.TestCase):
                 )
             self.assertEqual((made.returncode, made.stderr.count("\n")), (5, 1), made.stderr)
 
-    def test_a_closed_input_is_told(self) -> None:
+    def test_a_closed_input_is_reported(self) -> None:
         for words in [
             "submit -",
             "submit -n -",
@@ -148,7 +148,7 @@ class Ends(unittest.TestCase):
         for words in "diff -", "rov -", "filter --settings -", "submit --raw -":
             self.ended(f"irr {words} 0>/dev/null", "standard input: .*bad file descriptor; .*")
 
-    def test_a_bad_address_is_told(self) -> None:
+    def test_a_bad_address_is_reported(self) -> None:
         for address in (
             "https://a..b",
             "http://127.0.0.1/\u00e4",
@@ -157,7 +157,7 @@ class Ends(unittest.TestCase):
         ):
             self.ended(f"irr query -s {address} x", ".*: this is not an address; .*", 2)
 
-    def test_a_bad_number_is_told(self) -> None:
+    def test_a_bad_number_is_reported(self) -> None:
         self.ended(
             f"irr filter --widest {'9' * 5_000} bird X AS1 -", "9*: this is not a length; .*", 2
         )
@@ -218,7 +218,7 @@ class Ends(unittest.TestCase):
         self.ended("irr --version x", "--version: nothing goes with it; .*", 2)
         self.ended("irr help nothing", "nothing: there is no such command; .*", 2)
 
-    def test_a_bad_source_is_told(self) -> None:
+    def test_a_bad_source_is_reported(self) -> None:
         for name in "'TEST\nmnt-by: X'", "T\u00c9ST", "T\u0660", "1X", "X-", "''", "X" * 81, "'X '":
             self.ended(
                 f"irr auth --save /nonexistent/x --source {name} A-MNT",
@@ -226,7 +226,7 @@ class Ends(unittest.TestCase):
                 2,
             )
 
-    def test_a_bad_maintainer_is_told(self) -> None:
+    def test_a_bad_maintainer_is_reported(self) -> None:
         for words in [
             "submit --as {} -",
             "submit -n --as {} -",
@@ -246,7 +246,7 @@ class Ends(unittest.TestCase):
                     2,
                 )
 
-    def test_a_netrc_that_cannot_be_read_is_told(self) -> None:
+    def test_a_netrc_that_cannot_be_read_is_reported(self) -> None:
         self.ended(
             "irr query x",
             "/nonexistent: it cannot be opened: no such file or directory; correct NETRC",

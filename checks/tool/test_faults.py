@@ -204,9 +204,12 @@ def test_bad_servers_end_as_one_line_and_a_status(trial: Trial, tool: Tool, tell
             with answering(GOOD + body) as url:
                 ran = tool.at(IRR_SERVER=url)("submit", "--raw", place)
                 expect(
-                    (ran.status, bool(re.fullmatch(rf"irr submit: {words}\n", ran.said.decode()))),
+                    (
+                        ran.status,
+                        bool(re.fullmatch(rf"irr submit: {words}\n", ran.reported.decode())),
+                    ),
                     (5, True),
-                    f"{body!r}: {ran.said!r}",
+                    f"{body!r}: {ran.reported!r}",
                 )
                 expect(
                     ran.printed in (body, b""),
@@ -231,7 +234,7 @@ def test_bad_servers_end_as_one_line_and_a_status(trial: Trial, tool: Tool, tell
                 f"[^\n]*{words}",
                 url,
             )
-            expect(b"secret" in ran.said, False, "whether a password of an address is shown")
+            expect(b"secret" in ran.reported, False, "whether a password of an address is shown")
         for option, words in [
             (("-s", ""), "-s: the address is empty; give one.*"),
             ((), "IRR_SERVER: the address is empty; give one.*"),
@@ -262,11 +265,11 @@ def test_a_busy_server_is_asked_again_and_not_for_ever(
     with answering(*waits, GOOD + report) as url:
         start = time.monotonic()
         ran = tool.at(IRR_SERVER=url)("submit", place)
-        expect((ran.status, ran.printed), (0, report), f"the report, {ran.said!r}")
+        expect((ran.status, ran.printed), (0, report), f"the report, {ran.reported!r}")
         expect(
-            re.findall(rb"it is asked again after (.*)\n", ran.said),
+            re.findall(rb"it is asked again after (.*)\n", ran.reported),
             [b"2 seconds", b"1 second"],
-            f"what is said meanwhile, {ran.said!r}",
+            f"what is reported meanwhile, {ran.reported!r}",
         )
         expect(time.monotonic() - start > 3, True, "whether it waits so long")
     for after, words in [(b"86400", "again after 86,400 seconds"), (b"soon", "again later")]:
@@ -327,9 +330,9 @@ def test_tls_and_a_door_with_a_password(trial: Trial, tool: Tool, tell: Tell) ->
             os.chmod(netrc, 0o644)
             ran = known("submit", place)
             expect(
-                (ran.status, b"chmod 600" in ran.said, b"sesame" in ran.said),
+                (ran.status, b"chmod 600" in ran.reported, b"sesame" in ran.reported),
                 (5, True, False),
-                f"a file that others read: {ran.said!r}",
+                f"a file that others read: {ran.reported!r}",
             )
             other = write(
                 world.folder,
@@ -339,9 +342,9 @@ def test_tls_and_a_door_with_a_password(trial: Trial, tool: Tool, tell: Tell) ->
             os.chmod(other, 0o600)
             ran = known.at(NETRC=other)("submit", place)
             expect(
-                (ran.status, b"machine HOST" in ran.said, b"sesame" in ran.said),
+                (ran.status, b"machine HOST" in ran.reported, b"sesame" in ran.reported),
                 (5, True, False),
-                f"a bad file: {ran.said!r}",
+                f"a bad file: {ran.reported!r}",
             )
             os.remove(netrc)
         with answering(GOOD + OBJECT) as url:
@@ -419,7 +422,7 @@ def test_bad_files_and_words_end_as_one_line_that_says_what_to_do(
         ]:
             expect_line(world.tool(*bad), 2, ".*", " ".join(bad))
         expect(
-            world.tool("qury").said,
+            world.tool("qury").reported,
             b"irr: qury: there is no such command; did you mean `irr query`?\n",
             "a command that is mistyped",
         )
@@ -438,7 +441,7 @@ def test_bad_files_and_words_end_as_one_line_that_says_what_to_do(
                 )
             line = f"{name}: standard output: no space left on device; look where it goes to\n"
             expect(
-                (ran.status, ran.said.decode()),
+                (ran.status, ran.reported.decode()),
                 (5, line),
                 f"standard output that is full, {spelled}",
             )
@@ -448,7 +451,7 @@ def test_bad_files_and_words_end_as_one_line_that_says_what_to_do(
             environment=world.tool.environment,
         )
         expect(
-            (ran.status, ran.said),
+            (ran.status, ran.reported),
             (5, b"irr submit: standard input: it is closed; give the command one\n"),
             "standard input that is closed",
         )
@@ -457,7 +460,7 @@ def test_bad_files_and_words_end_as_one_line_that_says_what_to_do(
             " query more 0.0.0.0/0 | true"
         )
         ran = run(["sh", "-c", shell], folder, environment=world.tool.environment)
-        expect((ran.said, ran.printed.count(b"\n")), (b"", 1), "readers that end early")
+        expect((ran.reported, ran.printed.count(b"\n")), (b"", 1), "readers that end early")
         expect(world.tool("dump").printed, before, "the registry after all of it")
     tell(f"{len(wrong)} files")
 

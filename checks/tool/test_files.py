@@ -415,7 +415,7 @@ class Addresses(unittest.TestCase):
             self.assertRaises(Failure, Server, url)
         self.assertFalse(Server("http://irr.example.net", plain=True).is_private)
 
-    def test_an_empty_address_is_told(self) -> None:
+    def test_an_empty_address_is_reported(self) -> None:
         """An empty address is not one that was not given."""
         environment = {name: value for name, value in os.environ.items() if name != "IRR_SERVER"}
         for given, variable, wanted in [

@@ -24,11 +24,11 @@ def _no_router(monkeypatch: pytest.MonkeyPatch) -> None:
     monkeypatch.setattr(settings, "look", lambda router, new: None)
 
 
-def command(out: str = "", said: str = "", status: int = 0) -> str:
+def command(out: str = "", reported: str = "", status: int = 0) -> str:
     """A command that prints and says these, and ends so. Of ~ it makes half a million letters."""
     program = (
         f"import sys; sys.stdout.write({out!r}.replace('~', 'x' * 500_000)); "
-        f"sys.stderr.write({said!r}.replace('~', 'x' * 500_000)); sys.exit({status})"
+        f"sys.stderr.write({reported!r}.replace('~', 'x' * 500_000)); sys.exit({status})"
     )
     return shlex.join([sys.executable, "-c", program])
 
@@ -47,7 +47,7 @@ def made(
 
 
 @pytest.mark.parametrize(
-    "said",
+    "reported",
     [
         "ERROR:Invalid AS number: 64512\n",
         "warning: slow\n" * 10 + "ERROR:Invalid AS number: 64512\n",
@@ -56,9 +56,9 @@ def made(
     ],
 )
 def test_error_is_seen_wherever_it_stands(
-    tmp_path: Path, said: str, capsys: pytest.CaptureFixture[str]
+    tmp_path: Path, reported: str, capsys: pytest.CaptureFixture[str]
 ) -> None:
-    for make in command(LIST, said), command(LIST + said):
+    for make in command(LIST, reported), command(LIST + reported):
         (tmp_path / "0").write_text("old\n")
         assert made(tmp_path, make) == REFUSED
         assert (tmp_path / "0").read_text() == "old\n"
@@ -108,10 +108,11 @@ def test_two_filters_of_one_file(tmp_path: Path) -> None:
 def test_list_that_shrinks_is_kept_back(tmp_path: Path, capsys: pytest.CaptureFixture[str]) -> None:
     assert made(tmp_path, command(LIST)) == DONE
     assert made(tmp_path, command(SHORTER), command(LIST)) == SHRUNK
-    said = capsys.readouterr().err
+    reported = capsys.readouterr().err
     assert (tmp_path / "0").read_text() == LIST and (tmp_path / "1").read_text() == LIST
     assert all(
-        words in said for words in ("4 of the old one's 10 entries", "--accept", "stays as it was")
+        words in reported
+        for words in ("4 of the old one's 10 entries", "--accept", "stays as it was")
     )
     assert made(tmp_path, command(SHORTER), more="shrink = 40\n") == DONE
     assert made(tmp_path, command(LIST)) == DONE
@@ -131,8 +132,8 @@ def test_a_small_list_that_shrinks_beside_a_large_one_is_kept_back(
         assert (tmp_path / "0").read_text() == large + small
         assert "its list X lacks " in capsys.readouterr().err
     assert made(tmp_path, command("define Y = [ 10.0.0.0/24 ];\n")) == SHRUNK
-    said = capsys.readouterr().err
-    assert "its list LARGE lacks 200 of" in said and "of 1 other list too much" in said
+    reported = capsys.readouterr().err
+    assert "its list LARGE lacks 200 of" in reported and "of 1 other list too much" in reported
 
 
 def refuse_garbage(router: str, new: Path) -> None:
@@ -148,8 +149,8 @@ def test_an_old_list_that_cannot_be_read_keeps_the_guard_on(
     monkeypatch.setattr(settings, "look", refuse_garbage)
     (tmp_path / "0").write_text(old)
     assert made(tmp_path, command(SHORTER)) == SHRUNK
-    said = capsys.readouterr().err
-    assert "can't be read: it does not read the filter" in said and "--accept" in said
+    reported = capsys.readouterr().err
+    assert "can't be read: it does not read the filter" in reported and "--accept" in reported
     assert (tmp_path / "0").read_text() == old
     assert made(tmp_path, command(SHORTER), accepts=True) == DONE
     assert (tmp_path / "0").read_text() == SHORTER

@@ -25,7 +25,7 @@ def test_history_says_who_held_what_and_when(trial: Trial, tool: Tool, tell: Tel
         folder = os.path.join(world.folder, "h")
         ran = world.tool("history", folder)
         expect(
-            (ran.status, ran.printed, ran.said),
+            (ran.status, ran.printed, ran.reported),
             (0, f"{folder}: 13 added, 0 changed, 0 deleted\n".encode(), b""),
             "the first fetch",
         )
@@ -96,10 +96,12 @@ def test_history_says_who_held_what_and_when(trial: Trial, tool: Tool, tell: Tel
     expect(b"added\naut-num:" in at("history", "show", "AS64496").printed, True, "its version")
     ran = at("history", "show", "AS64499")
     expect(
-        (ran.status, ran.printed, ran.said.count(b"\n")), (1, b"", 1), "an object that never was"
+        (ran.status, ran.printed, ran.reported.count(b"\n")),
+        (1, b"", 1),
+        "an object that never was",
     )
     expect(
-        b"last fetched" in at("history", "at", "2100-01-01", "AS64496").said,
+        b"last fetched" in at("history", "at", "2100-01-01", "AS64496").reported,
         True,
         "a time after the last fetch",
     )
@@ -172,13 +174,13 @@ def test_a_history_goes_on_where_git_was_killed(
             expect(last and last.dump, "2-3", f"the last state after step {step}")
             found = b"".join(Repository(folder).objects(last)) if last else b""
             expect(found, b"\n".join([ONE % 2, ONE % 3, b""]), f"its objects after step {step}")
-            said = subprocess.run(
+            reported = subprocess.run(
                 [real, f"--git-dir={folder}", "fsck", "--strict", "--no-dangling"],
                 capture_output=True,
                 check=True,
             )
             left = [one for one in LEFT.split() if (folder / one).exists()]
-            expect((said.stdout, left), (b"", []), f"what is left after step {step}")
+            expect((reported.stdout, left), (b"", []), f"what is left after step {step}")
         expect(step > 4, True, f"whether {step} is the number of calls")
 
 

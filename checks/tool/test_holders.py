@@ -47,7 +47,7 @@ person: x
 """
         ran = world.tool("diff", "-", stdin=text)
     expect(
-        (ran.status, ran.said.count(b"\n"), b"secret" in ran.printed),
+        (ran.status, ran.reported.count(b"\n"), b"secret" in ran.printed),
         (1, 2, False),
         "status, standard error, and passwords",
     )
@@ -91,7 +91,7 @@ def test_what_is_delegated_is_then_held(trial: Trial, tool: Tool, tell: Tell) ->
         tool, folder = world.tool, world.folder
         root = write(folder, "root", b"password: bc\n")
         objects = ["198.51.100.0/24", "203.0.113.0 - 203.0.113.191", "AS64510"]
-        for words, said in [
+        for words, reported in [
             (
                 ["A-MNT", *objects],
                 "A-MNT: anybody may have taken this name; ask .*--word irr-[0-9a-f]{8}, .*",
@@ -108,9 +108,9 @@ def test_what_is_delegated_is_then_held(trial: Trial, tool: Tool, tell: Tell) ->
             (["--known", "A-MNT", "x"], "x: this is neither .*"),
         ]:
             ran = tool("delegate", *words)
-            expect_line(ran, 2, said, " ".join(words))
+            expect_line(ran, 2, reported, " ".join(words))
         text = tool("delegate", "--word", "irr-0123", "A-MNT", *objects)
-        expect((text.status, text.said), (0, b""), "the text")
+        expect((text.status, text.reported), (0, b""), "the text")
         ran = tool("submit", "--raw", root, write(folder, "over.rpsl", text.printed))
         expect(
             (ran.status, ran.printed.count(b": added\n"), ran.printed.count(b": changed\n")),
@@ -125,7 +125,9 @@ def test_what_is_delegated_is_then_held(trial: Trial, tool: Tool, tell: Tell) ->
             )
         again = tool("delegate", "--known", "A-MNT", *objects)
         expect(
-            (again.printed, b"has all of it already" in again.said), (b"", True), "the same again"
+            (again.printed, b"has all of it already" in again.reported),
+            (b"", True),
+            "the same again",
         )
         held = tool("held", "198.51.100.0/24", "A-MNT")
         expect(
@@ -149,9 +151,9 @@ def test_what_is_delegated_is_then_held(trial: Trial, tool: Tool, tell: Tell) ->
             "what stands inside",
         )
         expect(
-            b"B-MNT has to register the route of exactly this prefix" in inside.said,
+            b"B-MNT has to register the route of exactly this prefix" in inside.reported,
             True,
-            f"without an AS: {inside.said!r}",
+            f"without an AS: {inside.reported!r}",
         )
     tell("12 items, then held")
 

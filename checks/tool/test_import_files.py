@@ -47,7 +47,7 @@ def packed_by_zip(text: bytes) -> bytes:
 
 
 @pytest.mark.parametrize(
-    "content, said",
+    "content, reported",
     [
         (bz2.compress(GOOD), "it is packed by bzip2; unpack it, or pack it by gzip"),
         (lzma.compress(GOOD), "it is packed by xz; "),
@@ -60,13 +60,15 @@ def packed_by_zip(text: bytes) -> bytes:
     ids=["bzip2", "xz", "zip", "bzip2 in gzip", "UTF-16", "tar", "a program"],
 )
 def test_what_is_not_text_ends_by_one_line(
-    content: bytes, said: str, folder: Path, capsys: pytest.CaptureFixture[str]
+    content: bytes, reported: str, folder: Path, capsys: pytest.CaptureFixture[str]
 ) -> None:
     Path("dump").write_bytes(content)
     Path("full").write_bytes(b"before")
     assert run("dump", "-o", "full", "--left-out", "list") == FAILED
     out, lines = capsys.readouterr()
-    assert out == "" and lines.count("\n") == 1 and lines.startswith(f"irr import: dump: {said}")
+    assert (
+        out == "" and lines.count("\n") == 1 and lines.startswith(f"irr import: dump: {reported}")
+    )
     assert Path("full").read_bytes() == b"before"
     assert sorted(os.listdir()) == ["dump", "full"]
 
@@ -90,12 +92,12 @@ def test_nothing_taken_replaces_nothing(content: bytes, capsys: pytest.CaptureFi
     options: list[list[str]] = [[], ["--check"]]
     for more in options:
         assert run("dump", *words, *more) == REFUSED
-        out, said = capsys.readouterr()
-        last = said.splitlines()[-1]
+        out, reported = capsys.readouterr()
+        last = reported.splitlines()[-1]
         assert out == "" and last.startswith(
             "irr import: no object was taken, so nothing is written;"
         )
-        assert "0 taken" in said.splitlines()[0]
+        assert "0 taken" in reported.splitlines()[0]
     assert {name: Path(name).read_bytes() for name in ("full", "list", "names")} == {
         "full": b"before",
         "list": b"before",
@@ -225,8 +227,8 @@ def test_a_pipe_whose_first_read_is_one_byte(content: bytes, folder: Path) -> No
         with pytest.raises(subprocess.TimeoutExpired):
             child.wait(0.5)
         child.stdin.write(content[1:])
-        out, said = child.communicate(timeout=PATIENCE)
-    assert (child.returncode, b"aut-num:        AS1\n" in out) == (0, True), said
+        out, reported = child.communicate(timeout=PATIENCE)
+    assert (child.returncode, b"aut-num:        AS1\n" in out) == (0, True), reported
 
 
 def test_gzip_of_two_members() -> None:

@@ -42,8 +42,9 @@ def test_each_maintainer_without_a_password_gets_one_that_lets_it_in(
     """That a file is made for these and for no other, readable by its owner alone, and that what is
     in it signs for that maintainer."""
     ran = tool(*WORDS, "-o", "full.rpsl", "--check", folder=folder)
-    expect(ran.status, 0, f"its end: {ran.said!r}")
-    expect(b"sent: 3 passwords, 3 of them new\n" in ran.said, True, f"what it says: {ran.said!r}")
+    expect(ran.status, 0, f"its end: {ran.reported!r}")
+    is_reported = b"sent: 3 passwords, 3 of them new\n" in ran.reported
+    expect(is_reported, True, f"what it says: {ran.reported!r}")
     sent = Path(folder, "sent")
     expect(stat.S_IMODE(sent.stat().st_mode), 0o700, "who may enter the folder")
     made = sorted(path for path in sent.iterdir() if path.name != ".lock")
@@ -65,7 +66,7 @@ def test_each_maintainer_without_a_password_gets_one_that_lets_it_in(
         expect(A_AUTH in texts[name], True, f"whether {name} keeps what it has")
     write_settings(folder)
     ran = trial.run(folder, "load", "s.toml", "full.rpsl")
-    expect((ran.status, ran.said), (0, b""), "the load")
+    expect((ran.status, ran.reported), (0, b""), "the load")
     for name, path in zip(NEW, made):
         text = f"as-set: AS-{name}\nmnt-by: {name}\nsource: TEST\n".encode()
         given = write(folder, "own.rpsl", path.read_bytes() + b"\n" + text)
@@ -77,12 +78,13 @@ def test_the_same_files_give_the_same_dump(tool: Tool, folder: str) -> None:
     """That passwords which were made before stay, and those of new maintainers come."""
     tool(*WORDS, "-o", "first.rpsl", folder=folder)
     ran = tool(*WORDS, "-o", "second.rpsl", folder=folder)
-    expect(b"sent: 3 passwords, 0 of them new\n" in ran.said, True, f"again: {ran.said!r}")
+    expect(b"sent: 3 passwords, 0 of them new\n" in ran.reported, True, f"again: {ran.reported!r}")
     first = Path(folder, "first.rpsl").read_bytes()
     expect(Path(folder, "second.rpsl").read_bytes() == first, True, "whether they are the same")
     write(folder, "old.db", DUMP + obj("aut-num: AS64498", "mnt-by: LATE-MNT", "source: RIPE"))
     ran = tool(*WORDS, "-o", "third.rpsl", folder=folder)
-    expect(b"sent: 4 passwords, 1 of them new\n" in ran.said, True, f"with one: {ran.said!r}")
+    is_reported = b"sent: 4 passwords, 1 of them new\n" in ran.reported
+    expect(is_reported, True, f"with one: {ran.reported!r}")
     third = texts_of(Path(folder, "third.rpsl").read_bytes(), "mntner")
     expect(set(texts_of(first, "mntner")) - set(third), set(), "mntners that changed")
 

@@ -17,7 +17,15 @@ from typing import Any, NamedTuple
 
 import pytest
 
-from checks.keeping import PATIENCE, is_served, running, said_by, state, wait_until, whois_answer
+from checks.keeping import (
+    PATIENCE,
+    is_served,
+    running,
+    reported_by,
+    state,
+    wait_until,
+    whois_answer,
+)
 from checks.running import Failure, Tell, Trial, expect, needs, write_settings
 from checks.serving import free_port
 from checks.tool.forking import begun, forked, run_forked
@@ -70,9 +78,11 @@ def places_fixture(trial: Trial, tool: Tool) -> Iterator[Places]:
         settings = os.path.join(world.folder, "whole.toml")
         done(own, "backup", "--settings", settings, str(first / "backup"))
         port = free_port()
-        with mirroring(own, ["-s", world.url], first / "mirror", port) as said:
+        with mirroring(own, ["-s", world.url], first / "mirror", port) as reported:
             # It is kept only once it is served.
-            wait_until("what is made", PATIENCE, lambda: "the replicas have" in said_by(said))
+            wait_until(
+                "what is made", PATIENCE, lambda: "the replicas have" in reported_by(reported)
+            )
         answers = [answered(world.server.port)]
         added = items(299 + CHANGES)[300:]
         text = b"\n".join([b"password: bc\n", *added, b"inetnum: 10.0.0.0/27\ndelete: x\n"])
@@ -84,7 +94,7 @@ def places_fixture(trial: Trial, tool: Tool) -> Iterator[Places]:
 
 def done(tool: Tool, *words: str, **options: Any) -> None:
     ran = tool(*words, **options)
-    expect((ran.status, b"Traceback" in ran.said), (0, False), f"{words}: {ran.said!r}")
+    expect((ran.status, b"Traceback" in ran.reported), (0, False), f"{words}: {ran.reported!r}")
 
 
 def answered(port: int) -> list[bytes]:
@@ -94,10 +104,10 @@ def answered(port: int) -> list[bytes]:
 @contextlib.contextmanager
 def mirroring(tool: Tool, words: list[str], folder: Path, port: int) -> Iterator[str]:
     """A mirror while the block runs: where it says what."""
-    said = f"{folder}.said"
+    reported = f"{folder}.reported"
     command = [sys.executable, tool.path, "mirror", "--port", str(port), "--every", "1", *words]
-    with running([*command, str(folder)], said, env=tool.environment):
-        yield said
+    with running([*command, str(folder)], reported, env=tool.environment):
+        yield reported
 
 
 def end_before(step: int, by: int, counted: int = -1) -> None:
@@ -212,10 +222,10 @@ class Kills:
         end = time.monotonic() + PATIENCE
         while True:
             ran = run_forked(self.tool, *given(words, folder))
-            waits = b"another irr works" in ran.said or b"of this second" in ran.said
+            waits = b"another irr works" in ran.reported or b"of this second" in ran.reported
             if not waits or time.monotonic() > end:
                 return expect(
-                    (ran.status, ran.said if ran.status else b""), (0, b""), "the next run"
+                    (ran.status, ran.reported if ran.status else b""), (0, b""), "the next run"
                 )
             time.sleep(0.2)
 
@@ -298,10 +308,10 @@ def test_a_history_has_each_change_once(trial: Trial, places: Places, tell: Tell
             last and (last.commit, last.dump), (states[0].commit, states[0].dump), "the last one"
         )
         command = ["git", f"--git-dir={folder}", "fsck", "--strict", "--no-dangling"]
-        said = subprocess.run(command, capture_output=True, check=True).stdout
+        reported = subprocess.run(command, capture_output=True, check=True).stdout
         names = {str(path.relative_to(folder)) for path in folder.rglob("*")} - {".lock"}
         left = sorted(filter(LEFT.search, names))
-        expect((said, left), (b"", []), "what is left")
+        expect((reported, left), (b"", []), "what is left")
     tell(f"{kills.killed} ended")
 
 
@@ -382,12 +392,12 @@ def test_a_mirror_serves_one_of_two_states(trial: Trial, places: Places, tell: T
             left = folder / "made.next" / "left"
             left.parent.mkdir(exist_ok=True)
             left.touch()
-            with mirroring(places.tool, ["-s", place], folder, port) as said:
+            with mirroring(places.tool, ["-s", place], folder, port) as reported:
                 try:
                     wait_until("a replica", PATIENCE, lambda: answered(port) in wanted)
                 except Failure as failure:
                     there = sorted(str(path.relative_to(folder)) for path in folder.rglob("*"))
-                    what = f"{folder.parent.name} {place}: {there} {said_by(said)[:2_000]}"
+                    what = f"{folder.parent.name} {place}: {there} {reported_by(reported)[:2_000]}"
                     raise Failure(f"{failure}: {what}") from None
             expect(left.exists(), False, "whether what was begun before is left")
             expect(set(os.listdir(folder)), {".lock", str(port), "made"}, "what is left")

@@ -95,7 +95,7 @@ class Mailed:
     def told(self, *words: str) -> dict[str, str]:
         """The text for each address of a run without a fault."""
         ran = self.run(*words)
-        expect((ran.status, ran.said), (0, b""), "a run")
+        expect((ran.status, ran.reported), (0, b""), "a run")
         return {address: message.get_content() for address, message in self.mails()}
 
 
@@ -128,7 +128,7 @@ def test_states_since_the_last_run_are_told_one_by_one(mailed: Mailed) -> None:
     mailed.commit(route(1, "A-MNT", "descr:          one"))
     mailed.commit(route(1, "A-MNT", "descr:          two"))
     ran = mailed.run()
-    expect((ran.status, ran.said), (0, b""), "a run")
+    expect((ran.status, ran.reported), (0, b""), "a run")
     found = mailed.mails()
     expect([address for address, _ in found], ["a@example.net"] * 2, "two mails")
     for (_, message), word in zip(found, ("one", "two")):
@@ -143,7 +143,7 @@ def test_no_more_goes_within_an_hour_than_may(mailed: Mailed) -> None:
     several = [route(n, "ROOT-MNT", f"notify:         n{n}@example.org") for n in range(5)]
     mailed.commit(*several)
     ran = mailed.run("--most", "3")
-    expect((ran.status, b"the rest goes with a later run" in ran.said), (0, True), "the bound")
+    expect((ran.status, b"the rest goes with a later run" in ran.reported), (0, True), "the bound")
     first = [address for address, _ in mailed.mails()]
     expect(len(first), 3, "mails")
     expect((mailed.run("--most", "3").status, mailed.mails()), (0, []), "within the hour")
@@ -163,7 +163,9 @@ def test_a_mail_server_that_fails_loses_nothing(mailed: Mailed) -> None:
     mailed.statuses.write_text("gone@example.org 67\nb@example.net 75\n")
     ran = mailed.run()
     expect(ran.status, 5, "the status where it is to be tried again")
-    expect(b"gone@example.org: no such mailbox; passed over" in ran.said, True, "who has no mail")
+    expect(
+        b"gone@example.org: no such mailbox; passed over" in ran.reported, True, "who has no mail"
+    )
     mailed.statuses.write_text("gone@example.org 67\n")
     rest = mailed.run()
     expect(rest.status, 0, "the next run")
@@ -223,7 +225,7 @@ def test_another_history_begins_anew(mailed: Mailed) -> None:
     noted.write_text(json.dumps(json.loads(noted.read_text()) | {"commit": "0" * 40}))
     mailed.commit(route(1, "B-MNT"))
     ran = mailed.run()
-    expect((ran.status, b"another history" in ran.said), (0, True), "what is said")
+    expect((ran.status, b"another history" in ran.reported), (0, True), "what is reported")
     expect((mailed.mails(), mailed.told()), ([], {}), "no mail")
 
 
@@ -236,9 +238,9 @@ def test_a_dry_run_prints_and_notes_nothing(mailed: Mailed) -> None:
     expect(set(mailed.told()), {"a@example.net"}, "the run after it")
 
 
-def test_what_cannot_be_done_is_said(mailed: Mailed) -> None:
+def test_what_cannot_be_done_is_reported(mailed: Mailed) -> None:
     mailed.commit(route(1, "A-MNT"))
-    for words, said in (
+    for words, reported in (
         (["--from=-oQ/tmp"], b"give the address"),
         (["--from", "irr@example.net\nBcc: x@example.net"], b"give the address"),
         (["--most", "0"], b"--most"),
@@ -246,7 +248,11 @@ def test_what_cannot_be_done_is_said(mailed: Mailed) -> None:
         (["--history", "/nowhere"], b"there is no history"),
     ):
         ran = mailed.run(*words)
-        expect((ran.status, said in ran.said, ran.said.count(b"\n")), (2, True, 1), words[0])
+        expect(
+            (ran.status, reported in ran.reported, ran.reported.count(b"\n")),
+            (2, True, 1),
+            words[0],
+        )
 
 
 @pytest.mark.parametrize(

@@ -42,7 +42,7 @@ def test_its_one_file_has_all_commands_and_the_same_bytes_each_time(
             ran = tool(*words)
             examples = ran.printed.partition(b"\nExamples:\n")[2]
             expect(
-                (ran.status, ran.said, b"irr %s" % name.encode() in examples),
+                (ran.status, ran.reported, b"irr %s" % name.encode() in examples),
                 (0, b"", True),
                 f"the help of {name}",
             )
@@ -60,7 +60,7 @@ def test_shells_complete_commands_options_and_codes(trial: Trial, tool: Tool, te
             (ran.status, ran.printed.count(b"--dry-run") > 0), (0, True), f"the words for {shell}"
         )
         if shutil.which(shell):
-            expect(run([shell, "-n", path], folder).said, b"", f"what {shell} says of them")
+            expect(run([shell, "-n", path], folder).reported, b"", f"what {shell} says of them")
             tried.append(shell)
     for line, wanted in [
         ("irr que", "query"),

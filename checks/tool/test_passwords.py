@@ -17,7 +17,7 @@ def test_passwords_are_made_saved_asked_and_given(trial: Trial, tool: Tool, tell
     with World(trial, tool, "auth") as world:
         tool, folder = world.tool, world.folder
         made = tool("auth", "--save", "my.password", "C-MNT", folder=folder)
-        expect((made.status, made.said), (0, b""), "the making of a maintainer")
+        expect((made.status, made.reported), (0, b""), "the making of a maintainer")
         path = os.path.join(folder, "my.password")
         with open(path, "rb") as saved:
             secret = saved.read()

@@ -183,7 +183,7 @@ class Replies(unittest.TestCase):
 
 
 class Submissions(unittest.TestCase):
-    """Where the text was sent and no report came, that is said; where it was not taken, it is
+    """Where the text was sent and no report came, that is reported; where it was not taken, it is
     not."""
 
     def test_what_was_lost_may_be_registered(self) -> None:

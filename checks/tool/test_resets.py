@@ -66,7 +66,7 @@ def test_a_lost_password_is_reset_and_nothing_else(trial: Trial, tool: Tool, tel
     ran = tool(
         "reset", "A-MNT", "--settings", settings, "--save", os.path.join(folder, "p"), folder=folder
     )
-    expect((ran.status, ran.said), (0, b""), f"a reset: {ran.printed!r}")
+    expect((ran.status, ran.reported), (0, b""), f"a reset: {ran.printed!r}")
     now = os.stat(os.path.join(folder, "irr.db"))
     expect(
         (now.st_mode, now.st_uid, now.st_gid),
@@ -132,7 +132,7 @@ def test_a_service_is_stopped_meanwhile(trial: Trial, tool: Tool) -> None:
         if runs:
             write(place, "runs", b"")
         ran = at("reset", name, "--service", "--settings", "s.toml", "--auth", LINE, folder=folder)
-        expect(ran.status, status, f"{name}: {ran.said!r}")
+        expect(ran.status, status, f"{name}: {ran.reported!r}")
         with open(os.path.join(place, "asked"), encoding="ascii") as opened:
             asked = [line.split()[0] for line in opened]
         expect(asked, ["show", "stop", *["reset-failed", "start"] * runs], "what was asked")

@@ -29,7 +29,7 @@ def test_a_backup_is_put_in_the_place_of_a_registry(trial: Trial, tool: Tool, te
             "a folder that is no backup",
         )
         ran = tool("backup", "--settings", "s.toml", place, folder=folder)
-        expect(ran.status, 0, f"a backup: {ran.said!r}")
+        expect(ran.status, 0, f"a backup: {ran.reported!r}")
         backup = os.path.join(place, next(name for name in os.listdir(place) if name[0] != "."))
         expect(
             [open(path, "rb").read() for path in (f"{backup}/irr.toml",)],
@@ -42,7 +42,7 @@ def test_a_backup_is_put_in_the_place_of_a_registry(trial: Trial, tool: Tool, te
     wanted = dump(trial, folder)
 
     ran = restore(tool, folder, backup)
-    expect((ran.status, ran.said, b"replaced" in ran.printed), (0, b"", False), "over the same")
+    expect((ran.status, ran.reported, b"replaced" in ran.printed), (0, b"", False), "over the same")
     expect(dump(trial, folder), wanted, "the registry over the same")
 
     trial.run(folder, "submit", "s.toml", write(folder, "t", b"password: bc\n\n" + items(1)[0]))
@@ -60,7 +60,7 @@ def test_a_backup_is_put_in_the_place_of_a_registry(trial: Trial, tool: Tool, te
         os.chown(os.path.join(folder, "irr.db"), 12_345, 12_345)
     was = rights(folder)
     ran = restore(tool, folder, "--over", backup)
-    expect((ran.status, ran.said), (0, b""), f"when told to: {ran.said!r}")
+    expect((ran.status, ran.reported), (0, b""), f"when told to: {ran.reported!r}")
     expect((dump(trial, folder), rights(folder)), (wanted, was), "the registry and its owner")
     kept = re.search(rb"in (\S+replaced-\S+)$", ran.printed.strip())
     shutil.copy(os.path.join(folder, "s.toml"), kept[1].decode())
@@ -70,13 +70,13 @@ def test_a_backup_is_put_in_the_place_of_a_registry(trial: Trial, tool: Tool, te
         file.seek(4_096)
         file.write(b"damage")
     ran = restore(tool, folder, backup)
-    expect((ran.status, b"replaced" in ran.printed), (0, True), f"over damage: {ran.said!r}")
+    expect((ran.status, b"replaced" in ran.printed), (0, True), f"over damage: {ran.reported!r}")
     expect(dump(trial, folder), wanted, "the registry over a damaged one")
 
     new = trial.place("restored-elsewhere")
     shutil.copytree(backup, os.path.join(new, "backup"))
     ran = restore(tool, new, os.path.join(new, "backup"))
-    expect((ran.status, ran.said), (0, b""), f"where nothing is: {ran.said!r}")
+    expect((ran.status, ran.reported), (0, b""), f"where nothing is: {ran.reported!r}")
     expect(dump(trial, new), wanted, "the registry in a new folder")
     expect(os.stat(os.path.join(new, "irr.db")).st_mode & 0o777, 0o600, "its rights")
     left = [name for name in os.listdir(new) if name not in ("backup", "irr.db", "s.toml")]
@@ -89,7 +89,7 @@ def test_what_is_no_whole_backup_changes_nothing(trial: Trial, tool: Tool) -> No
     with World(trial, tool, "not-restored") as world:
         folder, place = world.folder, os.path.join(world.folder, "backups")
         ran = tool("backup", "--settings", "s.toml", place, folder=folder)
-        expect(ran.status, 0, f"a backup: {ran.said!r}")
+        expect(ran.status, 0, f"a backup: {ran.reported!r}")
     backup = os.path.join(place, next(name for name in os.listdir(place) if name[0] != "."))
     wanted = dump(trial, folder)
     for number, (name, change, status, pattern) in enumerate(
@@ -156,14 +156,14 @@ def test_a_restore_that_is_killed_leaves_one_of_the_two_whole(
             with monkeypatch.context() as patched:
                 killed_at(step, own, patched)
                 ran = run_forked(tool, "restore", "--settings", "s.toml", "--over", backup)
-            expect(ran.status in (0, KILLED), True, f"step {step}: {ran.said!r}")
+            expect(ran.status in (0, KILLED), True, f"step {step}: {ran.reported!r}")
             seen.add(dumped(trial, own))
             expect(seen <= {old, new}, True, f"the registry stopped at step {step}")
             is_whole = ran.status == 0
             with monkeypatch.context() as patched:
                 patched.chdir(own)
                 ran = run_forked(tool, "restore", "--settings", "s.toml", "--over", backup)
-            expect(ran.status, 0, f"the next one after step {step}: {ran.said!r}")
+            expect(ran.status, 0, f"the next one after step {step}: {ran.reported!r}")
             expect(dumped(trial, own), new, f"the registry after step {step}")
             kept = [one.parent for one in Path(own).glob("replaced-*/irr.db")]
             found = old in (dumped(trial, str(one)) for one in kept)
@@ -181,7 +181,7 @@ def backed_up(tool: Tool, folder: str, name: str) -> str:
     """A new backup of a registry."""
     place = os.path.join(folder, name)
     ran = tool("backup", "--settings", "s.toml", place, folder=folder)
-    expect(ran.status, 0, f"a backup: {ran.said!r}")
+    expect(ran.status, 0, f"a backup: {ran.reported!r}")
     return os.path.join(place, next(one for one in os.listdir(place) if one[0] != "."))
 
 
@@ -204,7 +204,7 @@ def restore(tool: Tool, folder: str, *words: str) -> Ran:
 
 def dump(trial: Trial, folder: str) -> bytes:
     ran = trial.run(folder, "dump", "s.toml", "--full")
-    expect(ran.status, 0, f"a dump: {short(ran.said)}")
+    expect(ran.status, 0, f"a dump: {short(ran.reported)}")
     return ran.printed
 
 

@@ -83,12 +83,12 @@ def test_each_query_is_answered_as_the_model_does(
             expect((ran.status, ran.printed), (int(is_error), wanted), f"{query!r}")
         for option, lines in [("--raw", 0), ("--", 1)]:
             expect(
-                tool("query", option, "nonsense").said.count(b"\n"),
+                tool("query", option, "nonsense").reported.count(b"\n"),
                 0,
                 "words of an answer that is none",
             )
             expect(
-                tool("query", option, "non", "sense").said.count(b"\n"),
+                tool("query", option, "non", "sense").reported.count(b"\n"),
                 lines,
                 f"words of an error, {option}",
             )
@@ -222,11 +222,13 @@ def test_a_long_submission_is_answered_as_irrdesk_submit_does(
     with world, wrapped(trial, world) as tool:
         ran = tool("submit", "--raw", "--anyway", write(world.folder, "long.rpsl", text))
         expect(
-            (ran.status, ran.printed == wanted.printed, ran.said.count(b"\n")),
+            (ran.status, ran.printed == wanted.printed, ran.reported.count(b"\n")),
             (wanted.status, True, 1),
             "the report of a file",
         )
-        expect(b"line 64, `descr`: its line reads as a password" in ran.said, True, "the caution")
+        expect(
+            b"line 64, `descr`: its line reads as a password" in ran.reported, True, "the caution"
+        )
         again = tool("submit", "--raw", "--anyway", "-", stdin=text)
         expect(
             (again.status, again.printed.count(b": unchanged\n")),
@@ -367,11 +369,11 @@ def test_each_refusal_has_its_words_remedy_and_what_decided(
         )
         ran = tool("submit", "--anyway", "mistakes.rpsl", folder=world.folder)
         raw = tool("submit", "--anyway", "--raw", "mistakes.rpsl", folder=world.folder)
-    said = (
+    reported = (
         b"irr submit: mistakes.rpsl: line 1: no password that is given here fits the new `auth` of"
         b" A-MNT; give its new password too\n"
     )
-    expect((ran.status, ran.said), (1, said), "status and standard error")
+    expect((ran.status, ran.reported), (1, reported), "status and standard error")
     expect((dry.status, dry.printed), (1, ran.printed), "the dry run")
     found = re.findall(
         r"^(\d+) [^\n]*: refused (E\d\d)\n((?:    [^\n]*\n)*)", ran.printed.decode(), re.M
@@ -407,7 +409,9 @@ def test_a_proxy_that_takes_short_submissions_alone_gets_parts(
     with world, nginx(world.folder, world.url, "client_max_body_size 64k;") as url:
         tool = tool.at(IRR_SERVER=url)
         ran = tool("submit", "-", stdin=text)
-        expect((ran.status, ran.printed == wanted.printed, ran.said), (0, True, b""), "the report")
+        expect(
+            (ran.status, ran.printed == wanted.printed, ran.reported), (0, True, b""), "the report"
+        )
         ran = tool(
             "submit",
             "-",
@@ -423,6 +427,8 @@ def test_a_proxy_that_takes_short_submissions_alone_gets_parts(
             "a paragraph that is too long",
         )
         expect(
-            b"status 413" in ran.said and ran.said.count(b"\n") == 1, True, f"its line {ran.said!r}"
+            b"status 413" in ran.reported and ran.reported.count(b"\n") == 1,
+            True,
+            f"its line {ran.reported!r}",
         )
     tell(f"{len(text):,} bytes")

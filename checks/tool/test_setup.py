@@ -54,7 +54,7 @@ WORDS += ["--maintainer-save", "ops.password"]
 
 def registered(trial: Trial, settings: str, folder: str) -> bytes:
     ran = trial.run(folder, "dump", settings, "--full")
-    expect((ran.status, ran.said), (0, b""), "a dump of what was made")
+    expect((ran.status, ran.reported), (0, b""), "a dump of what was made")
     return ran.printed
 
 
@@ -72,7 +72,7 @@ def test_a_registry_in_a_folder_is_made_by_options(trial: Trial, tool: Tool) -> 
     words = ["setup", "--folder", "made", "--yes", "--source", "test", "--save", "root.password"]
     more = ["--maintainer", "ops-mnt", "--maintainer-save", "ops.password", "--limit", "5000"]
     ran = tool(*words, *more, "--door", folder=place)
-    expect((ran.status, ran.said), (0, b""), f"its end: {ran.printed!r}")
+    expect((ran.status, ran.reported), (0, b""), f"its end: {ran.printed!r}")
     folder, settings = Path(place, "made"), os.path.join(place, "made", "irr.toml")
     expect(stat.S_IMODE(folder.stat().st_mode), 0o700, "who may enter the folder")
     made = sorted(path.name for path in folder.iterdir())
@@ -103,8 +103,17 @@ def test_questions_are_asked_until_they_are_answered(trial: Trial, tool: Tool) -
     answers = b"not a name!\nTEST\nAS-ROOT\n \n \n0\n \nmaybe\nno\nnone\nyes"
     ran = tool.on_terminal("setup", "--folder", "made", typed=answers, folder=place)
     expect(ran.status, 0, f"its end: {ran.printed.decode()}")
-    for said in b"not a registry's name", b"not a maintainer's name", b"from 1 to", b"yes or no":
-        expect(said in ran.printed, True, f"whether {said!r} is said: {ran.printed.decode()}")
+    for reported in (
+        b"not a registry's name",
+        b"not a maintainer's name",
+        b"from 1 to",
+        b"yes or no",
+    ):
+        expect(
+            reported in ran.printed,
+            True,
+            f"whether {reported!r} is printed: {ran.printed.decode()}",
+        )
     shown = PASSWORD.findall(ran.printed)
     expect(len(shown), 1, "passwords that are shown")
     lets_sign(trial, "made/irr.toml", place, b"password: " + shown[0] + b"\n")
@@ -187,10 +196,10 @@ class Service:
             waits = self.place / "bin" / "waits"
             wait_until("that the program waits", 60, waits.exists)
             process.send_signal(signal.SIGINT)
-            printed, said = process.communicate(timeout=60)
+            printed, reported = process.communicate(timeout=60)
         finally:
             process.kill()
-        return Ran(process.returncode, printed, said, 0, 0)
+        return Ran(process.returncode, printed, reported, 0, 0)
 
     def asked(self) -> list[str]:
         """What systemctl was asked since then."""
@@ -229,7 +238,7 @@ def test_a_service_is_made_of_the_files_of_the_package(trial: Trial, tool: Tool)
     before = service.settings.read_text(encoding="ascii").splitlines()
     words = ["--submit", "users", "--submit", "198.51.100.0/24", "--mirror", "192.0.2.10"]
     ran = service.full(*words)
-    expect((ran.status, ran.said), (0, b""), f"its end: {ran.printed!r}")
+    expect((ran.status, ran.reported), (0, b""), f"its end: {ran.printed!r}")
     wanted = [f"enable --now {unit}" for unit in [*UNITS, "irrdesk-export.timer"]]
     expect(service.asked(), wanted, "the units")
     service.made(trial)
@@ -282,7 +291,7 @@ def test_what_somebody_has_set_is_not_replaced_without_a_word(trial: Trial, tool
     ran = service.setup("--source", "TEST", "--save", "p", "--no-door")
     expect_line(ran, 2, "--save: .*has an `auth` already; .*", "a second password")
     ran = service.setup("--source", "TEST", "--limit", "888", "--mirror", "192.0.2.9", "--replace")
-    expect((ran.status, ran.said), (0, b""), f"when told to: {ran.printed!r}")
+    expect((ran.status, ran.reported), (0, b""), f"when told to: {ran.printed!r}")
     after = service.settings.read_text(encoding="ascii")
     expect((auth in after, "limit = 888\n" in after), (True, True), "the settings then")
     expect(lines in door.read_text(encoding="ascii"), True, "mirrors that are the same")
@@ -310,16 +319,20 @@ def test_a_run_that_was_stopped_is_gone_on_with(
     service = Service(trial, tool, f"stopped-{what}-{how}")
     service.fails(what, how)
     ran = service.interrupted() if how == "interrupt" else service.full()
-    expect(ran.status in ((-2,) if how == "interrupt" else (4, 5)), True, f"its end: {ran.said!r}")
-    said = b"setup.json" in ran.said and b"run irr setup again" in ran.said
-    expect(said, True, f"whether it says what is left: {ran.said!r}")
-    expect(b"root.password" in ran.said, True, f"whether the password is named: {ran.said!r}")
+    expect(
+        ran.status in ((-2,) if how == "interrupt" else (4, 5)), True, f"its end: {ran.reported!r}"
+    )
+    reported = b"setup.json" in ran.reported and b"run irr setup again" in ran.reported
+    expect(reported, True, f"whether it says what is left: {ran.reported!r}")
+    expect(
+        b"root.password" in ran.reported, True, f"whether the password is named: {ran.reported!r}"
+    )
     expect_line(
         service.setup("--source", "OTHER"), 2, "--source: the run that was stopped had .*", "other"
     )
     service.asked()
     ran = service.setup()
-    expect(ran.status, 0, f"the run after it: {ran.said!r}")
+    expect(ran.status, 0, f"the run after it: {ran.reported!r}")
     expect(service.asked(), [f"enable --now {unit}" for unit in UNITS], "the units")
     service.made(trial)
 
@@ -331,7 +344,7 @@ def test_what_can_not_be_written_is_once_it_can(trial: Trial, tool: Tool) -> Non
     # What is no file is not replaced.
     service.etc.joinpath("submitters.conf").mkdir()
     ran = service.full()
-    expect((ran.status, b"left behind" in ran.said), (3, True), f"its end: {ran.said!r}")
+    expect((ran.status, b"left behind" in ran.reported), (3, True), f"its end: {ran.reported!r}")
     password = (service.place / "root.password").read_bytes()
     settings = service.settings.read_bytes()
     service.etc.joinpath("submitters.conf").rmdir()
@@ -366,5 +379,9 @@ def test_the_line_of_a_root_is_made_before_there_is_a_server(trial: Trial, tool:
         expect(os.listdir(place), [], "what is left")
     shutil.copy(os.path.join(TOP, "units", "irr.toml"), place)
     ran = at(*words, folder=place)
-    expect((ran.status, b"source:         EXAMPLE\n" in ran.printed), (0, True), f"{ran.said!r}")
-    expect(b"nothing listens; EXAMPLE is the registry of irr.toml" in ran.said, True, "its note")
+    expect(
+        (ran.status, b"source:         EXAMPLE\n" in ran.printed), (0, True), f"{ran.reported!r}"
+    )
+    expect(
+        b"nothing listens; EXAMPLE is the registry of irr.toml" in ran.reported, True, "its note"
+    )

@@ -112,8 +112,8 @@ class Stores(Folder):
             )
 
     def test_working(self) -> None:
-        """What fails in the folder is said of the one that it is in, and what fails elsewhere is
-        not."""
+        """What fails in the folder is reported of the one that it is in, and what fails elsewhere
+        is not."""
         words = "it cannot be written: no space left on device; make room, or look at its disk"
         failures: list[tuple[Any, str]] = [
             (OSError(28, "No space left on device"), words),
@@ -238,9 +238,10 @@ class Stores(Folder):
                 databases.need_unlocked(settings.store)
 
     def test_refused(self) -> None:
-        """Which words of the program say that an object is too long, and what they are said of."""
+        """Which words of the program say that an object is too long, and what they are reported
+        of."""
         long = "is not RPSL, or over 65536 bytes: mend it"
-        for said, status, kind, thing in [
+        for reported, status, kind, thing in [
             (
                 f"dump.rpsl, line 9: nothing is loaded, because paragraph 2 {long}",
                 5,
@@ -260,14 +261,14 @@ class Stores(Folder):
             ("irr.db: the disk is full: make room", 4, Failure, "copy"),
             ("irr.db: a program of SQLite left a journal", 4, Failure, "irr.db"),
         ]:
-            with program(f"echo 'irrdesk: {said}' >&2; exit {status}"):
+            with program(f"echo 'irrdesk: {reported}' >&2; exit {status}"):
                 copy = databases.Copy(self.folder / "copy", TEXT, self.folder / "irr.db")
                 with self.assertRaises(Failure) as raised:
                     copy.load(self.folder / "dump.rpsl")
             self.assertEqual(
                 (type(raised.exception), raised.exception.thing),
                 (kind, str(self.folder / thing)),
-                said,
+                reported,
             )
 
     def test_tried(self) -> None:
@@ -284,14 +285,15 @@ class Stores(Folder):
             b"x" * syntax.LARGEST
         )
         settings.path.touch()
-        for text, said, is_backup in (
+        for text, reported, is_backup in (
             (long, fault, True),
             (short, fault, False),
             (long, "out of memory: give the program more", False),
         ):
             full = self.file("full.rpsl", text + b"% end 1\n")
             with tempfile.TemporaryDirectory(dir=self.folder) as work, program(
-                f'[ $1 = load ] || exec cat {full}; echo "irrdesk: dump.rpsl: {said}" >&2; exit 5'
+                f"[ $1 = load ] || exec cat {full};"
+                f' echo "irrdesk: dump.rpsl: {reported}" >&2; exit 5'
             ):
                 made = databases.Copy(Path(work) / "made", TEXT)
                 made.store.write_bytes(b"rows")
@@ -303,7 +305,7 @@ class Stores(Folder):
                     )
                 else:
                     with self.assertRaisesRegex(
-                        Failure, f"loaded: irrdesk load: dump.rpsl: {said}$"
+                        Failure, f"loaded: irrdesk load: dump.rpsl: {reported}$"
                     ):
                         backup.tried(Path(work), settings, made)
 

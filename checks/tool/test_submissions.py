@@ -142,7 +142,7 @@ class Parts(unittest.TestCase):
         with self.assertRaises(Failure):
             list(Sender(lambda _: [b"% items 0\n"]).send(items_of(b"a\n")))
 
-    def test_items_are_told_as_they_come(self) -> None:
+    def test_items_are_reported_as_they_come(self) -> None:
         """An item is told when its line has come, and a part goes out when the report of the last
         one is whole."""
         seen: list[bytes | str] = []
@@ -171,7 +171,7 @@ class Parts(unittest.TestCase):
         )
         self.assertEqual((sender.end, sender.count), ("", 4))
 
-    def test_what_was_decided_before_a_loss_is_told(self) -> None:
+    def test_what_was_decided_before_a_loss_is_reported(self) -> None:
         """What was decided before is told, and that the rest may be registered."""
         registry = Registry()
 

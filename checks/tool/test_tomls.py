@@ -22,7 +22,7 @@ READERS: list[Callable[[str], Any]] = [
 @pytest.mark.parametrize(
     "text", [b"a =", b"a = '\xff'", b"a = " + b"[" * 100_000], ids=["cut", "bytes", "deep"]
 )
-def test_a_file_that_is_not_toml_is_told_so(
+def test_a_file_that_is_not_toml_is_reported_so(
     tmp_path: Path, read: Callable[[str], Any], text: bytes
 ) -> None:
     path = tmp_path / "s.toml"

@@ -204,18 +204,18 @@ def test_a_range_that_stands_is_nearer_than_one_of_which_nothing_is_left() -> No
 
 def test_json(capsys: pytest.CaptureFixture[str]) -> None:
     assert run("--json", "10.0.0.0/16", "AS1:AS-B") == DONE
-    said = json.loads(capsys.readouterr().out)
-    assert said["found"] and said["all"] and not said["more"] and not said["near"]
-    assert [step["object"] for step in said["chains"][0]] == [
+    reported = json.loads(capsys.readouterr().out)
+    assert reported["found"] and reported["all"] and not reported["more"] and not reported["near"]
+    assert [step["object"] for step in reported["chains"][0]] == [
         "as-set AS1:AS-B",
         "aut-num AS1",
         "route 10.0.0.0/16 AS1",
     ]
-    assert said["chains"][0][0]["mnt-by"] == ["B-MNT"]
+    assert reported["chains"][0][0]["mnt-by"] == ["B-MNT"]
     assert run("--json", "10.0.1.0/24", "AS1:AS-B") == REFUSED
-    said = json.loads(capsys.readouterr().out)
-    assert not said["found"] and said["near"][0]["object"] == "route 10.0.1.0/24 AS2"
-    assert said["nearest"][-1]["object"] == "route 10.0.0.0/16 AS1"
+    reported = json.loads(capsys.readouterr().out)
+    assert not reported["found"] and reported["near"][0]["object"] == "route 10.0.1.0/24 AS2"
+    assert reported["nearest"][-1]["object"] == "route 10.0.0.0/16 AS1"
 
 
 @pytest.mark.parametrize(

@@ -14,7 +14,7 @@ from typing import Any
 import pytest
 
 from checks.door.opened import Opened
-from checks.keeping import PATIENCE, running, said_by, wait_until, whois_answer
+from checks.keeping import PATIENCE, running, reported_by, wait_until, whois_answer
 from checks.running import Each, Tell, Trial, expect
 from checks.serving import free_port
 from checks.views.serving import Files, Nrtm
@@ -103,7 +103,7 @@ nrtm = "{self.nrtm.place}"
             self.process = stack.enter_context(
                 running(words, self.log, env=self.world.tool.environment)
             )
-            wait_until("the view", PATIENCE, lambda: "the replicas have" in said_by(self.log))
+            wait_until("the view", PATIENCE, lambda: "the replicas have" in reported_by(self.log))
             config = f'view = ["127.0.0.1:{self.agent}"]\ndefault = "{self.default}"\n'
             self.door = Opened(
                 self.trial, f"view-door{self.default}", [f"--registry={self.world.url}"], config
@@ -213,7 +213,7 @@ def test_the_sources_are_chosen_by_name(served: Served, each: Each) -> None:
     with each("irr"):
         place = f"http://127.0.0.1:{one.door.http_port}/views/ALL"
         ran = one.tool("filter", "-s", place, "frr", "X", "AS1:AS-ALL", "-")
-        expect((ran.status, ran.printed.count(b" permit ")), (0, 2), f"{ran.said!r}")
+        expect((ran.status, ran.printed.count(b" permit ")), (0, 2), f"{ran.reported!r}")
         states = {source["name"]: source["state"] for source in one.status()["sources"]}
         head = [
             f"! Made by irr filter of AS1:AS-ALL at {place}",
@@ -274,7 +274,7 @@ def test_a_view_goes_on_while_its_sources_are_gone(served: Served, tell: Tell) -
         # The second replica follows the first, which answers by then.
         for port in one.ports:
             wait_until(f"the replica at {port}", PATIENCE, lambda: has_changed(port))
-        count = said_by(one.log).count("irr view: RIPE: ")
+        count = reported_by(one.log).count("irr view: RIPE: ")
     expect(os.path.exists(one.folder / "view" / "sources" / "RIPE" / "now"), True, "its folder")
     tell(f"{count} renewals")
 

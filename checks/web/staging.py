@@ -55,7 +55,7 @@ class Stage:
             made = trial.run(small, *words, stdin=given, timeout=300)
             if made.status:
                 raise Failure(
-                    f"{words[0]} ended with {made.status}: {made.said!r} {made.printed!r}"
+                    f"{words[0]} ended with {made.status}: {made.reported!r} {made.printed!r}"
                 )
         self.small = Server(trial.program, small, 100_000)
         self.bad = BadServer(REPLIES)

@@ -36,8 +36,8 @@ def system_words(error: OSError) -> str:
 
 
 class Reading(contextlib.ContextDecorator):
-    """Names what a block or a function reads: what can't be read there, and is told nowhere nearer,
-    ends the command as this. Of blocks within one another the outermost names it."""
+    """Names what a block or a function reads: what can't be read there, and is reported nowhere
+    nearer, ends the command as this. Of blocks within one another the outermost names it."""
 
     def __init__(self, what: str) -> None:
         self.what = what
@@ -69,6 +69,6 @@ def reading(what: str) -> Callable[[Function], Function]:
 
 
 def unread(error: BaseException) -> Failure:
-    """What can't be read and is told nowhere nearer."""
+    """What can't be read and is reported nowhere nearer."""
     what = getattr(error, "read_as", "an argument, a file or an answer")
     return Failure("", f"{what} can't be read ({type(error).__name__}); look at what was given")

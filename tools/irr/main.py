@@ -140,14 +140,14 @@ def close_output() -> None:
 
 def end_output() -> None:
     """Writes what is left for standard output where something else ended the command, whose line
-    was said."""
+    was reported."""
     try:
         sys.stdout.flush()
     except OSError:
         close_output()
 
 
-def say(failure: Failure, words: list[str]) -> None:
+def report(failure: Failure, words: list[str]) -> None:
     """The one line of a failure, on standard error."""
     name = words[0] if words and words[0] in BY_NAME else ""
     line = f"irr {name}: {failure}" if name else f"irr: {failure}"
@@ -172,7 +172,7 @@ def main(words: list[str] | None = None) -> int:
         if signal.getsignal(number) == signal.SIG_DFL:
             signal.signal(number, tidied)
     if sys.stdout is None:
-        say(Failure("standard output", "it is closed; give the command one"), words)
+        report(Failure("standard output", "it is closed; give the command one"), words)
         return Failure("", "").status
     for stream in sys.stdout, sys.stderr:
         # A terminal that lacks a letter gets its number.
@@ -183,13 +183,13 @@ def main(words: list[str] | None = None) -> int:
         sys.stdout.flush()
         return status
     except Failure as failure:
-        say(failure, words)
+        report(failure, words)
         end_output()
         return failure.status
     except BrokenPipeError as error:
         close_output()
         for note in notes(error):
-            say(Failure("standard output", f"nobody reads it; {note}"), words)
+            report(Failure("standard output", f"nobody reads it; {note}"), words)
         end_by(signal.SIGPIPE)
     except KeyboardInterrupt:
         end_by(signal.SIGINT)
@@ -204,13 +204,13 @@ def main(words: list[str] | None = None) -> int:
             "; ".join([system_words(error), *advice]),
         )
         close_output()
-        say(fault, words)
+        report(fault, words)
         return fault.status
     except UNREAD as error:
         fault = unread(error)
-        say(fault, words)
+        report(fault, words)
         end_output()
         return fault.status
     except MemoryError:
-        say(Failure("", "out of memory; give the machine more, or take a smaller file"), words)
+        report(Failure("", "out of memory; give the machine more, or take a smaller file"), words)
         return Failure("", "").status

@@ -70,7 +70,7 @@ def run(options: argparse.Namespace) -> int:
             options.folder, "others may enter the folder, and backups hold each hash; chmod 700 it"
         )
     with files.locked(place):
-        # What cannot be removed is said once there is a new backup.
+        # What cannot be removed is reported once there is a new backup.
         with contextlib.suppress(Failure):
             databases.clear(place, UNFINISHED)
         with databases.working(place, UNFINISHED) as work:
@@ -142,7 +142,7 @@ def tried(work: Path, settings: Settings, made: Copy) -> str:
     try:
         loaded.load(dump)
     except databases.TooLong as failure:
-        # The same is said of a text that a disk has spoilt.
+        # The same is reported of a text that a disk has spoilt.
         if max(map(len, databases.blocks_of(dump)), default=0) <= syntax.LARGEST + 1:
             raise
         why = (

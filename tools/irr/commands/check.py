@@ -83,12 +83,12 @@ def run(options: argparse.Namespace) -> int:
     if options.metrics is not None:
         files.put(options.metrics, found.metrics().encode())
     if options.json:
-        told = {
+        printed = {
             "well": not found.faults,
-            "faults": [fault.told() for fault in found.faults],
+            "faults": [fault.as_json() for fault in found.faults],
             "unseen": found.unseen,
         }
-        print(json.dumps(told, indent=2))
+        print(json.dumps(printed, indent=2))
     else:
         for fault in found.faults:
             print(fault.line())

@@ -36,7 +36,7 @@ def run(options: argparse.Namespace) -> int:
         raise text.fault
     reasons = Reasons(place)
     found = cautions.found([], text, reasons)
-    cautions.tell("diff", found)
+    cautions.report("diff", found)
     comparison = Comparison(reasons, text.items)
     number, bad = 0, False
     for item in text:

@@ -9,7 +9,7 @@ from typing import Iterable, Iterator
 
 from irr.errors import ARGUMENTS, DONE, REFUSED, Failure
 from irr.local import temporary
-from irr.local.history import Repository, note_of_age, read_keys, read_time, shown_time, told
+from irr.local.history import Repository, note_of_age, printed, read_keys, read_time, shown_time
 from irr.local.serials import Serials
 from irr.registry import answers, server
 from irr.rpsl import keys, syntax
@@ -124,7 +124,7 @@ def show(repository: Repository, words: list[str]) -> int:
             ARGUMENTS,
         )
     for version in found[seen[0]] if seen else []:
-        texts.put(told(version))
+        texts.put(printed(version))
     if not seen:
         texts.note(
             f"irr history: {' or '.join(f'{key.kind} {key.text}' for key in spelled)}: it was never"

@@ -98,9 +98,9 @@ def run(options: argparse.Namespace) -> int:
     with files.locked(folder):
         sender = Sender(folder / "sent.json", repository, states, options)
         if sender.begin():
-            sender.tell_changes()
+            sender.mail_changes()
             if options.log or options.journal:
-                sender.tell_refusals(options.log)
+                sender.mail_refusals(options.log)
     return DONE
 
 
@@ -121,7 +121,7 @@ class Sender:
         self.noted = read(path)
         # The last state that was told, and who was told of the next one.
         self.commit: str = self.noted.get("commit") or ""
-        self.told: list[str] = self.noted.get("told") or []
+        self.mailed: list[str] = self.noted.get("told") or []
         # From which time to which the log is told, if a run could not end that, and to whom it was.
         self.since: float = self.noted.get("since") or self.now
         self.until: float = self.noted.get("until") or 0.0
@@ -135,7 +135,7 @@ class Sender:
             return
         noted = {
             "commit": self.commit,
-            "told": self.told,
+            "told": self.mailed,
             "since": self.since,
             "until": self.until,
             "refused": self.refused,
@@ -155,20 +155,20 @@ class Sender:
         if self.commit:
             texts.note(
                 f"irr notify: {self.options.history}: it is another history than before; what"
-                " changed until now is not told"
+                " changed until now is not mailed"
             )
-        self.commit, self.told = self.states[0].commit, []
+        self.commit, self.mailed = self.states[0].commit, []
         self.note()
         return False
 
-    def tell_changes(self) -> None:
+    def mail_changes(self) -> None:
         """Tells each state after the last one that was told, the oldest first."""
         states = self.states
         place = next(place for place, one in enumerate(states) if one.commit == self.commit)
         for before, state in zip(states[place:0:-1], reversed(states[:place])):
-            told = notices.of_change(self.repository, before, state)
-            for address, found in told.items():
-                if address in self.told:
+            mails = notices.of_change(self.repository, before, state)
+            for address, found in mails.items():
+                if address in self.mailed:
                     continue
                 subject = (
                     found[0].line
@@ -181,12 +181,12 @@ class Sender:
                     address, f"[{self.source}] {subject}", head + notices.text_of(found)
                 ):
                     return
-                self.told.append(address)
+                self.mailed.append(address)
                 self.note()
-            self.commit, self.told = state.commit, []
+            self.commit, self.mailed = state.commit, []
             self.note()
 
-    def tell_refusals(self, path: str | None) -> None:
+    def mail_refusals(self, path: str | None) -> None:
         """Tells what was refused since the last run."""
         self.until = self.until or self.now
         # A door that never was started has no log.
@@ -196,8 +196,8 @@ class Sender:
             for one in journal.entries(logs.lines(path) if is_there else iter(()))
             if self.since < (journal.time_of(one) or 0.0) <= self.until
         )
-        told = notices.of_refusals(self.repository, self.states[0], entries)
-        for address, text in told.items():
+        mails = notices.of_refusals(self.repository, self.states[0], entries)
+        for address, text in mails.items():
             if address in self.refused:
                 continue
             head = f"The registry {self.source} has refused what names your maintainers.\n\n"

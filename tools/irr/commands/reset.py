@@ -132,7 +132,7 @@ def settle(settings: Settings, is_service: bool) -> None:
         **(owner_of(settings) if is_service else {}),
     )
     if done.returncode > 1:
-        raise Failure(str(settings.path), temporary.said(done), done.returncode)
+        raise Failure(str(settings.path), temporary.reported(done), done.returncode)
 
 
 def owner_of(settings: Settings) -> dict[str, Any]:

@@ -38,7 +38,7 @@ def run(options: argparse.Namespace) -> int:
         texts.note(f"irr rov: {line}")
     table = read.table()
     counts = {"valid": 0, "invalid": 0, "not found": 0}
-    # Whether the dump was whole is known at its end, and nothing is said before.
+    # Whether the dump was whole is known at its end, and nothing is printed before.
     lines = []
     for prefix, number in routes(place.dump(), place.url):
         state, why = roas.judged(prefix, number, table)

@@ -89,7 +89,7 @@ def run(options: argparse.Namespace) -> int:
     text = Gathered(chain.from_iterable(source.items() for source in sources))
     front = [item for _, item in asked]
     found = cautions.found(front, text, Reasons(place))
-    cautions.tell("submit", found)
+    cautions.report("submit", found)
     refusal = cautions.grave(found, options.anyway)
     if options.dry_run:
         return try_out(place, asked, text, whose, options.raw, refusal)

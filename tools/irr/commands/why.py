@@ -54,7 +54,7 @@ def run(options: argparse.Namespace) -> int:
 def lines(
     prefix: Prefix, name: str, chains: Chains, nearest: list[Step], near: list[Near]
 ) -> Iterable[str]:
-    """What is said of the prefix to people."""
+    """What is printed of the prefix for people."""
     if chains.first:
         count = len(chains.first) + chains.more
         least = "at least " if chains.is_cut else ""

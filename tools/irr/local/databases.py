@@ -136,8 +136,9 @@ def beside(store: Path, suffix: str) -> Path:
 
 
 class Copy:
-    """A registry in a folder of its own, `irr.toml` and `irr.db`, run by the installed `irrdesk`.
-    What that says of the database is said of the one that it is a copy of, if that is given."""
+    """A registry in a folder of its own, `irr.toml` and `irr.db`, run by the installed
+    `irrdesk`. What that reports of the database is reported of the one that it is a copy of, if
+    that is given."""
 
     def __init__(self, folder: Path, settings: str, original: Path | None = None) -> None:
         self.program, self.folder, self.original = (
@@ -171,7 +172,7 @@ class Copy:
             is_original = done.returncode == DATABASE and b": the disk " not in done.stderr
             raise kind(
                 str(self.original if is_original else self.folder),
-                f"irrdesk {command}: {temporary.said(done)}",
+                f"irrdesk {command}: {temporary.reported(done)}",
                 DATABASE,
             )
 
@@ -232,7 +233,7 @@ def read(file: BinaryIO, path: Path) -> bytes:
 
 @contextlib.contextmanager
 def working(place: Path, prefix: str) -> Iterator[Path]:
-    """A folder in another one, which goes with the block. What fails in it is said of the other
+    """A folder in another one, which goes with the block. What fails in it is reported of the other
     one."""
     inside = os.path.abspath(place / prefix)
     try:

@@ -3,9 +3,8 @@ touches or of the whole public dump, with nothing sent.
 
 Registries with the same public forms in which the same passwords fit judge alike. So the
 maintainers whose passwords are given get a hash of these that is made here, and the others one that
-lets nobody in. What a public dump does not show is told: whether a password is the registered one,
-and whether an object with `auth` lines would be `changed` or `unchanged`.
-"""
+lets nobody in. What a public dump does not show is reported: whether a password is the registered
+one, and whether an object with `auth` lines would be `changed` or `unchanged`."""
 import contextlib
 from itertools import chain
 from typing import Callable, Iterable, Iterator, Protocol
@@ -62,7 +61,7 @@ def run(
         sender = Sender(lambda text: [scratch.submit(text)], size, size)
         unknown = show(sender, [*(item for _, item in asked), *items], hidden, printer)
         status = printer.end(sender)
-    tell(passwords, unknown, excerpt is None)
+    report(passwords, unknown, excerpt is None)
     return status
 
 
@@ -186,7 +185,7 @@ class Served:
         return self.served().dump()
 
 
-def tell(passwords: dict[str, list[bytes]], unknown: bool, is_whole: bool) -> None:
+def report(passwords: dict[str, list[bytes]], unknown: bool, is_whole: bool) -> None:
     """What a dry run can't know, and that it copied everything, which takes longer."""
     texts.note("irr submit: dry run: nothing was sent or changed")
     if is_whole:

@@ -80,7 +80,7 @@ class Fault(NamedTuple):
     def line(self) -> str:
         return texts.shown_line(f"{self.word}: {self.thing}: {self.what}; {REMEDIES[self.word]}")
 
-    def told(self) -> dict[str, str]:
+    def as_json(self) -> dict[str, str]:
         return {
             "check": self.word,
             "thing": self.thing,
@@ -470,7 +470,7 @@ def fetched(url: str, seconds: float) -> tuple[int, bytes]:
 
 @contextlib.contextmanager
 def telling() -> Iterator[None]:
-    """Says why there was no whole answer; that nobody listens is told as it is."""
+    """Says why there was no whole answer; that nobody listens is reported as it is."""
     try:
         yield
     except ConnectionRefusedError:

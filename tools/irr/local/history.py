@@ -122,11 +122,11 @@ class Repository:
         except FileNotFoundError:
             raise Failure("git", "it is not installed; install it") from None
         if done.returncode:
-            said = (
+            reported = (
                 " ".join(done.stderr.decode("utf-8", "replace").split())
                 or f"status {done.returncode}"
             )
-            raise Failure(str(self.folder), f"git {words[0]}: {said}")
+            raise Failure(str(self.folder), f"git {words[0]}: {reported}")
         return done.stdout
 
     @property
@@ -372,7 +372,7 @@ def read_keys(words: list[str]) -> list[Key]:
 
 
 @reading("the history")
-def told(version: Version) -> bytes:
+def printed(version: Version) -> bytes:
     """A version for people and programs: a line with its time, and the object."""
     return f"% {shown_time(version.time)} {version.word}\n".encode() + version.text + b"\n"
 

@@ -32,8 +32,8 @@ Notices = dict[str, list[Notice]]
 def addresses(paragraph: Paragraph | None, attribute: str) -> list[str]:
     """Where mail can go of an attribute's values."""
     found = [] if paragraph is None else paragraph.values(attribute.encode())
-    told = [value.decode("ascii", "replace") for value in found]
-    return [one for one in told if mail.is_address(one)][:MOST_ADDRESSES]
+    texts = [value.decode("ascii", "replace") for value in found]
+    return [one for one in texts if mail.is_address(one)][:MOST_ADDRESSES]
 
 
 def of_change(repository: Repository, before: State, state: State) -> Notices:
@@ -44,7 +44,7 @@ def of_change(repository: Repository, before: State, state: State) -> Notices:
         found.append((was, now))
     named = {key for pair in found for one in pair for key in mntners(one)}
     then, after = (repository.texts_of(one, named) for one in (before, state))
-    told: Notices = {}
+    mails: Notices = {}
     for was, now in found:
         concerned = dict.fromkeys(
             address
@@ -52,8 +52,8 @@ def of_change(repository: Repository, before: State, state: State) -> Notices:
             for address in [*addresses(one, "notify"), *of_maintainers(one, texts, name)]
         )
         for address in concerned:
-            told.setdefault(address, []).append(notice(was, now))
-    return told
+            mails.setdefault(address, []).append(notice(was, now))
+    return mails
 
 
 def mntners(paragraph: Paragraph | None) -> list[Key]:
@@ -127,11 +127,11 @@ def of_refusals(
     """What each address is told of what was refused."""
     found = refusals(entries)
     texts = repository.texts_of(state, [Key("mntner", name) for name in found])
-    told: dict[str, list[str]] = {}
+    mails: dict[str, list[str]] = {}
     for key, text in texts.items():
         for address in addresses(answers.read(text, str(repository.folder)), "upd-to"):
-            told.setdefault(address, []).extend(found[key.text])
-    return {address: refused_text(list(dict.fromkeys(lines))) for address, lines in told.items()}
+            mails.setdefault(address, []).extend(found[key.text])
+    return {address: refused_text(list(dict.fromkeys(lines))) for address, lines in mails.items()}
 
 
 def refused_text(lines: list[str]) -> str:

@@ -160,11 +160,11 @@ class Replica:
         self.kill()
 
     def last_words(self) -> str:
-        """How a process that has ended did, and what it said."""
+        """How a process that has ended did, and what it reported."""
         if not self.process:
             return ""
-        said = self.process.communicate()[1].decode("utf-8", "replace").strip()
-        return f" with status {self.process.returncode}" + (f", {said}" if said else "")
+        reported = self.process.communicate()[1].decode("utf-8", "replace").strip()
+        return f" with status {self.process.returncode}" + (f", {reported}" if reported else "")
 
     def kill(self) -> None:
         if self.process:
@@ -239,7 +239,8 @@ class Agent:
 
 
 class Keeper:
-    """The replicas of a folder, and what they serve; what is said of them begins with `name`."""
+    """The replicas of a folder, and what they serve; what is reported of them begins with
+    `name`."""
 
     def __init__(
         self,
@@ -306,8 +307,8 @@ class Keeper:
         self.known = self.made.digest()
 
     def keep(self, make: Maker, limit: int, every: float) -> None:
-        """Goes on until a signal ends it. A failure is said each time, and the replicas go on with
-        what they have."""
+        """Goes on until a signal ends it. A failure is reported each time, and the replicas go on
+        with what they have."""
         self.attempt(lambda: self.start(limit))
         next_time = time.monotonic()
         while True:
@@ -342,7 +343,7 @@ class Keeper:
 
     @property
     def status(self) -> str:
-        """What is told of replicas that were renewed, on a line."""
+        """What is printed of replicas that were renewed, on a line."""
         return "the replicas have what the registry has"
 
     def renew(self, make: Maker) -> bool:
@@ -412,7 +413,7 @@ class Keeper:
 
 
 def told(made: Made) -> str:
-    """What is said of a dump that the replicas have."""
+    """What is printed of a dump that the replicas have."""
     with open(made.dump, "rb") as file:
         file.seek(max(0, made.dump.stat().st_size - 64))
         return texts.counted(int(file.read().rpartition(b"% end ")[2]), "object")

@@ -138,7 +138,7 @@ def set_by_others(plan: Plan) -> Iterator[tuple[str, str, Any, Any]]:
 
 
 class Made:
-    """The steps. What each one has done is said, and is left where a later one fails."""
+    """The steps. What each one has done is printed, and is left where a later one fails."""
 
     def __init__(self, plan: Plan, show: Callable[[str, str], None]) -> None:
         self.plan, self.show = plan, show
@@ -261,7 +261,7 @@ class Made:
             done = self.run("init")
             if done.returncode:
                 raise Failure(
-                    self.plan.settings, f"irrdesk init: {temporary.said(done)}", done.returncode
+                    self.plan.settings, f"irrdesk init: {temporary.reported(done)}", done.returncode
                 )
             self.done(done.stdout.decode("ascii", "replace").strip(), store)
             return
@@ -269,7 +269,7 @@ class Made:
         if done.returncode:
             raise Failure(
                 store,
-                f"what an earlier run left can't be opened: {temporary.said(done)}; remove it",
+                f"what an earlier run left can't be opened: {temporary.reported(done)}; remove it",
                 DATABASE,
             )
         self.left.append(store)
@@ -291,8 +291,8 @@ class Made:
         given = hashes.password_line(password) + b"\n" + text
         done = self.run("submit", "/dev/stdin", given=given)
         if done.returncode:
-            said = (done.stdout or done.stderr).decode("utf-8", "replace").splitlines()
-            why = said[0] if said else f"irrdesk ended with status {done.returncode}"
+            reported = (done.stdout or done.stderr).decode("utf-8", "replace").splitlines()
+            why = reported[0] if reported else f"irrdesk ended with status {done.returncode}"
             raise Failure(f"mntner {plan.maintainer}", f"it can't be registered: {why}", DATABASE)
         self.done("registered", f"mntner {plan.maintainer}")
 
@@ -306,7 +306,8 @@ class Made:
             if done.returncode:
                 raise Failure(
                     unit,
-                    f"it does not start: {' '.join(done.stderr.split()) or 'nothing is said'}; mend"
+                    "it does not start: "
+                    f"{' '.join(done.stderr.split()) or 'nothing is reported'}; mend"
                     f" what `journalctl --unit {unit.partition('.')[0]}` says",
                     FAILED,
                 )

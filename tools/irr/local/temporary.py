@@ -309,8 +309,8 @@ def bound() -> Callable[[], None]:
     return begin
 
 
-def said(done: "subprocess.CompletedProcess[bytes]") -> str:
-    """What the program said, in one line."""
+def reported(done: "subprocess.CompletedProcess[bytes]") -> str:
+    """What the program reported, in one line."""
     words = (
         done.stderr.decode("utf-8", "replace").strip()
         or f"irrdesk ended with status {done.returncode}"
@@ -321,9 +321,9 @@ def said(done: "subprocess.CompletedProcess[bytes]") -> str:
 def trouble(
     done: "subprocess.CompletedProcess[bytes]", name: str, path: str = "", known: str = ""
 ) -> Failure:
-    """What the program said, in the names that people know: of the thing that it read, in place of
-    its path, and of the folder, where the database failed."""
-    words = said(done)
+    """What the program reported, in the names that people know: of the thing that it read, in place
+    of its path, and of the folder, where the database failed."""
+    words = reported(done)
     if done.returncode == DATABASE:
         return Failure(TEMPORARY, f"{words.removeprefix('irr.db: ').partition(': ')[0]}; {ROOM}")
     return Failure(name, f"{known}: {words.removeprefix(path).lstrip(',: ')}" if known else words)

@@ -13,8 +13,8 @@ from irr.rpsl.grammar import Placed
 from irr.rpsl.syntax import Paragraph
 from irr.terminal import texts
 
-# So many are told one by one.
-MOST_TOLD = 20
+# So many are reported one by one.
+MOST_REPORTED = 20
 MNTNER = re.compile(rb"^mntner[ \t\r]*:", re.I | re.M)
 NAMES = re.compile(rb"^[A-Za-z][A-Za-z0-9_-]*", re.M)
 SECRET_LINE = re.compile(
@@ -52,11 +52,11 @@ def found(front: list[Item], text: Gathered, reasons: Reasons) -> list[Caution]:
     return sorted(all_of, key=lambda caution: not caution.is_grave)
 
 
-def tell(command: str, cautions: list[Caution]) -> None:
+def report(command: str, cautions: list[Caution]) -> None:
     """Says them on standard error."""
-    for caution in cautions[:MOST_TOLD]:
+    for caution in cautions[:MOST_REPORTED]:
         texts.note(f"irr {command}: {caution.sentence()}")
-    more = len(cautions) - MOST_TOLD
+    more = len(cautions) - MOST_REPORTED
     if more > 0:
         texts.note(f"irr {command}: the text: there are {more:,} more of these")
 

@@ -34,7 +34,7 @@ class Handover:
     def __init__(self, reasons: Reasons, name: str, holder: str | None) -> None:
         self.reasons, self.name, self.holder = reasons, name, holder
         self.objects: list[Wanted] = []
-        self.told: list[str] = []
+        self.noted: list[str] = []
 
     def add(self, key: Key) -> None:
         """Adds an inetnum or an aut-num; a Failure where it can't be handed over."""
@@ -118,13 +118,13 @@ class Handover:
                 if numbers:
                     found += self.route(prefix, numbers[0], thing, found)
                 else:
-                    self.told.append(
+                    self.noted.append(
                         f"{prefix.text()}: no AS is given, so {self.name} has to register the route"
                         " of exactly this prefix at once: until then the holder of a route above"
                         " decides about routes inside"
                     )
                     grantors = [self.of_space(prefix, found)]
-                    self.tell_grants(grantors, f"a route {prefix.text()}", prefix)
+                    self.note_grants(grantors, f"a route {prefix.text()}", prefix)
         self.objects += dict.fromkeys(found)
 
     def route(
@@ -137,7 +137,7 @@ class Handover:
         if registered:
             names = holders.by(registered)
             if self.holder and self.holder not in names:
-                self.told.append(f"{name_of(key)} is held by {listed(names)}, who hand it over")
+                self.noted.append(f"{name_of(key)} is held by {listed(names)}, who hand it over")
                 return []
             return [Wanted(key, registered, self.one_of(names))]
         givers = [self.holder] if self.holder else [space.holder, number.holder]
@@ -145,8 +145,8 @@ class Handover:
         grantors = [self.of_space(prefix, before), self.of_number(prefix, number)]
         if given and all(set(given) & set(grantor.names) for grantor in grantors):
             return [Wanted(key, None, given[0])]
-        self.told.append(f"{name_of(key)}: {self.name} registers it, once this is submitted")
-        self.tell_grants(grantors, name_of(key), prefix)
+        self.noted.append(f"{name_of(key)}: {self.name} registers it, once this is submitted")
+        self.note_grants(grantors, name_of(key), prefix)
         return []
 
     def of_space(self, prefix: Prefix, before: list[Wanted]) -> Grantor:
@@ -172,13 +172,13 @@ class Handover:
             return Grantor(number.key, [number.holder])
         return grantor(number.registered, holders.routes(number.registered, prefix))
 
-    def tell_grants(self, grantors: list[Grantor], what: str, prefix: Prefix) -> None:
+    def note_grants(self, grantors: list[Grantor], what: str, prefix: Prefix) -> None:
         """Tells what of it the new maintainer can't do alone, and what mends that."""
         handed = {thing.key for thing in self.objects if self.name not in by_of(thing)}
         for one in grantors:
             if one.key not in handed and self.name not in one.names:
                 names = ", ".join(dict.fromkeys([*one.names, f"{self.name} {{{prefix.text()}^+}}"]))
-                self.told.append(
+                self.noted.append(
                     f"{name_of(one.key)} decides about {what}: its holder adds "
                     f"`mnt-routes: {names}` to it"
                 )
@@ -201,7 +201,7 @@ class Handover:
     def notes(self) -> list[str]:
         """What people have to know beside the text."""
         moved = [thing for thing in self.objects if self.name not in by_of(thing)]
-        found = list(dict.fromkeys(self.told))
+        found = list(dict.fromkeys(self.noted))
         for thing in moved:
             if thing.registered and thing.registered.values(b"auth"):
                 found.append(

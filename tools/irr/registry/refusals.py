@@ -66,8 +66,8 @@ class Reasons:
             return [f"What decided can't be asked: {failure}."]
 
     def of_grammar(self, item: Item, code: str) -> list[str]:
-        """The lines at fault. Nothing is said where the program found another fault than is found
-        here."""
+        """The lines at fault. Nothing is reported where the program found another fault than is
+        found here."""
         found = grammar.faults(item.block.text, self.source() if code == "E06" else None)
         if not found or found[0].code != code:
             return []

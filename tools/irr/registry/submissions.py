@@ -244,7 +244,7 @@ class Sender:
     ) -> None:
         self.post, self.part, self.most = post, part, most
         # How many items are decided, how the report ends, and whether a password was given before
-        # the item that is told.
+        # the item that is reported.
         self.count, self.end, self.has_password = 0, "items", False
         # What keeps a file from being read on, which has its name.
         self.read_fault: OSError | None = None
@@ -291,7 +291,7 @@ class Sender:
                         f"a part with all passwords before it is over {self.most:,} bytes; leave "
                         f"out passwords",
                     )
-                yield from self.told(part.items, self.post(body))
+                yield from self.reported(part.items, self.post(body))
                 return
             except TooLarge:
                 if len(part.items) == 1:
@@ -302,7 +302,7 @@ class Sender:
             if self.end != "items":
                 return
 
-    def told(self, items: list[Item], pieces: Iterable[bytes]) -> Iterator[Reported]:
+    def reported(self, items: list[Item], pieces: Iterable[bytes]) -> Iterator[Reported]:
         """The items of a part with what the report says of them, as it comes."""
         report, rest, sent = answers.Report(self.count), iter(items), 0
         for piece in pieces:

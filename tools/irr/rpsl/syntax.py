@@ -24,7 +24,7 @@ CHUNK = 1 << 20
 PASSED_OVER, CONTINUED = frozenset((b"#", b"%")), frozenset((b" ", b"\t", b"\r", b"+"))
 # The end of the last one of several objects in a text, at which it may be cut in two; 0 for none.
 Seam = Callable[[bytes], int]
-# Those of some lines which are told of even if they are not kept, each with its number; the number
+# Those of some lines which are noted even if they are not kept, each with its number; the number
 # of the first line is given.
 Marked = Callable[[bytes, int], list[tuple[int, bytes]]]
 
@@ -74,7 +74,7 @@ class Attribute(NamedTuple):
 class Block(NamedTuple):
     """The lines of one paragraph as they came: the number of the first one in the text, their size
     in bytes, and the lines with their ends, of which there may be fewer bytes than the size where
-    the reader was told to keep no more; and what is told of the lines that are not kept whole."""
+    the reader was told to keep no more; and what is noted of the lines that are not kept whole."""
 
     line: int
     size: int
@@ -234,18 +234,18 @@ def blocks(
 
 
 class Lost:
-    """What is not kept of a block: how many bytes and ends of lines, and what is told of its
+    """What is not kept of a block: how many bytes and ends of lines, and what is noted of its
     lines."""
 
     def __init__(self) -> None:
         self.size, self.lines = 0, 0
-        self.told: list[tuple[int, bytes]] = []
+        self.noted: list[tuple[int, bytes]] = []
 
     def note(self, text: bytes, line: int, most: int, marked: Marked) -> None:
-        """Notes what is told of the lines that are not whole in the first bytes of a text, which is
+        """Notes the lines that are not whole in the first bytes of a text, which is
         without what was lost before."""
         begin = most + 1 if self.size else text.rfind(b"\n", 0, most) + 1
-        self.told += marked(text[begin:], line + text.count(b"\n", 0, begin) + self.lines)
+        self.noted += marked(text[begin:], line + text.count(b"\n", 0, begin) + self.lines)
 
 
 def block_of(
@@ -264,7 +264,7 @@ def block_of(
     if text and text[:1] not in (b"#", b"%"):
         if most is not None and len(text) > most:
             lost.note(text, line, most, marked)
-        yield Block(line, len(text) + lost.size, text[:most], tuple(lost.told))
+        yield Block(line, len(text) + lost.size, text[:most], tuple(lost.noted))
 
 
 def one_block(lines: Iterable[bytes]) -> bytes:

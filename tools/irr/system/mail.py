@@ -66,12 +66,12 @@ class Post:
             raise Failure(
                 self.program, f"no end after {SECONDS} s; look at the mail server"
             ) from None
-        said = " ".join(done.stderr.decode("utf-8", "replace").split())
+        reported = " ".join(done.stderr.decode("utf-8", "replace").split())
         if done.returncode in NEVER:
-            raise Refused(said or f"status {done.returncode}")
+            raise Refused(reported or f"status {done.returncode}")
         if done.returncode:
             raise Failure(
                 self.program,
-                f"{said or f'it ended with status {done.returncode}'}; look at the mail server:"
+                f"{reported or f'it ended with status {done.returncode}'}; look at the mail server:"
                 " what was not sent goes with the next run",
             )

@@ -15,7 +15,7 @@ def can_ask() -> bool:
 
 
 def ask(question: str, default: str, read: Callable[[str], Answer]) -> Answer:
-    """The answer, as `read` takes it. What that refuses is said, and asked for again."""
+    """The answer, as `read` takes it. What that refuses is reported, and asked for again."""
     while True:
         try:
             shown = f"{question} [{default}]: " if default else f"{question}: "

@@ -8,6 +8,7 @@ scripts/install puts in place on the PATH. A block below the line `<!-- not run:
 over, and one below `<!-- needs: COMMAND.. -->` where one of the commands is missing. Each block is
 a case."""
 
+import functools
 import os
 import re
 import shlex
@@ -129,6 +130,20 @@ def prepare(folder: Path, program: Path) -> dict[str, str]:
     )
 
 
+@functools.cache
+def apart() -> list[str]:
+    """What begins a command whose ports are nobody else's: pages have fixed ones, and another run
+    of them may go on beside this one. Nothing where there is no namespace to be had."""
+    words = ["unshare", "--net", "sh", "-c", 'ip link set lo up && exec "$@"', "sh"]
+    can = (
+        shutil.which(words[0])
+        and not subprocess.run(
+            [*words, "true"], env=os.environ | {"PATH": PATHS}, capture_output=True, check=False
+        ).returncode
+    )
+    return words if can else []
+
+
 def run_page(page: Path, blocks: list[Block], program: Path) -> dict[int, list[str] | None]:
     """Runs the blocks, and gives the lines that each printed; none where it did not come to its
     end."""
@@ -142,7 +157,7 @@ def run_page(page: Path, blocks: list[Block], program: Path) -> dict[int, list[s
             Path(f"{here}.sh").write_text("\n".join(block.commands) + "\n")
             script.append(f". {here}.sh >{here}.out 2>&1 </dev/null\ncp {here}.out {here}.seen\n")
         shell = subprocess.Popen(
-            ["sh"],
+            [*apart(), "sh"],
             stdin=subprocess.PIPE,
             cwd=folder,
             env=environment,

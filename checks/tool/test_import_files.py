@@ -1,6 +1,7 @@
 """The files that `irr import` reads and writes."""
 
 import bz2
+import functools
 import gzip
 import io
 import lzma
@@ -115,6 +116,26 @@ def test_files_without_a_paragraph_are_told(capsys: pytest.CaptureFixture[str]) 
     assert run("empty", "dump", "zipped", "bare", "-o", "full") == 0
     said = capsys.readouterr().err
     assert "\nwithout a paragraph: 3 files\n  empty\n  zipped\n  bare\n" in said
+
+
+@pytest.mark.parametrize("count", [1, 3_000])
+def test_a_temporary_file_without_room_is_told(
+    count: int, monkeypatch: pytest.MonkeyPatch, capsys: pytest.CaptureFixture[str]
+) -> None:
+    """Whether that is seen as it is written, or at its end."""
+    full = functools.partial(open, "/dev/full", "w+b")
+    monkeypatch.setattr("irr.migrate.conversion.tempfile.TemporaryFile", lambda prefix: full())
+    one = b"aut-num: AS%d\nmnt-by: A-MNT\nsource: RIPE\n\n"
+    Path("dump").write_bytes(b"".join(one % number for number in range(count)))
+    Path("full").write_bytes(b"before")
+    assert run("dump", "-o", "full") == FAILED
+    assert Path("full").read_bytes() == b"before"
+    printed, said = capsys.readouterr()
+    assert (printed, said) == (
+        "",
+        "irr import: the temporary file: no space left on device; make room, or give another folder"
+        " by TMPDIR\n",
+    )
 
 
 # The lines of a dump by `sed`, and what is said of it: objects that are others, or missing.

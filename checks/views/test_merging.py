@@ -1,4 +1,5 @@
 """Views of three sources by chance, beside a merge and an expansion of the check's own."""
+import functools
 import json
 import os
 import re
@@ -16,6 +17,7 @@ from checks.rpsl import until_seen
 from checks.running import Trial
 from checks.views import merged
 from checks.views.merged import SOURCES, Roas, Several
+from irr.errors import Failure
 from irr.views.keeping import View
 from irr.views.settings import read
 
@@ -120,6 +122,21 @@ def test_a_view_is_the_merge_of_its_sources(
         seen["invalid"] += sum(told.invalid for told in view.told.values())
 
     until_seen(holds, seen, 11, trial.seed)
+
+
+@pytest.mark.parametrize("count", [1, 3_000])
+def test_a_temporary_file_without_room_is_told(
+    program: str, tmp_path: Path, monkeypatch: pytest.MonkeyPatch, count: int
+) -> None:
+    """Whether that is seen as it is written, or at its end."""
+    monkeypatch.setenv("IRRDESK", program)
+    full = functools.partial(open, "/dev/full", "w+b")
+    monkeypatch.setattr("irr.migrate.conversion.tempfile.TemporaryFile", lambda prefix: full())
+    one = "aut-num: AS{}|mnt-by: X-MNT"
+    texts = {"TEST": "\n".join(map(one.format, range(1, count + 1)))}
+    view = written(tmp_path, several_of(texts | {"RIPE": one.format(1), "RADB": one.format(1)}))
+    with pytest.raises(Failure, match="^the temporary file: no space left on device; make room"):
+        made(view)
 
 
 def test_a_set_taken_apart_has_its_members_by_reference(

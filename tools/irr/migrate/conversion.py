@@ -1,5 +1,6 @@
 """Makes of foreign registries' dumps one that `irrdesk load` takes: reads them once, holds the
 keys, and writes the objects in the order of a dump from a temporary file."""
+import contextlib
 import os
 import sys
 import tempfile
@@ -102,17 +103,26 @@ class Import:
     @reading("a file")
     def read(self, paths: Iterable[str]) -> None:
         """Reads all files, and settles what is taken of them."""
-        try:
+        with self.spooling():
             for path in paths:
                 self.read_file(path)
+        self.show_progress(is_last=True)
+        self.settle()
+
+    @contextlib.contextmanager
+    def spooling(self) -> Iterator[None]:
+        """Says what is wrong with the temporary file where it can't be written, and closes it: that
+        would fail again later, in other words."""
+        try:
+            yield
             self.spool.flush()
         except OSError as error:
+            with contextlib.suppress(OSError):
+                self.spool.close()
             raise Failure(
                 "the temporary file",
                 f"{system_words(error)}; make room, or give another folder by TMPDIR",
             ) from None
-        self.show_progress(is_last=True)
-        self.settle()
 
     def read_file(self, path: str) -> None:
         self.paths.append(path)

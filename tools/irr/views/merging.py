@@ -3,7 +3,7 @@ stays."""
 from collections import Counter
 from typing import Collection, Iterable, NamedTuple
 
-from irr.errors import Failure, reading, system_words
+from irr.errors import reading
 from irr.migrate import conversion
 from irr.migrate.items import with_items
 from irr.migrate.normalisation import (
@@ -212,15 +212,11 @@ class Merge(conversion.Import):
     @reading("a file")
     def read_states(self, states: dict[str, State]) -> None:
         """Reads all sources, and settles what is taken of them."""
-        try:
+        with self.spooling():
             for name, state in states.items():
                 self.read_state(name, state)
             self.spool.flush()
-        except OSError as error:
-            raise Failure(
-                "the temporary file",
-                f"{system_words(error)}; make room, or give another folder by TMPDIR",
-            ) from None
+            self.set_apart()
         self.settle()
 
     def seam(self, text: bytes) -> int:
@@ -280,10 +276,6 @@ class Merge(conversion.Import):
             self.beaten.setdefault((mended.source, str(mended.key)), (mended, *self.at))
         return EARLIER
 
-    def settle(self) -> None:
-        self.set_apart()
-        super().settle()
-
     def set_apart(self) -> None:
         """Takes each set that an earlier source has, and that an item names with its own source,
         under a name of its own."""
@@ -305,7 +297,6 @@ class Merge(conversion.Import):
         if self.apart:
             for place, source in self.referrers.items():
                 self.join(place, source)
-            self.spool.flush()
 
     def join(self, place: int, source: str) -> None:
         """Names in `member-of` also the sets of its source that are taken under a name of their

@@ -243,6 +243,17 @@ def test_members_are_spelled_as_those_of_an_expansion(item: bytes, text: str) ->
     assert irrd.member_text(item) == text
 
 
+@pytest.mark.parametrize(
+    ("maintainer", "joins"), [(b"A-MNT", True), (b"B-MNT", True), (b"C-MNT", False), (None, True)]
+)
+def test_who_joins_a_set_is_found_in_any_letter_case(maintainer: bytes, joins: bool) -> None:
+    """And over several lines, with comments that say nothing."""
+    block = b"aut-num:        as01\nmember-of:      as-y, # AS-Z\n                as01:as-x\n"
+    block += b"mnt-by:         a-Mnt # C-MNT\n+\nmnt-by:         b-mnt\n"
+    assert irrd.joins(block, "AS1:AS-X", maintainer) is joins
+    assert not irrd.joins(block, "AS-Z", maintainer)
+
+
 class Dear(Asker):
     """Asks a registry that takes a second to answer, so that answers are kept."""
 

@@ -138,6 +138,8 @@ def test_bgpq4_prints_each_format_which_routers_read(trial: Trial, tool: Tool, t
             "without AS2",
         )
         expect(of_lists(bgpq4(port, "-6", "-j", AS_SET).printed), set(), "IPv6")
+        few = of_lists(bgpq4(port, "-A", "-j", "-l", "NAME", "-m", "32", SET).printed)
+        expect(few < wanted[SET], True, "whether -m 32 leaves some out, as FILTERS warns")
         told = []
         for router, words in [
             ("bird", ["-b", "-l", "define NAME"]),

@@ -1,6 +1,7 @@
 """Which ranges a filter takes, and how routers are told their lengths."""
 
 import argparse
+from typing import Any
 
 import pytest
 
@@ -50,6 +51,30 @@ def test_the_prefix_of_a_range_is_no_wider(
     with pytest.raises(Failure, match=f"wider than /{widest}") as raised:
         made(Lines(one), monkeypatch, "--widest", widest, "bird")
     assert raised.value.status == REFUSED
+
+
+class Changing(Lines):
+    """A view that tells these states in turn, and then the last one."""
+
+    def __init__(self, *states: str) -> None:
+        super().__init__("10.0.0.0/16")
+        self.states = list(states)
+
+    def view(self) -> dict[str, Any]:
+        state = self.states.pop(0) if len(self.states) > 1 else self.states[0]
+        return {"sources": [{"name": "RIPE", "state": state, "serial": 7}], "roas": "r0"}
+
+
+def test_no_filter_is_of_two_states_of_a_view(
+    monkeypatch: pytest.MonkeyPatch, capsys: pytest.CaptureFixture[str]
+) -> None:
+    """Its first lines would name one, and its ranges may be of the other."""
+    assert made(Changing("s1", "s1"), monkeypatch, "bird") == DONE
+    head = capsys.readouterr().out.split("\n")[1:3]
+    assert head == ["# source RIPE, state s1, serial 7", "# ROAs, state r0"]
+    with pytest.raises(Failure, match="the view has changed meanwhile; ask again"):
+        made(Changing("s1", "s2"), monkeypatch, "bird")
+    assert capsys.readouterr().out == ""
 
 
 def test_lengths(monkeypatch: pytest.MonkeyPatch, capsys: pytest.CaptureFixture[str]) -> None:

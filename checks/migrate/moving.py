@@ -50,6 +50,12 @@ SOURCE_LINE = re.compile(rb"source[ \t\r]*:", re.I)
 UNSALTED = re.compile(rb"SHA256-PW " + SECRET_LINE.pattern, re.I)
 # A registry before a name, and the classes that other registries have.
 SCOPE = re.compile(rb"^([A-Za-z][A-Za-z0-9_-]*)::")
+# A class and its key, right after a word.
+JOINED = re.compile(
+    rb"(?i)[a-z0-9.,](?:(?:aut-num|as-block):\s*as\d|(?:as-set|as-macro|route-set):\s*[ar]s[-\d]"
+    rb"|(?:route|inetnum):\s*\d{1,3}[./]|(?:route6|inet6num):\s*[\da-f]{1,4}:"
+    rb"|mntner:\s*(?:ma?i?nt-|[\w-]+-mnt\s*(?:#|\Z)))"
+)
 OF_CLASSES = set(CLASSES) | {b"person", b"role", b"inet6num", b"route6", b"organisation"}
 
 
@@ -83,6 +89,8 @@ def is_of_two(number: int, attributes: Attributes) -> bool:
         re.search(rb"(?i)(%s)\s*:(?!:)" % b"|".join(OF_CLASSES), UNSALTED.sub(b"", line))
         for line in auths
     ):
+        return True
+    if any(JOINED.search(b":".join([name, b"\n".join(lines)])) for name, lines in attributes):
         return True
     return bool(listed & set(names[:place]) & set(names[place:]))
 

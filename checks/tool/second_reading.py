@@ -247,7 +247,31 @@ def shows_another(piece: Piece) -> str:
         front = piece.names[:place]
         if name in listed and "source" in front and name in front[: front.index("source")]:
             return "goes on after"
+        if any(map(has_class, [f"{name}:{lines[0]}", *lines[1:]])):
+            return "inside a text"
     return ""
+
+
+def has_class(line: str) -> bool:
+    """Whether a class with a key stands in a line directly after a letter, a digit, a dot or a
+    comma."""
+    for found in re.finditer("[a-z0-9.,](?=([a-z0-9-]+):(?!:)(.*))", line.lower()):
+        name, key = found[1], found[2].strip(BLANKS)
+        is_key = {
+            "mntner": re.match(r"ma?i?nt-|[a-z0-9_-]+-mnt\s*(#|$)", key),
+            "route": re.match("[0-9]{1,3}[./]", key),
+            "inetnum": re.match("[0-9]{1,3}[./]", key),
+            "route6": re.match("[0-9a-f]{1,4}:", key),
+            "inet6num": re.match("[0-9a-f]{1,4}:", key),
+            "aut-num": re.match("as[0-9]", key),
+            "as-block": re.match("as[0-9]", key),
+        }
+        is_key |= {
+            kind: re.match("[ar]s[-0-9]", key) for kind in ("as-set", "as-macro", "route-set")
+        }
+        if is_key.get(name):
+            return True
+    return False
 
 
 def no_list(piece: Piece) -> str:

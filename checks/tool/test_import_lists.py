@@ -451,6 +451,41 @@ def test_two_files_that_are_joined_within_a_line(kind: str, cut: str, other: str
     assert line.split("\t")[2] == kind and made(text)[1].taken == 1
 
 
+@pytest.mark.parametrize(
+    "cut", ["descr: Example N", "descr: x\n Example, 5.", "d", "changed: a 20,"]
+)
+@pytest.mark.parametrize(
+    "other",
+    ["aut-num: AS7", "as-block:AS7 - AS9", "as-set: AS-Y", "ROUTE-SET:\tAS7:RS-Y", "as-macro: AS-Y"]
+    + ["route: 10.0.0.0/8", "inetnum: 10/8", "route6: 2001:db8::/32", "inet6num: ff00::/8"]
+    + ["mntner: MAINT-X", "mntner: MNT-X", "mntner: Y-MNT", "mntner: Y-MNT # x"],
+)
+def test_two_files_that_are_joined_within_a_text(cut: str, other: str) -> None:
+    """Otherwise the first object would be what the second one is."""
+    cut_off = f"as-set: AS-X\nas-name: X\n{cut}".encode()
+    rest_of = obj(other, "members: AS666", "mnt-by: B-MNT", "source: RIPE")
+    text = obj("as-set: AS-W", "mnt-by: A-MNT", "source: RIPE") + cut_off + rest_of
+    (line,) = left_out(text)
+    cause, place, first, name, item = line.split("\t")
+    assert (cause, place[-2:], first) == (
+        "a class inside a text, as of two lines that were joined",
+        ":5",
+        "as-set: AS-X",
+    )
+    assert name == (cut + other).partition(":")[0].lower() and other.split()[-1] in item
+    assert made(text)[1].taken == 1
+
+
+@pytest.mark.parametrize(
+    "text",
+    ["see as-set: AS-Y", "(route: 10.0.0.0/8)", "default-route: 0.0.0.0/0", "salesperson: Jo"]
+    + ["as-set: AS-Y", "as-set:AS-Y", "sub-route: of 10.0.0.0/8", "xas-set:: AS-Y", "xmntner: Jo"],
+)
+def test_a_class_in_a_text_that_joins_no_lines(text: str) -> None:
+    own = rest("as-set: AS-X", f"remarks: {text}", "mnt-irt: IRT-X")
+    assert mended(own) == (syntax.read(own[:-1]).text(), set())
+
+
 def test_colons_that_join_no_lines() -> None:
     for kind, value in [
         ("as-set: AS-X", "members: AS1:AS-ROUTE:AS-POEM, AS-PERSON:AS-X"),

@@ -338,6 +338,17 @@ def test_the_list_says_what_each_entry_is_and_agrees_with_the_report() -> None:
     assert counted["left out", "class person"] == 12
 
 
+def test_a_tab_in_a_text_parts_no_column() -> None:
+    text = obj("aut-num: AS1", "mnt-by: A-MNT", "source: X", "mnt-by: A-MNT\tB-MNT")
+    text += obj("mntner: A-MNT", "auth: MD5-PW\tmntner:\tB-MNT", "source: X")
+    text += obj("aut-num: AS2", "descr: x\taut-num:\tAS3", "descr: xaut-num:\tAS3", "source: X")
+    assert [line.split("\t")[4:] for line in listed(text)] == [
+        ["mnt-by", r"A-MNT\x09B-MNT"],
+        ["auth", r"MD5-PW\x09mntner:\x09B-MNT"],
+        ["descr", r"xaut-num:\x09AS3"],
+    ]
+
+
 def test_a_class_that_nobody_knows_is_an_attribute() -> None:
     text = obj("as-set: AS-X", "x-new: y", "mnt-by: A-MNT", "source: TEST")
     assert mended(text)[0].split(b"\n")[1] == b"x-new:          y"

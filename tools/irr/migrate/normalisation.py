@@ -125,7 +125,7 @@ class Mender:
         key, mended = self.keyed(number, attributes)
         names, mended = self.listed(number, mended)
         source, mended = self.sourced(mended)
-        self.need_one(number, attributes)
+        self.need_one(number, attributes, block.text)
         if block.size > syntax.LARGEST:
             self.use("long")
         text = self.written(names, mended)
@@ -155,11 +155,12 @@ class Mender:
         except LeftOut:
             return None
 
-    def need_one(self, number: int, attributes: list[Attribute]) -> None:
+    def need_one(self, number: int, attributes: list[Attribute], text: bytes) -> None:
         """That nothing shows that the line is lost which began another object: the lists of two
         would be one, and so who may change it."""
         seen: set[bytes] = set()
         before: set[bytes] = set()
+        is_joined = parting.JOINED_TEXT.search(text.lower())
         for attribute in attributes:
             name = attribute.name
             if name == b"source":
@@ -172,6 +173,11 @@ class Mender:
                 for line in attribute.lines:
                     if parting.JOINED_LINE.search(PASSWORD.sub(b"", line)):
                         raise LeftOut(parting.JOINED_AUTH, name, line)
+            if is_joined:
+                for place, line in enumerate(attribute.lines):
+                    whole = line if place else name + b":" + line
+                    if parting.JOINED_TEXT.search(whole.lower()):
+                        raise LeftOut(parting.JOINED_IN_TEXT, name, line)
 
     def use(self, kind: str) -> None:
         """Notes that something of this kind is mended."""

@@ -41,6 +41,16 @@ SEAM = re.compile(
 HEAD = re.compile(rb"%s(?:[ \t\r]*\n)?(?:[#%%][^\n]*\n)*" % MARK)
 # An item with the first word of another line: a class, or any name, before a colon.
 JOINED_ITEM = re.compile(rb".*(?:%s):(?!:).*|:(?!:).*|.*(?<!:):" % b"|".join(CLASSES), re.I)
+# A class with such a key as it has, directly after a letter, a digit, a dot or a comma: what a line
+# of text has, or a name, that was joined to one which begins with a class.
+JOINED_TEXT = re.compile(
+    rb":(?:(?:(?<=[a-z0-9.,]aut-num:)|(?<=[a-z0-9.,]as-block:))[ \t\r]*as[0-9]"
+    rb"|(?:(?<=[a-z0-9.,]as-set:)|(?<=[a-z0-9.,]route-set:)|(?<=[a-z0-9.,]as-macro:))"
+    rb"[ \t\r]*[ar]s[-0-9]"
+    rb"|(?:(?<=[a-z0-9.,]route:)|(?<=[a-z0-9.,]inetnum:))[ \t\r]*[0-9]{1,3}[./]"
+    rb"|(?:(?<=[a-z0-9.,]route6:)|(?<=[a-z0-9.,]inet6num:))[ \t\r]*[0-9a-f]{1,4}:"
+    rb"|(?<=[a-z0-9.,]mntner:)[ \t\r]*(?:ma?i?nt-|[a-z0-9_-]+-mnt[ \t\r]*(?:\Z|[\n#])))"
+)
 # What a line has, such as one of an `auth`, that was joined to one which begins with a class.
 JOINED_LINE = re.compile(rb"(?:%s)[ \t\r]*:(?!:)" % b"|".join(CLASSES), re.I)
 # A CR that ends no line, with what is after it, and alone.
@@ -51,6 +61,7 @@ CLASS_AGAIN = "a class again after the first line"
 SOURCE_AGAIN = "`source` twice"
 INSIDE = "no `source`, and no blank line before it"
 JOINED = "an item with a colon, as of two lines that were joined"
+JOINED_IN_TEXT = "a class inside a text, as of two lines that were joined"
 JOINED_AUTH = "a class inside an `auth`, as of two lines that were joined"
 GOES_ON = "a list before `source` that goes on after it"
 

@@ -20,7 +20,7 @@ class Place(NamedTuple):
 
     def text(self) -> str:
         """The path as a line of a list can have it."""
-        return texts.shown_line(f"{self.path}:{self.line}").replace("\t", "\\x09")
+        return column(f"{self.path}:{self.line}")
 
 
 class Listed:
@@ -79,19 +79,19 @@ class Tally:
     ) -> None:
         """Notes a paragraph that is not taken, the lines at which further objects may begin in it,
         each with its number in the file, and the attribute and the item that are the cause."""
-        self.note(self.left_out, cause, place, text, map(texts.shown_line, item))
+        self.note(self.left_out, cause, place, text, map(column, item))
         for number, line in further:
             self.left_out.more[cause] += 1
             self.write("left out with it", cause, entry(place._replace(line=number), line))
 
     def drop(self, dropped: Dropped, place: Place, text: bytes) -> None:
         """Notes an item that is taken out of a list of an object."""
-        words = [texts.shown_line(part) for part in (dropped.attribute, dropped.item)]
+        words = [column(part) for part in (dropped.attribute, dropped.item)]
         self.note(self.items, dropped.cause, place, text, words)
 
     def tell(self, cause: str, place: Place, text: bytes, line: bytes = b"") -> None:
         """Notes what is odd about an object that is taken, and the line of it that is."""
-        words = [texts.shown_line(line).replace("\t", "\\x09")] if line else []
+        words = [column(line)] if line else []
         self.note(self.told, cause, place, text, words)
 
     def note(
@@ -146,6 +146,11 @@ class Tally:
             )
         for listed in self.told, self.items, self.left_out:
             yield from listed.lines()
+
+
+def column(said: bytes | str) -> str:
+    """A text as one of those of a line that tabs part."""
+    return texts.shown_line(said).replace("\t", "\\x09")
 
 
 def shown(first: list[str], count: int) -> Iterator[str]:

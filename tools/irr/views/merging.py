@@ -110,10 +110,10 @@ class ViewMender(Mender):
                 raise LeftOut(INVALID)
         return mended
 
-    def need_one(self, number: int, attributes: list[Attribute]) -> None:
+    def need_one(self, number: int, attributes: list[Attribute], text: bytes) -> None:
         # What is told by itself is one, in whatever order its lines are.
         if not self.is_apart:
-            super().need_one(number, attributes)
+            super().need_one(number, attributes, text)
 
     def of_both_families(self, attribute: Attribute) -> Attribute | None:
         # To an irrdesk it is text.

@@ -196,8 +196,8 @@ def dump_of(port: int) -> bytes:
 
 
 def test_others_are_served_between_the_parts_of_a_long_one(trial: Trial) -> None:
-    """A registry that takes half a second for each part: another sender has its turn after one of
-    them, and not after all."""
+    """Another sender has its turn after the part that was under way when it came, and not after all
+    of them."""
     with Slow() as slow:
         with Opened(trial, "slow-parts", [f"--registry=http://127.0.0.1:{slow.port}"]) as door:
             many = "".join(f"as-set: AS-M{n}\nmnt-by: A-MNT\nsource: TEST\n\n" for n in range(400))
@@ -205,11 +205,17 @@ def test_others_are_served_between_the_parts_of_a_long_one(trial: Trial) -> None
             long = threading.Thread(target=lambda: reports.update(long=door.submit(many, 2)))
             long.start()
             wait_until("a part", 20, lambda: len(slow.sizes) > 1)
-            before = len(slow.sizes)
-            expect(door.submit(ITEM.format("AS-T"), 3)[0], 200, "another one")
-            # Its own is one of them, and another one may have begun before it came.
-            expect(len(slow.sizes) - before <= 4, True, f"{slow.sizes} after {before}")
-            long.join()
+            slow.may_answer.clear()
+            wait_until("a part that is held", 20, lambda: slow.is_held)
+            begun, one = len(slow.sizes) + 1, ITEM.format("AS-T")
+            other = threading.Thread(target=lambda: reports.update(other=door.submit(one, 3)))
+            other.start()
+            wait_until("another one", 20, lambda: door.status()["submissions_waiting"] == 1)
+            slow.may_answer.set()
+            for thread in other, long:
+                thread.join()
+            expect(reports["other"][0], 200, "another one")
+            expect((slow.sizes[begun], slow.sizes.count(1)), (1, 1), f"its turn, of {slow.sizes}")
             expect(reports["long"][2].splitlines()[-1], b"% items 400", "the end of the long one")
             lines = reports["long"][2].splitlines()[:-1]
             expect([int(line.split()[0]) for line in lines], list(range(1, 401)), "its numbers")
@@ -246,6 +252,9 @@ class Slow:
     def __init__(self, parts: int = 1_000) -> None:
         self.parts = parts
         self.sizes: list[int] = []
+        # Nobody gets a report before this is set; whether somebody waits for that.
+        self.may_answer, self.is_held = threading.Event(), False
+        self.may_answer.set()
         self.listener = socket.create_server(("127.0.0.1", 0))
         self.port = self.listener.getsockname()[1]
 
@@ -273,6 +282,8 @@ class Slow:
                     body += peer.recv(1 << 16)
                 names = [line[8:].decode() for line in body.split(b"\n") if line[:7] == b"as-set:"]
                 time.sleep(0.5)
+                self.is_held = not self.may_answer.is_set()
+                self.may_answer.wait()
                 lines = [f"{n} as-set {name}: added\n" for n, name in enumerate(names, 1)]
                 report = "".join([*lines, f"% items {len(names)}\n"])
                 if len(self.sizes) + 1 == self.parts:

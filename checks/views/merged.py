@@ -16,10 +16,12 @@ Roas = list[tuple[Prefix, int, int]]
 
 
 class Several(NamedTuple):
-    """Registries in their order, and ROAs; none where there are no ROAs."""
+    """Registries in their order, and ROAs; none where there are no ROAs. One of them may be an
+    irrdesk, by which a route is a member of as-sets too."""
 
     registries: dict[str, Registry]
     roas: Roas
+    irrdesk: str = ""
 
 
 def several() -> st.SearchStrategy[Several]:
@@ -140,7 +142,8 @@ def unscoped(
 
     attributes = []
     for attribute, value in held.attributes:
-        if attribute == "member-of" and held.kind == "route":
+        is_of_others = held.kind == "route" and held.values("source")[0] != several.irrdesk
+        if attribute == "member-of" and is_of_others:
             # Routes are members of route-sets (RFC 2622, 5.2).
             value = ", ".join(item for item in value.split(", ") if "RS-" in item)
         if attribute in ("members", "member-of"):

@@ -54,6 +54,7 @@ mnt-by: ROOT-MNT
 source: TEST
 """
 AS_X = b"as-set: AS-X\nmembers: AS3\nmnt-by: B-MNT\nsource: RIPE\n\n"
+STATE = "/views/ALL/state"
 AS_FAR = b"as-set: AS1:AS-FAR\nmembers: RIPE::AS-X\nmnt-by: B-MNT\nsource: RIPE\n\n"
 
 
@@ -242,6 +243,26 @@ def test_bgpq4_takes_sources(served: Served) -> None:
         expect((done.returncode, found), (0, wanted), f"{words}: {done}")
     done = bgpq4(port, "-S", "RADB,TEST", "AS1:AS-ALL")
     expect(done.returncode != 0 and " permit " not in done.stdout, True, f"others: {done}")
+
+
+def test_no_filter_is_made_of_what_is_not_known(served: Served) -> None:
+    """While a view is held still its replicas answer, and nobody says of which states."""
+    one, place = served, f"http://127.0.0.1:{served.door.http_port}/views/ALL"
+    path = one.folder / "made.frr"
+    words = ["filter", "-s", place, "frr", "X", "AS1:AS-ALL", str(path)]
+    one.process.send_signal(signal.SIGSTOP)
+    try:
+        wait_until("that it is silent", PATIENCE, lambda: one.door.http("GET", STATE)[0] == 503)
+        status = one.door.http("GET", "/views/ALL/query/prefixes%20AS1:AS-ALL")[0]
+        ran = one.tool(*words)
+        expect((status, ran.status, path.exists()), (200, 5, False), f"meanwhile: {ran.reported!r}")
+    finally:
+        one.process.send_signal(signal.SIGCONT)
+    wait_until("that it tells", PATIENCE, lambda: one.door.http("GET", STATE)[0] == 200)
+    ran = one.tool(*words)
+    expect(ran.status, 0, f"then: {ran.reported!r}")
+    heads = [line.partition(", state ")[0] for line in path.read_text().splitlines()[1:3]]
+    expect(heads, ["! source TEST", "! source RIPE"], "what it was made of")
 
 
 def test_a_view_goes_on_while_its_sources_are_gone(served: Served, tell: Tell) -> None:

@@ -241,8 +241,8 @@ class Http(Connection):
                 return
             pool, path = self.door.pool.views.at(request.path)
             if isinstance(pool, ViewPool) and path == "/state":
-                self.begin_reply("http", "answered")
                 text = pool.made_of()
+                self.begin_reply("http", "answered")
                 head = reply_head(200, len(text), request.is_kept)
                 self.finish(request, head, InMemory(text))
                 return

@@ -3,9 +3,13 @@ import dataclasses
 import json
 from typing import Any, Optional
 
-from irr.door.pool import Pool
+from irr.door.pool import Pool, Refused
 from irr.door.settings import Settings
 from irr.door.upstreams import Upstream
+
+SILENT = "the view does not say what it is made of; ask again later"
+# Seconds after which it may.
+ASK_AGAIN = 2
 
 
 class ViewPool(Pool):
@@ -50,9 +54,11 @@ class ViewPool(Pool):
         return {"serves": self.answers, **self.told.get("view", {"name": self.name or None})}
 
     def made_of(self) -> bytes:
-        """What everybody may know of what it is made of: the states of its sources, and the
-        ROAs."""
+        """What everybody may know of what it is made of: the states of its sources, and the ROAs;
+        Refused while nobody says so."""
         view = self.told.get("view", {})
+        if not view:
+            raise Refused("down", SILENT, ASK_AGAIN)
         sources = [
             {name: one.get(name) for name in ("name", "state", "nrtm", "serial")}
             for one in view.get("sources", [])

@@ -137,7 +137,7 @@ impl Keeper for PlainBook {
 
     fn remove(&mut self, key: &Key) {
         if let Some(old) = lists::remove(&mut self.objects, key) {
-            self.referrers.take_all(&old);
+            self.referrers.take_all_and_free(old);
         }
     }
 

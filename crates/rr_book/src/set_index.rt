@@ -198,6 +198,13 @@ impl SetIndex {
         }
     }
 
+    /// The same, and frees the object.
+    pub(crate) fn take_all_and_free(&mut self, object: Object)
+        ensures { HasTaken object (λ other. false) self.old.keys self.new.keys }
+    {
+        self.take_all(&object);
+    }
+
     /// Takes the key from under the set.
     fn take_from(&mut self, name: &SetName, key: &Key)
         ensures { HasTakenKey name.now key.now self.old.keys self.new.keys }

@@ -10,9 +10,9 @@ pub invariant_of-self : goal.invariant_of-self
 invariant_of-self c =
     let k = c.args.key.now in
     indexed_removal c.self.inside.objects.items c.self.inside.referrers.keys c.self.invariant
-    c.remove.new.objects.items k c.in-Some.old c.take_all.new.self.keys
+    c.remove.new.objects.items k c.in-Some.old c.take_all_and_free.new.self.keys
     (subst (λ r. Sound (remove r k)) (sym c.self.view_is) c.requires) c.remove.ensures.rest
-    (sym c.in-Some.is ∙ c.remove.ensures.old) c.take_all.ensures
+    (sym c.in-Some.is ∙ c.remove.ensures.old) c.take_all_and_free.ensures
 
 pub invariant_of-self-in_default : goal.invariant_of-self-in_default
 invariant_of-self-in_default c =

@@ -75,7 +75,7 @@ impl IndexedBook {
         match self.objects.add(alloc, object) {
             Ok(()) => Ok(()),
             Err(refused) => {
-                self.indexes.leave(&self.objects, &refused.value);
+                self.indexes.leave_and_free(&self.objects, refused.value);
                 Err(AllocError)
             }
         }
@@ -176,7 +176,7 @@ impl Keeper for IndexedBook {
 
     fn remove(&mut self, key: &Key) {
         if let Some(old) = self.objects.remove(key) {
-            self.indexes.leave(&self.objects, &old);
+            self.indexes.leave_and_free(&self.objects, old);
         }
     }
 

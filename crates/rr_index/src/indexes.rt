@@ -217,4 +217,14 @@ impl Indexes {
         self.referrers.take_all(gone);
         self.namings.take(gone);
     }
+
+    /// The same, and frees the object.
+    pub(crate) fn leave_and_free(&mut self, objects: &ObjectMap, gone: Object)
+        requires { Sound objects.now }
+        ensures { (r : Reg) → HasIndexes r self.old → get r gone.key ≡ Some gone
+            → objects.now ≡ remove r gone.key
+            → HasIndexes objects.now self.new }
+    {
+        self.leave(objects, &gone);
+    }
 }

@@ -28,7 +28,7 @@ invariant_of-self-in-Err c =
     ∙ c.requires.free in
     record {
       sound = subst Sound (sym c.in-Err.ensures.err) c.self.invariant.sound;
-      indexes = c.leave.ensures (insert r o.key o)
+      indexes = c.leave_and_free.ensures (insert r o.key o)
           (c.in_ok-enter.ensures.ok r c.self.invariant.indexes free)
           (subst (λ (x : Obj). get (insert r o.key o) x.key ≡ Some x)
           (sym c.in-Err.ensures.returned) (put_there r o.key o))

@@ -14,7 +14,7 @@ invariant_of-self c =
     record {
       sound = subst Sound (sym c.remove.ensures.rest) (subst (λ (s : Reg). Sound (remove s k))
           (sym c.self.view_is) c.requires);
-      indexes = c.leave.ensures r c.self.invariant.indexes (ap (get r) own ∙ at)
+      indexes = c.leave_and_free.ensures r c.self.invariant.indexes (ap (get r) own ∙ at)
           (c.remove.ensures.rest ∙ ap (remove r) (sym own));
     }
 

@@ -25,6 +25,8 @@ TOOLS = str(Path(__file__).resolve().parents[2] / "tools")
 HEAD = b"HTTP/1.1 200 OK\r\nContent-Type: text/plain\r\nConnection: close\r\n"
 OBJECT = b"aut-num:        AS1\nmnt-by:         A-MNT\nsource:         TEST\n\n"
 DUMP = OBJECT + b"% end 1\n"
+# The most seconds that a quick reply takes, on a machine that does other things.
+SOON = 60
 
 
 @contextlib.contextmanager
@@ -89,22 +91,24 @@ class Replies(unittest.TestCase):
                                 ),
                             )
                         self.assertLess(time.monotonic() - start, 2)
-            with answering(HEAD + b"\r\n" + OBJECT) as place:
-                self.assertEqual(len(place.query("AS1").objects()), 1)
             with answering([b"x"], pause=0.02) as place:
                 self.fails(lambda: list(place.submit(b"x")), "irr diff FILE.*`unchanged`$", Lost)
+        with mock.patch.multiple(replies, ANSWER=Bounds(SOON, 1 << 20)):
+            with answering(HEAD + b"\r\n" + OBJECT) as place:
+                self.assertEqual(len(place.query("AS1").objects()), 1)
 
     def test_a_reply_may_take_long_while_it_is_fast(self) -> None:
         """What comes fast enough may take longer, and is ended once it does not."""
-        fast, slow = Bounds(0.3, 1 << 30, 1_000), Bounds(0.3, 1 << 30)
+        # It takes over three seconds, and is ahead of its time by one always.
+        fast, slow = Bounds(2, 1 << 30, 5_000), Bounds(2, 1 << 30)
         pieces = [HEAD + b"\r\n", *([OBJECT * 10] * 20), b"% end 200\n"]
-        with mock.patch.multiple(replies, DUMP=fast), answering(*pieces, pause=0.03) as place:
+        with mock.patch.multiple(replies, DUMP=fast), answering(*pieces, pause=0.15) as place:
             self.assertEqual(sum(map(len, place.dump())), len(OBJECT) * 200 + 10)
-        with mock.patch.multiple(replies, DUMP=slow), answering(*pieces, pause=0.03) as place:
+        with mock.patch.multiple(replies, DUMP=slow), answering(*pieces, pause=0.15) as place:
             self.fails(lambda: list(place.dump()), "was not whole after")
         with (
             mock.patch.multiple(replies, DUMP=fast),
-            answering(*pieces[:5], [b""], pause=0.03) as place,
+            answering(*pieces[:5], [b""], pause=0.15) as place,
         ):
             self.fails(lambda: list(place.dump()), "was not whole after")
 

@@ -2,6 +2,7 @@
 the next run goes on by itself."""
 
 import contextlib
+import errno
 import gzip
 import itertools
 import os
@@ -452,6 +453,37 @@ def is_ended(folder: Path, step: int, by: int) -> bool:
     status = os.waitstatus_to_exitcode(os.waitpid(number, 0)[1])
     expect(status in (0, -by, 128 + by), True, f"status {status} at step {step}")
     return status != 0
+
+
+def test_a_mirror_goes_on_where_its_folder_failed(
+    tmp_path: Path, monkeypatch: pytest.MonkeyPatch
+) -> None:
+    """After what was made had been put away, and before what was made then had its place."""
+    made_in(tmp_path / "made", MADE)
+    keeper, calls, rename = replicas.Keeper(tmp_path, [], None, 0), list[Any](), os.rename
+    keeper.start(10)
+
+    def failing(*words: Any) -> None:
+        calls.append(words)
+        if len(calls) == 2:
+            raise OSError(errno.EIO, "Input/output error")
+        rename(*words)
+
+    def fault_of(texts: dict[str, str] | None) -> str:
+        """What is wrong with a renewal in which this is made, or nothing new."""
+        keeper.attempt(
+            lambda: keeper.renew(lambda work, _: made_in(work, texts) if texts else None),
+            is_renewal=True,
+        )
+        return keeper.fault
+
+    monkeypatch.setattr(os, "rename", failing)
+    expect("input/output error" in fault_of(NEXT), True, f"what is wrong: {keeper.fault}")
+    for texts in None, NEXT:
+        expect(fault_of(texts), "", "what is wrong with the next one")
+        dump = (tmp_path / "made" / "dump.rpsl").read_text(encoding="ascii")
+        expect(dump, (texts or MADE)["dump.rpsl"], "the state")
+    expect(os.listdir(tmp_path), ["made"], "what is left")
 
 
 def test_a_registry_of_its_own_ends_with_it(program: str, monkeypatch: pytest.MonkeyPatch) -> None:

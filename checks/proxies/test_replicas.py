@@ -57,16 +57,7 @@ def test_replicas_answer_as_the_registry_does_while_it_changes(
                 PATIENCE,
                 lambda: not os.path.exists(os.path.join(folder, "made.next")),
             )
-            hashes = AUTH.split(":")[1].encode()
-            for path, _, names in os.walk(folder):
-                for name in names:
-                    expect(
-                        os.stat(os.path.join(path, name)).st_mode & 0o077,
-                        0,
-                        f"the rights of {name}",
-                    )
-                    with open(os.path.join(path, name), "rb") as file:
-                        expect(hashes in file.read(), False, f"a hash in {name}")
+            wait_until("a look at all files", PATIENCE, lambda: are_private(folder))
             always(world, ports, log)
             same_answers(world, ports, tools)
             for tool in tools:
@@ -115,6 +106,22 @@ def test_replicas_answer_as_the_registry_does_while_it_changes(
             )
     expect_line(tool("mirror", "--port", "1", "--port", "1", "x"), 2, ".*ports.*", "one port twice")
     tell(f"{len(QUERIES)} queries and the dump, 2 replicas")
+
+
+def are_private(folder: str) -> bool:
+    """That nobody else may read a file of the replicas, and none has a hash. False where one went
+    meanwhile: each second they are made anew."""
+    hashes = AUTH.split(":")[1].encode()
+    for path, _, names in os.walk(folder):
+        for name in names:
+            try:
+                with open(os.path.join(path, name), "rb") as file:
+                    mode, text = os.fstat(file.fileno()).st_mode, file.read()
+            except FileNotFoundError:
+                return False
+            expect(mode & 0o077, 0, f"the rights of {name}")
+            expect(hashes in text, False, f"a hash in {name}")
+    return True
 
 
 class Told:

@@ -68,7 +68,7 @@ async def opened(
     reported: list[str] = []
     running = asyncio.create_task(door.run(reported.append))
     await until(lambda: reported and door.pool.source or running.done())
-    asyncio.get_running_loop().set_exception_handler(lambda _, told: troubles.append(told))
+    asyncio.get_running_loop().set_exception_handler(lambda _, context: troubles.append(context))
     try:
         yield door, upstream
     finally:

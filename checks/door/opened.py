@@ -246,13 +246,13 @@ class Bridge:
             self.serve()
         # It listens, however long a busy machine takes to begin it.
         end = time.monotonic() + PATIENCE
-        while not self.said():
+        while not self.sources():
             if time.monotonic() > end or os.waitpid(self.number, os.WNOHANG)[0]:
                 raise Failure("the door does not open")
             time.sleep(0.02)
         # Its first look at the registry has to be over, which may not be there.
         end = time.monotonic() + 20
-        while time.monotonic() < end and not self.said().startswith(b"A"):
+        while time.monotonic() < end and not self.sources().startswith(b"A"):
             time.sleep(0.02)
         return self.port
 
@@ -269,7 +269,7 @@ class Bridge:
         finally:
             os._exit(status)
 
-    def said(self) -> bytes:
+    def sources(self) -> bytes:
         """What it says of its sources; nothing where it does not listen yet."""
         with contextlib.suppress(OSError), socket.create_connection(
             ("127.0.0.1", self.port), 10

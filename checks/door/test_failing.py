@@ -201,19 +201,19 @@ def test_the_status_is_told_while_all_connections_are_taken(trial: Trial) -> Non
             for peer in peers:
                 peer.sendall(b"!!\n!s-lc\n")
                 expect(peer.recv(64), b"A5\nTEST\nC\n", "an answer")
-            told = b"% too many connections; come again later\n"
-            expect(door.whois("AS1", 30), told, "one more")
+            refusal = b"% too many connections; come again later\n"
+            expect(door.whois("AS1", 30), refusal, "one more")
             expect(door.status()["connections"], 31, "the connections that the status tells")
             expect(door.http("GET", "/status", port=door.status_port)[0], 200, "the status")
             held += [door.connect(door.status_port) for _ in range(100)]
-            wait_until("that the status has a bound", 60, lambda: is_told(held[-1]))
+            wait_until("that the status has a bound", 60, lambda: is_refused(held[-1]))
             peers[0].sendall(b"!s-lc\n")
             expect(peers[0].recv(64), b"A5\nTEST\nC\n", "one who was let in")
             for peer in [*held, *peers]:
                 peer.close()
 
 
-def is_told(peer: socket.socket) -> bool:
+def is_refused(peer: socket.socket) -> bool:
     """Whether something came."""
     peer.settimeout(1)
     with contextlib.suppress(TimeoutError):
@@ -260,24 +260,24 @@ def test_an_http_client_can_send_what_it_likes(trial: Trial, each: Each) -> None
 
 
 def test_replicas_are_found_by_the_agent_and_old_ones_left_out(trial: Trial) -> None:
-    port, told = free_port(), {}
+    port, state = free_port(), {}
     with Registries(trial, "agent", worlds.DUMP, replicas=2) as registries:
         ports = registries.ports[1:]
 
-        def tell(ages: list[float], fault: str = "") -> None:
+        def report(ages: list[float], fault: str = "") -> None:
             entries = [
                 {"port": at, "ready": True, "state": "a", "seen": time.time() - age}
                 for at, age in zip(ports, ages)
             ]
-            told["text"] = json.dumps({"replicas": entries, "fault": fault}).encode() + b"\n"
+            state["text"] = json.dumps({"replicas": entries, "fault": fault}).encode() + b"\n"
 
         def serve(listener: socket.socket) -> None:
             for peer in accepted(listener):
                 with peer:
                     if peer.recv(64) == b"state\n":
-                        peer.sendall(told["text"])
+                        peer.sendall(state["text"])
 
-        tell([1, 2])
+        report([1, 2])
         with socket.create_server(("127.0.0.1", port)) as listener:
             threading.Thread(target=serve, args=(listener,), daemon=True).start()
             words = [registries.words[0], f"--agent=127.0.0.1:{port}"]
@@ -288,7 +288,7 @@ def test_replicas_are_found_by_the_agent_and_old_ones_left_out(trial: Trial) -> 
                     lambda: sum(one["serves"] for one in door.status()["upstreams"][1:]) == 2,
                 )
                 expect(door.status()["upstreams"][2]["age"] >= 2, True, "an age")
-                tell([1, 500])
+                report([1, 500])
                 wait_until(
                     "that the old one is left out",
                     20,
@@ -297,7 +297,7 @@ def test_replicas_are_found_by_the_agent_and_old_ones_left_out(trial: Trial) -> 
                 expect(door.status()["well"], False, "whether all is well")
                 expect("old" in door.status()["faults"][0], True, "the fault")
                 expect(door.whois("AS1")[:8], b"aut-num:", "an answer")
-                tell([1, 1], "it has other objects")
+                report([1, 1], "it has other objects")
                 wait_until(
                     "a fault",
                     20,
@@ -305,7 +305,7 @@ def test_replicas_are_found_by_the_agent_and_old_ones_left_out(trial: Trial) -> 
                     in door.status()["faults"],
                 )
                 expect(door.metrics()["irrdesk_door_renewal_failed"], 1.0, "the figure")
-                tell([500, 500], "no server listens there")
+                report([500, 500], "no server listens there")
                 wait_until(
                     "that both are old",
                     20,

@@ -49,7 +49,7 @@ class Ports:
         # None of these is one of those that the process gets.
         self.handed = [fcntl.fcntl(one, fcntl.F_DUPFD, 64) for one in self.sockets]
         # The door that was told to end last.
-        self.told = 0
+        self.ending = 0
         paths = [os.path.join(TOP, "tools"), os.environ.get("PYTHONPATH", "")]
         self.environment = {
             **os.environ,
@@ -85,8 +85,8 @@ class Ports:
 
     def end(self, process: subprocess.Popen[bytes]) -> None:
         """Tells a door to end, once."""
-        if process.pid != self.told:
-            self.told = process.pid
+        if process.pid != self.ending:
+            self.ending = process.pid
             process.send_signal(signal.SIGTERM)
 
     def lets_in(self, process: subprocess.Popen[bytes]) -> bool:

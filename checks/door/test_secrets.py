@@ -46,11 +46,11 @@ def test_no_line_of_a_log_has_a_secret(door: Opened, size: int) -> None:
     door.whois(f"-x password: {SECRET}")
     door.whois(f"!m{SECRET},{SECRET}")
     with open(door.log, encoding="utf-8") as file:
-        told = file.read() + door.words_reported() + log_of(door)
+        logged = file.read() + door.words_reported() + log_of(door)
     for word in SECRET, "PASSWORD", "password:", "0" * 64:
-        found = [line for line in told.splitlines() if word.lower() in line.lower()]
+        found = [line for line in logged.splitlines() if word.lower() in line.lower()]
         expect([line for line in found if "413 passwords" not in line], [], f"lines with {word}")
-    expect('"mnt-by": ["ROOT-MNT"]' in told, True, "the maintainers of others")
+    expect('"mnt-by": ["ROOT-MNT"]' in logged, True, "the maintainers of others")
 
 
 def log_of(door: Opened) -> str:

@@ -176,7 +176,7 @@ def test_a_replica_that_is_about_to_stop_is_asked_nothing(monkeypatch: pytest.Mo
         async with contextlib.AsyncExitStack() as stack, asyncio.timeout(SOON):
             urls = [await stack.enter_async_context(answering(one)) for one in made]
 
-            async def tell(_: bytes, writer: asyncio.StreamWriter) -> None:
+            async def report(_: bytes, writer: asyncio.StreamWriter) -> None:
                 entry = '{"port": %s, "ready": %s, "state": "a", "seen": %s}'
                 ready = zip(urls, ("false", "true"))
                 entries = [
@@ -184,7 +184,7 @@ def test_a_replica_that_is_about_to_stop_is_asked_nothing(monkeypatch: pytest.Mo
                 ]
                 writer.write(f'{{"replicas": [{", ".join(entries)}]}}\n'.encode())
 
-            agent = (await stack.enter_async_context(answering(tell))).removeprefix("http://")
+            agent = (await stack.enter_async_context(answering(report))).removeprefix("http://")
             door, _ = await stack.enter_async_context(
                 inside.opened(lambda _: CHEAP, agent=agent, keep=0)
             )
@@ -323,12 +323,12 @@ def test_a_kept_answer_lasts_until_a_replica_is_renewed(monkeypatch: pytest.Monk
         async with answering(timed) as at:
             port = at.rpartition(":")[2]
 
-            async def tell(_: bytes, writer: asyncio.StreamWriter) -> None:
+            async def report(_: bytes, writer: asyncio.StreamWriter) -> None:
                 entry = '{"port": %s, "ready": true, "state": "%s", "seen": %s}'
                 text = '{"replicas": [%s]}\n' % (entry % (port, state[0], time.time()))
                 writer.write(text.encode())
 
-            async with answering(tell) as agent:
+            async with answering(report) as agent:
                 named = agent.removeprefix("http://")
                 async with inside.opened(lambda _: CHEAP, agent=named) as (door, _):
                     place, counts = door.settings.whois[0], list[int]()

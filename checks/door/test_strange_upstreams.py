@@ -148,7 +148,7 @@ def test_another_one_is_asked_for_what_is_cheap_alone(
 
 
 # What an agent says, each a whole reply: the door goes on with what it knew.
-SAID = {
+STATES = {
     "nothing": b"",
     "no JSON": b"x\n",
     "too deep": b"[" * 100_000,
@@ -161,20 +161,20 @@ SAID = {
 }
 
 
-@pytest.mark.parametrize("name", SAID)
+@pytest.mark.parametrize("name", STATES)
 def test_an_agent_that_says_what_none_does_is_asked_again(
     monkeypatch: pytest.MonkeyPatch, name: str
 ) -> None:
     monkeypatch.setattr("irr.door.upstreams.ASKING", 0.05)
     monkeypatch.setattr("irr.door.upstreams.ASKING_AGAIN", 0.05)
-    said, count = [SAID[name]], [0]
+    state, count = [STATES[name]], [0]
 
-    async def tell(line: bytes, writer: asyncio.StreamWriter) -> None:
+    async def report(line: bytes, writer: asyncio.StreamWriter) -> None:
         count[0] += line == b"state\n"
-        writer.write(said[0])
+        writer.write(state[0])
 
     async def ask() -> tuple[bytes, list[str]]:
-        async with answering(tell) as strange, answering(good) as other:
+        async with answering(report) as strange, answering(good) as other:
             place = strange.removeprefix("http://")
             async with inside.opened(lambda line: ANSWER, agent=place) as (door, _):
                 async with asyncio.timeout(SOON):
@@ -182,7 +182,7 @@ def test_an_agent_that_says_what_none_does_is_asked_again(
                     found = await inside.asked(door.settings.whois[0], b"AS1")
                     port = int(other.rpartition(":")[2])
                     entry = {"port": port, "ready": True, "state": "a", "seen": 1.0}
-                    said[0] = json.dumps({"replicas": [entry], "fault": ""}).encode() + b"\n"
+                    state[0] = json.dumps({"replicas": [entry], "fault": ""}).encode() + b"\n"
                     names = [f"replica 127.0.0.1:{port}"]
                     await inside.until(lambda: [one.name for one in door.pool.replicas] == names)
                 return found, names
@@ -197,7 +197,7 @@ def test_a_replica_that_the_agent_no_longer_names_is_forgotten(
     monkeypatch.setattr("irr.door.upstreams.ASKING", 0.05)
     named: list[str] = []
 
-    async def tell(_: bytes, writer: asyncio.StreamWriter) -> None:
+    async def report(_: bytes, writer: asyncio.StreamWriter) -> None:
         entries = [
             {
                 "port": int(one.rpartition(":")[2]),
@@ -210,7 +210,7 @@ def test_a_replica_that_the_agent_no_longer_names_is_forgotten(
         writer.write(json.dumps({"replicas": entries, "fault": ""}).encode() + b"\n")
 
     async def ask() -> tuple[list[str], bytes]:
-        async with answering(tell) as strange, answering(good) as other:
+        async with answering(report) as strange, answering(good) as other:
             gone = f"http://127.0.0.1:{free_port()}"
             place = strange.removeprefix("http://")
             named.extend([other, gone])

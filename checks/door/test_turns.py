@@ -171,9 +171,9 @@ def history(trial: Trial) -> Path:
     folder = Path(trial.place("history"))
     (folder / "serials").mkdir()
     for last in range(1, serials.MOST_STATES + 1):
-        told = serials.Told("TEST", last, last, 0, "0" * 40, "0" * 64)
+        numbered = serials.Numbered("TEST", last, last, 0, "0" * 40, "0" * 64)
         text = b"\nADD %d\n\naut-num: AS%d\nsource: TEST\n" % (last, last)
-        serials.Serials(folder).path(last).write_bytes(told.head() + text)
+        serials.Serials(folder).path(last).write_bytes(numbered.head() + text)
     return folder
 
 

@@ -335,7 +335,7 @@ DUMP_WORDS = {
 }
 
 
-def told_place(text: bytes, number: int) -> tuple[int, str]:
+def place_of(text: bytes, number: int) -> tuple[int, str]:
     """The line on which a paragraph begins, and its class and key where they can be read."""
     place, at, found = 0, 0, 0
     for at, line in enumerate(lines_of(text), 1):
@@ -373,7 +373,7 @@ def test_dumps_of_chance_are_loaded_or_their_fault_is_reported(trial: Trial, tel
             loaded += 1
             continue
         number, fault = wanted
-        line, key = told_place(text, number)
+        line, key = place_of(text, number)
         wrong = DUMP_WORDS.get(fault, f"is not an object: {fault}")
         reported = (
             f"irrdesk: d.rpsl, line {line}{key}: nothing is loaded, because paragraph"

@@ -103,7 +103,7 @@ def test_what_was_reported_of_a_submission_stands_on_a_full_disk(trial: Trial, t
     for turn in range(tries):
         folder = copied(trial, base, f"full-{turn}")
         most = chance.randrange(4_096, largest) if turn % 4 else chance.randrange(8, 40) * 4_096
-        stopped += told_stands(
+        stopped += reported_stands(
             trial,
             over_pipe(trial, folder, most, "submit", "s.toml", "items.rpsl"),
             folder,
@@ -114,7 +114,7 @@ def test_what_was_reported_of_a_submission_stands_on_a_full_disk(trial: Trial, t
     tell(f"{tries} sizes of files, {stopped} of which stopped a submission of {count} items")
 
 
-def told_stands(
+def reported_stands(
     trial: Trial,
     ran: Ran,
     folder: str,
@@ -207,7 +207,7 @@ def test_what_was_reported_stands_on_a_full_file_system(trial: Trial, tell: Tell
             expect(trial.run(folder, "init", "s.toml").status, 0, "init")
             ran = trial.run(folder, "submit", "s.toml", "../items.rpsl")
             subprocess.run(["mount", "-o", "remount,size=128m", folder], check=True)
-            stopped += told_stands(
+            stopped += reported_stands(
                 trial, ran, folder, found, f"a file system of {size} KiB", STORE_FULL
             )
         finally:

@@ -17,7 +17,7 @@ class Dump(NamedTuple):
     renamed: dict[str, str]
     texts: list[str]
     dropped: dict[str, int]
-    told: dict[str, int] = {}
+    odd: dict[str, int] = {}
 
 
 RIPE = Dump(

@@ -124,13 +124,13 @@ def test_a_dump_of_another_registry_is_loaded_as_its_rules_say(
         for cause, count in re.findall(r"^dropped from lists, (.*): ([0-9]+)$", report, re.M)
     }
     expect(dropped, dump.dropped, "what is dropped from lists")
-    told = {
+    odd = {
         cause: int(count) for cause, count in re.findall(r"^taken, (.*): ([0-9]+)$", report, re.M)
     }
-    expect(told, dump.told, "what is told of what is taken")
+    expect(odd, dump.odd, "what is told of what is taken")
     with open(os.path.join(folder, "left-out"), encoding="latin-1") as listed:
         entries = [line.rstrip("\n").split("\t") for line in listed]
-    for what, wanted in ("left out", causes), ("dropped from lists", dropped), ("taken", told):
+    for what, wanted in ("left out", causes), ("dropped from lists", dropped), ("taken", odd):
         expect(
             Counter(cause for found, cause, *_ in entries if found == what),
             wanted,

@@ -37,7 +37,7 @@ class Mirror4:
         self.source, self.folder = source, Path(folder)
         # The key that is trusted, and the one that may sign next.
         self.key, self.next_key = public_key, ""
-        self.session, self.version, self.told = "", 0, datetime.min.replace(tzinfo=timezone.utc)
+        self.session, self.version, self.made = "", 0, datetime.min.replace(tzinfo=timezone.utc)
         self.objects: dict[Key, str] = {}
         self.snapshots = self.deltas = 0
 
@@ -64,10 +64,10 @@ class Mirror4:
         notice: Record = json.loads(self.payload((self.folder / NOTIFICATION).read_bytes()))
         need_fields(notice, COMMON | {"timestamp", "snapshot", "deltas"}, {"next_signing_key"})
         self.need_head(notice, "notification")
-        told = datetime.strptime(notice["timestamp"], "%Y-%m-%dT%H:%M:%S%z")
-        if told < self.told or told < datetime.now(timezone.utc) - timedelta(hours=24):
-            raise Failure(f"it was told at {told}, and the one before at {self.told}")
-        self.told, self.next_key = told, notice.get("next_signing_key", "")
+        made = datetime.strptime(notice["timestamp"], "%Y-%m-%dT%H:%M:%S%z")
+        if made < self.made or made < datetime.now(timezone.utc) - timedelta(hours=24):
+            raise Failure(f"it was made at {made}, and the one before at {self.made}")
+        self.made, self.next_key = made, notice.get("next_signing_key", "")
         files = [notice["snapshot"], *notice["deltas"]]
         for one in files:
             need_fields(one, FILE, set())

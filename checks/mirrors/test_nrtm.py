@@ -105,9 +105,9 @@ def test_it_answers_mirrors_and_nobody_else(world: Changing, each: Each, trial: 
         peer.sendall(f"-k -g TEST:3:{last}-LAST\n".encode() * 2 + b"-k\n")
         expect(read_all(peer).decode(), 2 * ask(port, f"-g TEST:3:{last}-{last}"), "two ranges")
     with each("the status"):
-        told = door.status()["serials"]
-        expect((told["first"], told["last"]), (begun + 1, last), "the serials")
-        expect(list(told["mirrors"]), ["127.0.0.1"], "the mirrors")
+        serials = door.status()["serials"]
+        expect((serials["first"], serials["last"]), (begun + 1, last), "the serials")
+        expect(list(serials["mirrors"]), ["127.0.0.1"], "the mirrors")
         ask(port, f"-g TEST:3:{last + 9}-LAST")
         expect("serials went back" in " ".join(door.status()["faults"]), True, "one that is ahead")
         ask(port, f"-g TEST:3:{last + 1}-LAST")

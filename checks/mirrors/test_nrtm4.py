@@ -380,8 +380,8 @@ def test_a_mirror_has_the_public_dump_at_every_version(
                 key for key in objects.keys() | dump.keys() if objects.get(key) != dump.get(key)
             }
             expect(sorted(differing)[:5], [], f"what differs of a mirror at {place}")
-    told = ", ".join(f"{name} {count}" for name, count in counts.items())
+    figures = ", ".join(f"{name} {count}" for name, count in counts.items())
     tell(
         f"{world.changes} changes, {len(had)} versions compared, {mirror.snapshots} snapshots,"
-        f" {mirror.deltas} changes files; {told}"
+        f" {mirror.deltas} changes files; {figures}"
     )

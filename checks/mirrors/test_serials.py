@@ -24,7 +24,7 @@ from irr.rpsl import syntax
 IN_MEMORY = True
 ROOT = "mntner:         ROOT-MNT\nauth:           # filtered\nmnt-by:         ROOT-MNT\n"
 NOW = 1_800_000_000
-Kept = tuple[nrtm.Mirrors, serials.Told, list[tuple[str, str]]]
+Kept = tuple[nrtm.Mirrors, serials.Numbered, list[tuple[str, str]]]
 
 
 def aut_num(number: int, source: str = "TEST") -> str:
@@ -44,18 +44,18 @@ class States:
         digest = hashlib.sha256(text.encode()).hexdigest()
         self.repository.record(syntax.blocks([text.encode()]), lambda: digest, now)
 
-    def update(self, now: int = NOW) -> serials.Told:
+    def update(self, now: int = NOW) -> serials.Numbered:
         self.serials.update(self.repository, now)
         return self.serials.range()
 
-    def add(self, *objects: str, source: str = "TEST", now: int = NOW) -> serials.Told:
+    def add(self, *objects: str, source: str = "TEST", now: int = NOW) -> serials.Numbered:
         self.commit(*objects, source=source, now=now)
         return self.update(now)
 
     def parts(self, first: int, last: int) -> list[serials.Part]:
         return [part for some in self.serials.parts(first, last) for part in some]
 
-    def told(self, first: int, last: int) -> list[tuple[str, str]]:
+    def changes(self, first: int, last: int) -> list[tuple[str, str]]:
         """The changes of a range, each as its words and its key."""
         text = b""
         for part in self.parts(first, last):
@@ -83,12 +83,12 @@ def test_each_change_has_the_next_serial(states: States) -> None:
         (f"ADD {begun + 3}", "AS3"),
         (f"DEL {begun + 4}", "AS1"),
     ]
-    expect(states.told(begun + 1, begun + 4), wanted, "all of them")
-    expect(states.told(begun + 3, begun + 4), wanted[2:], "one that came, and one that went")
+    expect(states.changes(begun + 1, begun + 4), wanted, "all of them")
+    expect(states.changes(begun + 3, begun + 4), wanted[2:], "one that came, and one that went")
     for serial in range(begun + 1, begun + 5):
-        words = [word for word, _ in states.told(serial, serial)]
+        words = [word for word, _ in states.changes(serial, serial)]
         expect([word.split()[1] for word in words], [str(serial)], "each alone")
-    expect(len(states.told(begun + 2, begun + 3)), 2, "from the midst of one file to another's")
+    expect(len(states.changes(begun + 2, begun + 3)), 2, "from the midst of one file to another's")
 
 
 def test_what_a_stop_left_out_is_made_up_for(states: States) -> None:
@@ -100,7 +100,7 @@ def test_what_a_stop_left_out_is_made_up_for(states: States) -> None:
     found = states.update()
     begun = NOW // 10
     expect(
-        states.told(begun + 1, found.last),
+        states.changes(begun + 1, found.last),
         [(f"ADD {begun + 1}", "AS1"), (f"ADD {begun + 2}", "AS2")],
         "two states of which none had a serial",
     )
@@ -149,7 +149,7 @@ def test_a_registry_that_went_back_goes_on_with_higher_serials(states: States) -
     before = states.add(aut_num(1), aut_num(2))
     after = states.add(aut_num(1))
     expect((after.first, after.last), (before.first, before.last + 1), "the serials")
-    expect(states.told(after.last, after.last), [(f"DEL {after.last}", "AS2")], "what it told")
+    expect(states.changes(after.last, after.last), [(f"DEL {after.last}", "AS2")], "what it told")
 
 
 def test_the_clock_never_lets_serials_go_back(states: States) -> None:
@@ -166,7 +166,7 @@ def test_the_last_states_are_kept(states: States, monkeypatch: pytest.MonkeyPatc
         found = states.add(aut_num(number))
     expect(len(states.serials.kept()), 3, "how many")
     expect((found.first, found.last), (found.last - 5, found.last), "the range")
-    expect(len(states.told(found.first, found.last)), 6, "what it has")
+    expect(len(states.changes(found.first, found.last)), 6, "what it has")
     monkeypatch.setattr(serials, "MOST_BYTES", 1)
     found = states.add()
     expect(states.serials.kept(), [found.last], "the last one, of whatever size")
@@ -209,13 +209,13 @@ def test_a_change_is_found_wherever_it_stands(
     monkeypatch.setattr(serials, "STRETCH", stretch)
     states.add(aut_num(9))
     found = states.add(*(aut_num(number) for number in range(1, 7)))
-    wanted = states.told(found.first, found.last)
+    wanted = states.changes(found.first, found.last)
     for place in range(len(wanted)):
         serial = found.first + place
-        expect(states.told(serial, serial), wanted[place : place + 1], f"serial {serial}")
+        expect(states.changes(serial, serial), wanted[place : place + 1], f"serial {serial}")
 
 
-def test_serials_that_cannot_be_read_are_refused_and_told(states: States) -> None:
+def test_serials_that_cannot_be_read_are_refused_and_reported(states: States) -> None:
     states.add()
     states.add(aut_num(1))
     found = states.add(aut_num(1), aut_num(2))
@@ -240,7 +240,7 @@ def kept(trial: Trial) -> Kept:
         states.add(*(aut_num(own) for own in range(number, 2 * number, 1 + number % 2)))
     mirrors = nrtm.Mirrors(Settings(mirrors=("192.0.2.1",), history=str(states.folder)))
     found = states.serials.range()
-    return mirrors, found, states.told(found.first, found.last)
+    return mirrors, found, states.changes(found.first, found.last)
 
 
 class Asking:
@@ -283,8 +283,8 @@ def test_a_range_is_told_exactly_or_refused(
     assert mirror.take(text, lambda one: seen.append(one.serial)) == last - first + 1
     assert seen == list(range(first, last + 1))
     blocks = text.strip("\n").split("\n\n")[1:-1]
-    told = [(word, key_of(block)[1]) for word, block in zip(blocks[::2], blocks[1::2])]
-    assert told == all_of_it[first - found.first : last - found.first + 1]
+    changes = [(word, key_of(block)[1]) for word, block in zip(blocks[::2], blocks[1::2])]
+    assert changes == all_of_it[first - found.first : last - found.first + 1]
 
 
 @given(st.text() | st.from_regex(nrtm.ASKED), st.text() | st.ip_addresses().map(str))

@@ -62,7 +62,7 @@ class Writer4:
         records = [{"object": text.removesuffix("\n")} for text in self.objects.values()]
         self.snapshot = self.put("snapshot", records)
 
-    def tell(self, changes: "list[tuple[str, str]]") -> None:
+    def publish(self, changes: "list[tuple[str, str]]") -> None:
         """Another version, by changes of objects, each known by its first line."""
         for word, text in changes:
             if word == "ADD":
@@ -99,7 +99,7 @@ class Writer4:
         self.texts[f"/4/{name}"] = text
         return {"version": self.version, "url": name, "hash": found}
 
-    def said(self) -> Record:
+    def notification(self) -> Record:
         """What the notification file says."""
         more = {"next_signing_key": self.public(self.next_key)} if self.next_key else {}
         return self.head("notification") | {
@@ -111,9 +111,9 @@ class Writer4:
 
     def notify(self, changed: Record | None = None) -> None:
         """Puts the notification file, of which some fields may be others; None takes one out."""
-        said = self.said() | (changed or {})
-        said = {name: value for name, value in said.items() if value is not None}
-        self.texts[f"/4/{NOTIFICATION}"] = self.signed(json.dumps(said).encode())
+        named = self.notification() | (changed or {})
+        named = {name: value for name, value in named.items() if value is not None}
+        self.texts[f"/4/{NOTIFICATION}"] = self.signed(json.dumps(named).encode())
 
     def signed(self, payload: bytes, key: Path | None = None, head: Record | None = None) -> bytes:
         """The compact form of a text (RFC 7515, 7.1)."""

@@ -45,7 +45,7 @@ def door_metrics() -> str:
         cache=SimpleNamespace(size=0, hits=0),
         ledger=SimpleNamespace(used=0),
         mirrors=SimpleNamespace(last=lambda: 0),
-        told={},
+        reported={},
     )
     settings: Any = SimpleNamespace()
     return Status(settings, pool, counters, lambda: 0, lambda: 0).metrics().decode()

@@ -58,7 +58,7 @@ def headings_of(page: str) -> set[str]:
     return {re.sub(r"[^\w\- ]", "", title.lower()).replace(" ", "-") for title in titles}
 
 
-def told_of(name: str) -> str:
+def paragraphs_in(name: str) -> str:
     """The prose of a page or manual as its paragraphs, without what is shown or only names
     something: `X` stands for each piece of code."""
     if not name.startswith("man/"):
@@ -70,7 +70,7 @@ def told_of(name: str) -> str:
 def sentences_of(name: str) -> Iterator[tuple[int, str]]:
     """The sentences of a page's prose, each after the number of its words. Tables and headings have
     none."""
-    for part in PARAGRAPH.split(told_of(name)):
+    for part in PARAGRAPH.split(paragraphs_in(name)):
         text = OPENING.sub("", part)
         if text.lstrip().startswith(("|", "#", "![")):
             continue

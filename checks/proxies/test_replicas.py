@@ -79,15 +79,15 @@ def test_replicas_answer_as_the_registry_does_while_it_changes(
             )
         expect([port for port in ports if is_served(port)], [], "replicas that go on alone")
         world.server.__exit__()
-        told = Told(folder + ".socket")
-        environment = tool.environment | {"NOTIFY_SOCKET": told.path}
+        notices = Notices(folder + ".socket")
+        environment = tool.environment | {"NOTIFY_SOCKET": notices.path}
         with running(words, log, env=environment) as mirror:
             wait_until("replicas without a registry", PATIENCE, lambda: all(map(is_served, ports)))
             wait_until(
-                "what systemd is told", 30, lambda: told.last().startswith("STATUS=NOT RENEWED")
+                "what systemd is told", 30, lambda: notices.last().startswith("STATUS=NOT RENEWED")
             )
-            since = re.search(" since (\\S+Z): .*no server listens there", told.last())
-            expect(bool(since), True, told.last())
+            since = re.search(" since (\\S+Z): .*no server listens there", notices.last())
+            expect(bool(since), True, notices.last())
             expect(all(map(is_served, ports)), True, "replicas that still answer")
             expect(
                 [whois_answer(ports[1], query.encode()) for query in QUERIES],
@@ -124,7 +124,7 @@ def are_private(folder: str) -> bool:
     return True
 
 
-class Told:
+class Notices:
     """What a unit tells systemd."""
 
     def __init__(self, path: str) -> None:

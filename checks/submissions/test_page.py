@@ -50,7 +50,7 @@ def asked(folder: Path, texts: list[str]) -> Any:
     return json.loads(done.stdout)
 
 
-def told(text: str) -> list[Any]:
+def as_irr(text: str) -> list[Any]:
     """What `irr` has of it."""
     found = []
     for item in items_of(text.encode())[:1]:
@@ -70,7 +70,7 @@ def test_the_page_says_each_cause(folder: Path) -> None:
     """In the words of `irr` too."""
     texts = [text for text, _ in CAUSES]
     for text, found in zip(texts, asked(folder, texts), strict=True):
-        assert found == told(text), text
+        assert found == as_irr(text), text
 
 
 @settings(
@@ -88,4 +88,4 @@ def test_the_page_says_what_irr_says(folder: Path, texts: list[bytes]) -> None:
         note(str(found))
         for one in found:
             one[1] = sorted(one[1])
-        assert found == told(text)
+        assert found == as_irr(text)

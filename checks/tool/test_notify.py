@@ -92,7 +92,7 @@ class Mailed:
             expect(words[:4], ["-i", "-f", FROM, "--"], "the words for sendmail")
         return [(words[4], read(text.encode())) for words, text in found]
 
-    def told(self, *words: str) -> dict[str, str]:
+    def sent(self, *words: str) -> dict[str, str]:
         """The text for each address of a run without a fault."""
         ran = self.run(*words)
         expect((ran.status, ran.reported), (0, b""), "a run")
@@ -106,25 +106,25 @@ def mailed(trial: Trial, tool: Tool, request: pytest.FixtureRequest) -> Mailed:
 
 def test_each_state_is_told_once_to_those_concerned(mailed: Mailed) -> None:
     mailed.commit(route(1, "A-MNT"))
-    expect(mailed.told(), {}, "the first run begins")
-    expect(mailed.told(), {}, "nothing changed")
+    expect(mailed.sent(), {}, "the first run begins")
+    expect(mailed.sent(), {}, "nothing changed")
     mailed.commit(route(1, "B-MNT", "notify:         old@example.org"), route(2, "B-MNT"))
-    told = mailed.told()
-    expect(set(told), {"a@example.net", "b@example.net", "old@example.org"}, "to whom")
+    sent = mailed.sent()
+    expect(set(sent), {"a@example.net", "b@example.net", "old@example.org"}, "to whom")
     for line in "-mnt-by:         A-MNT", "+mnt-by:         B-MNT", "AS64496: changed":
-        expect(line in told["a@example.net"], True, f"whether {line!r} is told")
-    expect("192.0.2.0/24" in told["a@example.net"], False, "whether others' objects are told")
-    expect("+route:          192.0.2.0/24" in told["b@example.net"], True, "what was added")
+        expect(line in sent["a@example.net"], True, f"whether {line!r} is told")
+    expect("192.0.2.0/24" in sent["a@example.net"], False, "whether others' objects are told")
+    expect("+route:          192.0.2.0/24" in sent["b@example.net"], True, "what was added")
     mailed.commit(route(2, "B-MNT"))
-    told = mailed.told()
-    expect(set(told), {"b@example.net", "old@example.org"}, "to whom a deletion is told")
-    expect("-notify:         old@example.org" in told["old@example.org"], True, "what went")
-    expect(mailed.told(), {}, "told once")
+    sent = mailed.sent()
+    expect(set(sent), {"b@example.net", "old@example.org"}, "to whom a deletion is told")
+    expect("-notify:         old@example.org" in sent["old@example.org"], True, "what went")
+    expect(mailed.sent(), {}, "told once")
 
 
 def test_states_since_the_last_run_are_told_one_by_one(mailed: Mailed) -> None:
     mailed.commit(route(1, "A-MNT"))
-    mailed.told()
+    mailed.sent()
     mailed.commit(route(1, "A-MNT", "descr:          one"))
     mailed.commit(route(1, "A-MNT", "descr:          two"))
     ran = mailed.run()
@@ -139,7 +139,7 @@ def test_states_since_the_last_run_are_told_one_by_one(mailed: Mailed) -> None:
 
 def test_no_more_goes_within_an_hour_than_may(mailed: Mailed) -> None:
     mailed.commit()
-    mailed.told()
+    mailed.sent()
     several = [route(n, "ROOT-MNT", f"notify:         n{n}@example.org") for n in range(5)]
     mailed.commit(*several)
     ran = mailed.run("--most", "3")
@@ -148,9 +148,9 @@ def test_no_more_goes_within_an_hour_than_may(mailed: Mailed) -> None:
     expect(len(first), 3, "mails")
     expect((mailed.run("--most", "3").status, mailed.mails()), (0, []), "within the hour")
     noted = mailed.folder / "sent" / "sent.json"
-    told = json.loads(noted.read_text())
-    told["times"] = [one - 3_600 for one in told["times"]]
-    noted.write_text(json.dumps(told))
+    found = json.loads(noted.read_text())
+    found["times"] = [one - 3_600 for one in found["times"]]
+    noted.write_text(json.dumps(found))
     expect(mailed.run("--most", "3").status, 0, "a run an hour later")
     rest = [address for address, _ in mailed.mails()]
     expect(sorted(first + rest), [f"n{n}@example.org" for n in range(5)], "each has its mail once")
@@ -158,7 +158,7 @@ def test_no_more_goes_within_an_hour_than_may(mailed: Mailed) -> None:
 
 def test_a_mail_server_that_fails_loses_nothing(mailed: Mailed) -> None:
     mailed.commit(route(1, "A-MNT"))
-    mailed.told()
+    mailed.sent()
     mailed.commit(route(1, "A-MNT", "notify:         gone@example.org"), route(2, "B-MNT"))
     mailed.statuses.write_text("gone@example.org 67\nb@example.net 75\n")
     ran = mailed.run()
@@ -176,15 +176,15 @@ def test_what_was_refused_goes_to_upd_to(mailed: Mailed) -> None:
     mailed.commit(route(1, "A-MNT"))
     log = mailed.folder / "items.log"
     log.write_text("")
-    mailed.told("--log", str(log))
+    mailed.sent("--log", str(log))
 
     def stamp(moment: float) -> str:
         return time.strftime("%Y-%m-%dT%H:%M:%S+00:00", time.gmtime(moment))
 
     def entry(second: float, outcome: str, **more: object) -> str:
         at = stamp(time.time() + second)
-        told = {"time": at, "client": "192.0.2.7", "item": 1, "class": "route"}
-        return json.dumps(told | {"key": "192.0.1.0/24 AS1", "outcome": outcome} | more) + "\n"
+        entry = {"time": at, "client": "192.0.2.7", "item": 1, "class": "route"}
+        return json.dumps(entry | {"key": "192.0.1.0/24 AS1", "outcome": outcome} | more) + "\n"
 
     log.write_text(
         entry(-9_000, "E13", **{"mnt-by": ["A-MNT"], "key": "long ago"})
@@ -195,9 +195,9 @@ def test_what_was_refused_goes_to_upd_to(mailed: Mailed) -> None:
         + entry(-1, "E11", **{"mnt-by": ["B-MNT"]})
     )
     noted = mailed.folder / "sent" / "sent.json"
-    told = json.loads(noted.read_text())
-    noted.write_text(json.dumps(told | {"since": time.time() - 60}))
-    found = mailed.told("--log", str(log))
+    found = json.loads(noted.read_text())
+    noted.write_text(json.dumps(found | {"since": time.time() - 60}))
+    found = mailed.sent("--log", str(log))
     expect(set(found), {"up@example.net"}, "to whom")
     for words, there in (
         ("192.0.2.7: route 192.0.1.0/24 AS1: refused E13", True),
@@ -206,7 +206,7 @@ def test_what_was_refused_goes_to_upd_to(mailed: Mailed) -> None:
         ("long ago", False),
     ):
         expect(words in found["up@example.net"], there, f"whether it tells {words!r}")
-    expect(mailed.told("--log", str(log)), {}, "told once")
+    expect(mailed.sent("--log", str(log)), {}, "told once")
     # Of the moment up to which all was told, and of the one after it.
     last = int(time.time()) - 30
     noted.write_text(json.dumps(json.loads(noted.read_text()) | {"since": float(last)}))
@@ -214,28 +214,28 @@ def test_what_was_refused_goes_to_upd_to(mailed: Mailed) -> None:
         entry(0, "E13", **{"mnt-by": ["A-MNT"], "key": "told before", "time": stamp(last)})
         + entry(0, "E13", **{"mnt-by": ["A-MNT"], "key": "not yet", "time": stamp(last + 1)})
     )
-    (text,) = mailed.told("--log", str(log)).values()
+    (text,) = mailed.sent("--log", str(log)).values()
     expect(("told before" in text, "not yet" in text), (False, True), "what is told then")
 
 
 def test_another_history_begins_anew(mailed: Mailed) -> None:
     mailed.commit(route(1, "A-MNT"))
-    mailed.told()
+    mailed.sent()
     noted = mailed.folder / "sent" / "sent.json"
     noted.write_text(json.dumps(json.loads(noted.read_text()) | {"commit": "0" * 40}))
     mailed.commit(route(1, "B-MNT"))
     ran = mailed.run()
     expect((ran.status, b"another history" in ran.reported), (0, True), "what is reported")
-    expect((mailed.mails(), mailed.told()), ([], {}), "no mail")
+    expect((mailed.mails(), mailed.sent()), ([], {}), "no mail")
 
 
 def test_a_dry_run_prints_and_notes_nothing(mailed: Mailed) -> None:
     mailed.commit(route(1, "A-MNT"))
-    mailed.told()
+    mailed.sent()
     mailed.commit(route(1, "A-MNT", "descr:          new"))
     ran = mailed.run("--dry-run")
     expect((ran.status, b"To: a@example.net" in ran.printed, mailed.mails()), (0, True, []), "dry")
-    expect(set(mailed.told()), {"a@example.net"}, "the run after it")
+    expect(set(mailed.sent()), {"a@example.net"}, "the run after it")
 
 
 def test_what_cannot_be_done_is_reported(mailed: Mailed) -> None:
@@ -328,9 +328,9 @@ def test_a_mail_server_of_debian_takes_it(mailed: Mailed, sink: Sink) -> None:
     settings.chmod(0o600)
     mailed.program.write_text(f'#!/bin/sh\nexec msmtp -C "{settings}" "$@"\n')
     mailed.commit(route(1, "A-MNT"))
-    mailed.told()
+    mailed.sent()
     mailed.commit(route(1, "A-MNT", "descr:          \N{SNOWMAN}"))
-    mailed.told()
+    mailed.sent()
     expect(len(sink.mails), 1, "mails")
     message = read(sink.mails[0])
     expect(message["To"], "a@example.net", "to whom")

@@ -76,7 +76,7 @@ class Nrtm(Served):
     def last(self) -> int:
         return self.first + len(self.changes) - 1
 
-    def tell(self, changes: Sequence[tuple[str, str]]) -> None:
+    def publish(self, changes: Sequence[tuple[str, str]]) -> None:
         self.changes += changes
 
     def forget(self) -> None:

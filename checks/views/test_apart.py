@@ -121,17 +121,19 @@ def test_a_change_that_cannot_be_taken_takes_what_was_there_away(
     world, text = followed, UNREAD[number]
     expect(world.renew(), True, "the first time")
     expect(b"10.0.1.0/24" in dump(world), True, "what was there")
-    world.nrtm.tell([("ADD", text)])
+    world.nrtm.publish([("ADD", text)])
     expect((world.renew(), fault(world)), (True, ""), "the change")
     expect(b"10.0.1.0/24" in dump(world), False, "what is there")
-    expect(sum(world.view.told["RIPE"].left.values()), 1 + 1, "what is counted, with the old one")
-    world.nrtm.tell([("DEL", text), ("ADD", route(1)), ("ADD", text), ("ADD", route(2, 3))])
+    expect(
+        sum(world.view.outcomes["RIPE"].left.values()), 1 + 1, "what is counted, with the old one"
+    )
+    world.nrtm.publish([("DEL", text), ("ADD", route(1)), ("ADD", text), ("ADD", route(2, 3))])
     world.renew()
     expect((b"10.0.1.0/24" in dump(world), b"AS3" in dump(world)), (False, True), "later ones")
-    world.nrtm.tell([("ADD", route(1))])
+    world.nrtm.publish([("ADD", route(1))])
     world.renew()
     expect(b"10.0.1.0/24" in dump(world), True, "once it can be read again")
-    world.nrtm.tell([("DEL", text)])
+    world.nrtm.publish([("DEL", text)])
     world.renew()
     expect(b"10.0.1.0/24" in dump(world), False, "once it is deleted")
 
@@ -141,7 +143,7 @@ def test_a_line_of_blanks_in_a_change_moves_no_other(followed: World) -> None:
     world = followed
     expect(world.renew(), True, "the first time")
     odd = route(900).replace("descr: x", "descr: x\n  \n\t\n more")
-    world.nrtm.tell([("ADD", odd), ("ADD", route(901)), ("DEL", world.routes.pop(1))])
+    world.nrtm.publish([("ADD", odd), ("ADD", route(901)), ("DEL", world.routes.pop(1))])
     expect((world.renew(), fault(world)), (True, ""), "the changes")
     found = [number in dump(world) for number in (b"10.3.132.0/24", b"10.3.133.0/24", b"10.0.1.0")]
     expect(found, [True, True, False], "what is there")
@@ -186,7 +188,7 @@ def test_a_set_of_an_earlier_source_is_no_other_one_where_it_cannot_be_read(
         expect(asked(program, folder, "prefixes", name), "% no entries\n", name)
     found = asked(program, folder, "prefixes", "AS-ALL")
     expect(found, "10.6.0.0/16\n% missing AS-X\n", "AS-ALL, which names also that of RADB")
-    expect(view.told["RADB"].left, {"an earlier source has it": 1}, "what is told")
+    expect(view.outcomes["RADB"].left, {"an earlier source has it": 1}, "what is told")
 
 
 def test_a_set_that_a_source_between_has_and_cannot_be_read_is_apart(

@@ -119,7 +119,7 @@ def test_a_view_is_the_merge_of_its_sources(
             if "--" in name and held.kind in ("aut-num", "route")
         )
         seen["scoped"] += "::" in "".join(one.text() for one in several.registries.values())
-        seen["invalid"] += sum(told.invalid for told in view.told.values())
+        seen["invalid"] += sum(one.invalid for one in view.outcomes.values())
 
     until_seen(holds, seen, 11, trial.seed)
 
@@ -192,7 +192,7 @@ def test_a_set_whose_name_ends_in_an_as_number_is_taken_apart(
     folder = made(view)
     assert asked(program, folder, "prefixes", "AS-C").split() == ["10.6.0.0/16"]
     assert asked(program, folder, "prefixes", "RS-C").split() == ["10.6.0.0/24"]
-    assert not view.told["TEST"].lost, view.told
+    assert not view.outcomes["TEST"].lost, view.outcomes
     for name in "AS-Y:AS2:AS---RADB", "RS-Y:AS2:RS---RADB":
         assert "# RADB" in asked(program, folder, name)
 
@@ -212,8 +212,8 @@ def test_a_set_taken_apart_lacks_a_member_whose_text_has_no_room(
     }
     view = written(tmp_path, several_of(sources))
     assert asked(program, made(view), "prefixes", "RS-C").split() == ["10.6.0.0/16"]
-    assert view.told["RADB"].lost == {"above 65,536 bytes": 1}, view.told
-    assert not view.told["RADB"].left, view.told
+    assert view.outcomes["RADB"].lost == {"above 65,536 bytes": 1}, view.outcomes
+    assert not view.outcomes["RADB"].left, view.outcomes
 
 
 def several_of(sources: dict[str, str]) -> Several:

@@ -58,7 +58,7 @@ def test_a_source_is_followed(world: Followed, trial: Trial, algorithm: str, tel
                 name, text = named(route(number, 2, f"turn {turn} {chance.random()}"))
                 gone = name in writer.objects and chance.random() < 0.4
                 changes[name] = ("DEL", writer.objects[name]) if gone else ("ADD", text)
-            writer.tell(list(changes.values()))
+            writer.publish(list(changes.values()))
         lot = chance.random()
         if lot < 0.1:
             world.begin()
@@ -94,7 +94,7 @@ def test_a_source_is_followed(world: Followed, trial: Trial, algorithm: str, tel
 Fault = Callable[[Followed], None]
 
 
-def said(**changed: object) -> Fault:
+def notified(**changed: object) -> Fault:
     """A notification file that says something else."""
     return lambda world: world.writer.notify(changed)
 
@@ -104,7 +104,7 @@ def delta(change: Callable[[Record, Writer4], Record]) -> Fault:
 
     def spoil(world: Followed) -> None:
         writer = world.writer
-        writer.tell(add(30))
+        writer.publish(add(30))
         writer.notify({"deltas": [*writer.deltas[:-1], change(dict(writer.deltas[-1]), writer)]})
 
     return spoil
@@ -130,7 +130,7 @@ def signed(text: Callable[[Writer4, bytes], bytes]) -> Fault:
 
     def spoil(world: Followed) -> None:
         writer = world.writer
-        writer.texts[PATH] = text(writer, json.dumps(writer.said()).encode())
+        writer.texts[PATH] = text(writer, json.dumps(writer.notification()).encode())
 
     return spoil
 
@@ -152,7 +152,7 @@ def bare(writer: Writer4, payload: bytes, algorithm: str) -> bytes:
 
 
 def gone(world: Followed) -> None:
-    world.writer.tell(add(30))
+    world.writer.publish(add(30))
     world.files.texts[f"/4/{world.writer.deltas[-1]['url']}"] = 404
 
 
@@ -171,7 +171,7 @@ def back(world: Followed) -> None:
 
 
 def gap(world: Followed) -> None:
-    world.writer.tell(add(30))
+    world.writer.publish(add(30))
     world.writer.deltas.pop(-2)
     world.writer.notify()
 
@@ -201,23 +201,23 @@ FAULTS: dict[str, tuple[Fault, str]] = {
     "deep": (signed(lambda w, _: w.signed(b"[" * 100_000)), "it has not JSON"),
     "too long": (signed(lambda w, text: w.signed(text + b" " * (1 << 23))), "it has over 8 MiB"),
     "gone itself": (lambda world: world.files.texts.update({PATH: 404}), "status 404"),
-    "of version 3": (said(nrtm_version=3), "it is not a notification file of NRTM, version 4"),
-    "of another kind": (said(type="snapshot"), "it is not a notification file"),
-    "of another registry": (said(source="RADB"), "it is of RADB, and not of RIPE"),
-    "of no session": (said(session_id="x"), "`session_id`"),
-    "without a version": (said(version=None), "`version`"),
-    "a version that is true": (said(version=True), "`version`"),
-    "without a time": (said(timestamp="yesterday"), "`timestamp`"),
-    "a time of no zone": (said(timestamp="2026-11-29T10:00:00"), "`timestamp`"),
-    "without a snapshot": (said(snapshot=None), "`snapshot`"),
-    "changes that are none": (said(deltas=["x"]), "it has not files"),
-    "a next key that is none": (said(next_signing_key="x"), "it has no public key"),
-    "stale": (said(timestamp=stamp(time.time() - 25 * HOUR)), "it is stale: it was made at"),
-    "of the future": (said(timestamp=stamp(time.time() + 25 * HOUR)), "it is stale"),
+    "of version 3": (notified(nrtm_version=3), "it is not a notification file of NRTM, version 4"),
+    "of another kind": (notified(type="snapshot"), "it is not a notification file"),
+    "of another registry": (notified(source="RADB"), "it is of RADB, and not of RIPE"),
+    "of no session": (notified(session_id="x"), "`session_id`"),
+    "without a version": (notified(version=None), "`version`"),
+    "a version that is true": (notified(version=True), "`version`"),
+    "without a time": (notified(timestamp="yesterday"), "`timestamp`"),
+    "a time of no zone": (notified(timestamp="2026-11-29T10:00:00"), "`timestamp`"),
+    "without a snapshot": (notified(snapshot=None), "`snapshot`"),
+    "changes that are none": (notified(deltas=["x"]), "it has not files"),
+    "a next key that is none": (notified(next_signing_key="x"), "it has no public key"),
+    "stale": (notified(timestamp=stamp(time.time() - 25 * HOUR)), "it is stale: it was made at"),
+    "of the future": (notified(timestamp=stamp(time.time() + 25 * HOUR)), "it is stale"),
     "back": (back, "it went back from version 3 to 1"),
     "of a session before": (other_session_before, "it is of a session before"),
     "a gap": (gap, "changes of each version up to the last"),
-    "changes that end before": (said(version=9), "changes of each version"),
+    "changes that end before": (notified(version=9), "changes of each version"),
     "changes that begin too late": (
         lambda world: world.writer.notify({"deltas": world.writer.deltas[-1:]}),
         "a snapshot, and the changes of each version after it",
@@ -267,8 +267,8 @@ def test_what_is_wrong_is_told_and_takes_nothing(world: Followed, what: str) -> 
     """The view stays as it was, also after a start, and goes on once it is right again."""
     writer = world.writer
     expect(world.renew(), "", "the first time")
-    writer.tell(add(20))
-    writer.tell(add(21))
+    writer.publish(add(20))
+    writer.publish(add(21))
     expect(world.renew(), "", "two changes")
     world.need_same("what it has")
     before, state = world.objects(), world.view.states["RIPE"]
@@ -285,7 +285,7 @@ def test_what_is_wrong_is_told_and_takes_nothing(world: Followed, what: str) -> 
     if any(word in what for word in ("gap", "gone", "snapshot of other")):
         writer.begin()
     else:
-        writer.tell(add(22))
+        writer.publish(add(22))
     expect(world.renew(), "", "once it is right")
     world.need_same("what it has then")
 
@@ -300,8 +300,8 @@ def test_what_is_gone_in_between_is_read_again(world: Followed) -> None:
     """A file that is no longer named by the time that it is asked for."""
     expect(world.renew(), "", "the first time")
     writer, lost = world.writer, list[str]()
-    for turn, renewed in enumerate([lambda: writer.tell(add(41)), writer.forget, writer.begin]):
-        writer.tell(add(30 + turn, f"{turn}"))
+    for turn, renewed in enumerate([lambda: writer.publish(add(41)), writer.forget, writer.begin]):
+        writer.publish(add(30 + turn, f"{turn}"))
         path = f"/4/{writer.deltas[-1]['url']}"
         text = writer.texts[path]
 
@@ -334,11 +334,11 @@ def test_keys_are_told_before_they_sign(world: Followed) -> None:
     expect(world.renew(), "", "an older one")
     first = writer.key
     writer.roll()
-    writer.tell(add(20))
+    writer.publish(add(20))
     expect(world.renew(), "", "by the next key")
     world.need_same("by the next key")
     writer.key = first
-    writer.tell(add(21))
+    writer.publish(add(21))
     expect("no key that is trusted" in world.renew(), True, "the first key, which signs no more")
     writer.key = writer.new_key("EdDSA")
     writer.notify()
@@ -349,22 +349,22 @@ def test_keys_are_told_before_they_sign(world: Followed) -> None:
     expect(world.renew(), "", "the key by hand")
     world.need_same("by the key that was given")
     world.begin()
-    writer.tell(add(22))
+    writer.publish(add(22))
     expect((world.renew(), world.asked("snapshot")), ("", 1), "after a start")
 
 
 def test_a_registry_that_was_restored_is_taken_anew(world: Followed) -> None:
     """Where it tells other changes by a version that was taken already."""
     writer = world.writer
-    writer.tell(add(20))
-    writer.tell(add(21))
+    writer.publish(add(20))
+    writer.publish(add(21))
     expect(world.renew(), "", "the first time")
     writer.version, writer.deltas = 1, []
     for number in 20, 21:
         del writer.objects[named(route(number))[0]]
-    writer.tell(add(20))
-    writer.tell(add(23))
-    writer.tell(add(24))
+    writer.publish(add(20))
+    writer.publish(add(23))
+    writer.publish(add(24))
     expect(world.renew(), "", "after it was restored")
     world.need_same("what it has then")
     expect(world.asked("snapshot"), 2, "how often a snapshot was taken")
@@ -394,7 +394,7 @@ def test_what_is_told_of_one_object_is_one(world: Followed) -> None:
             writer.objects = dict([named(route(44))])
             writer.begin()
             expect((world.renew(), len(world.objects())), ("", 1), "nothing else of it")
-            writer.tell([("ADD", text) for text in odd[:-1]])
+            writer.publish([("ADD", text) for text in odd[:-1]])
         else:
             writer.objects = {str(place): text for place, text in enumerate(odd[:-1])}
             writer.begin()
@@ -403,7 +403,7 @@ def test_what_is_told_of_one_object_is_one(world: Followed) -> None:
         expect(sorted(names), sorted(wanted), f"what there is, {count}")
         expect("\norigin:         AS666" in world.known, False, "a stranger's route")
         expect("\n\nas-set:         AS-S" in world.known, False, "a stranger's set")
-    writer.tell([("ADD", odd[-1])])
+    writer.publish([("ADD", odd[-1])])
     expect("is not a change" in world.renew(), True, "a remark alone")
 
 
@@ -424,10 +424,10 @@ def test_a_file_of_this_machine_is_followed_too(tmp_path: Path) -> None:
     put()
     world = World(tmp_path, "RIPE", f"{place}/{NOTIFICATION}", writer.public(writer.key))
     expect((world.renew(), len(world.objects())), ("", 6), "the first time")
-    writer.tell(add(20))
+    writer.publish(add(20))
     put()
     expect((world.renew(), len(world.objects())), ("", 7), "a change")
-    writer.tell(add(21))
+    writer.publish(add(21))
     put()
     os.unlink(place / writer.deltas[-1]["url"])
     expect("it is not there" in world.renew(), True, "a file that is gone")
@@ -445,7 +445,7 @@ def test_what_is_unpacked_is_bounded(world: Followed, monkeypatch: pytest.Monkey
     monkeypatch.setattr("irr.views.nrtm4.MOST_TEXT", 1 << 20)
     monkeypatch.setattr("irr.views.nrtm4.MOST", 1 << 20)
     monkeypatch.setattr("irr.system.sequences.MOST", 1 << 16)
-    writer.tell(add(20))
+    writer.publish(add(20))
     long = {"action": "add_modify", "object": "x" * (1 << 17)}
     many = [{"action": "add_modify", "object": "route: x"}] * 40_000
     noise = random.Random(1).randbytes(1 << 21)
@@ -516,8 +516,8 @@ def test_the_own_export_is_followed(trial: Trial, tool: Tool, tmp_path: Path, te
         registry.record()
         look()
         expect(world.objects(), set(map(hidden, registry.dump().values())), "in the end")
-    told = ", ".join(f"{name} {count}" for name, count in counts.items())
-    tell(f"{registry.changes} changes; {told}")
+    figures = ", ".join(f"{name} {count}" for name, count in counts.items())
+    tell(f"{registry.changes} changes; {figures}")
 
 
 def hidden(text: str) -> str:

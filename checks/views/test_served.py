@@ -76,7 +76,7 @@ class Served:
             stack.enter_context(self.nrtm)
             ran = self.world.tool("submit", "-", stdin=OWN)
             expect(ran.status, 0, f"the registry: {ran.printed!r}")
-            self.nrtm.tell([("ADD", route(1, 3))])
+            self.nrtm.publish([("ADD", route(1, 3))])
             self.files.texts["/ripe.db"] = AS_X + AS_FAR + route(1, 3).encode()
             self.files.texts["/SERIAL"] = b"1\n"
             self.folder = Path(self.world.folder)
@@ -272,7 +272,7 @@ def test_a_view_goes_on_while_its_sources_are_gone(served: Served, tell: Tell) -
     def answer() -> str:
         return one.asked("ALL", "!a4AS1:AS-ALL").removeprefix("C\n")
 
-    one.nrtm.tell([("ADD", route(2, 3)), ("DEL", route(1, 3))])
+    one.nrtm.publish([("ADD", route(2, 3)), ("DEL", route(1, 3))])
     wait_until("a change", PATIENCE, lambda: answer() == framed("10.0.2.0/24 198.51.100.0/24"))
     expect(one.door.status()["faults"], [], "what is wrong")
     one.nrtm.most = 10

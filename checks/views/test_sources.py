@@ -156,7 +156,7 @@ def test_a_source_is_followed_by_nrtm(followed: World, trial: Trial) -> None:
     """After each renewal the view has what the registry has, also where the changes are no longer
     told, or an answer is cut."""
     world, chance = followed, random.Random(7)
-    world.nrtm.tell([("ADD", route(900))])
+    world.nrtm.publish([("ADD", route(900))])
     world.routes[900] = route(900)
     world.publish()
     expect(world.renew(), True, "the first time")
@@ -166,11 +166,11 @@ def test_a_source_is_followed_by_nrtm(followed: World, trial: Trial) -> None:
         for _ in range(chance.randrange(4)):
             number = chance.randrange(60)
             if number in world.routes and chance.random() < 0.4 and len(world.routes) > 40:
-                world.nrtm.tell([("DEL", world.routes.pop(number))])
+                world.nrtm.publish([("DEL", world.routes.pop(number))])
             else:
                 world.routes[number] = route(number, 2, f"turn {turn}")
-                world.nrtm.tell([("ADD", world.routes[number])])
-        world.nrtm.tell([("ADD", "person: Jo Doe\nsource: RIPE\n"), ("ADD", "no object\n")])
+                world.nrtm.publish([("ADD", world.routes[number])])
+        world.nrtm.publish([("ADD", "person: Jo Doe\nsource: RIPE\n"), ("ADD", "no object\n")])
         if turn % 4 == 3:
             serial = world.view.states["RIPE"].serial
             assert serial
@@ -203,11 +203,11 @@ def test_roas_leave_out_what_is_invalid(world: World) -> None:
         world.view = View(settings.read(str(world.folder / "view.toml")))
         expect(world.renew(), True, f"a view with {words!r}")
         expect(world.routes_seen(), count, words)
-        expect(world.view.told["RIPE"].invalid, 1, words)
-        told = world.view.status()["view"]["roas"]
+        expect(world.view.outcomes["RIPE"].invalid, 1, words)
+        roas = world.view.status()["view"]["roas"]
         again = View(world.view.settings).status()["view"]["roas"]
-        expect((len(told), again), (16, told), "the state of the ROAs over a restart")
-        expect("invalid by ROAs" in world.view.told["RIPE"].line("RIPE"), True, words)
+        expect((len(roas), again), (16, roas), "the state of the ROAs over a restart")
+        expect("invalid by ROAs" in world.view.outcomes["RIPE"].line("RIPE"), True, words)
     for spoilt in "", "ASN,IP Prefix,Max Length\nAS3,10.0.7.0/24,33\n":
         path.write_text(spoilt)
         with pytest.raises(Failure, match="vrps.csv: "):
@@ -244,7 +244,7 @@ def test_a_dump_from_before_what_was_followed_takes_nothing_back(followed: World
     """Where the changes since are no longer told, what there is stays until a newer dump comes."""
     world = followed
     expect(world.renew(), True, "the first time")
-    world.nrtm.tell([("ADD", route(900))])
+    world.nrtm.publish([("ADD", route(900))])
     expect((world.renew(), world.routes_seen()), (True, 41), "a change")
     words = f"it tells no changes after {world.nrtm.last}, and the dump has serial"
     world.nrtm.forget()
@@ -274,12 +274,12 @@ def test_the_last_change_of_an_object_counts(followed: World) -> None:
     expect(world.renew(), True, "the first time")
     first, back, gone = (route(n, 2, "first") for n in (900, 0, 901))
     last = route(900, 2, "last")
-    world.nrtm.tell([("ADD", first), ("ADD", last), ("ADD", gone), ("DEL", gone)])
-    world.nrtm.tell([("DEL", world.routes[0]), ("ADD", back), ("DEL", world.routes.pop(1))])
+    world.nrtm.publish([("ADD", first), ("ADD", last), ("ADD", gone), ("DEL", gone)])
+    world.nrtm.publish([("DEL", world.routes[0]), ("ADD", back), ("DEL", world.routes.pop(1))])
     world.routes |= {900: last, 0: back}
     for text in None, route(900, 2, "later"), first:
         if text:
-            world.nrtm.tell([("ADD", text)])
+            world.nrtm.publish([("ADD", text)])
             world.routes[900] = text
         expect((world.renew(), fault(world)), (True, ""), "a change")
         wanted = {(number, text.split("\n")[2]) for number, text in world.routes.items()}
@@ -344,11 +344,11 @@ def dump(world: World) -> bytes:
 
 def label(view: View) -> dict[str, list[tuple[str, str]]]:
     """What a view is told to be made of."""
-    told = view.status()["view"]
-    return {told["name"]: [(one["name"], one["state"]) for one in told["sources"]]}
+    status = view.status()["view"]
+    return {status["name"]: [(one["name"], one["state"]) for one in status["sources"]]}
 
 
-def test_what_is_served_is_told_to_be_made_of_what_it_is(world: World) -> None:
+def test_what_is_served_is_reported_to_be_made_of_what_it_is(world: World) -> None:
     """Also after a stop between its making and its place, and with other settings, whose view is
     still to be made."""
     expect(world.renew(), True, "the first time")
@@ -386,7 +386,7 @@ def test_what_is_served_is_told_to_be_made_of_what_it_is(world: World) -> None:
     expect(label(View(world.view.settings)), label(world.view), "and after a stop")
 
 
-def test_a_state_that_changes_nothing_of_what_is_served_is_told(world: World) -> None:
+def test_a_state_that_changes_nothing_of_what_is_served_is_reported(world: World) -> None:
     """Another text of a source, of which the view is as before, is what it is made of from then
     on."""
     expect(world.renew(), True, "the first time")

@@ -83,7 +83,7 @@ def test_a_view_of_all_kinds_of_objects(trial: Trial, monkeypatch: pytest.Monkey
     )
     view = View(read(str(folder / "view.toml")))
     count = need_same(trial.program, made(view))
-    expect(view.told["RIPE"].taken, len(OBJECTS), f"what is taken: {view.told['RIPE']}")
+    expect(view.outcomes["RIPE"].taken, len(OBJECTS), f"what is taken: {view.outcomes['RIPE']}")
     # A-MNT, C-MNT, D-MNT, E-MNT and the root, and what covers everything.
     expect(count, len(OBJECTS) + 5 + 3, "the objects")
     with closing(sqlite3.connect(view.folder / "made" / "irr.db")) as base:

@@ -69,12 +69,12 @@ class Agent(socketserver.ThreadingTCPServer):
         view = {"name": "ALL", "roas": "", "doubts": [], "lines": [], "sources": sources}
         text = json.dumps({"replicas": [replica], "view": view}).encode() + b"\n"
 
-        class Told(socketserver.StreamRequestHandler):
+        class Kept(socketserver.StreamRequestHandler):
             def handle(self) -> None:
                 self.rfile.readline()
                 self.wfile.write(text)
 
-        super().__init__(("127.0.0.1", 0), Told)
+        super().__init__(("127.0.0.1", 0), Kept)
         threading.Thread(target=self.serve_forever, daemon=True).start()
 
 

@@ -142,7 +142,7 @@ def tried(backup: Path, settings: Settings, work: Path) -> None:
         )
 
 
-def put_in_place(settings: Settings, work: Path, is_told: bool) -> Path | None:
+def put_in_place(settings: Settings, work: Path, is_meant: bool) -> Path | None:
     """Puts the database of the working folder into the place of the old one, in one step: wherever
     this is killed, one of the two stands there whole. Where the old one has other objects, or can't
     be opened, its files are kept, and their folder is given."""
@@ -153,7 +153,7 @@ def put_in_place(settings: Settings, work: Path, is_told: bool) -> Path | None:
         if settings.store.exists():
             owner, mode = os.stat(settings.store), os.stat(settings.store).st_mode & 0o777
             others = what_others(settings, work)
-            if others and not is_told and others != UNREADABLE:
+            if others and not is_meant and others != UNREADABLE:
                 raise Failure(
                     str(settings.store),
                     f"this registry has other objects than the backup: {others}; to lose them,"

@@ -44,7 +44,7 @@ def run(options: argparse.Namespace) -> int:
     if options.json:
         import json
 
-        print(json.dumps(references.told(prefix, start, chains, nearest, near)))
+        print(json.dumps(references.as_json(prefix, start, chains, nearest, near)))
     else:
         name = references.shown(start)
         print(*map(texts.shown_line, lines(prefix, name, chains, nearest, near)), sep="\n")

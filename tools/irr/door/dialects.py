@@ -5,7 +5,7 @@ from typing import Optional
 
 from irr.door import queries
 from irr.door.cache import Answer
-from irr.door.pool import Found, Pending, Refused, Told
+from irr.door.pool import Answered, Found, Pending, Refused
 from irr.door.queries import Asker
 from irr.door.responses import Source
 
@@ -45,14 +45,14 @@ def dialect_of(line: bytes) -> str:
     return RIPE
 
 
-def native(asker: Asker, line: bytes, told: Told) -> "Reply | Pending":
+def native(asker: Asker, line: bytes, answered: Answered) -> "Reply | Pending":
     """What the registry itself answers to a line, byte for byte, where that is known, else what is
     waited for until it is told."""
     if b"HTTP/" in line.upper():
         # To the registry, which answers both at one port, this may be a request.
         return Reply(b"% error 1\n", "error")
     try:
-        found = asker.begin(line, told)
+        found = asker.begin(line, answered)
     except Refused as refused:
         return native_reply(refused)
     return native_reply(found) if isinstance(found, Answer) else found

@@ -42,7 +42,7 @@ class Dumps:
                 break
             await self.room(end)
         state = pool.cache.state
-        dump = await awaited(lambda told: pool.ask(client, b"/dump", REQUEST, DUMP, told))
+        dump = await awaited(lambda answered: pool.ask(client, b"/dump", REQUEST, DUMP, answered))
         assert isinstance(dump, Dump)
         if dump not in self.files:
             self.files.add(dump)

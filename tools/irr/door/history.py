@@ -101,7 +101,7 @@ class History:
         for last in self.serials.kept():
             # One that is no longer kept, or can't be read, is none.
             with contextlib.suppress(OSError, Failure):
-                found[last] = before.get(last) or self.serials.told(last).commit
+                found[last] = before.get(last) or self.serials.at(last).commit
         self.seen = found
         return {commit: last for last, commit in found.items()}
 

@@ -237,7 +237,7 @@ class Http(Connection):
                 await self.dump(request)
                 return
             if is_asked(request.path):
-                self.tell(request, await self.page.answer(self.client, request.path))
+                self.end_page(request, await self.page.answer(self.client, request.path))
                 return
             pool, path = self.door.pool.views.at(request.path)
             if isinstance(pool, ViewPool) and path == "/state":
@@ -267,7 +267,7 @@ class Http(Connection):
             request.is_kept = False
             self.finish(request, failed(500, "", "", False))
 
-    def tell(self, request: Request, answer: Answer) -> None:
+    def end_page(self, request: Request, answer: Answer) -> None:
         """Hands out what the page asked for."""
         self.begin_reply("page", "answered")
         head = reply_head(200, len(answer.text), request.is_kept, JSON)
@@ -340,7 +340,7 @@ class Http(Connection):
         """Hands a submission on, and its report as it comes."""
         has_begun = False
 
-        def told(text: bytes) -> None:
+        def reported(text: bytes) -> None:
             nonlocal has_begun
             if self.transport.is_closing():
                 return
@@ -355,7 +355,7 @@ class Http(Connection):
                 self.deadline = self.late() if self.transport.rest else 0.0
 
         try:
-            await self.submissions.submit(self.who(request), body, told)
+            await self.submissions.submit(self.who(request), body, reported)
         except TooMuch as too_much:
             self.begin_reply("submission", "large")
             self.finish(request, failed(413, "", str(too_much), request.is_kept))

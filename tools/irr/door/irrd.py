@@ -391,7 +391,7 @@ class Session:
         """`!jNAME` and `!j-*`: the serials that mirrors can follow."""
         name = self.asker.pool.views.main.source or self.name()
         names = [name] if word == "-*" else [one.strip() for one in word.upper().split(",")]
-        kept = self.asker.pool.views.main.mirrors.told(name)
+        kept = self.asker.pool.views.main.mirrors.serials_of(name)
         own = f"{name}:Y:{kept[0]}-{kept[1]}" if kept else f"{name}:N:-"
         lines = [own if one == name else f"{one}:X:Database unknown" for one in names]
         return data("\n".join(lines).encode())
@@ -400,7 +400,7 @@ class Session:
         """`!JNAME` and `!J-*`: the same, and what is kept, in JSON."""
         name = self.asker.pool.views.main.source or self.name()
         names = [name] if word == "-*" else [one.strip() for one in word.upper().split(",")]
-        kept = self.asker.pool.views.main.mirrors.told(name)
+        kept = self.asker.pool.views.main.mirrors.serials_of(name)
         known = {
             "source_type": "regular",
             "authoritative": True,
@@ -413,8 +413,8 @@ class Session:
             "serial_last_export": None,
             "serial_newest_mirror": None,
         }
-        told = {one: known if one == name else {"error": "Unknown source"} for one in names}
-        return data(json.dumps(told, indent=4).encode())
+        found = {one: known if one == name else {"error": "Unknown source"} for one in names}
+        return data(json.dumps(found, indent=4).encode())
 
     def name(self) -> str:
         if not self.asker.pool.source:

@@ -23,7 +23,7 @@ from irr.terminal import texts
 DAY = 86_400.0
 # Seconds between two looks at how old the files are.
 LOOKING = 3_600.0
-# The most maintainers of an item that are told.
+# The most maintainers of an item that are named.
 NAMED = 20
 
 
@@ -64,27 +64,27 @@ class Journal:
     def item(self, who: Who, item: answers.Item, maintainers: list[str]) -> None:
         """Has the line of an item that the registry decided."""
         kind, _, key = item.name.partition(" ")
-        told = {
+        fields = {
             "item": item.number,
             "class": kind if key else None,
             "key": key or None,
             "mnt-by": maintainers[:NAMED],
             "outcome": item.code or item.word,
         }
-        self.write(who, told)
+        self.write(who, fields)
 
     def refused(self, who: Who, outcome: str, items: Optional[int], untold: int) -> None:
         """Has the line of a submission that the registry did not get, and of how many before it
         there is none."""
         self.write(who, {"items": items, "outcome": outcome, "untold": untold})
 
-    def write(self, who: Who, told: dict[str, Any]) -> None:
+    def write(self, who: Who, fields: dict[str, Any]) -> None:
         entry = {
             "time": datetime.datetime.now(datetime.timezone.utc).isoformat(timespec="milliseconds"),
             "client": who.client,
             "user": who.user or None,
             "connection": who.connection,
-            **told,
+            **fields,
         }
         line = json.dumps(entry).encode() + b"\n"
         try:

@@ -439,13 +439,13 @@ class Whois(Connection):
 
     def ask(self, asker: Asker, line: bytes) -> None:
         """Has the registry itself answer a line: no task has to wait for that."""
-        found = dialects.native(asker, line, self.told)
+        found = dialects.native(asker, line, self.answered)
         if isinstance(found, Reply):
             self.reply(dialects.NATIVE, found, self.stays)
         else:
             self.task = found
 
-    def told(self, found: Found) -> None:
+    def answered(self, found: Found) -> None:
         self.task = None
         self.reply(dialects.NATIVE, dialects.native_reply(found), self.stays)
 

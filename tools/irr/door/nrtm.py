@@ -14,7 +14,7 @@ from typing import TYPE_CHECKING, Optional
 from irr.door.flags import Bad
 from irr.door.settings import Settings, is_in, networks
 from irr.errors import Failure
-from irr.local.serials import Part, Serials, Told
+from irr.local.serials import Numbered, Part, Serials
 
 if TYPE_CHECKING:
     from irr.door.queries import Asker
@@ -36,7 +36,7 @@ class Mirrors:
         self.allowed = networks(settings.mirrors, "mirrors")
         self.most = settings.largest
         self.serials = Serials(Path(settings.history))
-        self.seen: Optional[Told] = None
+        self.seen: Optional[Numbered] = None
         self.looked = 0.0
         # What could not be read of the serials when they were last asked for.
         self.unread = ""
@@ -47,7 +47,7 @@ class Mirrors:
         """Whether a client may mirror."""
         return is_in(address, self.allowed)
 
-    def range(self) -> Optional[Told]:
+    def range(self) -> Optional[Numbered]:
         """The serials that are kept; None where none are."""
         now = time.monotonic()
         if now > self.looked + KEPT:
@@ -58,7 +58,7 @@ class Mirrors:
                 self.seen = None
         return self.seen
 
-    def told(self, source: str) -> Optional[tuple[int, int]]:
+    def serials_of(self, source: str) -> Optional[tuple[int, int]]:
         """The serials of a registry, from which to which; the first is the last one where no change
         is kept yet. None where no serials are kept."""
         found = self.range()

@@ -207,7 +207,7 @@ class Page:
             "name": self.pool.source or None,
             "why": True,
             "history": self.states.is_there,
-            "views": [view_told(one) for one in self.pool.views.pools if one.name],
+            "views": [view_as_json(one) for one in self.pool.views.pools if one.name],
         }
 
     # Why a prefix is in a set.
@@ -282,7 +282,7 @@ def fields(words: str) -> dict[str, str]:
     return {name: values[-1] for name, values in found.items()}
 
 
-def view_told(view: ViewPool) -> dict[str, Any]:
+def view_as_json(view: ViewPool) -> dict[str, Any]:
     """What everybody may know of a view: its sources in their order, each with its state and how
     many seconds ago it was seen."""
     ages = [age for one in view.replicas if (age := one.age()) is not None]
@@ -299,7 +299,7 @@ def view_told(view: ViewPool) -> dict[str, Any]:
                 "age": round(max(0.0, now - one["seen"]), 1) if "seen" in one else None,
                 "stands": bool(one.get("fault")),
             }
-            for one in view.told.get("view", {}).get("sources", [])
+            for one in view.reported.get("view", {}).get("sources", [])
         ],
     }
 
@@ -311,4 +311,4 @@ def tracing(prefix: Prefix, start: Node, sources: list[str]) -> Steps[dict[str, 
     chains = yield from reached.chaining(MOST_CHAINS)
     nearest = [] if chains.first else (yield from reached.nearing())
     near = [] if chains.first else (yield from reached.nearly())
-    return references.told(prefix, start, chains, nearest, near)
+    return references.as_json(prefix, start, chains, nearest, near)

@@ -64,7 +64,7 @@ FULL = "the door has no room for more answers; ask again later"
 
 # What comes of a query, and who gets it.
 Found = Union[Answer, Dump, Refused]
-Told = Callable[[Found], None]
+Answered = Callable[[Found], None]
 
 
 class Pending(Protocol):
@@ -77,22 +77,22 @@ class Pending(Protocol):
 class Waiting:
     """One who waits for what comes of a query."""
 
-    __slots__ = ("pool", "request", "told")
+    __slots__ = ("pool", "request", "answered")
 
-    def __init__(self, pool: "Pool", request: "Request", told: Told) -> None:
-        self.pool, self.request, self.told = pool, request, told
+    def __init__(self, pool: "Pool", request: "Request", answered: Answered) -> None:
+        self.pool, self.request, self.answered = pool, request, answered
 
     def cancel(self) -> None:
         """Waits no longer."""
-        self.told = lambda found: None
+        self.answered = lambda found: None
         self.pool.forget(self)
 
 
-async def awaited(begin: Callable[[Told], "Answer | Pending"]) -> "Answer | Dump":
+async def awaited(begin: Callable[[Answered], "Answer | Pending"]) -> "Answer | Dump":
     """What comes of a query that `begin` asks; Refused if there is no answer."""
     future: "asyncio.Future[Answer | Dump]" = asyncio.get_running_loop().create_future()
 
-    def told(found: Found) -> None:
+    def answered(found: Found) -> None:
         if future.done():
             return
         if isinstance(found, Refused):
@@ -100,7 +100,7 @@ async def awaited(begin: Callable[[Told], "Answer | Pending"]) -> "Answer | Dump
         else:
             future.set_result(found)
 
-    known = begin(told)
+    known = begin(answered)
     if isinstance(known, Answer):
         return known
     try:
@@ -140,13 +140,13 @@ class Request(Turn):
         # The exchanges that ask it now, and those that were begun.
         self.running = self.tries = 0
 
-    def tell(self, found: Found) -> None:
+    def end(self, found: Found) -> None:
         """Ends it, with the answer or why there is none."""
         self.is_over = True
         waiting, self.waiting = self.waiting, []
         for one in waiting:
             try:
-                one.told(found)
+                one.answered(found)
             except Exception as error:
                 one.pool.on_fault("handing on what was found", error)
 
@@ -203,15 +203,15 @@ class Pool:
         self.seconds: dict[str, float] = {}
         # Prometheus sees no growth of what it never saw at 0.
         self.refused = dict.fromkeys(("budget", "busy", "down", "full", "long"), 0)
-        # What the agent told last, and whether it was asked.
-        self.told: dict[str, Any] = {}
-        self.is_told = self.is_held = self.is_closing = False
+        # What the agent reported last, and whether it was asked.
+        self.reported: dict[str, Any] = {}
+        self.is_agent_asked = self.is_held = self.is_closing = False
         self.wake: Optional[asyncio.TimerHandle] = None
         self.since_down: Optional[float] = None
         self.tasks: set[asyncio.Task[None]] = set()
         # Who waits for the registry to be free, for a submission.
         self.freed: Callable[[], None] = lambda: None
-        # What is told of a fault of the door itself.
+        # What is reported of a fault of the door itself.
         self.on_fault: Callable[[str, Exception], None] = lambda what, error: None
 
     # What upstreams there are, and which of them may be asked.
@@ -237,7 +237,9 @@ class Pool:
 
     def is_known(self) -> bool:
         """Whether the agent and all upstreams were asked once what they are."""
-        return self.is_told and all(one.looked and one.exchange is None for one in self.all())
+        return self.is_agent_asked and all(
+            one.looked and one.exchange is None for one in self.all()
+        )
 
     def start(self) -> None:
         for work in self.tick(), self.follow():
@@ -254,7 +256,9 @@ class Pool:
 
     # Asking.
 
-    def ask(self, client: Client, key: bytes, line: bytes, kind: str, told: Told) -> Waiting:
+    def ask(
+        self, client: Client, key: bytes, line: bytes, kind: str, answered: Answered
+    ) -> Waiting:
         """Asks a query, a line of whois, or for the dump. What comes of it is told later; Refused
         if it is not asked."""
         now = time.monotonic()
@@ -268,7 +272,7 @@ class Pool:
             request.is_dear = kind == DUMP or self.costs.expected(key, kind) >= DEAR
             if request.is_dear and self.costs.known(key) is None and self.may_surprise(client, now):
                 request.is_dear, request.is_guess = False, True
-        waiting = Waiting(self, request, told)
+        waiting = Waiting(self, request, answered)
         request.waiting.append(waiting)
         if not request.running:
             self.queue(request, now)
@@ -316,7 +320,7 @@ class Pool:
             # What was asked just now was looked up just now.
             kept = self.cache.get(request.key, now) if request.since < now else None
             if kept is not None:
-                request.tell(kept)
+                request.end(kept)
             else:
                 request.state = self.cache.state
                 self.turns.join(request)
@@ -401,7 +405,7 @@ class Pool:
                 self.cache.put(request.key, answer, request.state, now)
             if not self.source and isinstance(answer, Answer):
                 self.named(answer.text)
-            request.tell(answer)
+            request.end(answer)
         elif fault is not None:
             self.failed(request, one, fault, now)
         self.turn()
@@ -439,7 +443,7 @@ class Pool:
 
     def give_up(self, request: Request, why: Refused) -> None:
         self.count(why.word)
-        request.tell(why)
+        request.end(why)
 
     def count(self, word: str) -> None:
         self.refused[word] = self.refused.get(word, 0) + 1
@@ -526,19 +530,19 @@ class Pool:
         state."""
         while True:
             if self.agent is not None:
-                told = await upstreams.told_by(self.agent)
-                if told is None:
-                    self.told = {}
+                reported = await upstreams.reported_by(self.agent)
+                if reported is None:
+                    self.reported = {}
                 else:
                     # What none of its agents says is no news.
                     with contextlib.suppress(
                         KeyError, TypeError, ValueError, OverflowError, Failure
                     ):
-                        self.heard(told)
-            self.is_told = True
-            await asyncio.sleep(upstreams.ASKING if self.told else upstreams.ASKING_AGAIN)
+                        self.heard(reported)
+            self.is_agent_asked = True
+            await asyncio.sleep(upstreams.ASKING if self.reported else upstreams.ASKING_AGAIN)
 
-    def heard(self, told: dict[str, Any]) -> None:
+    def heard(self, reported: dict[str, Any]) -> None:
         """Takes in what the agent says."""
         entries = {
             place(f"127.0.0.1:{int(entry['port'])}"): (
@@ -546,9 +550,9 @@ class Pool:
                 str(entry["state"]),
                 float(entry["seen"]),
             )
-            for entry in told["replicas"]
+            for entry in reported["replicas"]
         }
-        self.told = told
+        self.reported = reported
         states = {one.state for one in self.replicas}
         if not self.settings.replica:
             # One that is still asked is forgotten once it has answered.

@@ -8,7 +8,7 @@ from typing import AsyncIterator, Iterable, Iterator, Optional, Sequence, TypeVa
 
 from irr.door.budget import Client
 from irr.door.cache import DEAR, Answer, Full
-from irr.door.pool import BEHIND, FULL, TOO_MUCH, Pending, Pool, Refused, Told, awaited
+from irr.door.pool import BEHIND, FULL, TOO_MUCH, Answered, Pending, Pool, Refused, awaited
 from irr.registry import queries
 from irr.rpsl import keys, syntax
 
@@ -68,7 +68,7 @@ class Asker:
         """An answer that is kept, which costs nothing."""
         return self.pool.cache.get(key, time.monotonic())
 
-    def begin(self, query: bytes, told: Told) -> "Answer | Pending":
+    def begin(self, query: bytes, answered: Answered) -> "Answer | Pending":
         """The answer to a query where it is known, else what is waited for until it is told;
         Refused if it is not asked."""
         if queries.BAD_BYTE.search(query) or len(query) > queries.LONGEST:
@@ -77,13 +77,13 @@ class Asker:
         key = normal(query)
         kept = self.kept(key)
         if kept is None:
-            return self.pool.ask(self.client, key, query + b"\r\n", kind_of(key), told)
+            return self.pool.ask(self.client, key, query + b"\r\n", kind_of(key), answered)
         wait = self.charge(len(kept.text))
-        return self.pool.loop.call_later(wait, told, kept) if wait > 0 else kept
+        return self.pool.loop.call_later(wait, answered, kept) if wait > 0 else kept
 
     async def ask(self, query: bytes) -> Answer:
         """The answer to a query; Refused if there is none."""
-        answer = await awaited(lambda told: self.begin(query, told))
+        answer = await awaited(lambda answered: self.begin(query, answered))
         assert isinstance(answer, Answer)
         return answer
 

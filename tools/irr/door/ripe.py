@@ -103,7 +103,7 @@ async def found(asker: Asker, flags: Flags) -> tuple[list[bytes], str, float]:
     views = asker.pool.views
     if "q" in flags.words:
         own = Asker(views.main, asker.client, asker.address)
-        return [told(own, flags.words["q"])], "answered", 0.0
+        return [about(own, flags.words["q"])], "answered", 0.0
     for letter in "t", "v":
         if letter in flags.words:
             return [templates.template(flags.words[letter])], "answered", 0.0
@@ -148,11 +148,11 @@ async def mirrored(asker: Asker, word: str, stays: bool) -> Reply:
     return Reply(b"", "answered", stays, body=found_here)
 
 
-def told(asker: Asker, word: str) -> bytes:
+def about(asker: Asker, word: str) -> bytes:
     """`-q`: what there is."""
     if word == "sources":
         source, mirrors = asker.pool.source, asker.pool.mirrors
-        first, last = mirrors.told(source) or (0, 0)
+        first, last = mirrors.serials_of(source) or (0, 0)
         may = "Y" if last and mirrors.allows(asker.address) else "N"
         return f"{source}:3:{may}:{first}-{last}\n\n".encode()
     if word == "types":

@@ -105,7 +105,7 @@ class Service:
         self.ports: list[Port] = []
         self.ended = asyncio.Event()
 
-    async def run(self, said: Callable[[str], None]) -> None:
+    async def run(self, put: Callable[[str], None]) -> None:
         """Serves until a signal ends it, and then who was let in before."""
         self.loop.set_exception_handler(self.failed)
         for number in signal.SIGTERM, signal.SIGINT:
@@ -117,7 +117,7 @@ class Service:
         sweep = self.loop.create_task(self.sweep())
         await self.know(pools)
         self.ports = [Port(self.watch, opened, make) for opened, make in listening]
-        said(f"irr door: open at {', '.join(port.place().text() for port in self.ports)}")
+        put(f"irr door: open at {', '.join(port.place().text() for port in self.ports)}")
         notify("READY=1")
         gc.freeze()
         await self.ended.wait()
@@ -137,11 +137,11 @@ class Service:
         while time.monotonic() < end and not all(one.is_known() for one in pools):
             await asyncio.sleep(0.01)
 
-    def failed(self, _: asyncio.AbstractEventLoop, told: dict[str, Any]) -> None:
+    def failed(self, _: asyncio.AbstractEventLoop, context: dict[str, Any]) -> None:
         """A fault that nobody else has seen, which the journal would have as a traceback."""
-        error = told.get("exception")
+        error = context.get("exception")
         self.counters.fault(
-            str(told.get("message", "")), error if isinstance(error, Exception) else Exception()
+            str(context.get("message", "")), error if isinstance(error, Exception) else Exception()
         )
 
     async def sweep(self) -> None:
@@ -205,7 +205,7 @@ def run(settings: Settings) -> None:
 
     async def main() -> None:
         service = Service(watch, settings)
-        await service.run(said)
+        await service.run(put)
 
     try:
         watch.loop.run_until_complete(main())
@@ -213,5 +213,5 @@ def run(settings: Settings) -> None:
         watch.loop.close()
 
 
-def said(line: str) -> None:
+def put(line: str) -> None:
     print(texts.shown_line(line), flush=True)

@@ -1,4 +1,4 @@
-"""What the door tells of itself: counters, `/metrics` in Prometheus's text, and `/status` in JSON
+"""What the door reports of itself: counters, `/metrics` in Prometheus's text, and `/status` in JSON
 and in lines for people."""
 
 import json
@@ -77,8 +77,8 @@ class Status:
             age = one.age()
             if one.is_up and age is not None and age > self.settings.oldest:
                 found.append(f"{one.name}: its state is {texts.counted(int(age), 'second')} old")
-        if self.pool.told.get("fault"):
-            found.append(f"replicas are not renewed: {self.pool.told['fault']}")
+        if self.pool.reported.get("fault"):
+            found.append(f"replicas are not renewed: {self.pool.reported['fault']}")
         return found + self.pool.mirrors.faults() + self.pool.views.faults()
 
     def all(self) -> dict[str, Any]:
@@ -114,16 +114,16 @@ class Status:
 
     def line(self) -> bytes:
         """A line for people, and one for each fault."""
-        told = self.all()
-        word = "well" if told["well"] else "in part" if told["serves"] else "DOWN"
-        ages = [one["age"] for one in told["upstreams"] if one["age"] is not None]
-        up = sum(one["serves"] for one in told["upstreams"][1:])
+        state = self.all()
+        word = "well" if state["well"] else "in part" if state["serves"] else "DOWN"
+        ages = [one["age"] for one in state["upstreams"] if one["age"] is not None]
+        up = sum(one["serves"] for one in state["upstreams"][1:])
         first = (
-            f"{word}: {told['source'] or 'no registry'}, {texts.counted(up, 'replica')}"
+            f"{word}: {state['source'] or 'no registry'}, {texts.counted(up, 'replica')}"
             + (f" at most {max(ages):.0f} s old" if ages else "")
-            + f", {texts.counted(told['connections'], 'connection')}, {told['waiting']} waiting"
+            + f", {texts.counted(state['connections'], 'connection')}, {state['waiting']} waiting"
         )
-        return "".join(f"{texts.shown_line(line)}\n" for line in [first, *told["faults"]]).encode()
+        return "".join(f"{texts.shown_line(line)}\n" for line in [first, *state["faults"]]).encode()
 
     def metrics(self) -> bytes:
         return "".join(f"{line}\n" for line in self.samples()).encode()
@@ -178,7 +178,7 @@ class Status:
             (
                 "renewal_failed",
                 "Whether replicas can't be renewed.",
-                int(bool(pool.told.get("fault"))),
+                int(bool(pool.reported.get("fault"))),
             ),
         ):
             yield from family(name, what, {"": value})

@@ -57,12 +57,12 @@ class Submission(Turn):
     """A submission on its way: its parts, and how many items were decided before the first of
     them."""
 
-    __slots__ = ("who", "items", "parts", "before", "told", "future", "is_begun", "has_guess")
+    __slots__ = ("who", "items", "parts", "before", "reported", "future", "is_begun", "has_guess")
 
     def __init__(self, client: Any, who: Who, items: list[Item], parts: list[bytes]) -> None:
         super().__init__(client)
         self.who, self.items, self.parts, self.before = who, items, parts, 0
-        self.told: Callable[[bytes], None] = lambda text: None
+        self.reported: Callable[[bytes], None] = lambda text: None
         self.future: "asyncio.Future[None]" = asyncio.get_running_loop().create_future()
         self.is_begun = self.has_guess = False
 
@@ -137,9 +137,9 @@ class Submissions:
         body = body if body.endswith(b"\n") else body + b"\n"
         return items, [body] if len(items) <= AT_ONCE else parts(blocks)
 
-    async def submit(self, who: Who, body: bytes, told: Callable[[bytes], None]) -> None:
-        """Hands a submission on once its turn has come; `told` gets its report as it comes. Refused
-        if that does not come whole."""
+    async def submit(self, who: Who, body: bytes, reported: Callable[[bytes], None]) -> None:
+        """Hands a submission on once its turn has come; `reported` gets its report as it comes.
+        Refused if that does not come whole."""
         sender = self.senders.of(who.name, time.monotonic())
         items, sent = await self.check(who, sender, body)
         now = time.monotonic()
@@ -151,7 +151,7 @@ class Submissions:
                 int(self.senders.wait(sender, now)) + 10,
             )
         submission = Submission(sender, who, items, sent)
-        submission.told = told
+        submission.reported = reported
         self.turns.add(submission)
         self.turn()
         while True:
@@ -160,7 +160,7 @@ class Submissions:
                     return await asyncio.shield(submission.future)
             except asyncio.CancelledError:
                 # What was begun goes on to its end, and the journal has it.
-                submission.told = lambda text: None
+                submission.reported = lambda text: None
                 submission.future.add_done_callback(lambda future: future.exception())
                 if not submission.is_begun:
                     self.turns.remove(submission)
@@ -336,7 +336,7 @@ class Handed:
             raise ValueError("EPROTO") from None
         lines += [self.last_line] if self.last_line else []
         if lines:
-            self.submission.told("".join(f"{line}\n" for line in lines).encode())
+            self.submission.reported("".join(f"{line}\n" for line in lines).encode())
 
     def note(self, line: answers.Item) -> None:
         """Counts an item, and has the journal know who did it."""

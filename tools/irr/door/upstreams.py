@@ -120,7 +120,7 @@ def source_in(text: bytes) -> str:
     return keys.read_source(source) or ""
 
 
-async def told_by(agent: Place) -> Optional[dict[str, Any]]:
+async def reported_by(agent: Place) -> Optional[dict[str, Any]]:
     """What the agent of `irr mirror` says of its replicas; None if there is none."""
     try:
         async with asyncio.timeout(AGENT):

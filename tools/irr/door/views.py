@@ -32,9 +32,9 @@ class ViewPool(Pool):
         found = [one for one in self.replicas if one.serves(self.settings.oldest)]
         return found or [one for one in self.replicas if one.answers]
 
-    def heard(self, told: dict[str, Any]) -> None:
-        super().heard(told)
-        view = told["view"]
+    def heard(self, reported: dict[str, Any]) -> None:
+        super().heard(reported)
+        view = reported["view"]
         self.name = self.source = str(view["name"])
         self.sources = ",".join(str(one["name"]) for one in view["sources"])
 
@@ -42,29 +42,29 @@ class ViewPool(Pool):
         """What is wrong, in lines for people."""
         name = f"view {self.name or (self.agent.text() if self.agent else '')}"
         found = [] if self.answers else [f"{name} does not answer"]
-        view = self.told.get("view", {})
+        view = self.reported.get("view", {})
         found += [f"{name}: {line}" for line in view.get("lines", [])]
         found += [f"{name}: {line}" for line in view.get("doubts", [])]
-        if self.told.get("fault"):
-            found.append(f"{name} is not renewed: {self.told['fault']}")
+        if self.reported.get("fault"):
+            found.append(f"{name} is not renewed: {self.reported['fault']}")
         return found
 
     def status(self) -> dict[str, Any]:
-        """What is told of it: its sources, each with its state, and its replicas."""
-        return {"serves": self.answers, **self.told.get("view", {"name": self.name or None})}
+        """What is reported of it: its sources, each with its state, and its replicas."""
+        return {"serves": self.answers, **self.reported.get("view", {"name": self.name or None})}
 
     def made_of(self) -> bytes:
         """What everybody may know of what it is made of: the states of its sources, and the ROAs;
         Refused while nobody says so."""
-        view = self.told.get("view", {})
+        view = self.reported.get("view", {})
         if not view:
             raise Refused("down", SILENT, ASK_AGAIN)
         sources = [
             {name: one.get(name) for name in ("name", "state", "nrtm", "serial")}
             for one in view.get("sources", [])
         ]
-        told = {"name": self.name, "sources": sources, "roas": view.get("roas", "")}
-        return json.dumps(told).encode() + b"\n"
+        about = {"name": self.name, "sources": sources, "roas": view.get("roas", "")}
+        return json.dumps(about).encode() + b"\n"
 
 
 class Views:

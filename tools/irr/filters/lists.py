@@ -78,17 +78,17 @@ def entries(router: str, text: str) -> Iterator[Entry]:
             yield Entry(bits, first >> bits - length << bits - length, length, low, min(high, bits))
 
 
-def lengths(said: dict[str, str | None], length: int, bits: int) -> tuple[int, int]:
+def lengths(words: dict[str, str | None], length: int, bits: int) -> tuple[int, int]:
     """The least and the greatest length that the words after a prefix mean."""
-    given = {name: int(value) for name, value in said.items() if value and value.isdigit()}
+    given = {name: int(value) for name, value in words.items() if value and value.isdigit()}
     if "only" in given:
         return max(given["only"], length), given["only"]
     if "bound" in given:
-        bound, sign = given["bound"], said["sign"] or ""
+        bound, sign = given["bound"], words["sign"] or ""
         if sign.startswith(">"):
             return max(bound + (sign == ">"), length), bits
         return length, bound - (sign == "<")
-    if said.get("up") or "ge" in given and "le" not in given:
+    if words.get("up") or "ge" in given and "le" not in given:
         return max(given.get("ge", length), length), bits
     low = given.get("low", given.get("ge", length))
     return max(low, length), given.get("high", given.get("le", length))

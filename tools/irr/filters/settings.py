@@ -25,7 +25,7 @@ STALE, SHRINK = 24, 30
 SHRUNK = 4
 # What bgpq4 says, with status 0, where it left something out. A list may have such a word in a
 # name.
-SAID_FAULT, PRINTED_FAULT = re.compile(rb"ERROR"), re.compile(rb"\bERROR:")
+REPORTED_FAULT, PRINTED_FAULT = re.compile(rb"ERROR"), re.compile(rb"\bERROR:")
 # What has to stand round a filter so that its router reads it alone, and the command that reads it.
 BIRD = 'router id 192.0.2.1;\nprotocol device {{ }}\ninclude "{}";\n'
 OPENBGPD = 'AS 64496\ninclude "{}"\n'
@@ -197,13 +197,13 @@ def need_kept(one: Filter, old: bytes, new: bytes, shrink: float) -> None:
 
 def printed(words: list[str]) -> bytes:
     """What a command prints that ends well."""
-    with tempfile.TemporaryFile() as out, tempfile.TemporaryFile() as said:
+    with tempfile.TemporaryFile() as out, tempfile.TemporaryFile() as errors:
         try:
             done = subprocess.run(
                 words,
                 stdin=subprocess.DEVNULL,
                 stdout=out,
-                stderr=said,
+                stderr=errors,
                 timeout=PATIENCE,
                 check=False,
             )
@@ -215,14 +215,14 @@ def printed(words: list[str]) -> bytes:
             raise Failure(
                 words[0], f"it did not end within {PATIENCE} seconds; look what it waits for"
             ) from None
-        fault = fault_line(said, SAID_FAULT) or fault_line(out, PRINTED_FAULT)
+        fault = fault_line(errors, REPORTED_FAULT) or fault_line(out, PRINTED_FAULT)
         if done.returncode:
-            said.seek(0)
-            why = said_line(fault or said.read(4_096))
+            errors.seek(0)
+            why = reported_line(fault or errors.read(4_096))
             raise Failure(words[0], f"it ended with status {done.returncode}: {why}")
         # bgpq4 says ERROR and ends with status 0 if it left something out.
         if fault:
-            raise Failure(words[0], said_line(fault))
+            raise Failure(words[0], reported_line(fault))
         size = out.seek(0, os.SEEK_END)
         if not size or size > MOST:
             raise Failure(
@@ -283,13 +283,13 @@ def look(router: str, new: Path) -> None:
         raise Failure(command[0], f"it did not end within {PATIENCE} seconds") from None
     if done.returncode:
         raise Failure(
-            command[0], f"it does not read the filter: {said_line(done.stderr or done.stdout)}"
+            command[0], f"it does not read the filter: {reported_line(done.stderr or done.stdout)}"
         )
 
 
-def said_line(said: bytes) -> str:
-    """What a program said, on one line that is not long."""
-    return "; ".join(texts.text_of(said).split("\n")).strip("; ")[:400] or "it says nothing"
+def reported_line(reported: bytes) -> str:
+    """What a program reported, on one line that is not long."""
+    return "; ".join(texts.text_of(reported).split("\n")).strip("; ")[:400] or "it says nothing"
 
 
 def age(path: str, hours: float) -> str:

@@ -276,8 +276,8 @@ class Health:
             return
         try:
             text = exchanged(place, b"state\n", self.bounds.seconds)
-            told = json.loads(text)
-            fault, replicas = str(told["fault"]), list(told["replicas"])
+            state = json.loads(text)
+            fault, replicas = str(state["fault"]), list(state["replicas"])
             found = [(str(one["port"]), bool(one["ready"]), float(one["seen"])) for one in replicas]
         except (OSError, ValueError, KeyError, TypeError, Unasked) as why:
             self.fault("mirror-down", place, f"the agent does not answer ({why})")

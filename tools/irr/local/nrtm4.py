@@ -20,7 +20,7 @@ from typing import Any, Iterable, NamedTuple
 from irr.errors import ARGUMENTS, Failure, reading
 from irr.local.changes import ADD, DEL, Change
 from irr.local.history import Repository, State
-from irr.local.serials import Serials, Told
+from irr.local.serials import Numbered, Serials
 from irr.registry import answers
 from irr.rpsl import keys
 from irr.rpsl.keys import Key
@@ -45,7 +45,7 @@ class File(NamedTuple):
     hash: str
     made: float
 
-    def told(self) -> Record:
+    def record(self) -> Record:
         return {"version": self.version, "url": self.url, "hash": self.hash}
 
 
@@ -73,9 +73,9 @@ class Published(NamedTuple):
     def notification(self, next_key: str) -> Record:
         """What the notification says, but for its time."""
         key = {"next_signing_key": next_key} if next_key else {}
-        deltas = [one.told() for one in self.deltas]
+        deltas = [one.record() for one in self.deltas]
         return (
-            self.head("notification") | key | {"snapshot": self.snapshot.told(), "deltas": deltas}
+            self.head("notification") | key | {"snapshot": self.snapshot.record(), "deltas": deltas}
         )
 
     def names(self) -> set[str]:
@@ -128,13 +128,13 @@ class Publisher:
         self.prune(state)
         return state
 
-    def begun(self, last: Told) -> Published:
+    def begun(self, last: Numbered) -> Published:
         """A session of a state, and of none before it."""
         session, none = str(uuid.uuid4()), File(0, "", "", 0)
         state = Published(last.source, session, 1, last.last, last.commit, none, [])
         return state._replace(snapshot=self.snapshot(state, last))
 
-    def followed(self, old: Published, last: Told) -> Published:
+    def followed(self, old: Published, last: Numbered) -> Published:
         """The state after one that was published."""
         now, deltas = time.time(), list(old.deltas)
         while deltas and not self.is_kept(deltas[0], now):
@@ -156,7 +156,7 @@ class Publisher:
         """Whether the changes since what was published are kept: its serial is, and is of the same
         state, and of none in the place of lost ones."""
         kept = old.serial in self.serials.kept()
-        return kept and self.serials.told(old.serial).commit == old.commit
+        return kept and self.serials.at(old.serial).commit == old.commit
 
     def is_kept(self, file: File, now: float) -> bool:
         return file.made > now - CHANGES and self.is_there(file)
@@ -166,14 +166,14 @@ class Publisher:
 
     # What is written.
 
-    def snapshot(self, state: Published, last: Told) -> File:
+    def snapshot(self, state: Published, last: Numbered) -> File:
         """Writes all objects."""
         head = state.head("snapshot")
         dump = answers.dumped(self.serials.dump(last), str(self.history))
         records = ({"object": text_of(paragraph.text())} for _, paragraph in dump)
         return self.write(head, records)
 
-    def changes(self, old: Published, last: Told) -> list[Record]:
+    def changes(self, old: Published, last: Numbered) -> list[Record]:
         """What changed after what was published, of each object the last."""
         name = str(self.history)
         last_of: dict[Key, Change] = {}
@@ -212,13 +212,13 @@ class Publisher:
     def notify(self, before: Record, wanted: Record) -> None:
         """Puts the notification in place where it says anything new, or was signed long ago."""
         path, now = self.out / NOTIFICATION, time.time()
-        said = {name: value for name, value in before.items() if name != "timestamp"}
+        named = {name: value for name, value in before.items() if name != "timestamp"}
         signed = path.stat().st_mtime if before else 0
         is_rolled = before and self.signers.now.stat().st_mtime >= signed
-        if said == wanted and abs(now - signed) < SIGNED and not is_rolled:
+        if named == wanted and abs(now - signed) < SIGNED and not is_rolled:
             return
-        told = {"timestamp": time.strftime("%Y-%m-%dT%H:%M:%SZ", time.gmtime(now))}
-        files.put(path, self.signers.sign(json.dumps(wanted | told).encode()))
+        stamp = {"timestamp": time.strftime("%Y-%m-%dT%H:%M:%SZ", time.gmtime(now))}
+        files.put(path, self.signers.sign(json.dumps(wanted | stamp).encode()))
 
     # What is no longer named.
 

@@ -182,11 +182,11 @@ def is_connected(port: int) -> bool:
 
 class Agent:
     """What a door, or HAProxy (`agent-check`), asks before it hands a connection to a replica: a
-    line `state` is answered by what `tell` gives, in JSON, and a line with a replica's port by
+    line `state` is answered by what `report` gives, in JSON, and a line with a replica's port by
     `ready`, or by `drain` while that replica is about to end."""
 
     def __init__(self, port: int) -> None:
-        self.tell: Callable[[], dict[str, Any]] = dict
+        self.report: Callable[[], dict[str, Any]] = dict
         self.draining: set[int] = set()
         self.heard: set[int] = set()
         agent = self
@@ -213,7 +213,7 @@ class Agent:
     def word(self, line: bytes) -> bytes:
         if line.strip() == b"state":
             self.heard |= self.draining
-            return json.dumps(self.tell()).encode() + b"\n"
+            return json.dumps(self.report()).encode() + b"\n"
         port = int(line) if line.strip().isdigit() else 0
         if port in self.draining:
             self.heard.add(port)
@@ -254,14 +254,14 @@ class Keeper:
         self.made, self.old = Made(folder / "made"), folder / "made.old.next"
         self.replicas = [Replica(folder, port) for port in ports]
         self.known, self.later = "", 0.0
-        # Why the last renewal failed, and what else a door is told.
+        # Why the last renewal failed, and what else a door gets.
         self.fault = ""
         self.more: dict[str, Any] = {}
         if agent:
-            agent.tell = self.told
+            agent.report = self.report
 
-    def told(self) -> dict[str, Any]:
-        """What a door is told: each replica with the state that it serves, and when the registry
+    def report(self) -> dict[str, Any]:
+        """What a door gets: each replica with the state that it serves, and when the registry
         was seen to have that state; and why none can be renewed."""
         draining = self.agent.draining if self.agent else set()
         return {
@@ -314,7 +314,7 @@ class Keeper:
         while True:
             if time.monotonic() >= next_time:
                 if self.attempt(lambda: self.renew(make), is_renewal=True):
-                    line = f"{self.name}: the replicas have {told(self.made)}"
+                    line = f"{self.name}: the replicas have {counted(self.made)}"
                     print(texts.shown_line(line), flush=True)
                 next_time = time.monotonic() + every
             self.attempt(self.revive)
@@ -412,7 +412,7 @@ class Keeper:
             self.settle()
 
 
-def told(made: Made) -> str:
+def counted(made: Made) -> str:
     """What is printed of a dump that the replicas have."""
     with open(made.dump, "rb") as file:
         file.seek(max(0, made.dump.stat().st_size - 64))

@@ -33,7 +33,7 @@ STEP = 10
 AT_ONCE, STRETCH = 100, 1 << 20
 
 
-class Told(NamedTuple):
+class Numbered(NamedTuple):
     """A state of which the serials are kept: the registry's name, the serials of its changes, which
     are none where the first is after the last, the serial that mirrors could begin from, and the
     commit and the digest of the public dump."""
@@ -79,7 +79,7 @@ class Serials:
             return []
 
     @reading("the serials")
-    def told(self, last: int) -> Told:
+    def at(self, last: int) -> Numbered:
         """The state of a last serial."""
         path = self.path(last)
         with open(path, "rb") as file:
@@ -89,21 +89,21 @@ class Serials:
                 str(path), "it has no serials; remove its folder, so that mirrors begin anew"
             )
         source, first, final, since, commit, dump = (part.decode() for part in found.groups())
-        return Told(source, int(first), int(final), int(since), commit, dump)
+        return Numbered(source, int(first), int(final), int(since), commit, dump)
 
-    def now(self) -> Told | None:
+    def now(self) -> Numbered | None:
         """The last state; None where no serials are kept."""
         kept = self.kept()
-        return self.told(kept[-1]) if kept else None
+        return self.at(kept[-1]) if kept else None
 
-    def range(self) -> Told | None:
+    def range(self) -> Numbered | None:
         """The last state, with the first of all serials that are kept."""
         kept = self.kept()
         if not kept:
             return None
-        last = self.told(kept[-1])
+        last = self.at(kept[-1])
         try:
-            oldest = self.told(next(one for one in kept if one >= last.since))
+            oldest = self.at(next(one for one in kept if one >= last.since))
         except FileNotFoundError:
             # It was removed since its name was read.
             return self.range()
@@ -117,16 +117,16 @@ class Serials:
         for place in range(0, len(found), AT_ONCE):
             parts: list[Part] = []
             for one in found[place : place + AT_ONCE]:
-                told = self.told(one)
-                path, begin = self.path(one), len(told.head())
+                numbered = self.at(one)
+                path, begin = self.path(one), len(numbered.head())
                 end = path.stat().st_size
-                if first > told.first or last < told.last:
+                if first > numbered.first or last < numbered.last:
                     with open(path, "rb") as file, mapped(file) as all:
-                        if first > told.first:
+                        if first > numbered.first:
                             begin = yield from place_of(all, first)
-                        if last < told.last:
+                        if last < numbered.last:
                             end = yield from place_of(all, last + 1)
-                parts.append(Part(path, begin, end, min(last, told.last)))
+                parts.append(Part(path, begin, end, min(last, numbered.last)))
             yield parts
 
     def changes(self, first: int, last: int) -> Iterator[Change]:
@@ -138,20 +138,20 @@ class Serials:
             for word, text in zip(words[::2], words[1::2], strict=True):
                 yield Change(word.split()[0].decode(), text + b"\n")
 
-    def dump(self, told: Told) -> Iterator[bytes]:
+    def dump(self, numbered: Numbered) -> Iterator[bytes]:
         """The public dump of a state, which has to be the one that was fetched."""
         history, digest, count = self.folder.parent, hashlib.sha256(), 0
-        for piece in Repository(history).objects(State(told.commit, 0, told.dump)):
+        for piece in Repository(history).objects(State(numbered.commit, 0, numbered.dump)):
             digest.update(piece)
             count += 1
             yield piece
         end = f"% end {count}\n".encode()
         digest.update(end)
-        if digest.hexdigest() != told.dump:
+        if digest.hexdigest() != numbered.dump:
             raise Failure(
                 str(history),
-                f"commit {told.commit} does not give the dump that it was made of; the repository"
-                " was changed: take it from a backup",
+                f"commit {numbered.commit} does not give the dump that it was made of; the"
+                " repository was changed: take it from a backup",
             )
         yield end
 
@@ -176,17 +176,17 @@ class Serials:
             last = self.follow(repository, states[place + 1], states[place], last, now)
         self.prune(last.since)
 
-    def begin(self, repository: Repository, state: State, serial: int) -> Told:
+    def begin(self, repository: Repository, state: State, serial: int) -> Numbered:
         """Lets mirrors begin from a state, and from none before it."""
         first = next(repository.objects(state))
         source = source_of(first[:-1], repository)
-        told = Told(source, serial + 1, serial, serial, state.commit, state.dump)
-        files.put(self.path(serial), told.head())
-        return told
+        numbered = Numbered(source, serial + 1, serial, serial, state.commit, state.dump)
+        files.put(self.path(serial), numbered.head())
+        return numbered
 
     def follow(
-        self, repository: Repository, before: State, state: State, last: Told, now: int
-    ) -> Told:
+        self, repository: Repository, before: State, state: State, last: Numbered, now: int
+    ) -> Numbered:
         """Gives serials to what a state changed of the one before it."""
         added, changed, deleted = repository.between(before, state)
         name = str(repository.folder)
@@ -195,14 +195,14 @@ class Serials:
                 # Another registry is in the place of the one that mirrors have.
                 return self.begin(repository, state, max(now // STEP, last.last + 1))
         found = list(changes.in_order(added, changed, deleted, name))
-        told = last._replace(
+        numbered = last._replace(
             first=last.last + 1,
             last=last.last + len(found),
             commit=state.commit,
             dump=state.dump,
         )
-        files.put(self.path(told.last), pieces(told, found))
-        return told
+        files.put(self.path(numbered.last), pieces(numbered, found))
+        return numbered
 
     def prune(self, since: int) -> None:
         """Removes what is from before the serial that mirrors could begin from, and what is more
@@ -219,9 +219,9 @@ def source_of(text: bytes, repository: Repository) -> str:
     return answers.source_of(text, str(repository.folder)).upper()
 
 
-def pieces(told: Told, found: list[Change]) -> Iterator[bytes]:
-    yield told.head()
-    for serial, change in enumerate(found, told.first):
+def pieces(numbered: Numbered, found: list[Change]) -> Iterator[bytes]:
+    yield numbered.head()
+    for serial, change in enumerate(found, numbered.first):
         yield b"\n%s %d\n\n%s" % (change.word.encode(), serial, change.text)
 
 

@@ -96,7 +96,7 @@ class Import:
         self.shared_kinds: dict[frozenset[str], frozenset[str]] = {}
         self.spool = tempfile.TemporaryFile(prefix="irr-")
         self.end = 0
-        self.shown = time.monotonic()
+        self.reported = time.monotonic()
 
     # Reading.
 
@@ -251,9 +251,9 @@ class Import:
     def show_progress(self, is_last: bool = False) -> None:
         """How far it is, on a terminal."""
         if texts.is_terminal(sys.stderr) and (
-            is_last or time.monotonic() > self.shown + PROGRESS_SECONDS
+            is_last or time.monotonic() > self.reported + PROGRESS_SECONDS
         ):
-            self.shown = time.monotonic()
+            self.reported = time.monotonic()
             words = f"\r{self.tally.read:,} paragraphs, {self.tally.size / 1e6:,.0f} MB "
             print(words, end="\n" if is_last else "", file=sys.stderr, flush=True)
 
@@ -319,11 +319,11 @@ class Import:
             for number, line in lines:
                 own = Place(self.place_of(place).path, number)
                 cause = {b"#": COMMENT, b"%": COMMENT, b"\r": CR}.get(line[:1], CR_INSIDE)
-                self.tally.tell(cause, own, self.text_of(place), line)
+                self.tally.note_odd(cause, own, self.text_of(place), line)
         for place in self.bare:
-            self.tally.tell(NO_SOURCE, self.place_of(place), self.text_of(place))
+            self.tally.note_odd(NO_SOURCE, self.place_of(place), self.text_of(place))
         for place in self.of_others():
-            self.tally.tell(OF_OTHERS, self.place_of(place), self.text_of(place))
+            self.tally.note_odd(OF_OTHERS, self.place_of(place), self.text_of(place))
 
     def of_others(self) -> list[int]:
         """The maintainers that may change objects of another registry than theirs. What has no

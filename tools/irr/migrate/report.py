@@ -56,7 +56,7 @@ class Tally:
     def __init__(self, file: BinaryIO | None = None) -> None:
         self.file, self.read, self.files, self.size = file, 0, 0, 0
         self.left_out, self.items = Listed("left out"), Listed("dropped from lists")
-        self.told = Listed("taken")
+        self.odd = Listed("taken")
         self.mended: Counter[str] = Counter()
         self.parted: list[str] = []
         # The files without a paragraph.
@@ -89,10 +89,10 @@ class Tally:
         words = [column(part) for part in (dropped.attribute, dropped.item)]
         self.note(self.items, dropped.cause, place, text, words)
 
-    def tell(self, cause: str, place: Place, text: bytes, line: bytes = b"") -> None:
+    def note_odd(self, cause: str, place: Place, text: bytes, line: bytes = b"") -> None:
         """Notes what is odd about an object that is taken, and the line of it that is."""
         words = [column(line)] if line else []
-        self.note(self.told, cause, place, text, words)
+        self.note(self.odd, cause, place, text, words)
 
     def note(
         self, listed: Listed, cause: str, place: Place, text: bytes, words: Iterable[str]
@@ -144,7 +144,7 @@ class Tally:
                 texts.columns([old, new] for old, new in sorted(self.renamed.items())[:SHOWN]),
                 len(self.renamed),
             )
-        for listed in self.told, self.items, self.left_out:
+        for listed in self.odd, self.items, self.left_out:
             yield from listed.lines()
 
 

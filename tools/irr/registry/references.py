@@ -567,7 +567,7 @@ def name_of(node: Node) -> str:
     return node if node in ANY else f"{keys.set_class(node)} {node}"
 
 
-def told(
+def as_json(
     prefix: Prefix, start: Node, chains: Chains, nearest: list[Step], near: list[Near]
 ) -> dict[str, Any]:
     """What is found, as JSON has it."""

@@ -243,7 +243,7 @@ def class_faults(given: list[Placed], own: list[Placed]) -> list[Fault]:
     """E02: no class that the registry keeps comes first."""
     if not own:
         alone = [one for one in given if one.name == b"delete"]
-        return [Fault("E02", one.numbers[0], "delete", say("alone")) for one in alone[:1]]
+        return [Fault("E02", one.numbers[0], "delete", words_of("alone")) for one in alone[:1]]
     name = keys.as_text(own[0].name)
     if name in TABLE:
         return []
@@ -265,7 +265,7 @@ def key_faults(kind: str, own: list[Placed]) -> list[Fault]:
     value = first.attribute.meaning()
     origin = b"AS0" if kind == "route" else None
     if keys.read_key(kind, value, origin) is None:
-        words = say("no key", KEYS[kind])
+        words = words_of("no key", KEYS[kind])
         if value:
             words = not_one(value, KEYS[kind].partition(",")[0], KEYS[kind])
         found.append(Fault("E03", first.numbers[0], kind, words))
@@ -273,11 +273,11 @@ def key_faults(kind: str, own: list[Placed]) -> list[Fault]:
         origins = [one for one in own if one.name == b"origin"]
         found += repeated("E03", origins)
         if not origins:
-            found.append(Fault("E03", first.numbers[0], kind, say("no origin")))
+            found.append(Fault("E03", first.numbers[0], kind, words_of("no origin")))
         for one in origins:
             item = one.attribute.meaning()
             if keys.read_as(item) is None:
-                words = not_one(item, AS_NUMBER.words) if item else say("empty origin")
+                words = not_one(item, AS_NUMBER.words) if item else words_of("empty origin")
                 found.append(Fault("E03", one.numbers[0], "origin", words))
     return found
 
@@ -285,7 +285,8 @@ def key_faults(kind: str, own: list[Placed]) -> list[Fault]:
 def repeated(code: str, attributes: list[Placed]) -> list[Fault]:
     """Each attribute of those that may stand once but the first one."""
     return [
-        Fault(code, one.numbers[0], keys.as_text(one.name), say("again")) for one in attributes[1:]
+        Fault(code, one.numbers[0], keys.as_text(one.name), words_of("again"))
+        for one in attributes[1:]
     ]
 
 
@@ -298,11 +299,11 @@ def count_faults(kind: str, own: list[Placed]) -> list[Fault]:
         these = [one for one in own if one.name == name.encode()]
         empty = [one for one in these if name != "auth" and not any(one.items())]
         if not these:
-            found.append(Fault("E04", own[0].numbers[0], kind, say("missing", name)))
+            found.append(Fault("E04", own[0].numbers[0], kind, words_of("missing", name)))
         elif rule.occurs == ONCE:
             found += repeated("E04", [one for one in these if one not in empty])
         if rule.occurs == ONCE or len(empty) == len(these):
-            words = say("empty", rule.form.words)
+            words = words_of("empty", rule.form.words)
             found += [Fault("E04", one.numbers[0], name, words) for one in empty]
     return found
 
@@ -334,9 +335,9 @@ def bad_whole(name: str, attribute: Attribute) -> str:
     if name != "auth":
         return not_one(value, SOURCE.words)
     if value:
-        return say("bad auth")
+        return words_of("bad auth")
     is_filtered = any(line.startswith(b"# filtered") for line in attribute.lines)
-    return say("filtered" if is_filtered else "empty auth")
+    return words_of("filtered" if is_filtered else "empty auth")
 
 
 def grant_faults(attributes: list[Placed]) -> list[Fault]:
@@ -360,7 +361,7 @@ def grant_faults(attributes: list[Placed]) -> list[Fault]:
         elif item.upper() == b"ANY" and has_name:
             has_name = False
         elif item in (b"{", b"}") or item.upper() == b"ANY":
-            bad(number, say("nameless", shown(item)))
+            bad(number, words_of("nameless", shown(item)))
             opened = number if item == b"{" else -1
         else:
             has_name = is_maintainer(item)
@@ -369,7 +370,7 @@ def grant_faults(attributes: list[Placed]) -> list[Fault]:
                 # What stands after it is of the same entry.
                 has_name = True
     if opened >= 0:
-        bad(opened, say("open"))
+        bad(opened, words_of("open"))
     return found
 
 
@@ -378,12 +379,12 @@ def source_faults(own: list[Placed], source: str | None) -> list[Fault]:
     for one in own:
         value = one.attribute.meaning()
         if one.name == b"source" and source is not None and value.upper() != source.encode():
-            words = say("other source", shown(value), source)
+            words = words_of("other source", shown(value), source)
             return [Fault("E06", one.numbers[0], "source", words)]
     return []
 
 
-def say(name: str, *given: str) -> str:
+def words_of(name: str, *given: str) -> str:
     """The words of a fault, with what is given in place of the numbers."""
     return filled(WORDS[name], given)
 
@@ -395,7 +396,7 @@ def filled(words: str, given: Sequence[str]) -> str:
 def not_one(item: bytes, what: str, remedy: str = "") -> str:
     """What is wrong with an item that is not what it has to be, and what to do."""
     hint = hint_of(texts.text_of(item), what) or (f"write {remedy}" if remedy else "")
-    return say("not one", shown(item), what) + (f"; {hint}" if hint else "")
+    return words_of("not one", shown(item), what) + (f"; {hint}" if hint else "")
 
 
 def shown(item: bytes) -> str:

@@ -174,8 +174,8 @@ def openssl(*words: str) -> bytes:
     """What a command of openssl prints."""
     done = ran(*words)
     if done.returncode:
-        said = " ".join(done.stderr.decode("utf-8", "replace").split())
-        raise Failure("openssl", f"openssl {words[0]}: {said or f'status {done.returncode}'}")
+        reported = " ".join(done.stderr.decode("utf-8", "replace").split())
+        raise Failure("openssl", f"openssl {words[0]}: {reported or f'status {done.returncode}'}")
     return done.stdout
 
 

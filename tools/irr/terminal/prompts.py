@@ -46,14 +46,14 @@ def ask(prompt: str) -> str:
         ) from None
 
 
-def ask_new(prompt: str, is_short_told: bool) -> str:
-    """A new password, typed twice alike. One of fewer than LEAST characters has to be told."""
+def ask_new(prompt: str, is_short_meant: bool) -> str:
+    """A new password, typed twice alike. One of fewer than LEAST characters has to be meant."""
     first = ask(f"{prompt}: ")
     if not first:
         raise Failure("", "no password was given; try again", ARGUMENTS)
     if ask(f"{prompt}, again: ") != first:
         raise Failure("", "the two passwords differ; try again", ARGUMENTS)
-    if len(first) < LEAST and not is_short_told:
+    if len(first) < LEAST and not is_short_meant:
         raise Failure(
             "",
             f"the password has fewer than {LEAST} characters, and who gets its hash finds it soon;"

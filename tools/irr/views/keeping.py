@@ -13,7 +13,7 @@ from irr.rpsl.holders import VIEW_ROOT
 from irr.system import files
 from irr.terminal import texts
 from irr.views import merging, roas, sources
-from irr.views.merging import Merge, Told
+from irr.views.merging import Merge, Outcome
 from irr.views.settings import Settings, Source, followed_to
 from irr.views.sources import State
 
@@ -31,7 +31,7 @@ class View:
         self.new: dict[str, State] = {}
         self.shrunk: dict[str, tuple[State, str]] = {}
         self.faults: dict[str, str] = {}
-        self.told: dict[str, Told] = {}
+        self.outcomes: dict[str, Outcome] = {}
         self.roas: roas.Read | None = None
         # What a registry is made of stands beside it: of that which is served, and of the next one.
         self.label = label_in(self.folder / "made")
@@ -61,8 +61,8 @@ class View:
             merge = Merge(self.settings, self.roas.table() if self.roas else None)
             try:
                 merge.read_states(self.wanted())
-                told = merge.outcome()
-                if self.refuse_shrunk(told):
+                outcomes = merge.outcomes()
+                if self.refuse_shrunk(outcomes):
                     continue
                 with files.written(made.dump, files.PRIVATE) as out:
                     merge.write(out)
@@ -72,7 +72,7 @@ class View:
             finally:
                 merge.spool.close()
             break
-        self.told, self.next = told, self.label_of()
+        self.outcomes, self.next = outcomes, self.label_of()
         if not is_new:
             put_label(self.folder / "made", self.next)
             self.commit()
@@ -124,7 +124,7 @@ class View:
             del self.shrunk[name]
         self.new[name] = state._replace(counts=old.counts if old else [])
 
-    def refuse_shrunk(self, told: dict[str, Told]) -> bool:
+    def refuse_shrunk(self, outcomes: dict[str, Outcome]) -> bool:
         """Takes the old state again of each source that shrank too much, or has nothing. Whether
         there was one."""
         found = False
@@ -132,7 +132,7 @@ class View:
             state, old = self.new.get(one.name), self.states.get(one.name)
             if state is None:
                 continue
-            words = merging.shrank(old.counts if old else [], told[one.name].counts, one.shrink)
+            words = merging.shrank(old.counts if old else [], outcomes[one.name].counts, one.shrink)
             if words:
                 kept = self.place(one, "shrunk")
                 shutil.rmtree(kept, ignore_errors=True)
@@ -154,8 +154,8 @@ class View:
                 state.folder.rename(now)
                 shutil.rmtree(before, ignore_errors=True)
                 self.states[one.name] = state._replace(folder=now)
-            if one.name in self.told and one.name in self.states:
-                counts = self.told[one.name].counts
+            if one.name in self.outcomes and one.name in self.states:
+                counts = self.outcomes[one.name].counts
                 if counts != self.states[one.name].counts:
                     self.states[one.name] = self.states[one.name]._replace(counts=counts)
                     self.states[one.name].put()
@@ -165,9 +165,9 @@ class View:
 
     def label_of(self) -> dict[str, Any]:
         """What is merged: the states of the sources in their order, and the ROAs."""
-        told_by = {one.name: one.told_by() for one in self.settings.sources}
+        versions = {one.name: one.nrtm_version() for one in self.settings.sources}
         sources = [
-            {"name": name, "nrtm": told_by[name], "serial": state.serial, "state": state.digest()}
+            {"name": name, "nrtm": versions[name], "serial": state.serial, "state": state.digest()}
             for name, state in self.wanted().items()
         ]
         made_by = self.roas.state() if self.roas else ""
@@ -213,14 +213,14 @@ class View:
         state = self.states.get(name)
         if state and state.digest() == source["state"]:
             found["seen"] = state.seen()
-        if name in self.told:
-            found |= self.told[name]._asdict()
+        if name in self.outcomes:
+            found |= self.outcomes[name]._asdict()
         return found
 
     def outcome(self) -> list[str]:
         """What became of each source, in lines for people."""
         made_of = {one["name"]: one for one in self.label["sources"]}
-        return [told.line(name) + by(made_of[name]) for name, told in self.told.items()]
+        return [outcome.line(name) + by(made_of[name]) for name, outcome in self.outcomes.items()]
 
     def lines(self) -> list[str]:
         """The sources that stand still, in lines for people."""

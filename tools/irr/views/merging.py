@@ -142,7 +142,7 @@ class ViewMender(Mender):
         return self.own, attributes
 
 
-class Told(NamedTuple):
+class Outcome(NamedTuple):
     """What became of a source: how many objects of each class it has, how many are in the view, how
     many of its routes are invalid; what is left out and dropped from lists, by cause."""
 
@@ -248,7 +248,7 @@ class Merge(conversion.Import):
         is known from then on."""
         last: dict[tuple[int, int | str], Part | None] = {}
         unread: list[Part] = []
-        for is_there, block in state.told():
+        for is_there, block in state.changed():
             # A change is of one object, whatever stands in its text.
             for part in self.parts(block)[:1]:
                 key = self.own.key_changed(part)
@@ -365,12 +365,12 @@ class Merge(conversion.Import):
     def known_sources(self) -> set[int]:
         return set(self.sources.values())
 
-    def outcome(self) -> dict[str, Told]:
+    def outcomes(self) -> dict[str, Outcome]:
         """What became of each source."""
         numbers = {number: name for name, number in self.sources.items()}
         taken = Counter(numbers[self.source_numbers[place]] for place in self.places())
         return {
-            name: Told(
+            name: Outcome(
                 counts,
                 taken[name],
                 invalid,

@@ -85,19 +85,19 @@ class Follower:
         fetching.taken(self.thing, self.source.plain, "", part, LONGEST)
         trust = self.trust()
         text, by = self.signed(part.read_bytes(), trust)
-        said = self.read(text)
-        if session and said.session != session and said.made < trust.made:
+        notification = self.read(text)
+        if session and notification.session != session and notification.made < trust.made:
             raise Failure(self.thing, "it is of a session before the one that was seen last")
-        if abs(said.made - time.time()) > nrtm4.CHANGES:
+        if abs(notification.made - time.time()) > nrtm4.CHANGES:
             raise Failure(
                 self.thing,
-                f"it is stale: it was made at {shown(said.made)}, over"
+                f"it is stale: it was made at {shown(notification.made)}, over"
                 f" {nrtm4.CHANGES // 3_600} hours from now; ask its registry, or set the clock",
             )
-        if said.made >= trust.made:
-            new = Trust(trust.given, by, said.next_key, said.made)
+        if notification.made >= trust.made:
+            new = Trust(trust.given, by, notification.next_key, notification.made)
             files.put(self.kept, json.dumps(new._asdict()).encode(), files.PRIVATE)
-        return said
+        return notification
 
     def trust(self) -> Trust:
         """The keys that are trusted: those that were told, as long as the settings give the key
@@ -195,11 +195,11 @@ class Follower:
 
     # The files that it names.
 
-    def snapshot(self, said: Notification, part: Path) -> None:
+    def snapshot(self, notification: Notification, part: Path) -> None:
         """Writes all objects as the text of a dump."""
-        thing = said.snapshot.place
+        thing = notification.snapshot.place
         with open(part, "wb") as out:
-            for record in self.records(said, said.snapshot, "snapshot"):
+            for record in self.records(notification, notification.snapshot, "snapshot"):
                 lines = nrtm4.object_in(record)
                 text = syntax.one_block(lines) if lines else b""
                 if not text:
@@ -209,14 +209,14 @@ class Follower:
             out.flush()
             os.fsync(out.fileno())
 
-    def changes(self, said: Notification, named: Named, out: BinaryIO) -> None:
+    def changes(self, notification: Notification, named: Named, out: BinaryIO) -> None:
         """Writes the changes of a version."""
-        for record in self.records(said, named, "delta"):
+        for record in self.records(notification, named, "delta"):
             found = nrtm4.change_in(record, self.source.name)
             if not found or not nrtm.put(out, found[0].encode(), syntax.one_block(found[1])):
                 raise Failure(named.place, "it has a record that is not a change")
 
-    def records(self, said: Notification, named: Named, kind: str) -> Iterator[Record]:
+    def records(self, notification: Notification, named: Named, kind: str) -> Iterator[Record]:
         """The records of a file after its head, which is of the session and the version."""
         part, place = self.kept.with_name("fetched"), named.place
         fetching.taken(place, self.source.plain, "", part, MOST)
@@ -225,7 +225,7 @@ class Follower:
         if found != named.hash:
             raise Failure(place, "it is cut off, or not the one that was named; it is asked again")
         records = sequences.read(bounded(dumps.pieces_of(str(part)), place), place)
-        if self.head(next(records), kind, place) != (said.session, named.version):
+        if self.head(next(records), kind, place) != (notification.session, named.version):
             raise Failure(place, "it is of another session or version than it is named by")
         yield from records
         part.unlink()

@@ -137,9 +137,9 @@ def kept(listed: list[Any], doubt: str | None, place: str) -> Read:
         what = "no ROA for IPv4" + (" that has not expired" if expired else "")
         raise Failure(place, f"it has {what}: each route would be without one; make it anew")
     if expired:
-        said = "has expired, and counts" if expired == 1 else "have expired, and count"
+        verb = "has expired, and counts" if expired == 1 else "have expired, and count"
         count = texts.counted(expired, "ROA")
-        odd.append(f"{place}: {count} of IPv4 {said} as none; make it anew")
+        odd.append(f"{place}: {count} of IPv4 {verb} as none; make it anew")
     if doubt:
         odd.append(f"{place}: {doubt}; make it anew")
     return Read(found, odd)

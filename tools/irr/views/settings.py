@@ -40,7 +40,7 @@ class Source(NamedTuple):
         places = [self.registry, self.dump, self.serial, self.nrtm]
         return json.dumps(places + [self.nrtm4] * bool(self.nrtm4))
 
-    def told_by(self) -> int | None:
+    def nrtm_version(self) -> int | None:
         """The version of NRTM by which it is followed, if it is."""
         return 4 if self.nrtm4 else 3 if self.nrtm else None
 

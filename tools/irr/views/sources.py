@@ -72,10 +72,10 @@ class State(NamedTuple):
         os.utime(self.file)
 
     def put(self) -> None:
-        told = {**self._asdict(), "folder": ""}
-        files.put(self.file, json.dumps(told).encode(), files.PRIVATE)
+        fields = {**self._asdict(), "folder": ""}
+        files.put(self.file, json.dumps(fields).encode(), files.PRIVATE)
 
-    def told(self) -> Iterator[tuple[bool, Block]]:
+    def changed(self) -> Iterator[tuple[bool, Block]]:
         """The changes since the dumps: whether each is an object that there is, and its text."""
         if not self.changes.exists():
             return
@@ -176,49 +176,53 @@ def published(source: Source, old: State | None, work: Path) -> State | None:
     """What is published by NRTM, version 4. The notification file is read again where a file that
     it names is no longer there."""
     follower = Follower(source, work.parent / "trusted.json")
-    said = follower.notification(old.session if old else "")
+    notification = follower.notification(old.session if old else "")
     for _ in range(TRIES - 1):
         try:
-            return noticed(source, old, work, follower, said)
+            return noticed(source, old, work, follower, notification)
         except Gone:
-            before, said = said, follower.notification(old.session if old else "")
-            if said == before:
+            before, notification = notification, follower.notification(old.session if old else "")
+            if notification == before:
                 raise
             empty(work)
-    return noticed(source, old, work, follower, said)
+    return noticed(source, old, work, follower, notification)
 
 
 def noticed(
-    source: Source, old: State | None, work: Path, follower: Follower, said: Notification
+    source: Source, old: State | None, work: Path, follower: Follower, notification: Notification
 ) -> State | None:
     """The changes since a state, if the notification file names all of them; else all objects, and
     the changes after these."""
-    if old and old.session == said.session:
+    if old and old.session == notification.session:
         serial = old.serial or 0
-        if said.version < serial:
+        if notification.version < serial:
             raise Failure(
                 source.nrtm4,
-                f"it went back from version {serial} to {said.version}; ask its registry, and"
-                f" remove {old.folder} if all of it is to be taken anew",
+                f"it went back from version {serial} to {notification.version}; ask its registry,"
+                f" and remove {old.folder} if all of it is to be taken anew",
             )
-        if said.version == serial:
+        if notification.version == serial:
             return None
         # A registry that was restored may tell other changes by the same numbers.
-        is_same = not old.hash or said.hash_of(serial) in ("", old.hash)
-        is_followed = is_same and said.has_all_after(serial) and old.has_room()
+        is_same = not old.hash or notification.hash_of(serial) in ("", old.hash)
+        is_followed = is_same and notification.has_all_after(serial) and old.has_room()
     else:
         is_followed = False
     if old and is_followed:
         state = continued(old, work)
     else:
         part = work / "0"
-        follower.snapshot(said, part)
-        serial, counts = said.snapshot.version, old.counts if old else []
-        state = State(work, source.origin(), [""], [digest(part)], serial, counts, said.session)
+        follower.snapshot(notification, part)
+        serial, counts = notification.snapshot.version, old.counts if old else []
+        state = State(
+            work, source.origin(), [""], [digest(part)], serial, counts, notification.session
+        )
     with appended(state.changes) as out:
-        for named in said.after(state.serial or 0):
-            follower.changes(said, named, out)
-    state = state._replace(serial=said.version, hash=said.hash_of(said.version))
+        for named in notification.after(state.serial or 0):
+            follower.changes(notification, named, out)
+    state = state._replace(
+        serial=notification.version, hash=notification.hash_of(notification.version)
+    )
     state.put()
     return state
 

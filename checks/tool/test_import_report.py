@@ -14,8 +14,8 @@ A = ("as-set: AS-A", "members: AS1", "mnt-by: A-MNT", "source: RIPE")
 CUT = "cut off at the end of the file"
 
 
-def told(*texts: bytes, **more: Any) -> list[tuple[Any, ...]]:
-    """What is told of objects that are taken: cause, line, first line, and the odd line."""
+def reported(*texts: bytes, **more: Any) -> list[tuple[Any, ...]]:
+    """What is reported of objects that are taken: cause, line, first line, and the odd line."""
     lines = [line.split("\t") for line in listed(*texts, **more)]
     return [
         (one[1], int(one[2].rpartition(":")[2]), *one[3:]) for one in lines if one[0] == "taken"
@@ -25,9 +25,9 @@ def told(*texts: bytes, **more: Any) -> list[tuple[Any, ...]]:
 # Objects without a `source`.
 
 
-def test_objects_without_a_source_are_told_with_their_places() -> None:
+def test_objects_without_a_source_are_reported_with_their_places() -> None:
     text = obj("aut-num: AS1") + obj(*A) + obj("route: 10.0.0.0/8", "origin: AS1", "source:")
-    assert told(text + obj("as-set: AS-B") + obj(*A).replace(b"AS-A", b"AS-C")) == [
+    assert reported(text + obj("as-set: AS-B") + obj(*A).replace(b"AS-A", b"AS-C")) == [
         ("no `source`", 1, "aut-num: AS1"),
         ("no `source`", 8, "route: 10.0.0.0/8 AS1"),
         ("no `source`", 12, "as-set: AS-B"),
@@ -40,9 +40,9 @@ def test_objects_without_a_source_are_told_with_their_places() -> None:
     ]
 
 
-def test_no_source_is_told_of_what_stays_alone() -> None:
+def test_no_source_is_reported_of_what_stays_alone() -> None:
     text = obj("inetnum: 10.0.0.0 - 10.0.0.9") + obj("inetnum: 10.0.0.5 - 10.0.0.12")
-    assert told(text) == [("no `source`", 1, "inetnum: 10.0.0.0 - 10.0.0.9")]
+    assert reported(text) == [("no `source`", 1, "inetnum: 10.0.0.0 - 10.0.0.9")]
 
 
 def test_no_source_is_the_cause_where_that_is_not_mended() -> None:
@@ -56,18 +56,18 @@ def test_no_source_is_the_cause_where_that_is_not_mended() -> None:
 # Maintainers of several registries.
 
 
-def test_a_mntner_that_may_change_objects_of_another_registry_is_told() -> None:
+def test_a_mntner_that_may_change_objects_of_another_registry_is_reported() -> None:
     """Also where that registry's dump has no mntner of the name."""
     own = obj("mntner: A-MNT", "mnt-by: A-MNT", "source: RADB")
     cause = "a mntner that objects of another registry name"
     for line in "mnt-by: A-MNT", "mnt-lower: a-mnt", "mnt-routes: A-MNT {10.0.0.0/8}":
         other = obj("aut-num: AS1", line, "source: RIPE")
         for text in other + own, own + other, own + other * 2 + own.replace(b"RADB", b"RIPE"):
-            assert [one[::2] for one in told(text)] == [(cause, "mntner: A-MNT")]
-        assert told(own + other.replace(b"RIPE", b"RADB")) == []
+            assert [one[::2] for one in reported(text)] == [(cause, "mntner: A-MNT")]
+        assert reported(own + other.replace(b"RIPE", b"RADB")) == []
     for bare in obj("aut-num: AS1", "mnt-by: A-MNT"), obj("mntner: A-MNT"):
-        assert [one[0] for one in told(bare + own)] == ["no `source`"]
-    assert told(obj("aut-num: AS1", "mnt-by: B-MNT", "source: RIPE") + own) == []
+        assert [one[0] for one in reported(bare + own)] == ["no `source`"]
+    assert reported(obj("aut-num: AS1", "mnt-by: B-MNT", "source: RIPE") + own) == []
 
 
 # Files that were cut off at the end of a line.
@@ -117,7 +117,7 @@ def test_what_is_not_cut_off() -> None:
         obj(*A) + last + b"% end 2\n\n",
     ):
         assert left_out(text) == []
-        assert told(text)[-1][::2] == ("no `source`", "as-set: AS-X")
+        assert reported(text)[-1][::2] == ("no `source`", "as-set: AS-X")
     assert left_out(last, obj(*A)) == left_out(obj(*A), last) == []
     assert [line.split("\t")[0] for line in left_out(obj(*A) * 2 + obj("aut-num: AS1") + last)] == [
         "duplicate",
@@ -147,7 +147,7 @@ def test_no_cut_of_a_file_makes_another_object_in_silence() -> None:
 # Lines that the registry's rules read in another way than some readers do.
 
 
-def test_lines_that_are_not_kept_and_lines_that_go_on_are_told() -> None:
+def test_lines_that_are_not_kept_and_lines_that_go_on_are_reported() -> None:
     text = b"# of the file\n\n# of the object\n" + obj(
         *A[:1],
         "# a comment",
@@ -162,7 +162,7 @@ def test_lines_that_are_not_kept_and_lines_that_go_on_are_told() -> None:
         "a line with a CR first, which goes on",
         "a line with # or % first, which is not kept",
     )
-    assert told(text) == [
+    assert reported(text) == [
         (gone, 5, "as-set: AS-A", "# a comment"),
         (gone, 7, "as-set: AS-A", "% AS2,\\x09#"),
         (goes_on, 10, "as-set: AS-A", "\\x0dmembers: AS4"),
@@ -175,21 +175,22 @@ def test_lines_that_are_not_kept_and_lines_that_go_on_are_told() -> None:
 
 def test_a_line_of_a_cr_alone_is_blank() -> None:
     assert (
-        told(obj(*A).replace(b"\n", b"\r\n") + b"\r\n\r" + obj("as-set: AS-B", "source: X")) == []
+        reported(obj(*A).replace(b"\n", b"\r\n") + b"\r\n\r" + obj("as-set: AS-B", "source: X"))
+        == []
     )
-    assert [one[1:] for one in told(obj(*A, "# x").replace(b"\n", b"\r\n"))] == [
+    assert [one[1:] for one in reported(obj(*A, "# x").replace(b"\n", b"\r\n"))] == [
         (5, "as-set: AS-A", "# x")
     ]
 
 
-def test_an_object_inside_a_line_is_told() -> None:
+def test_an_object_inside_a_line_is_reported() -> None:
     """Whose lines end in CR alone, as a file of another kind has them."""
     inside = "remarks: x\raut-num: AS2\rmnt-by: B-MNT\rsource: RIPE\rnext: y"
     text = obj("aut-num: AS1", "mnt-by: A-MNT", inside, "+ \r more", "descr: x \r\r ", "source: X")
     cause = "a line with a CR inside, which may be the end of a line"
     assert (
-        told(text)
-        == told(text.replace(b"\n", b"\r\n"))
+        reported(text)
+        == reported(text.replace(b"\n", b"\r\n"))
         == [
             (cause, 3, "aut-num: AS1", inside.replace("\r", "\\x0d")),
             (cause, 4, "aut-num: AS1", "+ \\x0d more"),
@@ -198,9 +199,9 @@ def test_an_object_inside_a_line_is_told() -> None:
     assert f"taken, {cause}: 2\n" in "\n".join(made(text)[1].lines())
 
 
-def test_odd_lines_of_what_is_left_out_are_not_told() -> None:
+def test_odd_lines_of_what_is_left_out_are_not_reported() -> None:
     text = obj(*A, "# x") + obj(*A, "# y") + obj("person: Jo", "# z", "source: RIPE")
-    assert [one[-1] for one in told(text)] == ["# x"]
+    assert [one[-1] for one in reported(text)] == ["# x"]
 
 
 # One rule for scopes: what is read in the class.
@@ -249,7 +250,7 @@ def test_what_may_be_objects_in_a_paragraph_is_counted_and_placed() -> None:
 
 
 @pytest.mark.parametrize("most, chunk", [(1_000, 700), (997, 50), (1_000, 1 << 20), (60, 60)])
-def test_what_may_be_objects_is_told_of_a_paragraph_of_any_size(
+def test_what_may_be_objects_is_reported_of_a_paragraph_of_any_size(
     most: int, chunk: int, monkeypatch: pytest.MonkeyPatch
 ) -> None:
     """Also of what is not kept of it, and each line as it stands there."""
@@ -273,7 +274,7 @@ def test_what_may_be_objects_is_told_of_a_paragraph_of_any_size(
         ], end
 
 
-def test_what_may_be_objects_inside_a_line_is_told() -> None:
+def test_what_may_be_objects_inside_a_line_is_reported() -> None:
     """Of a file whose lines end in CR alone, of which each paragraph is one line."""
     one, other = (text.replace(b"\n", b"\r") for text in (obj(*A), obj("Route : x", *A[2:])))
     key = "a key that can't be read"
@@ -297,7 +298,7 @@ def test_what_may_be_objects_inside_a_line_is_told() -> None:
         assert all(line[2].endswith(":1") for line in found if "key" in cause)
 
 
-def test_a_class_after_what_is_kept_is_told(monkeypatch: pytest.MonkeyPatch) -> None:
+def test_a_class_after_what_is_kept_is_reported(monkeypatch: pytest.MonkeyPatch) -> None:
     monkeypatch.setattr(conversion, "MOST", 1_000)
     monkeypatch.setattr(syntax, "CHUNK", 700)
     text = obj(*A, *["x: y"] * 1_000, "aut-num: AS1", *["x: y"] * 500, "Route : 10.0.0.0/8")

@@ -6,7 +6,7 @@ import tempfile
 from collections.abc import Iterable
 from typing import Any
 
-from irr.migrate import conversion, parting
+from irr.migrate import conversion, paragraphs
 from irr.migrate.normalisation import LeftOut, Mender
 from irr.migrate.report import Tally
 from irr.rpsl import syntax
@@ -18,7 +18,7 @@ def mended(text: bytes, off: Iterable[str] = ()) -> Any:
     """The text that a paragraph becomes and the kinds of what was mended, as a pair, or why it is
     left out."""
     (block,) = syntax.blocks([text])
-    (part,) = parting.parts(block)
+    (part,) = paragraphs.parts(block)
     try:
         found = Mender("TEST", "ROOT-MNT", frozenset(off)).mend(part)
     except LeftOut as cause:

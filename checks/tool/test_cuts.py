@@ -13,7 +13,7 @@ from checks import worlds
 from irr.errors import FAILED, Failure
 from irr.registry import replies
 from irr.registry.server import Server
-from irr.views import fetching
+from irr.views import downloads
 
 HEAD = b"HTTP/1.1 200 OK\r\nContent-Type: text/plain\r\nConnection: close\r\n"
 END = b"origin:         AS1\nmnt-by:         A-MNT\nsource:         T\n\n"
@@ -148,11 +148,11 @@ def test_cut_dump_of_a_view_over_tls(
             reply = HEAD + length + b"\r\n" + TWO
             with over_tls(certificate, reply, has_end, monkeypatch) as place:
                 if has_end or length:
-                    fetching.taken(place.url, False, "", tmp_path / "part")
+                    downloads.taken(place.url, False, "", tmp_path / "part")
                     assert (tmp_path / "part").read_bytes() == TWO
                     continue
                 with pytest.raises(Failure, match="it cannot be fetched"):
-                    fetching.taken(place.url, False, "", tmp_path / "part")
+                    downloads.taken(place.url, False, "", tmp_path / "part")
 
 
 def test_a_view_asks_only_whom_it_knows(
@@ -161,11 +161,11 @@ def test_a_view_asks_only_whom_it_knows(
     with over_tls(certificate, HEAD + b"\r\n" + TWO, True, monkeypatch) as place:
         monkeypatch.setenv("SSL_CERT_FILE", "/dev/null")
         with pytest.raises(Failure, match="certificate"):
-            fetching.taken(place.url, False, "", tmp_path / "part")
+            downloads.taken(place.url, False, "", tmp_path / "part")
         other = place.url.replace("127.0.0.1", "localhost")
         monkeypatch.setenv("SSL_CERT_FILE", certificate[0])
         with pytest.raises(Failure, match="localhost"):
-            fetching.taken(other, False, "", tmp_path / "part")
+            downloads.taken(other, False, "", tmp_path / "part")
 
 
 def test_cut_head_over_tls(certificate: tuple[str, str], monkeypatch: pytest.MonkeyPatch) -> None:

@@ -8,7 +8,7 @@ from hypothesis import given
 from hypothesis import strategies as st
 
 from checks.tool.importing import left_out, made, mended, obj, texts_of
-from irr.migrate import parting
+from irr.migrate import paragraphs
 from irr.rpsl import syntax
 
 SET = ("as-set: AS-X", "mnt-by: A-MNT", "source: RIPE")
@@ -281,7 +281,7 @@ def test_a_list_is_read_or_told(name: str, items: list[str]) -> None:
     bad = [item for item in items if item in EXPRESSIONS]
     if bad:
         (line,) = told
-        assert line[0] in (UNREAD, parting.JOINED) and line[2:4] == ["route-set: RS-X", name]
+        assert line[0] in (UNREAD, paragraphs.JOINED) and line[2:4] == ["route-set: RS-X", name]
         assert line[4] == bad[0]
     else:
         found = [item for _, lines in lists_of(text)[0] for item in syntax.ITEM.findall(lines[0])]

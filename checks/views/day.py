@@ -150,7 +150,7 @@ shrink = 100
         self.load()
 
     def change_ripe(self, changes: list[tuple[str, str]]) -> None:
-        self.nrtm.tell(changes)
+        self.nrtm.publish(changes)
         if self.chance.random() < 0.2:
             # Who asks for the changes since has to take the dump.
             self.nrtm.forget()
@@ -170,7 +170,7 @@ shrink = 100
             }
             self.radb.begin()
         elif changes:
-            self.radb.tell(changes)
+            self.radb.publish(changes)
         else:
             self.radb.notify()
 

@@ -11,7 +11,7 @@ from checks.running import expect
 from checks.views.serving import Files
 from checks.views.test_sources import OWN, route
 from irr.views import settings
-from irr.views.keeping import View
+from irr.views.view import View
 
 PATH = f"/4/{NOTIFICATION}"
 

@@ -17,7 +17,7 @@ from checks.views.test_sources import World, dump, fault, route
 from checks.worlds import COUNT
 from irr.errors import Failure
 from irr.views import nrtm, settings
-from irr.views.keeping import View
+from irr.views.view import View
 
 followed = test_sources.followed
 # Attributes that the rules take as text in an object of a stranger, who may register it.

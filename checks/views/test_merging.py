@@ -18,8 +18,8 @@ from checks.running import Trial
 from checks.views import merged
 from checks.views.merged import SOURCES, Roas, Several
 from irr.errors import Failure
-from irr.views.keeping import View
 from irr.views.settings import read
+from irr.views.view import View
 
 LONG = bool(os.environ.get("CHECKS_LONG"))
 

@@ -15,7 +15,7 @@ from checks.views.merged import Several
 from checks.views.test_merging import made, written
 from irr.local.tables import Row, once
 from irr.rpsl import syntax
-from irr.views.keeping import View
+from irr.views.view import View
 from irr.views.settings import read
 
 IN_MEMORY = True

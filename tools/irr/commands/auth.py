@@ -88,9 +88,7 @@ def registered_source(options: argparse.Namespace) -> str:
     place = server.Server.from_options(options.server, options.plain)
     try:
         source = source_of(place.query("less 0.0.0.0/0").objects())
-    except Failure as failure:
-        if not isinstance(failure.__context__, ConnectionRefusedError):
-            raise
+    except server.Absent as failure:
         # The root's is made before there is a registry.
         if source := source_here():
             return source

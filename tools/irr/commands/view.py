@@ -9,7 +9,7 @@ from irr.rpsl import keys
 from irr.system import files
 from irr.terminal import texts
 from irr.views import settings
-from irr.views.keeping import View
+from irr.views.view import View
 
 EXAMPLES = """
 irr view /etc/irrdesk/views/routes.toml            at the ports of the settings, until it is ended

@@ -11,7 +11,7 @@ from typing import BinaryIO, Iterable, Iterator
 
 from irr.errors import ARGUMENTS, REFUSED, Failure, reading, system_words
 from irr.local.tables import Row, once
-from irr.migrate import parting
+from irr.migrate import paragraphs
 from irr.migrate.dumps import pieces_of
 from irr.migrate.items import name_of
 from irr.migrate.normalisation import (
@@ -130,12 +130,12 @@ class Import:
         self.tail, self.before = b"", ""
         # The line after the last block: one that begins there was cut off from it.
         after = count = with_source = 0
-        waiting: parting.Part | None = None
-        for block in syntax.blocks(self.sized(pieces_of(path)), MOST, self.seam, parting.later):
+        waiting: paragraphs.Part | None = None
+        for block in syntax.blocks(self.sized(pieces_of(path)), MOST, self.seam, paragraphs.later):
             for place, part in enumerate(self.parts(block)):
                 if place or block.line == after:
                     self.tally.part(Place(path, part.block.line), part.block.text)
-                    part = parting.joined(part)
+                    part = paragraphs.joined(part)
                 if waiting:
                     self.take(waiting, path)
                 waiting = part
@@ -150,16 +150,16 @@ class Import:
 
     def seam(self, text: bytes) -> int:
         """Where a paragraph that is too long can be parted."""
-        return 0 if "part" in self.off else parting.last_seam(text)
+        return 0 if "part" in self.off else paragraphs.last_seam(text)
 
-    def parts(self, block: syntax.Block) -> list[parting.Part]:
+    def parts(self, block: syntax.Block) -> list[paragraphs.Part]:
         """What a paragraph consists of."""
-        found = parting.parts(block)
+        found = paragraphs.parts(block)
         if len(found) > 1 and "part" in self.off:
-            return [parting.Part(block, not_mended("part"), True)]
+            return [paragraphs.Part(block, not_mended("part"), True)]
         return found
 
-    def is_cut(self, last: parting.Part, is_usual: bool) -> bool:
+    def is_cut(self, last: paragraphs.Part, is_usual: bool) -> bool:
         """Whether the last object of a file may have lost its end: the file ends within a line, or
         the object has no `source`, which is usual in the file."""
         text, blanks = last.block.text, syntax.BLANKS + b"\n"
@@ -176,7 +176,7 @@ class Import:
             self.tail = (self.tail + piece[-TAIL:])[-TAIL:]
             yield piece
 
-    def take(self, part: parting.Part, path: str, is_cut: bool = False) -> None:
+    def take(self, part: paragraphs.Part, path: str, is_cut: bool = False) -> None:
         """Takes a paragraph, or leaves it out."""
         self.tally.read += 1
         if not self.tally.read % PROGRESS_EACH:
@@ -200,7 +200,7 @@ class Import:
             return
         self.keep(mended, part)
 
-    def mended(self, part: parting.Part, is_cut: bool) -> Mended:
+    def mended(self, part: paragraphs.Part, is_cut: bool) -> Mended:
         """The object that a part becomes. Objects refer to maintainers and sets by their names,
         which mean those of the first registry that has them, also where these can't be read."""
         try:
@@ -229,7 +229,7 @@ class Import:
             return NAMESAKE if is_there else UNREAD_THERE
         return DUPLICATE
 
-    def keep(self, mended: Mended, part: parting.Part) -> None:
+    def keep(self, mended: Mended, part: paragraphs.Part) -> None:
         place = len(self.starts)
         self.taken[mended.number][mended.key] = place
         if odd := part.odd_lines():

@@ -4,7 +4,7 @@ import re
 from typing import Callable, NamedTuple
 
 from irr.local.tables import once
-from irr.migrate import parting
+from irr.migrate import paragraphs
 from irr.migrate.items import (
     IPV6,
     SCOPED,
@@ -102,15 +102,15 @@ class Mender:
         # The attribute whose items are looked at.
         self.listing = b""
 
-    def mend(self, part: parting.Part, is_cut: bool = False) -> Mended:
+    def mend(self, part: paragraphs.Part, is_cut: bool = False) -> Mended:
         """The object that the lines of a part become; LeftOut with the cause where they become
         none, as where the file was cut off there. Scoped items stay in its text."""
-        if part.doubt and not (is_cut and part.doubt == parting.INSIDE):
+        if part.doubt and not (is_cut and part.doubt == paragraphs.INSIDE):
             raise LeftOut(part.doubt)
         block, name = part.block, class_of(part.block)
-        if is_cut and (name in NUMBERS or name in parting.FOREIGN):
-            raise LeftOut(parting.CUT_OFF)
-        if name in parting.FOREIGN:
+        if is_cut and (name in NUMBERS or name in paragraphs.FOREIGN):
+            raise LeftOut(paragraphs.CUT_OFF)
+        if name in paragraphs.FOREIGN:
             raise LeftOut(f"class {name.decode()}")
         if block.size > len(block.text):
             raise LeftOut("above 65,536 bytes")
@@ -131,7 +131,7 @@ class Mender:
         text = self.written(names, mended)
         return Mended(number, key, source, names, text, frozenset(self.kinds), tuple(self.drops))
 
-    def left(self, part: parting.Part, cause: LeftOut) -> list[Name]:
+    def left(self, part: paragraphs.Part, cause: LeftOut) -> list[Name]:
         """What objects were left out, of the registries that are asked for."""
         found = (self.name_in(block) or self.name_in(by_crs(block)) for block in part.begun())
         return [name for name in found if name]
@@ -146,7 +146,7 @@ class Mender:
             return None
         # From another class on it is of no object, or of another one.
         names = [attribute.name for attribute in found[1:]]
-        ends = [one in NUMBERS or one in parting.FOREIGN for one in names] + [True]
+        ends = [one in NUMBERS or one in paragraphs.FOREIGN for one in names] + [True]
         own = found[: ends.index(True) + 1]
         sources = [source_of(one.meaning()) for one in own if one.name == b"source"]
         source = next(filter(None, sources), "")
@@ -160,24 +160,24 @@ class Mender:
         would be one, and so who may change it."""
         seen: set[bytes] = set()
         before: set[bytes] = set()
-        is_joined = parting.JOINED_TEXT.search(text.lower())
+        is_joined = paragraphs.JOINED_TEXT.search(text.lower())
         for attribute in attributes:
             name = attribute.name
             if name == b"source":
                 before |= seen
             elif name in READ[number] or name == b"mp-members" and number == ROUTE_SET:
                 if name in before:
-                    raise LeftOut(parting.GOES_ON, name, attribute.meaning())
+                    raise LeftOut(paragraphs.GOES_ON, name, attribute.meaning())
                 seen.add(name)
             if name == b"auth" and number == MNTNER:
                 for line in attribute.lines:
-                    if parting.JOINED_LINE.search(PASSWORD.sub(b"", line)):
-                        raise LeftOut(parting.JOINED_AUTH, name, line)
+                    if paragraphs.JOINED_LINE.search(PASSWORD.sub(b"", line)):
+                        raise LeftOut(paragraphs.JOINED_AUTH, name, line)
             if is_joined:
                 for place, line in enumerate(attribute.lines):
                     whole = line if place else name + b":" + line
-                    if parting.JOINED_TEXT.search(whole.lower()):
-                        raise LeftOut(parting.JOINED_IN_TEXT, name, line)
+                    if paragraphs.JOINED_TEXT.search(whole.lower()):
+                        raise LeftOut(paragraphs.JOINED_IN_TEXT, name, line)
 
     def use(self, kind: str) -> None:
         """Notes that something of this kind is mended."""
@@ -313,15 +313,15 @@ class Mender:
         """Drops an item that can't be read if the others mean the same without it."""
         if is_ipv6(item):
             self.drop(item, "ipv6", "IPv6")
-        elif is_alone(item) and not parting.JOINED_ITEM.fullmatch(item):
+        elif is_alone(item) and not paragraphs.JOINED_ITEM.fullmatch(item):
             self.drop(item, "item", "an item that can't be read")
         else:
             raise self.unread(item)
 
     def unread(self, item: bytes) -> LeftOut:
         """Why an object is left out that has this item in a list."""
-        is_joined = parting.JOINED_ITEM.fullmatch(item)
-        return LeftOut(parting.JOINED if is_joined else UNREAD, self.listing, item)
+        is_joined = paragraphs.JOINED_ITEM.fullmatch(item)
+        return LeftOut(paragraphs.JOINED if is_joined else UNREAD, self.listing, item)
 
     def set_item(self, number: int, item: bytes) -> bytes | None:
         """An item of `member-of`, which names as-sets in an aut-num and route-sets in a route (RFC
@@ -473,7 +473,7 @@ def readable(text: bytes) -> bytes:
 
 def by_crs(block: syntax.Block) -> syntax.Block:
     """A block whose lines end in CR too."""
-    return block._replace(text=parting.CR_INSIDE.sub(b"\n", block.text))
+    return block._replace(text=paragraphs.CR_INSIDE.sub(b"\n", block.text))
 
 
 def not_mended(kind: str) -> str:

@@ -71,6 +71,10 @@ class Busy(Failure):
         self.seconds = seconds
 
 
+class Absent(Failure):
+    """No server listens at the address."""
+
+
 class Lost(Failure):
     """The request was sent, and what came of it is not known."""
 
@@ -225,7 +229,8 @@ class Server:
         try:
             connection = self.connect(bounds)
         except OSError as error:
-            raise Failure(self.url, self.trouble(error)) from None
+            kind = Absent if isinstance(error, ConnectionRefusedError) else Failure
+            raise kind(self.url, self.trouble(error)) from None
         try:
             # A server that takes no body of this length may answer, and close, before all of it is
             # there.

@@ -20,7 +20,7 @@ from irr.migrate.normalisation import (
     source_place,
     unscoped,
 )
-from irr.migrate.parting import Part, part_of
+from irr.migrate.paragraphs import Part, part_of
 from irr.migrate.report import Listed, Place, Tally
 from irr.rpsl import keys, syntax
 from irr.rpsl.holders import VIEW_ROOT

@@ -17,7 +17,7 @@ from irr.local.nrtm4 import Record
 from irr.migrate import dumps
 from irr.rpsl import syntax
 from irr.system import files, sequences, signing
-from irr.views import fetching, nrtm
+from irr.views import downloads, nrtm
 from irr.views.settings import Source, is_address
 
 # The most bytes of a notification file; of a file that it names, packed and unpacked.
@@ -82,7 +82,7 @@ class Follower:
         """What the notification file says, if it is signed by a key that is trusted, of now, and
         not older than one of another session before it."""
         part = self.kept.with_name("notification")
-        fetching.taken(self.thing, self.source.plain, "", part, LONGEST)
+        downloads.taken(self.thing, self.source.plain, "", part, LONGEST)
         trust = self.trust()
         text, by = self.signed(part.read_bytes(), trust)
         notification = self.read(text)
@@ -219,7 +219,7 @@ class Follower:
     def records(self, notification: Notification, named: Named, kind: str) -> Iterator[Record]:
         """The records of a file after its head, which is of the session and the version."""
         part, place = self.kept.with_name("fetched"), named.place
-        fetching.taken(place, self.source.plain, "", part, MOST)
+        downloads.taken(place, self.source.plain, "", part, MOST)
         with open(part, "rb") as file:
             found = hashlib.file_digest(file, "sha256").hexdigest()
         if found != named.hash:

@@ -14,8 +14,8 @@ from irr.registry.server import Server
 from irr.rpsl import keys, syntax
 from irr.rpsl.syntax import Block
 from irr.system import files
-from irr.views import fetching, nrtm
-from irr.views.fetching import Gone
+from irr.views import downloads, nrtm
+from irr.views.downloads import Gone
 from irr.views.nrtm4 import Follower, Notification
 from irr.views.settings import Source, is_address
 
@@ -241,8 +241,8 @@ def taken(source: Source, old: State | None, work: Path) -> State | None:
             if source.registry:
                 files.put(part, Server(place, source.plain).dump(), files.PRIVATE)
             else:
-                stamp = fetching.taken(place, source.plain, stamp, part)
-        except fetching.Unchanged:
+                stamp = downloads.taken(place, source.plain, stamp, part)
+        except downloads.Unchanged:
             assert old
             os.link(old.parts[number], part)
         else:
@@ -267,7 +267,7 @@ def taken(source: Source, old: State | None, work: Path) -> State | None:
 def serial_of(source: Source) -> int:
     """The serial of the dumps."""
     if is_address(source.serial):
-        with fetching.opened(source.serial, source.plain) as reply:
+        with downloads.opened(source.serial, source.plain) as reply:
             text = reply.read(64)
     else:
         text = files.read(source.serial)

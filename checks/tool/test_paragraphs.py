@@ -5,7 +5,7 @@ from hypothesis import given
 from hypothesis import strategies as st
 
 from checks.tool.importing import left_out, listed, made, mended, obj, texts_of
-from irr.migrate import conversion, parting
+from irr.migrate import conversion, paragraphs
 from irr.rpsl import syntax
 
 A = ("as-set: AS-A", "members: AS1", "mnt-by: A-MNT", "source: RIPE")
@@ -301,7 +301,7 @@ def test_pieces_do_not_matter(runs: list[tuple[str, int]], sizes: list[int]) -> 
     with pytest.MonkeyPatch.context() as patch:
         patch.setattr(syntax, "CHUNK", 60)
         whole, pieced = (
-            list(syntax.blocks(source, 50, parting.last_seam, parting.later))
+            list(syntax.blocks(source, 50, paragraphs.last_seam, paragraphs.later))
             for source in ([text], pieces)
         )
     assert pieced == whole

@@ -114,7 +114,8 @@ def make(settings: Settings, options: argparse.Namespace, work: Path) -> tuple[C
         with databases.still(settings, options.hold):
             databases.copied_store(store, held)
         seconds = time.monotonic() - start
-    # SQLite writes the log into the file when it closes; what it copies is what both had.
+    # SQLite writes the write-ahead log into the file when it closes; what it copies is what
+    # both had.
     as_it_was = Copy(work / "as-it-was", settings.text(), store)
     databases.copied_store(held.store, as_it_was)
     databases.sqlite_copy(held.store, made.store, str(store))

@@ -119,8 +119,8 @@ def alone_in_work(settings: Settings) -> Iterator[Path]:
 
 
 def settle(settings: Settings, is_service: bool) -> None:
-    """Has the program open the registry and close it, which writes the log into the database. A
-    log that root made could not be opened by the service."""
+    """Has the program open the registry and close it, which writes the write-ahead log into the
+    database. One that root made could not be opened by the service."""
     import subprocess
     from irr.local import temporary
 
@@ -256,8 +256,8 @@ def made_of(settings: Settings, wanted: Path, work: Path) -> Path:
 
 
 def put_in_place(settings: Settings, single: Path) -> None:
-    """Puts the new database into the place of the old one. The old log, which has nothing, goes
-    first: it must not lie beside the new one."""
+    """Puts the new database into the place of the old one. The old write-ahead log, which has
+    nothing, goes first: it must not lie beside the new one."""
     was = settings.store.stat()
     with files.named(single), open(single, "r+b") as file:
         os.fchmod(file.fileno(), was.st_mode & 0o777)

@@ -166,7 +166,7 @@ def put_in_place(settings: Settings, work: Path, is_meant: bool) -> Path | None:
         old = [path for path in (settings.store, *logs) if os.path.lexists(path)]
         if others or old and not settings.store.exists():
             kept = keep(settings, work, old, owner)
-        # A log must not lie beside a database that is not its own.
+        # A write-ahead log must not lie beside a database that is not its own.
         for path in logs:
             path.unlink(missing_ok=True)
         files.sync_folder(settings.store.parent)
@@ -189,9 +189,9 @@ def settle(
     mode: int,
     stack: contextlib.ExitStack,
 ) -> None:
-    """Has the old database have all that its log has: the copy into which the program has written
-    that takes its place, which nobody else opens until the block ends. Then the log may go: read
-    once more, it says the same."""
+    """Has the old database have all that its write-ahead log has: the copy into which the
+    program has written that takes its place, which nobody else opens until the block ends. Then
+    it may go: read once more, it says the same."""
     standing = work / "standing" / "irr.db"
     if not has_records(settings.log):
         return

@@ -27,14 +27,15 @@ from irr.system import files
 DEFAULT = "/etc/irrdesk/irr.toml"
 # The name of a backup, by its time.
 STAMP = "%Y%m%dT%H%M%SZ"
-# The bytes of a database, and of its log, that a program which has it open locks (SQLite).
+# The bytes of a database, and of its write-ahead log, that a program which has it open locks
+# (SQLite).
 LOCKED, LOCKED_LENGTH = 0x4000_0000, 512
 FLOCK = "hhqqi4x"
 LOCK = struct.pack(FLOCK, fcntl.F_WRLCK, os.SEEK_SET, LOCKED, LOCKED_LENGTH, 0)
-# What SQLite puts after a database's name for its log, and for the journal of a program that keeps
-# none.
+# What SQLite puts after a database's name for its write-ahead log, and for the journal of a
+# program that keeps none.
 LOG, JOURNAL = "-wal", "-journal"
-# A log without a whole record has fewer bytes: its head, and the head of a record.
+# A write-ahead log without a whole record has fewer bytes: its head, and the head of a record.
 EMPTY_LOG = 32 + 24
 # Clones a file where the file system can.
 FICLONE = 0x4004_9409
@@ -126,8 +127,8 @@ class Settings(NamedTuple):
 
 
 def real(path: str) -> Path:
-    """A database by its own path. SQLite keeps the log beside what a link leads to, not beside the
-    link."""
+    """A database by its own path. SQLite keeps the write-ahead log beside what a link leads to,
+    not beside the link."""
     return Path(os.path.realpath(path))
 
 
@@ -266,7 +267,8 @@ def clear(place: Path, prefix: str) -> None:
 
 def parts(store: Path, *suffixes: str) -> list[str]:
     """What the files of a database end with: nothing, and those of the suffixes that are there. A
-    link that leads nowhere is there: its log is missing, and a database without one is another."""
+    link that leads nowhere is there: its write-ahead log is missing, and a database without one
+    is another."""
     return ["", *(suffix for suffix in suffixes if os.path.lexists(beside(store, suffix)))]
 
 
@@ -457,8 +459,8 @@ def is_still(number: int) -> bool:
 
 @reading("a file of the registry")
 def sqlite_copy(source: Path, target: Path, name: str) -> None:
-    """One file with all that a database and its log have, made and looked through by SQLite. The
-    name is that of the registry's database, of which these are copies."""
+    """One file with all that a database and its write-ahead log have, made and looked through by
+    SQLite. The name is that of the registry's database, of which these are copies."""
     import sqlite3
 
     try:

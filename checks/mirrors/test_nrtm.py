@@ -12,6 +12,7 @@ from checks.door.opened import Opened, read_all
 from checks.mirrors.changing import Changing
 from checks.mirrors.client import Mirror, MustBegin, key_of, objects_of
 from checks.running import Each, Tell, Trial, expect
+from checks.serving import free_port
 from checks.tool.forking import run_forked
 from checks.worlds import Tool
 
@@ -58,6 +59,7 @@ def test_it_answers_mirrors_and_nobody_else(world: Changing, each: Each, trial: 
         expect("irrdesk-history" in " ".join(door.status()["faults"]), True, "the status")
     world.record()
     begun = world.last()
+    words = [f"--registry=http://127.0.0.1:{world.port}"]
     with each("before the first change"):
         expect(world.range(), (begun, begun), "IRRd's question")
         expect(ask(port, f"-g TEST:3:{begun + 1}-LAST"), NO_NEWER, "what is new")
@@ -114,7 +116,6 @@ def test_it_answers_mirrors_and_nobody_else(world: Changing, each: Each, trial: 
         expect(door.status()["faults"], [], "one that is not")
     with each("clients that a proxy names"):
         mirrors = 'mirrors = ["192.0.2.9", "2001:db8::/64"]\nproxied = true\n'
-        words = [f"--registry=http://127.0.0.1:{world.port}"]
         config = f'history = "{world.history}"\n{mirrors}'
         with Opened(trial, "proxied", words, config) as proxied:
             for name, is_mirror in [
@@ -122,11 +123,22 @@ def test_it_answers_mirrors_and_nobody_else(world: Changing, each: Each, trial: 
                 ("TCP6 2001:db8::7 2001:db8::1", True),
                 ("TCP4 192.0.2.8 192.0.2.1", False),
                 ("TCP4 127.0.0.1 127.0.0.1", False),
+                ("TCP6 ::ffff:192.0.2.9 ::ffff:192.0.2.1", True),
+                ("TCP6 ::ffff:192.0.2.8 ::ffff:192.0.2.1", False),
             ]:
                 asked = f"PROXY {name} 1 43\r\n-g TEST:3:{last + 1}-LAST\r\n"
                 answer = proxied.whois(asked.encode()).decode()
-                refused = f"{REFUSED} {name.split()[1]}\n\n"
+                refused = f"{REFUSED} {name.split()[1].removeprefix('::ffff:')}\n\n"
                 expect(answer, NO_NEWER if is_mirror else refused, name)
+    with each("a port of both versions of IP"):
+        both = free_port()
+        config = f'history = "{world.history}"\nmirrors = ["127.0.0.1"]\n'
+        with Opened(trial, "both", [*words, f"--whois=*:{both}"], config) as opened:
+            expect(ask(both, f"-g TEST:3:{last + 1}-LAST"), NO_NEWER, "a mirror")
+            expect(list(opened.status()["serials"]["mirrors"]), ["127.0.0.1"], "the mirrors")
+            with opened.connect(both, 2) as peer:
+                peer.sendall(f"-g TEST:3:{last}-LAST\n".encode())
+                expect(read_all(peer).decode(), f"{REFUSED} 127.0.0.2\n\n", "another address")
 
 
 def test_a_mirror_begins_anew_where_serials_were_lost(world: Changing) -> None:

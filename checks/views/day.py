@@ -291,7 +291,7 @@ shrink = 100
             self.mirror4 = Mirror4("TEST", folder, public.partition("\n")[2])
         self.mirror4.follow()
         expect(self.mirror4.objects == wanted, True, "the mirror by version 4")
-        # The door looks at the serials once a second.
+        # An answer may end before the last serial.
         wait_until("the mirror by version 3", PATIENCE, lambda: self.has_followed(wanted))
 
     def has_followed(self, wanted: dict[Key, str]) -> bool:

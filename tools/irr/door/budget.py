@@ -9,6 +9,8 @@ import ipaddress
 from collections import OrderedDict
 from typing import Generic, Iterator, Optional, TypeVar
 
+from irr.door.settings import plain
+
 # How many clients are remembered at least, and of how many that wait the one that has used least is
 # looked for.
 REMEMBERED, COMPARED = 4_096, 64
@@ -151,12 +153,11 @@ class Turns(Generic[One]):
 
 def client_name(address: str) -> str:
     """Whose an address is: itself, or the /56 of one of version 6."""
+    address = plain(address)
     if ":" not in address:
         return address
     try:
         found = ipaddress.IPv6Address(address.partition("%")[0])
     except ValueError:
         return address
-    if found.ipv4_mapped:
-        return str(found.ipv4_mapped)
     return str(ipaddress.IPv6Network((found, 56), strict=False))

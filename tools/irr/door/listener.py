@@ -13,7 +13,7 @@ from irr.door.dialects import Reply
 from irr.door.pool import Found, Pending, Pool
 from irr.door.queries import Asker
 from irr.door.responses import Dump, InMemory, Source
-from irr.door.settings import Settings, is_in, networks
+from irr.door.settings import Settings, is_in, networks, plain
 from irr.door.status import Counters
 from irr.door.wire import Wire
 
@@ -209,7 +209,7 @@ class Connection:
         self.task: Optional[Pending] = None
 
     def connection_made(self, wire: Wire, address: str) -> None:
-        self.transport, self.address, door = wire, address, self.door
+        self.transport, self.address, door = wire, plain(address), self.door
         # When it last sent something, or was given something.
         self.heard = now = time.monotonic()
         # Who asks; who is connected; and as whose connection this one counts.
@@ -392,7 +392,7 @@ class Whois(Connection):
             return
         self.buffer, self.is_named = self.buffer[header.size :], True
         if header.address is not None:
-            self.address = header.address
+            self.address = plain(header.address)
             name = client_name(header.address)
             if not self.door.count_as(self, self.door.pool.clients.of(name, time.monotonic())):
                 self.end(TOO_MANY, "budget")

@@ -1,6 +1,7 @@
 """The settings of the door: those of `door.toml`, whose keys are the names of the fields, and over
 them those of the command line."""
 
+import contextlib
 import dataclasses
 import ipaddress
 from typing import Any, NamedTuple, Union
@@ -194,10 +195,17 @@ def networks(texts: tuple[str, ...], name: str) -> tuple[Network, ...]:
 
 
 def is_in(text: str, found: tuple[Network, ...]) -> bool:
-    """Whether an address, in which IPv4 may stand as IPv6, is in one of the networks."""
+    """Whether an address is in one of the networks."""
     try:
-        address = ipaddress.ip_address(text.partition("%")[0])
+        address = ipaddress.ip_address(plain(text).partition("%")[0])
     except ValueError:
         return False
-    plain = getattr(address, "ipv4_mapped", None) or address
-    return any(plain in one for one in found if one.version == plain.version)
+    return any(address in one for one in found if one.version == address.version)
+
+
+def plain(text: str) -> str:
+    """An address as people write it: one of IPv4 may stand as IPv6, as at a socket for both."""
+    if text.lower().startswith("::ffff:"):
+        with contextlib.suppress(ValueError):
+            return str(ipaddress.IPv6Address(text.partition("%")[0]).ipv4_mapped or text)
+    return text

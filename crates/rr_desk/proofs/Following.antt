@@ -8,7 +8,7 @@ use Rattle.sqlite_trees.specs.declared.store.Store.{Ghosts}
 use Rattle.sqlite_trees.specs.Tree.{Trees}
 use Rattle.sqlite.specs.Effect.{Database}
 use Rattle.sqlite.specs.Held.{Held, state}
-use Rattle.sqlite.specs.State.{HasCleanDisk}
+use Rattle.sqlite.specs.State.{HasCleanDisk, State, Survives}
 use Rattle.sqlite.proofs.StateLemmas.{survives_weaker}
 use Rattle.rr_text.specs.Fields.{fields_eq}
 use Rattle.rr_object.specs.declared.code.Code.{Code}
@@ -36,7 +36,7 @@ use Rattle.rr_rows.specs.Entries.{TreesOf}
 use Rattle.rr_rows.specs.Maps.{HasRows, Puts, TakesOut}
 use Rattle.rr_rows.proofs.OtherLemmas.{others_itself}
 use Rattle.rr_store.specs.Adding.{AddsTo}
-use Rattle.rr_store.specs.Calls.{IsSettled, Transacts, database}
+use Rattle.rr_store.specs.Calls.{IsSettled, Transacts, WhileOpen, database}
 use Rattle.rr_desk.specs.Stops.{LeavesStopped, changes}
 use Rattle.rr_desk.specs.Rows.{Holds}
 use Rattle.rr_desk.specs.Stocks.{DatabaseLasts}
@@ -183,19 +183,43 @@ module _ {S X E : Type 0} (g : Ghosts S) (P Q : Database → Database → Type 0
             made.crash;
       }
 
+-- where nothing is done, a stop leaves what it left before
+still_survives : {P : Trees → Type 0} (s : State) → Survives s s P
+still_survives s = record {
+  clean = omega arith;
+  shield = λ shielded. shielded;
+  counts = omega arith;
+  limit = refl;
+  closes = λ clean on. inl on;
+  crash = λ clean trees may. inl may;
+}
+
 -- where nothing is done, all is left
 pub rest_itself : {S : Type 0} (g : Ghosts S) (h : Held S) → LeavesRest g h h
-rest_itself g h clean on = others_itself (database g h)
+rest_itself g h = record {
+  stands = λ clean on. others_itself (database g h);
+  crash = still_survives (state g h);
+}
 
--- one transaction that keeps all else leaves it, also where it fails
+-- one transaction that keeps all else leaves it where it stands, also where it fails
+writes_stand : {S X E : Type 0} (g : Ghosts S) (Change : Database → Database → Type 0)
+    (old new : Held S) (result : Result X E) → Transacts g Change old new result
+    → ((db : Database) → Change (database g old) db → KeepsOthers (database g old) db) →
+    WhileOpen g new (KeepsOthers (database g old) (database g new))
+writes_stand g change old new (Ok x) writes keeps clean on = keeps (database g new)
+    (writes.done clean)
+writes_stand g change old new (Err e) writes keeps clean on = subst (KeepsOthers (database g old))
+    (sym (writes.kept clean on)) (others_itself (database g old))
+
+-- and in what a stop may leave
 pub writes_leave : {S X E : Type 0} (g : Ghosts S) (Change : Database → Database → Type 0)
     (old new : Held S) (result : Result X E) → Transacts g Change old new result
     → ((db : Database) → Change (database g old) db → KeepsOthers (database g old) db) →
     LeavesRest g old new
-writes_leave g change old new (Ok x) writes keeps clean on = keeps (database g new)
-    (writes.done clean)
-writes_leave g change old new (Err e) writes keeps clean on = subst (KeepsOthers (database g old))
-    (sym (writes.kept clean on)) (others_itself (database g old))
+writes_leave g change old new result writes keeps = record {
+  stands = writes_stand g change old new result writes keeps;
+  crash = survives_weaker _ _ _ _ (λ clean trees made. trees_of keeps trees made.1) writes.crash;
+}
 
 -- where the rows followed the registry, the store holds the rows of the one after the item
 pub still_held : {S X E : Type 0} (g : Ghosts S) (old new : Held S) (before after : Reg)
@@ -227,7 +251,7 @@ item_lasts g change old new before result held follows others =
       survives = survives_weaker (state g old) (state g new) _ (λ trees. Unit {0})
           (λ clean trees made. tt) survives;
       was_open = λ clean on. (held (earlier clean)).is_open;
-      others = others;
+      others = others.stands;
     }
 
 -- where they could not follow, those of the registry before the item stand
@@ -237,9 +261,10 @@ pub stops_there : {S X E : Type 0} (g : Ghosts S) (held_before held_after : Held
     secrets after → changes outcome ≡ true
     → (HasCleanDisk (state g held_before) → Holds before (state g held_before)) →
     FollowsIn {X = X} g (Follows key outcome after) held_before held_after (Err e)
-    → LeavesStopped before secrets item after true (state g held_before) (state g held_after)
+    → LeavesRest g held_before held_after → LeavesStopped before secrets item after true
+    (state g held_before) (state g held_after)
 stops_there g held_before held_after before after secrets item key outcome e is_key step others
-    changing held follows =
+    changing held follows rest =
     let old = state g held_before in
     let new = state g held_after in
     let survives = follows.crash in
@@ -259,6 +284,16 @@ stops_there g held_before held_after before after secrets item key outcome e is_
           elim (survives.crash clean trees may) [
             | inl first ↦ inl (old.now, was.rows, was.leaves trees first)
             | inr made ↦ inr (trees_of (λ db follows. follows before leading was.rows) trees made)
+          ];
+      leaves_others = λ clean trees may.
+          elim (rest.crash.crash clean trees may) [
+            | inl first ↦ (
+              old.now,
+              others_itself old.now,
+              (held (earlier clean)).leaves trees
+                  first,
+            )
+            | inr made ↦ made
           ];
       was_open = λ clean. (held clean).is_open;
       survives = survives_weaker old new _ _ (λ clean trees made.

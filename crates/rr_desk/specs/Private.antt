@@ -76,9 +76,11 @@ abbrev pub Follows : Key → Outcome → Reg → Database → Database → Type 
 Follows key outcome after old new =
     (before : Reg) → LeadsTo before key outcome after → HasRows before old → HasRows after new
 
--- beside the rows of the three tables all is as it was
-abbrev pub LeavesRest : {S : Type 0} → Ghosts S → Held S → Held S → Type 0
-LeavesRest g old new = WhileOpen g new (KeepsOthers (database g old) (database g new))
+-- beside the rows of the three tables all is as it was, also in what a stop may leave and could not
+-- leave before
+pub record LeavesRest {S : Type 0} (g : Ghosts S) (old new : Held S) : Type 0 where
+  pub stands : WhileOpen g new (KeepsOthers (database g old) (database g new))
+  pub crash : Survives (state g old) (state g new) (TreesOf (KeepsOthers (database g old)))
 
 -- the rows follow an item by this change, if it is one that changes them, or stay as they are after
 -- a fault; a stop of the process leaves one of the two, and where it left just the rows that stood

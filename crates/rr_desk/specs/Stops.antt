@@ -10,6 +10,7 @@ use Rattle.rr_registry.specs.declared.outcome.Outcome.TheVariants.{Added, Change
 use Rattle.rr_registry.specs.declared.outcome.Outcome.TheVariants.{Unchanged, Deleted}
 use Rattle.rr_registry.specs.declared.outcome.Outcome.TheVariants.{Refused}
 use Rattle.rr_registry.specs.Runs.{IsStep}
+use Rattle.rr_rows.specs.Contents.{KeepsOthers}
 use Rattle.rr_rows.specs.Entries.{TreesOf}
 use Rattle.rr_rows.specs.Maps.{HasRows}
 
@@ -23,9 +24,9 @@ changes (Refused code) = false
 
 -- the store failed at an item that changes the registry, so the desk is stopped: the rows are those
 -- of the registry before the item, and a stop of the process or machine leaves these or those with
--- the item whole; no fault of the disk is forgotten, and nothing but such a fault shuts the
--- connection, which was open. What the holders of a prefix hold stays as it was where none of the
--- secrets is theirs (profile)
+-- the item whole, and beside the rows of the three tables all as it was; no fault of the disk is
+-- forgotten, and nothing but such a fault shuts the connection, which was open. What the holders of
+-- a prefix hold stays as it was where none of the secrets is theirs (profile)
 pub record LeavesStopped (before : Reg) (secrets : List (List ℕ)) (item : Item) (after : Reg)
     (stopped : Bool) (old now : State) : Type 0 where
   pub outcome : Outcome
@@ -36,5 +37,7 @@ pub record LeavesStopped (before : Reg) (secrets : List (List ℕ)) (item : Item
   pub rows : HasCleanDisk now → IsTrue now.is_open → HasRows before now.now
   pub leaves : HasCleanDisk now → (trees : Trees) → now.may_leave trees
       → TreesOf (HasRows before) trees ⊎ TreesOf (HasRows after) trees
+  pub leaves_others : HasCleanDisk now → (trees : Trees) → now.may_leave trees
+      → TreesOf (KeepsOthers old.now) trees
   pub was_open : HasCleanDisk old → IsTrue old.is_open
   pub survives : Survives old now (TreesOf (HasRows after))

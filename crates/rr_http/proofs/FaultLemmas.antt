@@ -61,7 +61,7 @@ told_query : {D : Type 0} (Answers : D → List ℕ → List ℕ → D → Type 
     reader_new.faults ≡ reader_old.faults → CanCount old → AnswersQuery Answers stopped text before
     after old new result → TellsCalls reader_old reader_new old new result
 told_query Answers stopped text before after reader_old reader_new old new result same room
-    (inl turned) = told_reply _ reader_old reader_new old new result same room turned.replies
+    (inl (is, turned)) = told_reply _ reader_old reader_new old new result same room turned.replies
 told_query Answers stopped text before after reader_old reader_new old new result same room
     (inr (running, inl cut)) =
     told_cut _ reader_old reader_new old new result same room cut.0.cut cut.0.failed
@@ -150,8 +150,8 @@ told_asks registrar buffered (submission size) before after reader_old reader_ne
     (ap (λ (told : Told). told.faults) stopped.unread) room stopped.unavailable.replies
 told_asks registrar buffered (submission size) before after reader_old reader_new old new result
     reader_room room (inl (inr no_memory)) =
-    told_reply _ reader_old reader_new old new result no_memory.reads.1.no_fault room
-    no_memory.unavailable.replies
+    told_reply _ reader_old reader_new old new result
+    (ap (λ (told : Told). told.faults) no_memory.unread) room no_memory.unavailable.replies
 told_asks registrar buffered (submission size) before after reader_old reader_new old new result
     reader_room room (inr taken) =
     told_submission registrar taken.body size taken.end before after reader_old reader_new old new

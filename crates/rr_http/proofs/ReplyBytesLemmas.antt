@@ -117,10 +117,22 @@ module _ (old new : Told) (answered : List ℕ) (fresh : old.bytes ≡ Some [])
     to_asks reader_first bytes prefix place (refused refusal) is gives within serves =
         (sent _ result serves.1, serves.0.same)
     to_asks reader_first bytes prefix place (submission size) is gives within (inl (inl stopped)) =
-        inl (sent _ result stopped.unavailable.replies, stopped.unavailable.same)
+        inl (
+          inl stopped.stopped,
+          (
+            sent _ result stopped.unavailable.replies,
+            stopped.unavailable.same,
+          ),
+        )
     to_asks reader_first bytes prefix place (submission size) is gives within (inl (inr no_memory))
         =
-        inl (sent _ result no_memory.unavailable.replies, no_memory.unavailable.same)
+        inl (
+          inr no_memory.some,
+          (
+            sent _ result no_memory.unavailable.replies,
+            no_memory.unavailable.same,
+          ),
+        )
     to_asks reader_first bytes prefix place (submission size) is gives within (inr taken_in) =
         inr (record {
           running = taken_in.running;
@@ -135,8 +147,8 @@ module _ (old new : Told) (answered : List ℕ) (fresh : old.bytes ≡ Some [])
           written = told;
           submits = taken_in.submits;
         })
-    to_asks reader_first bytes prefix place (query escaped) is gives within (same, inl turned) =
-        inl (sent _ result turned.replies, turned.same)
+    to_asks reader_first bytes prefix place (query escaped) is gives within
+        (same, inl (stopped, turned)) = inl (stopped, (sent _ result turned.replies, turned.same))
     to_asks reader_first bytes prefix place (query escaped) is gives within
         (same, inr (running, inl cut)) =
         inr (

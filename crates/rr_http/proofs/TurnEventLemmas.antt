@@ -176,8 +176,8 @@ module _ {S : Type 0} (g : store.Ghosts S) where
         AnswersQuery (desk_registrar g).Answers before.stored.stopped (percent_decode escaped)
         before after visit.writer_before visit.writer_after visit.ended
         → Turned (IsAskedTurn buffered (query escaped) visit) before after
-    of_query buffered escaped visit (inl none) = nothing before after none.same
-        (inl (refl, none.replies))
+    of_query buffered escaped visit (inl none) = nothing before after none.1.same
+        (inl (refl, none.1.replies))
     of_query buffered escaped visit (inr it) = of_running buffered escaped visit it.1
 
     of_sent : (buffered : List ℕ) (visit : Visit) → after ≡ before → before.stored.stopped ≡ false

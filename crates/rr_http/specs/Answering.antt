@@ -52,13 +52,13 @@ AnswersRunning Answers query before after old new result =
     (IsHeadCut old new result × (after ≡ before))
     ⊎ RepliesWithAnswer Answers ok_head query before after old new result
 
--- the answer to a query by HTTP: of a desk that is stopped, or where memory runs out, that it is
--- not served now
+-- the answer to a query by HTTP: of a desk that is stopped that it is not served now, and of no
+-- other
 abbrev pub AnswersQuery : {D : Type 0} → (D → List ℕ → List ℕ → D → Type 0) → Bool
     → List ℕ → D → D
     → Told → Told → ConnEnd → Type 0
 AnswersQuery Answers stopped query before after old new result =
-    IsUnavailable before after old new result
+    ((stopped ≡ true) × IsUnavailable before after old new result)
     ⊎ ((stopped ≡ false) × AnswersRunning Answers query before after old new result)
 
 -- how serving a connection ends, by how its dump did: where memory ran out the reply ends early,

@@ -19,7 +19,3 @@ ReadsBody old new buffered size body Short =
 ReadsBody old new buffered size body Broken =
     (more : List ℕ) × BreaksOff old new more × (body ≡ buffered ++ more)
     × (length body < size)
-
--- no more than so many bytes were read, and no read failed
-abbrev pub GivesWithin : Told → Told → ℕ → Type 0
-GivesWithin old new room = (more : List ℕ) × Gives old new more × (length more ≤ room)

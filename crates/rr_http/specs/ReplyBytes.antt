@@ -83,10 +83,11 @@ abbrev pub RepliesTo : {D : Type 0} → Ghosts D → List ℕ → Asks → D →
 RepliesTo registrar given (refused refusal) before after result answered =
     IsSent (refusal_reply refusal) result answered × (after ≡ before)
 RepliesTo registrar given (submission size) before after result answered =
-    IsUnavailableSent before after result answered
+    (((registrar.ledger.is_stopped before ≡ true) ⊎ (0 < size))
+    × IsUnavailableSent before after result answered)
     ⊎ IsReportSent registrar given size before after result answered
 RepliesTo registrar given (query escaped) before after result answered =
-    IsUnavailableSent before after result answered
+    ((registrar.ledger.is_stopped before ≡ true) × IsUnavailableSent before after result answered)
     ⊎ ((registrar.ledger.is_stopped before ≡ false)
     × (IsHeadCutOff before after result answered
     ⊎ IsAnswerSent registrar ok_head (percent_decode escaped) before after result answered))

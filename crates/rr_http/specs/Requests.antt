@@ -118,6 +118,13 @@ asks_of method target fields =
     if has_field (codes "Transfer-Encoding") fields then refused NotImplemented
     else asks_at method (path_of target) fields (page_of (path_of target))
 
+-- the query of a request is a part of its head, which has so many bytes (RFC 9112, 2.1)
+abbrev pub HasQueryWithin : ℕ → Asks → Type 0
+HasQueryWithin size (refused refusal) = Unit {0}
+HasQueryWithin size (submission body) = Unit {0}
+HasQueryWithin size (query escaped) = length escaped ≤ size
+HasQueryWithin size dump = Unit {0}
+
 -- a submission has a body of at most 1,048,576 bytes (profile)
 abbrev pub HasSmallSize : Asks → Type 0
 HasSmallSize (refused refusal) = Unit {0}

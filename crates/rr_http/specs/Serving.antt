@@ -1,6 +1,6 @@
 -- What serving a connection does: what is read of it, what it is answered, and what that leaves of
 -- the desk.
-use Rattle.std.specs.Prelude.{◌≡◌, ℕ, ◌-◌, Bool, true, false, nat_lt, IsTrue, ◌⊎◌}
+use Rattle.std.specs.Prelude.{◌≡◌, ℕ, ◌-◌, ◌<◌, Bool, true, false, nat_lt, IsTrue, ◌⊎◌}
 use Rattle.std.specs.Prelude.{List, [], ◌++◌}
 use Rattle.std.specs.Prelude.{length, drop, Result, Ok, Err}
 use Rattle.percent_encoding.specs.Percent.{percent_decode}
@@ -18,7 +18,7 @@ use Rattle.rr_http.specs.declared.body_reading.BodyEnd.TheVariants.{Whole, Short
 use Rattle.rr_http.specs.declared.registrar.Registrar.{Ghosts}
 use Rattle.rr_http.specs.Answering.{AnswersDump, AnswersQuery, IsUnavailable, KeepsDesk}
 use Rattle.rr_http.specs.Answering.{RepliesWithAnswer, SubmitsBody, WritesReply}
-use Rattle.rr_http.specs.Bodies.{GivesWithin, ReadsBody}
+use Rattle.rr_http.specs.Bodies.{ReadsBody}
 use Rattle.rr_http.specs.Replies.{ok_head, refusal_reply}
 use Rattle.rr_http.specs.Requests.{Asks, refused, submission, query, dump}
 use Rattle.rr_http.specs.Wants.{IsUndecided, IsWanted, ReadsHead, Wants, whois, http}
@@ -106,26 +106,25 @@ pub record MeetsStoppedDesk {D : Type 0} (registrar : Ghosts D) (before after : 
   pub unread : visit.reader_after ≡ visit.reader_before
   pub unavailable : IsVisitUnavailable before after visit
 
--- memory ran out for the body, which is read no further than its size; these of its bytes came
--- with the head
-pub record MeetsNoMemory {D : Type 0} (registrar : Ghosts D) (buffered : List ℕ) (size : ℕ)
-    (before after : D) (visit : Visit) : Type 0 where
+-- memory ran out for a body, which is not empty, and none of it is read
+pub record MeetsNoMemory {D : Type 0} (registrar : Ghosts D) (size : ℕ) (before after : D)
+    (visit : Visit) : Type 0 where
   pub running : registrar.ledger.is_stopped before ≡ false
-  pub reads : GivesWithin visit.reader_before visit.reader_after (size - length buffered)
+  pub some : 0 < size
+  pub unread : visit.reader_after ≡ visit.reader_before
   pub unavailable : IsVisitUnavailable before after visit
 
 -- a submission that is not taken in
-abbrev pub IsTurnedAway : {D : Type 0} → Ghosts D → List ℕ → ℕ → D → D → Visit
-    → Type 0
-IsTurnedAway registrar buffered size before after visit =
+abbrev pub IsTurnedAway : {D : Type 0} → Ghosts D → ℕ → D → D → Visit → Type 0
+IsTurnedAway registrar size before after visit =
     MeetsStoppedDesk registrar before after visit
-    ⊎ MeetsNoMemory registrar buffered size before after visit
+    ⊎ MeetsNoMemory registrar size before after visit
 
 -- a submission is turned away or taken in
 abbrev pub ServesBody : {D : Type 0} → Ghosts D → List ℕ → ℕ → D → D → Visit
     → Type 0
 ServesBody registrar buffered size before after visit =
-    IsTurnedAway registrar buffered size before after visit
+    IsTurnedAway registrar size before after visit
     ⊎ IsTakenIn registrar buffered size before after visit
 
 -- what is done of what a request asks; these bytes came with its head

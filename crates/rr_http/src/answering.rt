@@ -1,6 +1,6 @@
 //! What each thing that a connection wants is answered.
 
-ghost use Rattle.std.specs.Prelude.{◌≡◌, ◌≤◌, [], Err, IfOk, false, length};
+ghost use Rattle.std.specs.Prelude.{◌≡◌, ◌≤◌, [], Err, false, length, take};
 ghost use Rattle.percent_encoding.specs.Percent.{percent_decode};
 ghost use Rattle.rr_http.specs.Answering.{AnswersDump, AnswersQuery, AnswersRunning, KeepsDesk};
 ghost use Rattle.rr_http.specs.Answering.{RepliesWithAnswer, SubmitsBody, WritesReply, dump_end};
@@ -8,12 +8,13 @@ ghost use Rattle.rr_http.specs.Replies.{refusal_reply};
 
 use crate::asking::{BODY_SIZE, Refusal};
 use crate::body::Body;
+use crate::heads::HEAD_SIZE;
 use crate::registrar::Registrar;
 use crate::replying::{write_ok_head, write_refusal};
 use percent_encoding::percent_decode;
 use rr_desk::{ConnFault, DeskDumpFault, DeskFault, Done};
 use rr_io::Sink;
-use std::alloc::{AllocError, Global};
+use std::alloc::Global;
 
 /// Refuses a request. The error is that a write failed: the writer has taken a part of the reply.
 pub(crate) fn refuse<W: Sink>(writer: &mut W, refusal: Refusal) -> Result<(), ConnFault>
@@ -48,14 +49,15 @@ pub(crate) fn write_answer<D: Registrar, W: Sink>(
 }
 
 /// Answers a query by HTTP, whose percent escapes are read first (RFC 3986, 2.1). If the desk is
-/// stopped, or memory runs out for that, it is not asked, and the reply is 503. The error is that a
-/// write failed: the writer has taken a part of the reply.
+/// stopped it is not asked, and the reply is 503. The error is that a write failed: the writer has
+/// taken a part of the reply.
 pub(crate) fn answer_query<D: Registrar, W: Sink>(
     alloc: Global,
     desk: &mut D,
     escaped: &[u8],
     writer: &mut W,
 ) -> Result<(), ConnFault>
+    requires { length escaped.now ≤ HEAD_SIZE }
     ensures answers { AnswersQuery D.Answers (D.ledger.is_stopped desk.old)
         (percent_decode escaped.now) desk.old desk.new
         (W.told writer.old) (W.told writer.new) result }
@@ -66,19 +68,24 @@ pub(crate) fn answer_query<D: Registrar, W: Sink>(
     if desk.stopped() {
         return refuse(writer, Refusal::Unavailable);
     }
-    match decoded(alloc, escaped) {
-        Ok(query) => give_answer(alloc, desk, &query, writer),
-        Err(_) => refuse(writer, Refusal::Unavailable),
-    }
+    let mut query = [0u8; HEAD_SIZE];
+    let count = decode(escaped, &mut query);
+    give_answer(alloc, desk, &query[..count], writer)
 }
 
-/// The bytes with their percent escapes read (RFC 3986, 2.1). The error is that memory ran out.
-fn decoded(alloc: Global, escaped: &[u8]) -> Result<Vec<u8>, AllocError>
-    ensures { IfOk result (λ query. query.items ≡ percent_decode escaped.now) }
+/// Writes bytes with their percent escapes read to the front of a buffer (RFC 3986, 2.1), and gives
+/// how many these are.
+fn decode(escaped: &[u8], decoded: &mut [u8]) -> usize
+    requires { length escaped.now ≤ length decoded.old }
+    ensures within { result ≤ length decoded.new }
+    ensures decodes { take result decoded.new ≡ percent_decode escaped.now }
 {
-    let mut query = Vec::new(alloc);
-    percent_decode(escaped).append_to(&mut query)?;
-    Ok(query)
+    let mut count = 0usize;
+    for byte in percent_decode(escaped) {
+        decoded[count] = byte;
+        count += 1;
+    }
+    count
 }
 
 /// Writes the head of a reply, and after it the answer to a query; the desk is asked once the head

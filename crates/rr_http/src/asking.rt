@@ -7,7 +7,8 @@ ghost use Rattle.std.specs.Str.{bytes_eq};
 ghost use Rattle.httparse.specs.Spans.{IsHeaderWithin, header_bytes};
 ghost use Rattle.rr_http.specs.Asked.{view_of};
 ghost use Rattle.rr_http.specs.AskedParts.{fields_of};
-ghost use Rattle.rr_http.specs.Requests.{HasSmallSize, asks_of, asks_page, body_size};
+ghost use Rattle.rr_http.specs.Requests.{HasQueryWithin, HasSmallSize, asks_of, asks_page};
+ghost use Rattle.rr_http.specs.Requests.{body_size};
 ghost use Rattle.rr_http.specs.Requests.{is_field_of, is_length, is_query_path, is_segment};
 ghost use Rattle.rr_http.specs.Requests.{method_of, page_of, size_of, values_of};
 ghost use Rattle.rr_http.specs.Wants.{RequestAsks};
@@ -119,6 +120,7 @@ pub enum Asked<'a> {
 pub fn read_request(head: &[u8]) -> Asked<'_>
     ensures asks { RequestAsks head.now (view_of result) }
     ensures small { HasSmallSize (view_of result) }
+    ensures within { HasQueryWithin (length head.now) (view_of result) }
 {
     let mut fields = [EMPTY_HEADER_SPAN; FIELD_LIMIT];
     match parse_request(head, &mut fields) {
@@ -142,6 +144,7 @@ fn asked_of<'a>(method: &[u8], target: &'a [u8], head: &[u8], fields: &[HeaderSp
     requires { All (IsHeaderWithin (length head.now)) fields.now }
     ensures asks { view_of result ≡ asks_of method.now target.now (fields_of head.now fields.now) }
     ensures small { HasSmallSize (view_of result) }
+    ensures within { HasQueryWithin (length target.now) (view_of result) }
 {
     if find_value(head, fields, b"Transfer-Encoding").is_some() {
         return Asked::Refused(Refusal::NotImplemented);
@@ -166,6 +169,7 @@ fn asked_at<'a>(path: &'a [u8], page: Page, head: &[u8], fields: &[HeaderSpan]) 
     requires within { All (IsHeaderWithin (length head.now)) fields.now }
     ensures asks { view_of result ≡ asks_page path.now (fields_of head.now fields.now) page }
     ensures small { HasSmallSize (view_of result) }
+    ensures within { HasQueryWithin (length path.now) (view_of result) }
 {
     match page {
         Page::Submissions => match read_size(head, fields) {

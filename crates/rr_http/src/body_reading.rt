@@ -1,7 +1,7 @@
 //! The body of a request, read whole before it is submitted.
 
-ghost use Rattle.std.specs.Prelude.{◌≡◌, ◌≤◌, ◌-◌, length, IfOk, OnErr};
-ghost use Rattle.rr_http.specs.Bodies.{GivesWithin, ReadsBody};
+ghost use Rattle.std.specs.Prelude.{◌≡◌, ◌<◌, ◌≤◌, length, IfOk, OnErr, vec_capacity};
+ghost use Rattle.rr_http.specs.Bodies.{ReadsBody};
 ghost use Rattle.rr_http.specs.BodyParts.{ReadsRest};
 
 use crate::asking::BODY_SIZE;
@@ -21,8 +21,8 @@ pub enum BodyEnd {
 
 /// Reads the body of a request, of `size` bytes, 1,048,576 at most, the first of which are those
 /// that came with its head: gives its bytes, or those that came of it, and how the reading ended.
-/// No byte after the body is asked for. The error is that memory ran out: no more than the rest of
-/// the body was read.
+/// No byte after the body is asked for. The error is that memory ran out for a body that is not
+/// empty, and nothing is read then.
 pub fn read_body<R: Source>(
     alloc: Global,
     reader: &mut R,
@@ -32,28 +32,22 @@ pub fn read_body<R: Source>(
     requires { size ≤ BODY_SIZE }
     ensures reads { IfOk result (λ read. ReadsBody (R.told reader.old) (R.told reader.new)
         buffered.now size read.0.items read.1) }
-    ensures no_memory { OnErr result
-        (GivesWithin (R.told reader.old) (R.told reader.new) (size - length buffered.now)) }
+    ensures some { OnErr result (0 < size) }
+    ensures unread { OnErr result (reader.new ≡ reader.old) }
     ensures aside { R.aside reader.new ≡ R.aside reader.old }
 {
     let mut body = Vec::with_capacity(alloc, size)?;
     body.extend_from_slice(&buffered[..buffered.len().min(size)])?;
-    let end = read_rest(reader, &mut body, size)?;
+    let end = read_rest(reader, &mut body, size);
     Ok((body, end))
 }
 
-/// Reads on until the body has `size` bytes.
-fn read_rest<R: Source>(
-    reader: &mut R,
-    body: &mut Vec<u8>,
-    size: usize,
-) -> Result<BodyEnd, AllocError>
-    requires small { size ≤ BODY_SIZE }
+/// Reads on until the body has `size` bytes, for which there is room.
+fn read_rest<R: Source>(reader: &mut R, body: &mut Vec<u8>, size: usize) -> BodyEnd
     requires within { length body.old.items ≤ size }
-    ensures reads { IfOk result (λ end. ReadsRest (R.told reader.old) (R.told reader.new)
-        body.old.items size body.new.items end) }
-    ensures no_memory { OnErr result
-        (GivesWithin (R.told reader.old) (R.told reader.new) (size - length body.old.items)) }
+    requires room { size ≤ vec_capacity body.old }
+    ensures reads { ReadsRest (R.told reader.old) (R.told reader.new)
+        body.old.items size body.new.items result }
     ensures aside { R.aside reader.new ≡ R.aside reader.old }
 {
     let mut block = [0u8; READ_SIZE];
@@ -62,12 +56,14 @@ fn read_rest<R: Source>(
         match reader.read(&mut block[..room]) {
             Ok(count) => {
                 if count == 0 {
-                    return Ok(BodyEnd::Short);
+                    return BodyEnd::Short;
                 }
-                body.extend_from_slice(&block[..count])?;
+                if body.extend_from_slice(&block[..count]).is_err() {
+                    unreachable!();
+                }
             }
-            Err(_) => return Ok(BodyEnd::Broken),
+            Err(_) => return BodyEnd::Broken,
         }
     }
-    Ok(BodyEnd::Whole)
+    BodyEnd::Whole
 }

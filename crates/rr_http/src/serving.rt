@@ -3,7 +3,7 @@
 ghost use Rattle.std.specs.Prelude.{◌≡◌, ◌≤◌, false, length};
 ghost use Rattle.rr_http.specs.Asked.{view_of};
 ghost use Rattle.rr_http.specs.Faults.{TellsFaults};
-ghost use Rattle.rr_http.specs.Requests.{HasSmallSize};
+ghost use Rattle.rr_http.specs.Requests.{HasQueryWithin, HasSmallSize};
 ghost use Rattle.rr_http.specs.Serving.{Serves, ServesAsks, ServesBody, SubmitsRead, end_by, visit};
 ghost use Rattle.rr_http.specs.ServingParts.{ServesHead};
 ghost use Rattle.rr_http.specs.Wants.{IsHead};
@@ -22,10 +22,11 @@ use std::alloc::Global;
 /// (RFC 3912, RFC 9112). The error is that a read of the connection failed, otherwise that a write
 /// did; where a read fails before it is known what the connection wants, nothing is written, and
 /// the desk stays as it is. A body is submitted as far as it came, without an item that misses
-/// bytes. By HTTP a stopped desk is not asked, nor one where memory runs out before that: the reply
-/// is 503. Of submissions only a fault of the store stops the desk; after any other end of one the
-/// rows are those of its registry, which stays one of its source. What the holders of a prefix hold
-/// is changed by nobody else. However it ends, what is to last of the desk lasts.
+/// bytes. By HTTP a stopped desk is not asked, nor one where memory runs out for a body, of which
+/// nothing is read then: the reply is 503. Of submissions only a fault of the store stops the desk;
+/// after any other end of one the rows are those of its registry, which stays one of its source.
+/// What the holders of a prefix hold is changed by nobody else. However it ends, what is to last of
+/// the desk lasts.
 pub fn serve_one<D: Registrar, C: Connection>(
     alloc: Global,
     desk: &mut D,
@@ -52,7 +53,8 @@ fn serve_head<D: Registrar, C: Connection>(
     read: &[u8],
     conn: &mut C,
 ) -> Result<(), ConnFault>
-    requires { IsHead read.now head }
+    requires head { IsHead read.now head }
+    requires short { length read.now ≤ HEAD_SIZE }
     ensures serves { ServesHead D.Registrar read.now desk.old desk.new
         (visit C.Source C.Sink conn.old conn.new result) }
     ensures lasts { D.ledger.Lasts desk.old desk.new }
@@ -76,7 +78,8 @@ fn serve_asked<D: Registrar, C: Connection>(
     asked: Asked<'_>,
     conn: &mut C,
 ) -> Result<(), ConnFault>
-    requires { HasSmallSize (view_of asked) }
+    requires small { HasSmallSize (view_of asked) }
+    requires within { HasQueryWithin HEAD_SIZE (view_of asked) }
     ensures serves { ServesAsks D.Registrar buffered.now (view_of asked.entry) desk.old desk.new
         (visit C.Source C.Sink conn.old conn.new result) }
     ensures lasts { D.ledger.Lasts desk.old desk.new }

@@ -30,7 +30,8 @@ returns-in-Err-clause-stops g c =
     c.apply-outcome.new.self c.args.secrets.now c.args.item c.args.key.now
     c.apply-outcome.result _
     c.requires.key c.apply-outcome.ensures.step c.apply-outcome.ensures.leaves
-    c.in-Err.ensures.changing (c.self.invariant running) c.in-Err.ensures.follows)
+    c.in-Err.ensures.changing (c.self.invariant running) c.in-Err.ensures.follows
+    c.follow.ensures.others)
 
 pub returns-in-Ok-clause-lasts : goal.returns-in-Ok-clause-lasts
 returns-in-Ok-clause-lasts g c =

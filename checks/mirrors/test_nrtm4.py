@@ -317,6 +317,7 @@ def test_a_mirror_has_the_public_dump_at_every_version(
         # there. Serials that come after lost ones may be the same.
         dumps: dict[tuple[str, int], dict[Key, str]] = {}
         had: dict[tuple[str, int], dict[Key, str]] = {}
+        states: list[nrtm4.Published] = []
 
         def look() -> None:
             mirror.follow()
@@ -341,7 +342,10 @@ def test_a_mirror_has_the_public_dump_at_every_version(
                 expect((process.returncode, reported), (0, b""), "a run")
             state = nrtm4.published_in(keys.folder)
             assert state
-            dumps[state.session, state.version] = world.dumps[state.serial]
+            if state not in states[-1:]:
+                # Else it was killed before, and the serial may be another state's by now.
+                states.append(state)
+                dumps[state.session, state.version] = world.dumps[state.serial]
 
         look()
         publish(None)

@@ -91,7 +91,7 @@ def test_a_piece_of_text_takes_no_name_of_its_own_registry() -> None:
     assert b"members:        AS1\n" in made(text + own)[0]
 
 
-# What stands in a paragraph that is left out, besides its first object.
+# What stands in a paragraph besides its first object.
 
 SOURCE = "source: RIPE"
 BESIDE = [
@@ -103,9 +103,14 @@ BESIDE = [
 ]
 
 
+# One that is taken, with another one inside a line of its text.
+BESIDE += [("aut-num: AS1", "descr: x\rKIND\rmnt-by: A-MNT", SOURCE)]
+BESIDE += [("route: 10.0.0.0/8", "descr: x\rKIND\ror: y", "origin: AS1", SOURCE)]
+
+
 @pytest.mark.parametrize("kind", ["mntner: A-MNT", "as-set: AS-X", "route-set: RS-X"])
 @pytest.mark.parametrize("lines", BESIDE)
-def test_a_name_inside_what_is_left_out_is_of_no_other_registry(
+def test_a_name_inside_another_object_is_of_no_other_registry(
     kind: str, lines: tuple[str, ...]
 ) -> None:
     """Where a blank line is missing, or lines end in CR alone."""

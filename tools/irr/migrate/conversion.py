@@ -29,6 +29,7 @@ from irr.migrate.normalisation import (
     LeftOut,
     Mended,
     Mender,
+    Name,
     new_name,
     not_mended,
     renamed,
@@ -206,12 +207,19 @@ class Import:
         try:
             mended = self.mender.mend(part, is_cut)
         except LeftOut as cause:
-            for name in self.mender.left(part, cause):
-                if name.number in NAMED:
-                    self.withheld.setdefault(name[:2], self.number_of(name.source or self.before))
+            self.withhold(self.mender.left(part, cause))
             raise
         self.before = mended.source or self.before
+        if part.may_have_more():
+            inside = self.mender.left(part)
+            self.withhold(name for name in inside if name[:2] != (mended.number, mended.key))
         return mended
+
+    def withhold(self, names: Iterable[Name]) -> None:
+        """Keeps what can't be read from being another registry's."""
+        for name in names:
+            if name.number in NAMED:
+                self.withheld.setdefault(name[:2], self.number_of(name.source or self.before))
 
     def number_of(self, source: str) -> int:
         return self.sources.setdefault(source, len(self.sources))

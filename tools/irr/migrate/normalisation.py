@@ -131,8 +131,9 @@ class Mender:
         text = self.written(names, mended)
         return Mended(number, key, source, names, text, frozenset(self.kinds), tuple(self.drops))
 
-    def left(self, part: paragraphs.Part, cause: LeftOut) -> list[Name]:
-        """What objects were left out, of the registries that are asked for."""
+    def left(self, part: paragraphs.Part, cause: LeftOut | None = None) -> list[Name]:
+        """What objects were left out of a part, or stand inside its lines, of the registries that
+        are asked for."""
         found = (self.name_in(block) or self.name_in(by_crs(block)) for block in part.begun())
         return [name for name in found if name]
 

@@ -78,7 +78,7 @@ class ViewMender(Mender):
         self.own, self.is_irrdesk, self.is_apart = source, is_irrdesk, is_apart
         self.counts, self.invalid = [0] * (len(NUMBERS) + 1), 0
 
-    def left(self, part: Part, cause: LeftOut) -> list[Name]:
+    def left(self, part: Part, cause: LeftOut | None = None) -> list[Name]:
         if str(cause) == OTHER_SOURCE:
             return []
         own = self.name_in(part.block)

@@ -345,7 +345,8 @@ def test_a_mirror_has_the_public_dump_at_every_version(
             if state not in states[-1:]:
                 # Else it was killed before, and the serial may be another state's by now.
                 states.append(state)
-                dumps[state.session, state.version] = world.dumps[state.serial]
+                # The serial of a version from before may by now be that of another state.
+            dumps.setdefault((state.session, state.version), world.dumps[state.serial])
 
         look()
         publish(None)

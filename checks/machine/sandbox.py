@@ -164,8 +164,10 @@ class Sandbox:
     def inside(self) -> str:
         """The same within the server's sandbox."""
         service, guest = self.service, self.service.guest
+        # The probe has no port that a start would wait for.
         service.changed(
-            "[Service]\nExecStart=\nExecStart=/usr/bin/python3 /usr/local/bin/probe\nRestart=no\n"
+            "[Service]\nExecStart=\nExecStart=/usr/bin/python3 /usr/local/bin/probe\n"
+            "ExecStartPost=\nRestart=no\n"
         )
         guest.done("systemctl restart irrdesk")
         guest.until(

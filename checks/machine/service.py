@@ -339,12 +339,12 @@ class Service:
         guest.done(f"{AS_OWNER} irrdesk init {SETTINGS}; systemctl start irrdesk")
         self.serves("a new registry")
         wanted = self.trial.chance("restart").randrange(20, 200)
+        # One command, since all of it may take less than a second.
         guest.done(
             f"curl --silent --no-buffer --data-binary @/run/given/items.rpsl {URL}/submissions >"
-            " report 2> reported < /dev/null &"
+            f" report 2> reported < /dev/null & until test $(wc -l < report) -ge {wanted};"
+            " do sleep 0.01; done; systemctl restart irrdesk"
         )
-        guest.until(f"test $(wc -l < report) -ge {wanted}", "the report")
-        guest.done("systemctl restart irrdesk")
         self.serves("the restart")
         reported = len(
             re.findall(

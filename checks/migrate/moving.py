@@ -95,6 +95,20 @@ def is_of_two(number: int, attributes: Attributes) -> bool:
     return bool(listed & set(names[:place]) & set(names[place:]))
 
 
+def parted(block: list[bytes]) -> Iterator[tuple[list[bytes], bool]]:
+    """A paragraph's parts, and whether each is its first one: one more begins where a class
+    directly follows `source`, but for what continues that and for comments."""
+    start, goes_on = 0, False
+    for place, line in enumerate(block):
+        if line[:1] in (b" ", b"\t", b"\r", b"+", b"#", b"%"):
+            continue
+        if goes_on and line.partition(b":")[0].rstrip(b" \t\r").lower() in OF_CLASSES:
+            yield block[start:place], not start
+            start = place
+        goes_on = bool(place > start and SOURCE_LINE.match(line))
+    yield block[start:], not start
+
+
 def is_cut(text: bytes, paragraphs: list[list[bytes]]) -> bool:
     """Whether the last paragraph of a text may have lost its end: the text ends within its last
     line, or it has no `source` and most others have one; comments by themselves after it are an
@@ -128,14 +142,17 @@ class Second:
         # The maintainers and sets that can't be read, and the registry of the last object.
         self.withheld: dict[Order, bytes] = {}
         for text in texts:
-            paragraphs, self.last = list(blocks(text)), b""
-            for place, block in enumerate(paragraphs, 1):
+            parts = [part for block in blocks(text) for part in parted(block)]
+            paragraphs, self.last = [block for block, _ in parts], b""
+            for place, (block, is_first) in enumerate(parts, 1):
                 self.read += 1
                 try:
                     attributes: Any = read(block)
                     try:
                         if place == len(paragraphs) and is_cut(text, paragraphs):
                             raise Out("cut off")
+                        if not is_first and not any(map(SOURCE_LINE.match, block)):
+                            raise Out("no source")
                         order, one = self.mended(attributes)
                     except Out:
                         is_last = place == len(paragraphs)

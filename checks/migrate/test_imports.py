@@ -8,6 +8,7 @@ import re
 import sys
 from collections import Counter
 from collections.abc import Sequence
+from pathlib import Path
 from typing import Any
 
 import pytest
@@ -235,6 +236,29 @@ def test_dumps_of_chance_are_as_a_second_reading_has_them(
             )
         taken, left = taken + tally.taken, left + tally.causes.total()
     tell(f"{count} dumps: {taken} taken, {left} left out")
+
+
+@pytest.mark.parametrize(
+    "lines, taken",
+    [
+        (["aut-num: AS1", "source: RIPE", "AUT-NUM : AS2", "source: RIPE"], 2),
+        (["aut-num: AS1", "source: RIPE", " # x", "% x", "aut-num: AS2", "source: RIPE"], 2),
+        (["aut-num: AS1", "source: RIPE", "aut-num: AS2", "mnt-by: A-MNT"], 1),
+        (["aut-num: AS1", "source: RIPE", "descr: x", "aut-num: AS2", "source: RIPE"], 0),
+        (["aut-num: AS1", "source: RIPE", "aut-num: AS2", "mntner: A-MNT", "source: RIPE"], 1),
+    ],
+)
+def test_a_paragraph_is_parted_as_a_second_reading_has_it(
+    tmp_path: Path, lines: list[str], taken: int
+) -> None:
+    """Where a class directly follows `source`, and nowhere else."""
+    text = "\n".join([*lines, "", "aut-num: AS9", "source: RIPE", ""]).encode()
+    second = Second([text], AUTH.encode())
+    result, tally = imported([write(str(tmp_path), "dump", text)])
+    expect(second.taken, taken + 1, "what the second reading takes")
+    expect((tally.read, tally.taken), (second.read, second.taken), "counts")
+    found = dict(map(normal, registry_of(result, "parted").in_order()))
+    expect(found, second.objects, "objects")
 
 
 def test_what_is_written_of_a_damaged_dump_is_a_dump(trial: Trial, tell: Tell) -> None:

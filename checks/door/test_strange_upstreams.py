@@ -65,6 +65,64 @@ def test_an_answer_to_a_look_has_a_bound() -> None:
     expect(max(sent) < MOST + (16 << 20), True, f"{sent} bytes of looks")
 
 
+NOTHING = b"% no entries\n"
+DUMPED = b"HTTP/1.1 200 OK\r\n\r\n" + ANSWER + b"aut-num:        AS2\n"
+
+
+@pytest.mark.parametrize("dumped", [DUMPED + b"% end 2\n", DUMPED * 100_000])
+def test_a_registry_without_the_inetnum_of_everything_tells_its_name(dumped: bytes) -> None:
+    """By the first object of its dump, of which no more is read; as a registry has it that was
+    loaded without that inetnum, and whose answer to a look is none."""
+    lines: list[bytes] = []
+
+    async def bare(line: bytes, writer: asyncio.StreamWriter) -> None:
+        lines.append(line)
+        writer.write(dumped if line == b"GET /dump HTTP/1.1\r\n" else NOTHING)
+
+    async def ask() -> tuple[bytes, bool]:
+        async with answering(bare) as registry:
+            async with inside.opened(lambda line: ANSWER, registry=registry) as (door, _):
+                async with asyncio.timeout(SOON):
+                    await inside.until(lambda: lines.count(LOOK) > 2)
+                return (
+                    await inside.asked(door.settings.whois[0], b"!s-lc"),
+                    door.pool.registry.is_up,
+                )
+
+    expect(inside.run(ask()), (b"A5\nTEST\nC\n", True), "its name, and whether it is asked")
+    expect(len(lines) - lines.count(LOOK), 1, "how often the dump is asked for")
+
+
+@pytest.mark.parametrize(
+    "look, dumped, is_asked",
+    [
+        (NOTHING, b"HTTP/1.1 404 Not Found\r\n\r\n", True),
+        (NOTHING, DUMPED[:-40], True),
+        (b"% nothing here\n", DUMPED, False),
+        (b"% no entries", DUMPED, False),
+        (b"% empty\n", DUMPED, False),
+        (b"", DUMPED, False),
+    ],
+)
+def test_an_answer_without_objects_is_a_registrys_or_none(
+    look: bytes, dumped: bytes, is_asked: bool
+) -> None:
+    looks: list[bytes] = []
+
+    async def odd(line: bytes, writer: asyncio.StreamWriter) -> None:
+        looks.append(line)
+        writer.write(look if line == LOOK else dumped)
+
+    async def ask() -> tuple[bool, bool]:
+        async with answering(odd) as strange:
+            async with inside.opened(lambda line: ANSWER, replica=[strange]) as (door, _):
+                async with asyncio.timeout(SOON):
+                    await inside.until(lambda: looks.count(LOOK) > 1)
+                return door.pool.replicas[0].is_up, door.pool.replicas[0].is_named
+
+    expect(inside.run(ask()), (is_asked, False), "whether it is asked, and has told a name")
+
+
 def test_an_upstream_that_drips_is_left_out() -> None:
     """One whose look never ends, though something always comes."""
 

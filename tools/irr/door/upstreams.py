@@ -13,6 +13,8 @@ from irr.rpsl import keys, syntax
 
 # The query that each is asked to see that it answers: one object, and the registry's name in it.
 PROBE, NOTHING = b"less 0.0.0.0/0\r\n", b"% no entries\n"
+# What has an object where that inetnum is not registered: the beginning of the dump.
+DUMP = b"GET /dump HTTP/1.1\r\nHost: 127.0.0.1\r\nConnection: close\r\n\r\n"
 # Seconds between two such looks at one that answers, and at one that does not; and for the answer
 # to come.
 EVERY, AGAIN, ANSWERING = 2.0, 0.5, 2.0
@@ -34,6 +36,8 @@ class Upstream:
         # What it is asked, if that is a query; whether a submission has it.
         self.request: Any = None
         self.is_held = False
+        # Whether it has told the registry's name since it answers.
+        self.is_named = False
         # Whether what it does now is a dear query.
         self.is_dear = False
         self.is_up, self.is_draining, self.why = True, False, "not asked yet"
@@ -67,7 +71,7 @@ class Upstream:
 
     def fall(self, why: str, now: float) -> None:
         """Leaves it out until it answers again."""
-        self.is_up, self.why, self.looked = False, why, now
+        self.is_up, self.why, self.looked, self.is_named = False, why, now, False
 
     def look(
         self,
@@ -76,31 +80,61 @@ class Upstream:
         found: Callable[[bytes], None],
     ) -> None:
         """Asks it whether it answers; `found` gets an object of it."""
-        parts: list[bytes] = []
         now = time.monotonic()
         self.looked = now
 
-        def take(piece: bytes) -> None:
-            parts.append(piece)
-            if exchange.size > MOST:
-                raise ValueError("long")
-
-        def ended(fault: Optional[str]) -> None:
-            self.exchange = None
-            text = b"".join(parts)
+        def ended(text: bytes, fault: Optional[str]) -> None:
             has_end = text.endswith(b"\n\n") or fault == "long"
             is_good = has_end and answers.looks_like_objects(text) or text == NOTHING
             if is_good and fault in (None, "long"):
                 self.is_up, self.why = True, ""
                 self.idle = min(MOST_IDLE, (self.idle + time.monotonic() - now) / 2)
+                if text == NOTHING and not self.is_named:
+                    self.ask(watch, DUMP, begun, b"\n\n")
+                    return
+                self.is_named = True
                 found(text)
             else:
                 self.fall(why_of(fault), time.monotonic())
             done()
 
-        exchange = Exchange(watch, self.place, PROBE, take, ended)
+        def begun(text: bytes, _: Optional[str]) -> None:
+            first = first_of_dump(text)
+            if answers.looks_like_objects(first):
+                self.is_named = True
+                found(first)
+            done()
+
+        self.ask(watch, PROBE, ended)
+
+    def ask(
+        self,
+        watch: Watch,
+        request: bytes,
+        ended: Callable[[bytes, Optional[str]], None],
+        last: bytes = b"",
+    ) -> None:
+        """Asks it until the answer ends, is long, or has the last bytes that are wanted of it."""
+        parts: list[bytes] = []
+
+        def take(piece: bytes) -> None:
+            parts.append(piece)
+            if exchange.size > MOST or last and last in piece:
+                raise ValueError("long")
+
+        def over(fault: Optional[str]) -> None:
+            self.exchange = None
+            ended(b"".join(parts), fault)
+
+        exchange = Exchange(watch, self.place, request, take, over)
         if not exchange.is_over:
             self.exchange = exchange
+
+
+def first_of_dump(answer: bytes) -> bytes:
+    """The first object of a dump over HTTP; nothing where it is not whole."""
+    first, end, _ = answer.partition(b"\r\n\r\n")[2].partition(b"\n\n")
+    return first + end if end else b""
 
 
 def why_of(fault: Optional[str]) -> str:

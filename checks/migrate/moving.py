@@ -130,6 +130,14 @@ def without_end(block: list[bytes], text: bytes) -> list[bytes]:
     return [*block[:-1], own] if own.strip(b" \t\r") else block[:-1]
 
 
+def unjoined(line: bytes) -> Iterator[bytes]:
+    """The lines of which one was joined."""
+    while found := JOINED.search(line):
+        yield line[: found.start() + 1]
+        line = line[found.start() + 1 :]
+    yield line
+
+
 class Second:
     """What was read of files: each object as its other attributes in order, and the items of each
     list, whatever their spelling."""
@@ -182,9 +190,10 @@ class Second:
         self.settle()
 
     def withhold(self, block: list[bytes]) -> None:
-        """Keeps the names of what can't be read, one of which may begin at each class."""
+        """Keeps the names of what can't be read, one of which may begin at each class, also within
+        a line of two that were joined."""
         begun: list[list[bytes]] = [[]]
-        for line in block:
+        for line in [part for line in block for part in unjoined(line)]:
             if begun[-1] and line.partition(b":")[0].rstrip(b" \t\r").lower() in OF_CLASSES:
                 begun.append([])
             begun[-1].append(line)

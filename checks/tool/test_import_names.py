@@ -122,6 +122,49 @@ def test_a_name_inside_another_object_is_of_no_other_registry(
     assert made(other, first)[1].causes[UNREAD] == 0
 
 
+# Files that were joined within a line, the first of which is cut off.
+CUT = [
+    "descr: Exampl",
+    "descr: 1.",
+    "remarks: x",
+    "mnt-by: A-",
+    "mnt-by: A",
+    "mnt-by: A-MNT (x), b",
+]
+
+
+@pytest.mark.parametrize("kind", ["mntner: C-MNT", "as-set: AS-X", "route-set: RS-X"])
+@pytest.mark.parametrize("own", ["mntner: A-MNT", "as-set: AS-A", "aut-num: AS1"])
+@pytest.mark.parametrize("cut", CUT)
+def test_a_name_in_a_joined_line_is_of_no_other_registry(kind: str, own: str, cut: str) -> None:
+    """Nor is that of the object which was cut off: it is of the registry before."""
+    first = obj("aut-num: AS2", SOURCE) + obj(own, cut + kind, "mnt-by: C-MNT", "source: RADB")
+    other = obj(kind, "mnt-by: B-MNT", "source: ALTDB")
+    text, tally = made(first, other)
+    assert tally.causes[UNREAD] == 1 and b"B-MNT" not in text
+    assert b"B-MNT" in made(first, other.replace(b"ALTDB", b"RADB"))[0]
+    assert made(other, first)[1].causes[UNREAD] == 0
+    if own[:3] != "aut":
+        for source in "RADB", "ALTDB":
+            assert made(first, obj(own, f"source: {source}"))[1].causes[UNREAD] == 1
+        assert made(first, obj(own, SOURCE))[1].causes[UNREAD] == 0
+
+
+def test_a_name_in_a_joined_auth_is_of_no_other_registry() -> None:
+    for line in "auth: MD5-PW $1$ab/mntner: FOO", "auth: MD5-PW $1$abmntner: C-MNT":
+        first = obj("mntner: A-MNT", line, "auth: MD5-PW x", "mnt-by: FOO", "source: RADB")
+        name = line.rpartition(" ")[2]
+        other = obj(f"mntner: {name}", "descr: another", "source: ALTDB")
+        text, tally = made(first, other)
+        assert tally.causes[UNREAD] == 1 and b"another" not in text
+
+
+def test_a_name_that_an_object_only_tells_of_is_free() -> None:
+    """A class after a blank joins no lines."""
+    first = obj("person: Jo Doe", "remarks: our as-set: AS-X", SOURCE)
+    assert b"B-MNT" in made(first, obj("as-set: AS-X", "mnt-by: B-MNT", "source: RADB"))[0]
+
+
 def test_a_name_beyond_what_is_kept_of_a_paragraph_is_of_no_other_registry(
     monkeypatch: pytest.MonkeyPatch,
 ) -> None:

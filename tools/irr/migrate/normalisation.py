@@ -134,7 +134,10 @@ class Mender:
     def left(self, part: paragraphs.Part, cause: LeftOut | None = None) -> list[Name]:
         """What objects were left out of a part, or stand inside its lines, of the registries that
         are asked for."""
-        found = (self.name_in(block) or self.name_in(by_crs(block)) for block in part.begun())
+        is_joined = cause is not None and str(cause) in (paragraphs.JOINED, paragraphs.JOINED_AUTH)
+        line = cause.item[1] if cause and cause.item and is_joined else b""
+        begun = part.begun(cause is None, line)
+        found = (self.name_in(block) or self.name_in(by_crs(block)) for block in begun)
         return [name for name in found if name]
 
     def name_in(self, block: syntax.Block) -> Name | None:

@@ -90,13 +90,16 @@ class Part(NamedTuple):
         classes = [one for one in found if not is_source(one[1])]
         return classes or (found[1:] if self.doubt else [])
 
-    def begun(self) -> Iterator[Block]:
+    def begun(self, is_taken: bool, joined_line: bytes = b"") -> Iterator[Block]:
         """What may be an object of this, each from where it begins to the next one; without a last
-        line that has no end, which may say more."""
+        line that has no end, which may say more. In what is not taken also in the middle of lines,
+        as of one that was joined."""
         text = self.block.text
         text = text[: max(text.rfind(b"\n"), text.rfind(b"\r")) + 1]
-        found = BEGINNING.finditer(text.lower()) if self.may_have_more() else ()
-        starts = [0, *(one.start() + 1 for one in found)]
+        small = text.lower()
+        found = BEGINNING.finditer(small) if self.may_have_more() else ()
+        within = () if is_taken else joined_at(small, joined_line.lower())
+        starts = sorted({0, *(one.start() + 1 for one in found), *within})
         for start, end in zip(starts, [*starts[1:], len(text)]):
             yield Block(self.block.line, end - start, text[start:end])
         for number, line in self.block.beyond:
@@ -174,6 +177,17 @@ def later(text: bytes, line: int) -> list[tuple[int, bytes]]:
         own = text[start : end.start()] if end else text[start:]
         found.append((line, own.removeprefix(MARK)))
     return found
+
+
+def joined_at(small: bytes, line: bytes) -> Iterator[int]:
+    """Where classes begin within the lines of a text, as lines of two objects that were joined, and
+    in one that is known to be so."""
+    for one in JOINED_TEXT.finditer(small):
+        front = small[: one.start()]
+        yield len(front) - max(len(kind) for kind in CLASSES if front.endswith(kind))
+    place, found = small.find(line), JOINED_LINE.search(line)
+    if found and place >= 0:
+        yield place + found.start()
 
 
 def is_source(line: bytes) -> bool:

@@ -97,6 +97,7 @@ SOURCE = "source: RIPE"
 BESIDE = [
     ("aut-num: AS1", "mnt-by: A-MNT", "KIND", "mnt-by: A-MNT", SOURCE),
     ("KIND", "mnt-by: A-MNT", "aut-num: AS1", "mnt-by: A-MNT", SOURCE),
+    ("aut-num: AS1", "mnt-by: A-MNT", "\xef\xbb\xbfKIND", "mnt-by: A-MNT", SOURCE),
     ("aut-num: AS1", "descr: x\rKIND\rmnt-by: A-MNT\rsource: RIPE"),
     ("aut-num: AS1\rmnt-by: A-MNT\rsource: RIPE\r\rKIND\rmnt-by: A-MNT\rsource: RIPE",),
     ("KIND\rmnt-by: A-MNT\rsource: RIPE\r\raut-num: AS1\rmnt-by: A-MNT\rsource: RIPE",),
@@ -113,7 +114,7 @@ BESIDE += [("route: 10.0.0.0/8", "descr: x\rKIND\ror: y", "origin: AS1", SOURCE)
 def test_a_name_inside_another_object_is_of_no_other_registry(
     kind: str, lines: tuple[str, ...]
 ) -> None:
-    """Where a blank line is missing, or lines end in CR alone."""
+    """Where a blank line is missing, also before a byte order mark, or lines end in CR alone."""
     first = obj("aut-num: AS2", SOURCE) + obj(*(line.replace("KIND", kind) for line in lines))
     other = obj(kind, "mnt-by: B-MNT", "source: RADB")
     text, tally = made(first, other)

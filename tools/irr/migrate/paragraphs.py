@@ -101,7 +101,7 @@ class Part(NamedTuple):
         within = () if is_taken else joined_at(small, joined_line.lower())
         starts = sorted({0, *(one.start() + 1 for one in found), *within})
         for start, end in zip(starts, [*starts[1:], len(text)]):
-            yield Block(self.block.line, end - start, text[start:end])
+            yield unmarked(Block(self.block.line, end - start, text[start:end]))
         for number, line in self.block.beyond:
             yield Block(number, len(line), line)
 
@@ -183,8 +183,8 @@ def joined_at(small: bytes, line: bytes) -> Iterator[int]:
     """Where classes begin within the lines of a text, as lines of two objects that were joined, and
     in one that is known to be so."""
     for one in JOINED_TEXT.finditer(small):
-        front = small[: one.start()]
-        yield len(front) - max(len(kind) for kind in CLASSES if front.endswith(kind))
+        end = one.start()
+        yield end - max(len(kind) for kind in CLASSES if small.endswith(kind, 0, end))
     place, found = small.find(line), JOINED_LINE.search(line)
     if found and place >= 0:
         yield place + found.start()

@@ -248,6 +248,19 @@ def test_an_agent_that_says_what_none_does_is_asked_again(
     expect(inside.run(ask())[0], ANSWER, "the answer of the registry")
 
 
+def test_replicas_stand_in_the_order_in_which_the_agent_names_them() -> None:
+    """Not in one that is another each time that the door begins."""
+    ports = [4000 + number for number in range(8)]
+    entries = [{"port": port, "ready": True, "state": "a", "seen": 1.0} for port in ports]
+
+    async def ask() -> list[int]:
+        async with inside.opened(lambda line: ANSWER) as (door, _):
+            door.pool.heard({"replicas": entries})
+            return [one.place.port for one in door.pool.replicas]
+
+    expect(inside.run(ask()), ports, "the ports")
+
+
 def test_a_replica_that_the_agent_no_longer_names_is_forgotten(
     monkeypatch: pytest.MonkeyPatch,
 ) -> None:

@@ -557,7 +557,8 @@ class Pool:
         if not self.settings.replica:
             # One that is still asked is forgotten once it has answered.
             self.replicas = [one for one in self.replicas if one.place in entries or one.exchange]
-            for at in entries.keys() - {one.place for one in self.replicas}:
+            known = {one.place for one in self.replicas}
+            for at in (at for at in entries if at not in known):
                 one = Upstream(at)
                 one.is_up = False
                 self.replicas.append(one)

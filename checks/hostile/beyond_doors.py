@@ -191,7 +191,11 @@ def posts_secrets(door: Nginx | Haproxy, held: contextlib.ExitStack, last: int) 
 
 def posts_much(door: Nginx | Haproxy, held: contextlib.ExitStack, last: int) -> None:
     """1 MiB of them."""
-    status, _, _ = door.post(secrets_body(attacks.MOST_BODY), LET_IN)
+    for _ in range(3):
+        status, _, _ = door.post(secrets_body(attacks.MOST_BODY), LET_IN)
+        # A proxy that closes before it has read all may take its answer along.
+        if status:
+            break
     expect(status, 413, "the status of 1 MiB from one who is let in")
 
 

@@ -8,6 +8,7 @@ import os
 import random
 import shutil
 import signal
+import subprocess
 from collections.abc import Callable, Iterator
 
 import pytest
@@ -113,8 +114,10 @@ def day(trial: Trial, tool: Tool) -> Iterator[Day]:
 
 
 @contextlib.contextmanager
-def registry(day: Day, number: int) -> Iterator[None]:
-    process = day.own.server.process
+def halted(
+    process: subprocess.Popen[bytes], number: int, begin: Callable[[], object]
+) -> Iterator[None]:
+    """While a process stands still, or has ended by this signal; it is begun again then."""
     if number == signal.SIGSTOP:
         with held_still(process.pid):
             yield
@@ -122,20 +125,15 @@ def registry(day: Day, number: int) -> Iterator[None]:
     process.send_signal(number)
     process.wait()
     yield
-    day.own.restart_registry()
+    begin()
 
 
-@contextlib.contextmanager
-def door(day: Day, number: int) -> Iterator[None]:
-    process = day.own.door.process
-    if number == signal.SIGSTOP:
-        with held_still(process.pid):
-            yield
-        return
-    process.send_signal(number)
-    process.wait()
-    yield
-    day.own.door.__enter__()
+def registry(day: Day, number: int) -> contextlib.AbstractContextManager[None]:
+    return halted(day.own.server.process, number, day.own.restart_registry)
+
+
+def door(day: Day, number: int) -> contextlib.AbstractContextManager[None]:
+    return halted(day.own.door.process, number, day.own.door.__enter__)
 
 
 @contextlib.contextmanager

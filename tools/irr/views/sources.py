@@ -23,13 +23,15 @@ from irr.views.settings import Source, is_address
 MOST_CHANGES = 1 << 26
 # How often a notification file is read where what it names is gone.
 TRIES = 3
+# In the place of a hash: the source went back behind the version.
+LEFT = "left"
 
 
 class State(NamedTuple):
     """What was taken of a source, in a folder: where it was taken from, what told its dumps from
     earlier ones, their digests, the serial of the last change that is in it, and how many objects
     of each class it had once it was merged. By NRTM, version 4, the serial is the version of a
-    session, whose changes have the hash."""
+    session; its changes have the one hash, and its snapshot the other, if they were named."""
 
     folder: Path
     origin: str
@@ -39,6 +41,7 @@ class State(NamedTuple):
     counts: list[int]
     session: str = ""
     hash: str = ""
+    snapshot: str = ""
 
     @property
     def file(self) -> Path:
@@ -58,7 +61,7 @@ class State(NamedTuple):
 
     def mark(self) -> str:
         """What tells it from other states."""
-        return json.dumps([self.digests, self.serial, *filter(None, [self.session])])
+        return json.dumps([self.digests, self.serial, *filter(None, [self.session, self.hash])])
 
     def digest(self) -> str:
         """A short name of it."""
@@ -74,6 +77,23 @@ class State(NamedTuple):
     def put(self) -> None:
         fields = {**self._asdict(), "folder": ""}
         files.put(self.file, json.dumps(fields).encode(), files.PRIVATE)
+
+    def leave(self) -> None:
+        """Keeps that the source went back behind it, without having seen it."""
+        seen = self.file.stat().st_mtime_ns
+        self._replace(hash=LEFT).put()
+        os.utime(self.file, ns=(seen, seen))
+
+    def is_named(self, notification: Notification) -> bool:
+        """Whether its version is that of a notification file, as far as this names it. A registry
+        that was restored may tell other changes by the same numbers."""
+        serial, snapshot = self.serial or 0, notification.snapshot
+        named = snapshot.hash if snapshot.version == serial else ""
+        return (
+            self.hash != LEFT
+            and notification.hash_of(serial) in ("", self.hash)
+            and (not (named and self.snapshot) or named == self.snapshot)
+        )
 
     def changed(self) -> Iterator[tuple[bool, Block]]:
         """The changes since the dumps: whether each is an object that there is, and its text."""
@@ -196,16 +216,16 @@ def noticed(
     if old and old.session == notification.session:
         serial = old.serial or 0
         if notification.version < serial:
+            old.leave()
             raise Failure(
                 source.nrtm4,
                 f"it went back from version {serial} to {notification.version}; ask its registry,"
                 f" and remove {old.folder} if all of it is to be taken anew",
             )
-        if notification.version == serial:
+        is_named = old.is_named(notification)
+        if is_named and notification.version == serial:
             return None
-        # A registry that was restored may tell other changes by the same numbers.
-        is_same = not old.hash or notification.hash_of(serial) in ("", old.hash)
-        is_followed = is_same and notification.has_all_after(serial) and old.has_room()
+        is_followed = is_named and notification.has_all_after(serial) and old.has_room()
     else:
         is_followed = False
     if old and is_followed:
@@ -220,8 +240,11 @@ def noticed(
     with appended(state.changes) as out:
         for named in notification.after(state.serial or 0):
             follower.changes(notification, named, out)
+    version, snapshot = notification.version, notification.snapshot
     state = state._replace(
-        serial=notification.version, hash=notification.hash_of(notification.version)
+        serial=version,
+        hash=notification.hash_of(version),
+        snapshot=snapshot.hash if snapshot.version == version else "",
     )
     state.put()
     return state

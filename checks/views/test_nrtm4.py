@@ -39,6 +39,24 @@ def world(tmp_path: Path) -> Iterator[Followed]:
         yield one
 
 
+# Objects whose first line comes again, with the key and another one: no registry of this kind
+# would open with such a row.
+TWICE = [
+    ("mntner", "C-MNT", "D-MNT", "auth: NONE"),
+    ("as-block", "AS1-AS9", "AS10-AS19", ""),
+    ("inetnum", "10.0.0.0/8", "11.0.0.0/8", ""),
+    ("aut-num", "AS7", "AS8", ""),
+    ("as-set", "AS-T", "AS-U", "members: AS1"),
+    ("route-set", "RS-T", "RS-U", "members: 10.0.0.0/8"),
+    ("route", "10.0.47.0/24", "10.0.48.0/24", "origin: AS2"),
+]
+
+
+def twice(name: str, key: str, other: str, line: str) -> str:
+    rest = f"mnt-by: B-MNT\nsource: RIPE\n{line}\n"
+    return f"{name}: {key}\n{name}: {key}\n{rest}{name}: {other}\n"
+
+
 def add(number: int, words: str = "x") -> list[tuple[str, str]]:
     return [("ADD", route(number, 2, words))]
 
@@ -432,6 +450,7 @@ def test_what_is_told_of_one_object_is_one(world: Followed) -> None:
         "as-set: AS-Y\ndescr: Zürich \ud800\nmembers: AS1\nmnt-by: B-MNT\nsource: RIPE",
         "# a remark\nas-set: AS-X\nmembers: AS1\nmnt-by: B-MNT\nsource: RIPE",
         "route: 10.0.46.0/24\norigin: AS2\nmnt-by: B-MNT\nsource: RADB",
+        *(twice(*one) for one in TWICE),
         "person: Jo Doe\nsource: RIPE\n" + stranger,
         "% nothing",
     ]

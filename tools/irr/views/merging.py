@@ -20,7 +20,7 @@ from irr.migrate.normalisation import (
     source_place,
     unscoped,
 )
-from irr.migrate.paragraphs import Part, part_of
+from irr.migrate.paragraphs import CLASS_AGAIN, Part, part_of
 from irr.migrate.report import Listed, Place, Tally
 from irr.rpsl import keys, syntax
 from irr.rpsl.holders import VIEW_ROOT
@@ -114,6 +114,8 @@ class ViewMender(Mender):
         # What is told by itself is one, in whatever order its lines are.
         if not self.is_apart:
             super().need_one(number, attributes, text)
+        elif any(NUMBERS.get(attribute.name) == number for attribute in attributes[1:]):
+            raise LeftOut(CLASS_AGAIN)
 
     def of_both_families(self, attribute: Attribute) -> Attribute | None:
         # To an irrdesk it is text.

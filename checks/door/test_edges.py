@@ -9,7 +9,7 @@ from checks.door import worlds
 from checks.door.opened import Opened, Registries
 from checks.running import Trial, expect, write, write_settings
 from checks.tool.test_edge_objects import MOST, edge, unended
-from irr.local import temporary
+from irr.local.temporary_registry import Loadable
 
 COUNT, LONG_COUNT = 6, 600
 
@@ -32,7 +32,7 @@ def test_no_object_of_a_stranger_is_too_long_for_replicas(trial: Trial, door: Op
         status, _, report = door.submit("password: bc\n\n" + text)
         expect((status, report.endswith(b"% items 1\n")), (200, True), f"{report!r}")
     dump = door.http("GET", "/dump")[2]
-    loadable = list(temporary.Loadable([dump]))
+    loadable = list(Loadable([dump]))
     expect(max(map(len, loadable)) <= MOST + 1, True, "the longest text")
     copy = trial.place("loaded")
     write_settings(copy, limit=1_000)

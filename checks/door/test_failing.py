@@ -136,7 +136,7 @@ def test_queries_go_on_while_replicas_are_killed_stopped_and_started(trial: Tria
             expect(b"%ERROR:301" in door.whois("-r AS1"), True, "RIPE's")
 
 
-def test_a_long_answer_is_told_in_the_dialect(trial: Trial, big: str) -> None:
+def test_a_long_answer_is_refused_in_the_dialect(trial: Trial, big: str) -> None:
     with Registries(trial, "long", big, replicas=1) as registries:
         with Opened(trial, "long-door", registries.words, "largest = 100000\n") as door:
             for line in "inverse mnt ROOT-MNT", "!gAS1", "-i origin AS1":
@@ -170,7 +170,7 @@ def test_who_takes_no_answer_holds_no_replica_and_is_gone(
                 peer.close()
 
 
-def test_too_many_are_told_and_the_silent_make_room(trial: Trial) -> None:
+def test_too_many_are_refused_and_the_silent_make_room(trial: Trial) -> None:
     with Registries(trial, "many", worlds.DUMP, replicas=0) as registries:
         with Opened(
             trial, "many-door", registries.words, "connections = 20\nof_client = 8\n"
@@ -191,7 +191,7 @@ def test_too_many_are_told_and_the_silent_make_room(trial: Trial) -> None:
                 peer.close()
 
 
-def test_the_status_is_told_while_all_connections_are_taken(trial: Trial) -> None:
+def test_the_status_is_answered_while_all_connections_are_taken(trial: Trial) -> None:
     """By clients of one each, of whom none has more than another; and the status takes none of
     theirs."""
     with Registries(trial, "taken", worlds.DUMP, replicas=0) as registries:

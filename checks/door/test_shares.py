@@ -204,7 +204,7 @@ TOLD = {
 }
 
 
-def test_who_has_used_far_too_much_is_told_so_and_nobody_else_is() -> None:
+def test_only_a_client_far_over_its_budget_is_refused() -> None:
     async def ask() -> tuple[dict[bytes, bytes], bytes, bytes, int]:
         timed = Timed(0.4)
         settings: dict[str, Any] = {"burst": 0.2, "refill": 0.001, "keep": 0}

@@ -17,7 +17,7 @@ from checks.door import inside
 from checks.door.opened import read_all
 from checks.running import Trial, expect
 from irr.door.budget import Client, Clients
-from irr.door.pacing import Paces
+from irr.door.scheduler import Scheduler
 from irr.door.queries import Asker
 from irr.local import serials
 
@@ -128,19 +128,19 @@ def test_of_what_a_client_asks_for_one_after_the_other_is_made() -> None:
     """And who has used less comes first."""
     made: list[str] = []
 
-    async def work(paces: Paces, client: Client, name: str) -> None:
+    async def work(scheduler: Scheduler, client: Client, name: str) -> None:
         for number in range(3):
-            await paces.turn(client, number > 0)
+            await scheduler.turn(client, number > 0)
             made.append(name)
 
     async def all_of_it() -> None:
         clients = Clients(0.5, 3.0)
-        paces = Paces(asyncio.get_running_loop(), clients)
+        scheduler = Scheduler(asyncio.get_running_loop(), clients)
         now = time.monotonic()
         one, other = clients.of("192.0.2.1", now), clients.of("192.0.2.2", now)
         clients.charge(one, 1_000.0, now)
         names = [(one, "a"), (one, "b"), (other, "c")]
-        await asyncio.gather(*(work(paces, client, name) for client, name in names))
+        await asyncio.gather(*(work(scheduler, client, name) for client, name in names))
 
     asyncio.run(all_of_it())
     expect(made, list("cccaaabbb"), "whose turn it was")
@@ -184,7 +184,7 @@ def taken(place: str, line: bytes, found: list[bytes]) -> None:
         found.append(read_all(peer))
 
 
-def test_a_long_range_of_serials_is_told_in_many_turns(history: Path) -> None:
+def test_a_long_range_of_serials_is_answered_in_many_turns(history: Path) -> None:
     async def ask() -> tuple[int, int, list[bytes]]:
         given: dict[str, Any] = {"history": str(history), "mirrors": ["127.0.0.1"]}
         async with inside.opened(lambda line: b"% no entries\n", **given) as (door, _):

@@ -111,7 +111,7 @@ def test_a_socket_has_nothing_of_one_that_was_closed_meanwhile() -> None:
 
 
 @pytest.mark.parametrize("way,wanted", [("ended", None), ("late", None), ("reset", "ECONNRESET")])
-def test_the_end_of_an_answer_is_told_from_a_fault(way: str, wanted: str | None) -> None:
+def test_the_end_of_an_answer_is_not_taken_for_a_fault(way: str, wanted: str | None) -> None:
     """Whether both have come at once, or the end comes after what was sent."""
     watch = Watch()
     parts: list[bytes] = []

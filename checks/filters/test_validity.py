@@ -129,7 +129,7 @@ def test_roas_that_are_cut_are_not_taken() -> None:
 
 
 @pytest.mark.parametrize("said", ["", "soon", "-1", "1e9", "2026-11-29T00:00:00Z"])
-def test_an_end_that_cannot_be_read_is_told_in_either_form(said: str) -> None:
+def test_an_end_that_cannot_be_read_is_reported_in_either_form(said: str) -> None:
     """A ROA would count for ever otherwise. It is found by the name of its column."""
     entry = {"prefix": "10.0.0.0/8", "maxLength": 8, "asn": 1, "expires": said}
     csv = f"ASN,IP Prefix,Max Length,Trust Anchor,Expires\nAS1,10.0.0.0/8,8,x,{said}\n"

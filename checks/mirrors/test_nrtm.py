@@ -204,7 +204,7 @@ def test_an_export_is_of_one_state_and_its_serial_never_ahead(
     tell(f"{count} readers")
 
 
-def test_a_long_range_is_told_in_parts(trial: Trial, tool: Tool, tell: Tell) -> None:
+def test_a_long_range_is_answered_in_parts(trial: Trial, tool: Tool, tell: Tell) -> None:
     """An answer to LAST ends before it would be too long, and the mirror asks on."""
     with Changing(trial, tool, "parts", "largest = 65536\n") as world:
         world.record()

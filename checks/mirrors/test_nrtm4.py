@@ -84,7 +84,7 @@ def versions(state: nrtm4.Published) -> tuple[int, int, list[int]]:
     return state.version, state.snapshot.version, [one.version for one in state.deltas]
 
 
-def test_a_state_is_a_version_and_what_changed_is_told_once(states: Publishing) -> None:
+def test_a_state_is_a_version_and_each_change_is_published_once(states: Publishing) -> None:
     expect(versions(states.publish(aut_num(1))), (1, 1, []), "the first state")
     mirror = states.mirror()
     expect((mirror.follow(), mirror.follow()), (True, False), "a mirror, twice")
@@ -226,7 +226,7 @@ def test_files_that_were_lost_are_made_anew(states: Publishing) -> None:
 
 
 @pytest.mark.parametrize("algorithm", list(signing.MAKES))
-def test_the_next_key_signs_once_mirrors_were_told_it(states: Publishing, algorithm: str) -> None:
+def test_the_next_key_signs_once_it_was_announced(states: Publishing, algorithm: str) -> None:
     states.publish(aut_num(1))
     mirror, away = states.mirror(), states.mirror()
     mirror.follow()

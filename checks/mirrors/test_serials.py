@@ -172,7 +172,7 @@ def test_the_last_states_are_kept(states: States, monkeypatch: pytest.MonkeyPatc
     expect(states.serials.kept(), [found.last], "the last one, of whatever size")
 
 
-def test_letter_case_tells_no_registries_apart(states: States) -> None:
+def test_letter_case_distinguishes_no_registries(states: States) -> None:
     states.add(source="Test")
     found = states.add(aut_num(1, "tEST"), source="Test")
     expect((found.source, found.last - found.first), ("TEST", 0), "the registry, and one change")
@@ -259,7 +259,7 @@ def answered(mirrors: nrtm.Mirrors, word: str, address: str) -> bytes | nrtm.Cha
 
 
 @given(st.integers(-3, 60), st.integers(-3, 60), st.booleans())
-def test_a_range_is_told_exactly_or_refused(
+def test_a_range_is_answered_exactly_or_refused(
     kept: Kept, first: int, last: int, is_open: bool
 ) -> None:
     mirrors, found, all_of_it = kept

@@ -201,7 +201,7 @@ def test_the_first_command_prints_what_the_page_says_in_time(root: str, tell: Te
     tell(f"`{command}` within {min(times):.1f} s, and then {again.seconds:.1f} s")
 
 
-def test_changed_sources_are_told_what_a_build_takes(root: str, tell: Tell) -> None:
+def test_changed_sources_print_what_a_build_takes(root: str, tell: Tell) -> None:
     """That no program of other sources is run: with changed ones ./irrdesk says what a build takes,
     and begins none."""
     source = inside(root, f"{CLONE}/crates/rr_cli/src/main.rt")

@@ -206,7 +206,7 @@ def test_black_would_change_nothing(tell: Tell) -> None:
     assert not judged(needed("black"), "--check", "-q", *files)
 
 
-def test_what_mypy_is_told_to_pass_over_has_its_reason_beside_it() -> None:
+def test_what_mypy_passes_over_has_its_reason_beside_it() -> None:
     silent = re.compile(r"# type: ignore(?!\[[\w, -]+\]  ?# \S)")
     assert not [
         f"{path.relative_to(TOP)}:{number}"

@@ -7,7 +7,7 @@ from unittest import mock
 
 from irr.commands import submit
 from irr.local.dry_run import Served
-from irr.local.temporary import TemporaryRegistry
+from irr.local.temporary_registry import TemporaryRegistry
 from irr.registry import answers, submissions
 from irr.registry.server import Server
 from irr.registry.submissions import Item, Sender

@@ -13,7 +13,7 @@ from checks.submissions.given import any_case
 from checks.submissions.running import LONG, items_of, registry, sent, served
 from irr.commands import submit
 from irr.local import dry_run, excerpts
-from irr.local.temporary import TemporaryRegistry
+from irr.local.temporary_registry import TemporaryRegistry
 from irr.registry import submissions
 from irr.registry.server import Server
 from irr.registry.submissions import Sender

@@ -8,7 +8,7 @@ from hypothesis import strategies as st
 
 from checks.submissions.mutations import OBJECTS, laid_out, mistyped
 from checks.submissions.running import LONG, codes_of, registry
-from irr.local.temporary import TemporaryRegistry
+from irr.local.temporary_registry import TemporaryRegistry
 from irr.rpsl import grammar
 
 CODES = ("E02", "E03", "E04", "E05", "E06")
@@ -41,7 +41,7 @@ def test_codes_agree(scratch: TemporaryRegistry, texts: list[bytes]) -> None:
 
 @many
 @given(st.lists(mistyped(), min_size=LEAST, max_size=MOST))
-def test_told_lines_are_to_blame(scratch: TemporaryRegistry, texts: list[bytes]) -> None:
+def test_reported_lines_are_to_blame(scratch: TemporaryRegistry, texts: list[bytes]) -> None:
     """An object whose told attributes are left out, with what is missing, has the fault no more."""
     told = [(text, grammar.faults(text, "TEST")) for text in texts]
     cases = [(text, found) for text, found in told if found and found[0].code in ("E04", "E05")]
@@ -53,7 +53,7 @@ def test_told_lines_are_to_blame(scratch: TemporaryRegistry, texts: list[bytes])
 
 @many
 @given(st.lists(mistyped(), min_size=LEAST, max_size=MOST))
-def test_each_told_item_is_bad(scratch: TemporaryRegistry, texts: list[bytes]) -> None:
+def test_each_reported_item_is_bad(scratch: TemporaryRegistry, texts: list[bytes]) -> None:
     """Each bad value that is told makes a good object of the class bad."""
     spoilt = [
         good_object(own_of(text)[0].name.decode()) + one.attribute.short_text()

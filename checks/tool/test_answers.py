@@ -12,7 +12,7 @@ OBJECT = b"aut-num:        AS1\nmnt-by:         A-MNT\nsource:         TEST\n\n"
 
 
 class Answers(unittest.TestCase):
-    def test_answers_are_told_apart_by_kind(self) -> None:
+    def test_answers_are_distinguished_by_kind(self) -> None:
         self.assertEqual(len(Answer(OBJECT, "AS1").objects()), 1)
         self.assertTrue(Answer(b"% no entries\n", "as1").has_none)
         self.assertTrue(Answer(b"% empty\n", "expand AS-X").is_empty)

@@ -320,7 +320,7 @@ def test_nothing_is_reported_of_a_registry_that_is_well(trial: Trial, tool: Tool
             expect(told, {"well": True, "faults": [], "unseen": []}, "the same as JSON")
 
 
-def test_bounds_are_those_of_the_settings_unless_told(trial: Trial, tool: Tool) -> None:
+def test_bounds_are_those_of_the_settings_unless_given(trial: Trial, tool: Tool) -> None:
     with standing(trial, tool, "bounds") as machine:
         text = machine.settings.read_text(encoding="ascii")
         machine.backup(5)

@@ -185,7 +185,7 @@ class Delegations(unittest.TestCase):
             self.registry.take(given(name) + text("route", key, name))
         return len(routes)
 
-    def test_the_holder_of_a_route_above_is_told_what_to_do(self) -> None:
+    def test_the_holder_of_a_route_above_gets_instructions(self) -> None:
         """Where a route above decides, its holder is told what lets the new maintainer go on."""
         self.registry.take(
             given("ROOT-MNT", "A-MNT", "B-MNT")
@@ -247,7 +247,7 @@ class Delegations(unittest.TestCase):
         self.assertEqual(body.count("inetnum:"), 1)
         self.registry.take(given("B-MNT") + body)
 
-    def test_bits_after_the_length_are_told(self) -> None:
+    def test_bits_after_the_length_are_reported(self) -> None:
         status, body, notes = self.registry.delegate("A-MNT", "192.0.2.1/24")
         self.assertEqual((status, body), (2, ""))
         self.assertIn("it has bits after its length; write 192.0.2.0/24", notes)

@@ -10,7 +10,8 @@ import pytest
 from checks.running import AUTH, Each, Tell, Trial, expect, write, write_settings
 from checks.serving import Serving
 from checks.worlds import COUNT
-from irr.local import replicas, temporary
+from irr.local import replicas
+from irr.local.temporary_registry import Loadable, TemporaryRegistry
 from irr.registry.server import Server
 from irr.rpsl import syntax
 
@@ -76,7 +77,7 @@ def test_an_object_near_the_bound_is_loaded_by_replicas(
     added = report.count(b": added\n")
     expect(added > count * 0.7, True, f"{added} objects of {count}: {report[-200:]!r}")
     dump = trial.run(folder, "dump", "s.toml").printed
-    loadable = list(temporary.Loadable([dump]))
+    loadable = list(Loadable([dump]))
     longest = max(map(len, loadable)) - 1
     expect(longest <= MOST, True, f"the longest text that is loaded, {longest}")
     copy = trial.place(f"copy-{part}")
@@ -115,7 +116,7 @@ def test_an_object_without_its_last_line_end_is_loaded_by_replicas(
             report = trial.run(folder, "submit", "s.toml", write(folder, "o", text.encode()))
             expect(report.printed[-17:], b" added\n% items 1\n", "the report")
             dump = trial.run(folder, "dump", "s.toml").printed
-            made = b"".join(temporary.Loadable([dump]))
+            made = b"".join(Loadable([dump]))
             done = trial.run(copy, "load", "s.toml", write(copy, "dump", made))
             expect((done.status, done.reported), (0, b""), "load")
             expect(trial.run(copy, "dump", "s.toml").printed == dump, True, "the same dump")
@@ -163,7 +164,7 @@ def test_objects_that_no_file_can_have_together_are_copied(
             for one, settings in [(folder, "s.toml"), (str(work), "irr.toml")]
         ]
         expect((found[0] == found[1], len(found[0]) > 9), (True, True), f"what names {name}")
-    with temporary.TemporaryRegistry("TEST") as registry:
+    with TemporaryRegistry("TEST") as registry:
         registry.fill([dump], "the dump")
         expect(registry.dump() == dump, True, "the dump of a registry of it")
 
@@ -175,7 +176,7 @@ def test_what_is_hidden_in_a_text_stays(trial: Trial) -> None:
         + b"x" * 65_100
     )
     text += b"\n" + b"remarks:\n" * 40 + b"mnt-by:         A-MNT\nsource:         TEST\n\n"
-    (made,) = temporary.Loadable([text])
+    (made,) = Loadable([text])
     expect(
         (len(made) <= MOST + 1, b"auth:x\n" in made, b"auth: FILTERED x" in made),
         (True, True, True),

@@ -12,7 +12,8 @@ from typing import Any
 from unittest import mock
 
 from irr.errors import Failure
-from irr.local import temporary
+from irr.local import program, temporary_registry
+from irr.local.temporary_registry import TemporaryRegistry
 from irr.registry import hilbert
 from irr.registry.server import Server, shown_url
 from irr.rpsl import hashes, syntax
@@ -303,7 +304,7 @@ class Loadable(unittest.TestCase):
             b" filtered\n\n"
         )
         text = b"".join(
-            temporary.Loadable(
+            temporary_registry.Loadable(
                 [self.MNTNER + other + b"% end 2\n"], {"A-MNT": [b"one", b"two \\1"]}
             )
         )
@@ -319,7 +320,7 @@ class Loadable(unittest.TestCase):
             b"a%d:" % number + b" " * (14 - len(str(number))) + b"x\n" for number in range(5_000)
         )
         text = self.MNTNER[:-1] + lines + b"\n"
-        made = b"".join(temporary.Loadable([text]))
+        made = b"".join(temporary_registry.Loadable([text]))
         self.assertLess(len(made), syntax.LARGEST)
         self.assertEqual(
             syntax.read(made.removesuffix(b"\n")).text(),
@@ -333,7 +334,7 @@ class Programs(unittest.TestCase):
             self.assertRaisesRegex(
                 Failure,
                 "^/usr: it is a folder; give the program's path by IRRDESK$",
-                temporary.find_program,
+                program.find,
             )
 
     def test_another_program_answers_no_report(self) -> None:
@@ -342,7 +343,7 @@ class Programs(unittest.TestCase):
             program = shutil.which(name)
             with (
                 mock.patch.dict(os.environ, {"IRRDESK": program}),
-                temporary.TemporaryRegistry("TEST") as registry,
+                TemporaryRegistry("TEST") as registry,
             ):
                 self.assertRaisesRegex(
                     Failure,

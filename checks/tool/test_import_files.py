@@ -106,7 +106,7 @@ def test_nothing_taken_replaces_nothing(content: bytes, capsys: pytest.CaptureFi
     }
 
 
-def test_files_without_a_paragraph_are_told(capsys: pytest.CaptureFixture[str]) -> None:
+def test_files_without_a_paragraph_are_reported(capsys: pytest.CaptureFixture[str]) -> None:
     """One of many split files may be empty because it could not be fetched."""
     Path("dump").write_bytes(GOOD)
     assert run("dump", "-o", "full") == 0
@@ -119,7 +119,7 @@ def test_files_without_a_paragraph_are_told(capsys: pytest.CaptureFixture[str]) 
 
 
 @pytest.mark.parametrize("count", [1, 3_000])
-def test_a_temporary_file_without_room_is_told(
+def test_a_temporary_file_without_room_is_reported(
     count: int, monkeypatch: pytest.MonkeyPatch, capsys: pytest.CaptureFixture[str]
 ) -> None:
     """Whether that is seen as it is written, or at its end."""
@@ -285,7 +285,7 @@ def test_lists_heed_the_umask(mask: int, mode: int, folder: Path) -> None:
     assert modes == {"full": 0o600, "list": mode, "names": mode}
 
 
-def test_routes_without_an_aut_num_are_told(capsys: pytest.CaptureFixture[str]) -> None:
+def test_routes_without_an_aut_num_are_reported(capsys: pytest.CaptureFixture[str]) -> None:
     Path("dump").write_bytes(
         GOOD
         + obj("route: 10.0.0.0/8", "origin: AS1", "source: RIPE")

@@ -124,7 +124,7 @@ def test_a_scope_that_is_not_imported() -> None:
     assert report[place + 1].endswith("as-set: AS-X  members  RADB::AS-Y")
 
 
-def test_a_scoped_item_that_is_dropped_is_told_as_it_was_read() -> None:
+def test_a_scoped_item_that_is_dropped_is_reported_as_it_was_read() -> None:
     """And its host bits are mended only where it stays."""
     text = of("RIPE", "route-set: RS-X", "members: RADB::192.0.2.5/24^+, RADB::10.0.0.1/8")
     dump, tally = made(text)
@@ -142,7 +142,7 @@ def test_a_scoped_item_that_is_dropped_is_told_as_it_was_read() -> None:
     assert made(text, off=["host-bits"])[1].causes == {"not mended because of --no-host-bits": 1}
 
 
-def test_scoped_items_of_both_families_are_told_by_their_attribute() -> None:
+def test_scoped_items_of_both_families_are_reported_by_their_attribute() -> None:
     """And are in `members` where they stay."""
     text = of("RIPE", "route-set: RS-X", "mp-members: NTT::AS-Q, ::/0, RIPE::10.0.0.1/8, AS2 # a")
     text += of("RIPE", "route-set: RS-Y", "members: NTT::AS-Q", "mp-members: NTT::AS-Q")
@@ -273,7 +273,7 @@ EXPRESSIONS = """AND or NOT EXCEPT From TO ANY PeerAS - -26 ^24 ^+ )^24 ( [AS1] 
 
 @pytest.mark.parametrize("name", ["members", "mp-members"])
 @given(st.lists(st.sampled_from(GOOD * 9 + WORDS * 9 + EXPRESSIONS), min_size=1, max_size=9))
-def test_a_list_is_read_or_told(name: str, items: list[str]) -> None:
+def test_a_list_is_read_or_reported(name: str, items: list[str]) -> None:
     """Either the object is left out, with the first item that may mean something of the others, or
     what stays are the good ones, and each other one is told."""
     text = rest("route-set: RS-X", f"{name}: {', '.join(items)}")

@@ -181,7 +181,7 @@ class Mending(unittest.TestCase):
         self.assertEqual((len(text) < 65_536, kinds), (True, {"long"}))
         self.assertEqual(len(syntax.read(text).attributes), 4_003)
 
-    def test_a_text_that_the_registry_refuses_for_its_size_is_told(self) -> None:
+    def test_a_text_that_the_registry_refuses_for_its_size_is_reported(self) -> None:
         """Also where it is short without comments and blanks: as it was read it is E07."""
         for filler in ["# " + "x" * 98] * 660, ["descr: x" + " " * 92] * 660:
             lines = ["as-set: AS-X", "mnt-by: A-MNT", *filler, "source: TEST"]

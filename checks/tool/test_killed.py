@@ -31,10 +31,10 @@ from checks.running import Failure, Tell, Trial, expect, needs, write_settings
 from checks.serving import free_port
 from checks.tool.forking import begun, forked, run_forked
 from checks.worlds import Tool, World, items
-from irr.local import replicas, temporary
+from irr.local import program, replicas
 from irr.local.history import Repository
 from irr.local.serials import Serials
-from irr.local.temporary import TemporaryRegistry
+from irr.local.temporary_registry import TemporaryRegistry
 from irr.main import leave
 
 IN_MEMORY, SECONDS = True, 40
@@ -524,7 +524,7 @@ def test_what_is_started_too_late_ends_at_once() -> None:
     first = os.fork()
     if not first:
         try:
-            begin, own = temporary.bound(), os.getpid()
+            begin, own = program.bound(), os.getpid()
             if not os.fork():
                 while os.getppid() == own:
                     time.sleep(0.001)

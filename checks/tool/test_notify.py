@@ -104,7 +104,7 @@ def mailed(trial: Trial, tool: Tool, request: pytest.FixtureRequest) -> Mailed:
     return Mailed(trial, tool, trial.place(request.node.name))
 
 
-def test_each_state_is_told_once_to_those_concerned(mailed: Mailed) -> None:
+def test_each_state_is_mailed_once_to_those_concerned(mailed: Mailed) -> None:
     mailed.commit(route(1, "A-MNT"))
     expect(mailed.sent(), {}, "the first run begins")
     expect(mailed.sent(), {}, "nothing changed")
@@ -122,7 +122,7 @@ def test_each_state_is_told_once_to_those_concerned(mailed: Mailed) -> None:
     expect(mailed.sent(), {}, "told once")
 
 
-def test_states_since_the_last_run_are_told_one_by_one(mailed: Mailed) -> None:
+def test_states_since_the_last_run_are_mailed_one_by_one(mailed: Mailed) -> None:
     mailed.commit(route(1, "A-MNT"))
     mailed.sent()
     mailed.commit(route(1, "A-MNT", "descr:          one"))

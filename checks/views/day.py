@@ -28,7 +28,7 @@ from checks.serving import free_port
 from checks.views import merged
 from checks.views.merged import Several
 from checks.views.serving import Files, Nrtm
-from checks.views.test_merging import need_objects, objects_in, roas_text
+from checks.views.test_merge import need_objects, objects_in, roas_text
 from checks.worlds import Tool
 
 SOURCES = "TEST,RIPE,RADB"

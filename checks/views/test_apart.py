@@ -12,7 +12,7 @@ from checks.door.opened import HEAD, SPACE
 from checks.running import Trial, expect, write, write_settings
 from checks.serving import Serving, free_port
 from checks.views import test_sources
-from checks.views.test_merging import asked, made, several_of, written
+from checks.views.test_merge import asked, made, several_of, written
 from checks.views.test_sources import World, dump, fault, route
 from checks.worlds import COUNT
 from irr.errors import Failure

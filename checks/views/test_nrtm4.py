@@ -282,7 +282,7 @@ FAULTS: dict[str, tuple[Fault, str]] = {
 
 
 @pytest.mark.parametrize("what", FAULTS)
-def test_what_is_wrong_is_told_and_takes_nothing(world: Followed, what: str) -> None:
+def test_what_is_wrong_is_reported_and_takes_nothing(world: Followed, what: str) -> None:
     """The view stays as it was, also after a start, and goes on once it is right again."""
     writer = world.writer
     expect(world.renew(), "", "the first time")
@@ -341,7 +341,7 @@ def test_what_is_gone_in_between_is_read_again(world: Followed) -> None:
         expect((len(lost), bool(text)), (turn + 1, True), "how many were lost")
 
 
-def test_keys_are_told_before_they_sign(world: Followed) -> None:
+def test_keys_are_announced_before_they_sign(world: Followed) -> None:
     """A view that was not told has to be given the key by hand, and then goes on."""
     writer = world.writer
     expect(world.renew(), "", "the first time")
@@ -390,7 +390,7 @@ def test_a_registry_that_was_restored_is_taken_anew(world: Followed) -> None:
     expect(world.asked("snapshot"), 2, "how often a snapshot was taken")
 
 
-def test_a_registry_that_was_restored_tells_another_version(world: Followed) -> None:
+def test_a_registry_that_was_restored_publishes_another_version(world: Followed) -> None:
     """The version that was taken already, with other changes, after it was seen to go back or
     not."""
     writer = world.writer
@@ -436,7 +436,7 @@ def test_a_registry_that_was_restored_has_another_snapshot(world: Followed) -> N
     world.need_same("what it has then")
 
 
-def test_what_is_told_of_one_object_is_one(world: Followed) -> None:
+def test_what_is_published_of_one_object_is_one(world: Followed) -> None:
     """Empty lines and names of classes in its text begin no other, which nobody authorised."""
     writer = world.writer
     stranger = route(50, 666).replace("\n", "\n\n")

@@ -11,14 +11,14 @@ import pytest
 
 from checks.running import Trial, expect
 from checks.views.serving import Files, Nrtm
-from checks.views.test_merging import asked
+from checks.views.test_merge import asked
 from irr.errors import Failure
 from irr.migrate.normalisation import ROUTE, LeftOut
 from irr.migrate.paragraphs import Part, parts
 from irr.rpsl import keys, syntax
 from irr.views import nrtm, roas, settings
 from irr.views.view import View
-from irr.views.merging import ViewMender, shrank
+from irr.views.merge import ViewMender, shrank
 
 OWN = "as-set: AS1:AS-OWN\nmembers: AS2, RIPE::AS-X\nmnt-by: A-MNT\nsource: TEST\n"
 

@@ -12,7 +12,7 @@ from hypothesis import Phase, given, settings
 from checks.running import PATIENCE, Trial, expect
 from checks.views import merged
 from checks.views.merged import Several
-from checks.views.test_merging import made, written
+from checks.views.test_merge import made, written
 from irr.local.tables import Row, once
 from irr.rpsl import syntax
 from irr.views.view import View

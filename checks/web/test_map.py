@@ -8,7 +8,7 @@ from checks.web.staging import Stage, own_origin
 IN_MEMORY = True
 
 
-def test_the_map_is_named_zoomed_and_told_in_a_table(stage: Stage, tell: Tell) -> None:
+def test_the_map_is_named_zoomed_and_shown_as_a_table(stage: Stage, tell: Tell) -> None:
     browser = stage.browser
     browser.go(stage.home + "#map=")
     browser.write("prefix", "10.0.0.0/8")

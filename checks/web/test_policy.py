@@ -83,9 +83,7 @@ def test_its_policy_refuses_what_comes_from_elsewhere(stage: Stage, tell: Tell) 
 def test_haproxy_serves_each_file_of_the_page() -> None:
     """It reads no folder: the example has a line for each."""
     with open(os.path.join(TOP, "examples/haproxy.cfg"), encoding="utf-8") as text:
-        lines = re.findall(
-            r"file /usr/share/irrdesk/web/(\S+) .* if \{ path /(\S*) \}", text.read()
-        )
+        lines = re.findall(r'file "\$WEB/(\S+)" if \{ path /(\S*) \}', text.read())
     expect(
         sorted(lines),
         sorted((name, "" if name == "index.html" else name) for name in FILES),

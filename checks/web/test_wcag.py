@@ -265,7 +265,7 @@ def test_the_focus_is_never_lost(stage: Stage, tell: Tell) -> None:
     tell("eight ways to lose it")
 
 
-def test_a_screen_reader_is_told_where_the_map_is(stage: Stage) -> None:
+def test_a_screen_reader_hears_where_the_map_is(stage: Stage) -> None:
     """4.1.2, 1.1.1: the map is a list of boxes with an active one, and names what it shows."""
     browser = stage.browser
     show(stage, "the map")

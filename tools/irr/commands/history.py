@@ -8,7 +8,7 @@ from pathlib import Path
 from typing import Iterable, Iterator
 
 from irr.errors import ARGUMENTS, DONE, REFUSED, Failure
-from irr.local import temporary
+from irr.local.temporary_registry import TemporaryRegistry
 from irr.local.history import Repository, note_of_age, printed, read_keys, read_time, shown_time
 from irr.local.serials import Serials
 from irr.registry import answers, server
@@ -152,7 +152,7 @@ def answer_at(repository: Repository, when: str, words: list[str], limit: int) -
         yield first
         yield from objects
 
-    with temporary.TemporaryRegistry(source, limit=limit) as then:
+    with TemporaryRegistry(source, limit=limit) as then:
         then.fill(pieces(), f"{repository.folder} at {when}")
         if hashlib.sha256(then.dump()).hexdigest() != state.dump:
             raise Failure(

@@ -69,7 +69,7 @@ def arguments(parser: argparse.ArgumentParser) -> None:
     parser.add_argument(
         "--check",
         action="store_true",
-        help="load the result into a scratch registry and compare its dump, object by object, "
+        help="load the result into a temporary registry and compare its dump, object by object, "
         "before anything is printed",
     )
     parser.add_argument(

@@ -3,7 +3,7 @@ import argparse
 import os
 
 from irr.errors import ARGUMENTS, DONE, Failure
-from irr.local import replicas, temporary
+from irr.local import program, replicas
 from irr.registry import server
 from irr.rpsl import keys
 from irr.system import files
@@ -81,7 +81,7 @@ def run(options: argparse.Namespace) -> int:
             ARGUMENTS,
         )
     place = server.Server.from_options(options.server, options.plain)
-    temporary.find_program()
+    program.find()
     os.umask(0o077)
     folder = files.folder(options.folder, 0o700)
     with files.locked(folder):

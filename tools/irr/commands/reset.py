@@ -122,17 +122,17 @@ def settle(settings: Settings, is_service: bool) -> None:
     """Has the program open the registry and close it, which writes the write-ahead log into the
     database. One that root made could not be opened by the service."""
     import subprocess
-    from irr.local import temporary
+    from irr.local import program
 
     done = subprocess.run(
-        [temporary.find_program(), "query", str(settings.path), settings.root],
+        [program.find(), "query", str(settings.path), settings.root],
         stdin=subprocess.DEVNULL,
         capture_output=True,
         check=False,
         **(owner_of(settings) if is_service else {}),
     )
     if done.returncode > 1:
-        raise Failure(str(settings.path), temporary.reported(done), done.returncode)
+        raise Failure(str(settings.path), program.reported(done), done.returncode)
 
 
 def owner_of(settings: Settings) -> dict[str, Any]:

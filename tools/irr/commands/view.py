@@ -4,7 +4,7 @@ import os
 from pathlib import Path
 
 from irr.errors import ARGUMENTS, DONE, Failure
-from irr.local import replicas, temporary
+from irr.local import program, replicas
 from irr.rpsl import keys
 from irr.system import files
 from irr.terminal import texts
@@ -36,7 +36,7 @@ def run(options: argparse.Namespace) -> int:
     every = wanted.every if options.every is None else options.every
     if not 1 <= every <= 1e9:
         raise Failure("--every", "it takes seconds from 1; correct it", ARGUMENTS)
-    temporary.find_program()
+    program.find()
     os.umask(0o077)
     folder = files.folder(wanted.folder, 0o700)
     with files.locked(folder):

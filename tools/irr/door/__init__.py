@@ -17,8 +17,8 @@
 - An answer is kept while its state lasts: until a submission through the door changed something, a
   replica was renewed, or `keep` seconds have passed, which bound what a change past the door can be
   late.
-- `dumps` has few files of the public dump, `pacing` parts long work: one piece in a turn of the
-  loop.
+- `dumps` has few files of the public dump, `scheduler` parts long work: one piece in a turn of
+  the loop.
 - `nrtm` tells mirrors what changed, from the serials of the history; nobody else waits for it.
 - `page` answers what the page asks: why a prefix is in a set, in slices between which others go
   first, and by git (`history`) what an object was.

@@ -11,7 +11,7 @@ from irr.door.budget import Client, Clients, Turn, Turns
 from irr.door.cache import DEAR, Answer, Cache, Costs, Ledger
 from irr.door.exchange import Exchange, listens
 from irr.door.nrtm import Mirrors
-from irr.door.pacing import Paces
+from irr.door.scheduler import Scheduler
 from irr.door.responses import Collected, Dump, Dumped
 from irr.door.settings import Place, Settings, place, upstream
 from irr.door.sockets import Watch
@@ -191,7 +191,7 @@ class Pool:
         self.replicas = [Upstream(upstream(text)) for text in settings.replica]
         self.agent: Optional[Place] = place(settings.agent) if settings.agent else None
         self.clients = Clients(settings.refill, settings.burst)
-        self.paces = Paces(self.loop, self.clients)
+        self.scheduler = Scheduler(self.loop, self.clients)
         self.mirrors = Mirrors(settings)
         self.turns = Queue(self.clients)
         self.running: dict[bytes, Request] = {}

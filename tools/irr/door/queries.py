@@ -146,7 +146,7 @@ class Asker:
     async def paced(self, pieces: Iterable[One]) -> AsyncIterator[One]:
         """Pieces of work, each in a turn of its own; the client pays for the time."""
         for number, piece in enumerate(pieces):
-            await self.pool.paces.turn(self.client, number > 0)
+            await self.pool.scheduler.turn(self.client, number > 0)
             begun = time.perf_counter()
             yield piece
             seconds = time.perf_counter() - begun

@@ -131,7 +131,7 @@ class Submissions:
             looked += block.size + 100
             if looked >= PIECE:
                 looked = 0
-                await self.pool.paces.turn(sender)
+                await self.pool.scheduler.turn(sender)
         self.bound(who, "items", len(items), settings.items)
         # Without the end of its last line an object could be a byte longer than replicas take.
         body = body if body.endswith(b"\n") else body + b"\n"

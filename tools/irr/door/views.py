@@ -18,7 +18,7 @@ class ViewPool(Pool):
     def __init__(self, main: Pool, agent: str) -> None:
         super().__init__(main.watch, dataclasses.replace(main.settings, replica=(), agent=agent))
         self.clients, self.turns.clients = main.clients, main.clients
-        self.paces = main.paces
+        self.scheduler = main.scheduler
         self.ledger = main.ledger
         self.ledger.makers.append(self.cache.shrink)
         self.registry.is_up = False

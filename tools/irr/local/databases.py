@@ -20,7 +20,7 @@ from pathlib import Path
 from typing import IO, BinaryIO, Iterable, Iterator, NamedTuple
 
 from irr.errors import DATABASE, SETTINGS, Failure, reading, system_words
-from irr.local import temporary
+from irr.local import program
 from irr.rpsl import keys, syntax
 from irr.system import files
 
@@ -117,7 +117,7 @@ class Settings(NamedTuple):
 
     def text(self) -> str:
         """The same settings for a database beside them."""
-        return temporary.SETTINGS.format(
+        return program.SETTINGS.format(
             source=self.source, root=self.root, auth=self.auth, limit=self.limit
         )
 
@@ -143,7 +143,7 @@ class Copy:
 
     def __init__(self, folder: Path, settings: str, original: Path | None = None) -> None:
         self.program, self.folder, self.original = (
-            temporary.find_program(),
+            program.find(),
             folder,
             original or folder,
         )
@@ -166,14 +166,14 @@ class Copy:
                 stdout=out,
                 stderr=subprocess.PIPE,
                 check=False,
-                preexec_fn=temporary.bound(),
+                preexec_fn=program.bound(),
             )
         if done.returncode:
             kind = TooLong if TOO_LONG.search(done.stderr) else Failure
             is_original = done.returncode == DATABASE and b": the disk " not in done.stderr
             raise kind(
                 str(self.original if is_original else self.folder),
-                f"irrdesk {command}: {temporary.reported(done)}",
+                f"irrdesk {command}: {program.reported(done)}",
                 DATABASE,
             )
 

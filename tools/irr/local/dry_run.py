@@ -11,7 +11,7 @@ from typing import Callable, Iterable, Iterator, Protocol
 
 from irr.errors import ARGUMENTS, Failure
 from irr.local import excerpts
-from irr.local.temporary import TemporaryRegistry
+from irr.local.temporary_registry import TemporaryRegistry
 from irr.registry import answers, submissions
 from irr.registry.refusals import Registry
 from irr.registry.server import Server
@@ -162,9 +162,9 @@ def public(paragraph: Paragraph) -> Paragraph:
 
 
 class Served:
-    """The scratch registry as reasons ask it, served once something is asked."""
+    """The temporary registry as reasons ask it, served once something is asked."""
 
-    url = "the scratch registry"
+    url = "the temporary registry"
 
     def __init__(
         self, scratch: TemporaryRegistry, stack: contextlib.ExitStack, is_excerpt: bool = False

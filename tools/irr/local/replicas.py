@@ -15,7 +15,8 @@ from pathlib import Path
 from typing import Any, Callable, Iterator
 
 from irr.errors import Failure
-from irr.local import databases, temporary
+from irr.local import databases, program
+from irr.local.temporary_registry import Loadable
 from irr.local.databases import Copy
 from irr.registry import answers
 from irr.registry.server import Server
@@ -70,11 +71,11 @@ def make(place: Server, limit: int, work: Path, known: str) -> Made | None:
     source = answers.source_of(first[:-1], place.url)
     loadable, seen = work / "loadable.rpsl", work / "seen.rpsl"
     texts_of = (block.text + b"\n" for block in blocks(made.dump))
-    taken = temporary.Loadable(texts_of, place=place.url)
+    taken = Loadable(texts_of, place=place.url)
     files.put(loadable, taken, files.PRIVATE)
     copy = Copy(
         work,
-        temporary.SETTINGS.format(source=source, root="ROOT-MNT", auth=temporary.AUTH, limit=limit),
+        program.SETTINGS.format(source=source, root="ROOT-MNT", auth=program.AUTH, limit=limit),
     )
     copy.load(loadable)
     taken.add_rest(copy.store)
@@ -99,7 +100,7 @@ class Replica:
 
     def __init__(self, folder: Path, port: int) -> None:
         self.folder, self.next, self.port = folder / str(port), folder / f"{port}.next", port
-        self.program = temporary.find_program()
+        self.program = program.find()
         self.process: "subprocess.Popen[bytes] | None" = None
         # The digest of the dump that it serves, and when the registry was seen to have that.
         self.state, self.seen, self.coming = "", 0.0, ("", 0.0)
@@ -125,7 +126,7 @@ class Replica:
             "--port",
             str(self.port),
             "--count",
-            str(temporary.MOST_CONNECTIONS),
+            str(program.MOST_CONNECTIONS),
         ]
         self.process = subprocess.Popen(
             words,
@@ -133,10 +134,10 @@ class Replica:
             stdin=subprocess.DEVNULL,
             stdout=subprocess.PIPE,
             stderr=subprocess.PIPE,
-            preexec_fn=temporary.bound(),
+            preexec_fn=program.bound(),
         )
         try:
-            temporary.wait_for_line(self.process, OPENING)
+            program.wait_for_line(self.process, OPENING)
             Server(f"http://127.0.0.1:{self.port}").query("ROOT-MNT")
             self.state, self.seen = self.coming
         except Failure as failure:

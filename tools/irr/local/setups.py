@@ -10,7 +10,7 @@ from pathlib import Path
 from typing import Any, Callable, Iterator
 
 from irr.errors import DATABASE, FAILED, SETTINGS, Failure
-from irr.local import temporary
+from irr.local import program
 from irr.rpsl import hashes
 from irr.rpsl.syntax import Attribute, Paragraph
 from irr.system import files, services, tomls
@@ -142,7 +142,7 @@ class Made:
 
     def __init__(self, plan: Plan, show: Callable[[str, str], None]) -> None:
         self.plan, self.show = plan, show
-        self.program = temporary.find_program()
+        self.program = program.find()
         self.left: list[str] = []
 
     def do(self) -> None:
@@ -261,7 +261,7 @@ class Made:
             done = self.run("init")
             if done.returncode:
                 raise Failure(
-                    self.plan.settings, f"irrdesk init: {temporary.reported(done)}", done.returncode
+                    self.plan.settings, f"irrdesk init: {program.reported(done)}", done.returncode
                 )
             self.done(done.stdout.decode("ascii", "replace").strip(), store)
             return
@@ -269,7 +269,7 @@ class Made:
         if done.returncode:
             raise Failure(
                 store,
-                f"what an earlier run left can't be opened: {temporary.reported(done)}; remove it",
+                f"what an earlier run left can't be opened: {program.reported(done)}; remove it",
                 DATABASE,
             )
         self.left.append(store)

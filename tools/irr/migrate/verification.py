@@ -6,7 +6,8 @@ from pathlib import Path
 from typing import BinaryIO, Iterator
 
 from irr.errors import Failure
-from irr.local.temporary import TemporaryRegistry, bound, trouble
+from irr.local.program import bound
+from irr.local.temporary_registry import TemporaryRegistry, trouble
 from irr.rpsl import syntax
 from irr.rpsl.syntax import Attribute, Paragraph
 
@@ -23,7 +24,7 @@ def public(source: BinaryIO) -> Iterator[bytes]:
 
 
 def check(path: str | Path, source: str, root: str, auth: str, count: int) -> None:
-    """Loads a dump into a scratch registry and compares the public dump of that, object by object;
+    """Loads a dump into a temporary registry and compares its public dump, object by object;
     a Failure at the first difference."""
     with TemporaryRegistry(source, root, auth) as scratch:
         scratch.load(path, "the result")
@@ -39,7 +40,7 @@ def check(path: str | Path, source: str, root: str, auth: str, count: int) -> No
                 preexec_fn=bound(),
             )
         if done.returncode:
-            raise trouble(done, "the scratch registry")
+            raise trouble(done, "the temporary registry")
         with open(path, "rb") as wanted, open(dumped, "rb") as found:
             place = 0
             texts = (block.text for block in syntax.blocks(syntax.chunks(found)))

@@ -6,14 +6,14 @@ from pathlib import Path
 from typing import Any
 
 from irr.errors import Failure
-from irr.local import tables, temporary
+from irr.local import program, tables
 from irr.local.databases import Copy
 from irr.local.replicas import Made
 from irr.rpsl.holders import VIEW_ROOT
 from irr.system import files
 from irr.terminal import texts
-from irr.views import merging, roas, sources
-from irr.views.merging import Merge, Outcome
+from irr.views import merge, roas, sources
+from irr.views.merge import Merge, Outcome
 from irr.views.settings import Settings, Source, followed_to
 from irr.views.sources import State
 
@@ -80,10 +80,10 @@ class View:
         put_label(work, self.next)
         Copy(
             work,
-            temporary.SETTINGS.format(
+            program.SETTINGS.format(
                 source=self.settings.name,
                 root=VIEW_ROOT,
-                auth=temporary.AUTH,
+                auth=program.AUTH,
                 limit=self.settings.limit,
             ),
         )
@@ -132,7 +132,7 @@ class View:
             state, old = self.new.get(one.name), self.states.get(one.name)
             if state is None:
                 continue
-            words = merging.shrank(old.counts if old else [], outcomes[one.name].counts, one.shrink)
+            words = merge.shrank(old.counts if old else [], outcomes[one.name].counts, one.shrink)
             if words:
                 kept = self.place(one, "shrunk")
                 shutil.rmtree(kept, ignore_errors=True)

@@ -125,7 +125,7 @@ def test_a_view_is_the_merge_of_its_sources(
 
 
 @pytest.mark.parametrize("count", [1, 3_000])
-def test_a_temporary_file_without_room_is_told(
+def test_a_temporary_file_without_room_is_reported(
     program: str, tmp_path: Path, monkeypatch: pytest.MonkeyPatch, count: int
 ) -> None:
     """Whether that is seen as it is written, or at its end."""

@@ -3,17 +3,13 @@
 import contextlib
 import os
 import re
-import shutil
-import signal
-import socket
 import subprocess
-import sys
 import tempfile
-import time
 from pathlib import Path
-from typing import TYPE_CHECKING, Any, Callable, Iterable, Iterator, Mapping
+from typing import TYPE_CHECKING, Any, Iterable, Iterator, Mapping
 
 from irr.errors import DATABASE, Failure, system_words
+from irr.local import program
 from irr.registry import answers
 from irr.rpsl import keys, syntax
 from irr.rpsl.syntax import Attribute
@@ -22,12 +18,6 @@ from irr.system import files
 if TYPE_CHECKING:
     import sqlite3
 
-# The digest of no password that anybody knows: the root of a scratch registry is that of the dump
-# that is loaded.
-AUTH = "SHA256-PW x:" + "0" * 64
-SETTINGS = (
-    'source = "{source}"\nroot = "{root}"\nauth = "{auth}"\nlimit = {limit}\nstore = "irr.db"\n'
-)
 # What a public dump shows of an `auth`, and one that lets nobody in.
 HIDDEN, NOBODY = re.compile(rb"^auth:           # filtered$", re.M), b"auth:           FILTERED"
 UNKNOWN = Attribute(b"auth", [b"FILTERED"])
@@ -41,27 +31,6 @@ OPENING = 600
 # Of ports that were free, and then taken by another program.
 TRIES = 5
 IN_USE = "the address is in use"
-MOST_CONNECTIONS = 1_000_000
-# What prctl sets: the signal that a process gets when its parent ends (Linux).
-PR_SET_PDEATHSIG = 1
-
-
-def find_program() -> str:
-    """The path of `irrdesk`: that of IRRDESK, else the one beside the tool, else the one on the
-    path."""
-    given = os.environ.get("IRRDESK")
-    if given and os.path.isdir(given):
-        raise Failure(given, "it is a folder; give the program's path by IRRDESK")
-    beside = Path(sys.argv[0]).resolve().parent / "irrdesk"
-    found = given or (
-        str(beside) if os.access(beside, os.X_OK) and beside.is_file() else shutil.which("irrdesk")
-    )
-    if not found or not os.access(found, os.X_OK):
-        raise Failure(
-            "irrdesk",
-            "the program is not found; install it beside irr, or give its path by IRRDESK",
-        )
-    return os.path.abspath(found)
 
 
 class TemporaryRegistry:
@@ -69,10 +38,14 @@ class TemporaryRegistry:
     `irrdesk`."""
 
     def __init__(
-        self, source: str, root: str = "ROOT-MNT", auth: str = AUTH, limit: int = 1_000_000
+        self,
+        source: str,
+        root: str = "ROOT-MNT",
+        auth: str = program.AUTH,
+        limit: int = 1_000_000,
     ) -> None:
-        self.program = find_program()
-        self.settings = SETTINGS.format(source=source, root=root, auth=auth, limit=limit)
+        self.program = program.find()
+        self.settings = program.SETTINGS.format(source=source, root=root, auth=auth, limit=limit)
 
     def __enter__(self) -> "TemporaryRegistry":
         try:
@@ -99,7 +72,7 @@ class TemporaryRegistry:
             cwd=self.folder,
             capture_output=True,
             check=False,
-            preexec_fn=bound(),
+            preexec_fn=program.bound(),
             **given,
         )
 
@@ -134,7 +107,7 @@ class TemporaryRegistry:
         """The report of a submission. Its text, which has passwords, is on no disk."""
         done = self.run("submit", "/dev/stdin", stdin=text)
         if done.returncode > 1:
-            raise trouble(done, "the scratch registry", "/dev/stdin", "the submission")
+            raise trouble(done, "the temporary registry", "/dev/stdin", "the submission")
         if not answers.END.fullmatch(
             done.stdout.decode("latin-1").removesuffix("\n").rpartition("\n")[2]
         ):
@@ -147,24 +120,24 @@ class TemporaryRegistry:
         """The answer to a query."""
         done = self.run("query", *words)
         if done.returncode > 1:
-            raise trouble(done, "the scratch registry")
+            raise trouble(done, "the temporary registry")
         return done.stdout
 
     def dump(self, full: bool = False) -> bytes:
         """The public dump, or the full one."""
         done = self.run("dump", *(["--full"] if full else []))
         if done.returncode:
-            raise trouble(done, "the scratch registry")
+            raise trouble(done, "the temporary registry")
         return done.stdout
 
     @contextlib.contextmanager
     def serve(self) -> Iterator[str]:
         """The address at which the registry is served while the block runs."""
         for tries in range(TRIES):
-            port = free_port()
+            port = program.free_port()
             process = self.start(port)
             try:
-                wait_for_line(process, OPENING)
+                program.wait_for_line(process, OPENING)
                 break
             except Failure as failure:
                 process.kill()
@@ -180,14 +153,14 @@ class TemporaryRegistry:
 
     def start(self, port: int) -> "subprocess.Popen[bytes]":
         """The program, serving the registry at this port."""
-        words = ["serve", "irr.toml", "--port", str(port), "--count", str(MOST_CONNECTIONS)]
+        words = ["serve", "irr.toml", "--port", str(port), "--count", str(program.MOST_CONNECTIONS)]
         return subprocess.Popen(
             [self.program, *words],
             cwd=self.folder,
             stdin=subprocess.DEVNULL,
             stdout=subprocess.PIPE,
             stderr=subprocess.PIPE,
-            preexec_fn=bound(),
+            preexec_fn=program.bound(),
         )
 
 
@@ -293,59 +266,12 @@ def short_text(text: bytes, place: str) -> bytes:
     )
 
 
-def bound() -> Callable[[], None]:
-    """What a program does before it begins: nobody else reads what it makes, and it ends with this
-    process, in whatever way that ends."""
-    import ctypes
-
-    prctl, parent = ctypes.CDLL(None).prctl, os.getpid()
-
-    def begin() -> None:
-        os.umask(0o077)
-        prctl(PR_SET_PDEATHSIG, signal.SIGKILL)
-        if os.getppid() != parent:
-            os._exit(1)
-
-    return begin
-
-
-def reported(done: "subprocess.CompletedProcess[bytes]") -> str:
-    """What the program reported, in one line."""
-    words = (
-        done.stderr.decode("utf-8", "replace").strip()
-        or f"irrdesk ended with status {done.returncode}"
-    )
-    return words.removeprefix("irrdesk: ")
-
-
 def trouble(
     done: "subprocess.CompletedProcess[bytes]", name: str, path: str = "", known: str = ""
 ) -> Failure:
     """What the program reported, in the names that people know: of the thing that it read, in place
     of its path, and of the folder, where the database failed."""
-    words = reported(done)
+    words = program.reported(done)
     if done.returncode == DATABASE:
         return Failure(TEMPORARY, f"{words.removeprefix('irr.db: ').partition(': ')[0]}; {ROOM}")
     return Failure(name, f"{known}: {words.removeprefix(path).lstrip(',: ')}" if known else words)
-
-
-def free_port() -> int:
-    with socket.socket() as probe:
-        probe.bind(("127.0.0.1", 0))
-        port: int = probe.getsockname()[1]
-        return port
-
-
-def wait_for_line(process: "subprocess.Popen[bytes]", seconds: float) -> None:
-    """Waits until a server prints that it listens."""
-    import select
-
-    end = time.monotonic() + seconds
-    while not select.select([process.stdout], [], [], 0.1)[0]:
-        if time.monotonic() > end:
-            raise Failure("irrdesk", "it does not open the registry; try a smaller one")
-    # Both are pipes.
-    assert process.stdout and process.stderr
-    if not process.stdout.readline().startswith(b"listening "):
-        words = process.stderr.read().decode("utf-8", "replace").strip()
-        raise Failure("irrdesk", words or "it does not serve")

@@ -7,7 +7,7 @@ from collections import deque
 from irr.door.budget import Client, Clients
 
 
-class Paces:
+class Scheduler:
     """Who waits to go on with long work: of these the one who has most left of his budget."""
 
     def __init__(self, loop: asyncio.AbstractEventLoop, clients: Clients) -> None:

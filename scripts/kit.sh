@@ -1,6 +1,6 @@
 # Sourced by the scripts: stops in one line where the toolchain is missing, and says so where its
 # logic is not that of the one that the README names. Whichever it is proves the crates anew.
-KIT='rattle-kit-13b logic dac8208d650f15bf'
+KIT='rattle-kit-13f logic dac8208d650f15bf'
 
 require_kit() {
     if ! command -v rt >/dev/null 2>&1; then

@@ -83,3 +83,14 @@ def test_the_minutes_of_a_promise_are_those_of_its_crate_and_all_below() -> None
     wanted = {crate: str((sum(tenths[name] for name in below(crate)) + 5) // 10) for crate in found}
     expect(len(found) > 10, True, "whether PROOF has its table")
     expect(found, wanted, "the minutes in PROOF")
+
+
+def test_the_toolchain_that_is_named_is_the_one_that_proved_the_release() -> None:
+    found = re.search(r"^Toolchain: (\S+) (.*)$", text_of("dist/PROOF"), re.M)
+    assert found
+    kit, logic = found.groups()
+    for name in "README.md", "docs/PROOF.md", "scripts/kit.sh":
+        named = set(re.findall(r"rattle-kit-\w+", text_of(name)))
+        expect(named, {kit}, f"the toolchain in {name}")
+        logics = set(re.findall(r"\blogic [0-9a-f]+", text_of(name)))
+        expect(logics - {logic}, set(), f"its logic in {name}")

@@ -101,7 +101,12 @@ BESIDE = [
     ("aut-num: AS1", "descr: x\rKIND\rmnt-by: A-MNT\rsource: RIPE"),
     ("aut-num: AS1\rmnt-by: A-MNT\rsource: RIPE\r\rKIND\rmnt-by: A-MNT\rsource: RIPE",),
     ("KIND\rmnt-by: A-MNT\rsource: RIPE\r\raut-num: AS1\rmnt-by: A-MNT\rsource: RIPE",),
+    ("aut-num: AS1", "source: RIPE\xef\xbb\xbfKIND", "mnt-by: A-MNT", SOURCE),
 ]
+# One whose key has more on its line, or odd blanks.
+BESIDE += [(f"KIND{more}", "mnt-by: A-MNT", SOURCE) for more in (" descr: x", " B-MNT", ";")]
+BESIDE += [("KIND", "%members:", " x", "mnt-by: A-MNT", SOURCE), ("KIND\v", SOURCE)]
+BESIDE += [("\xa0KIND", SOURCE), ("KIND\xc2\xa0", SOURCE), ("KIND\f", "mnt-by: A-MNT", SOURCE)]
 
 
 # One that is taken, with another one inside a line of its text.

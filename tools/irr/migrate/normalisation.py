@@ -1,7 +1,8 @@
 """What of a foreign registry's object irrdesk takes, and how the rest is mended: one paragraph at
 a time."""
+import contextlib
 import re
-from typing import Callable, NamedTuple
+from typing import Callable, Iterator, NamedTuple
 
 from irr.local.tables import once
 from irr.migrate import paragraphs
@@ -40,6 +41,10 @@ READ = [
 OTHERS = frozenset((b"mp-members", b"password", b"delete"))
 # Those that name maintainers, in the order in which a database has these.
 NAMING = (b"mnt-by", b"mnt-lower", b"mnt-routes", b"mbrs-by-ref")
+# Blanks of other systems and pages of codes, and what a key with more behind it begins with.
+ODD_BLANK = re.compile(rb"[\f\v]|\xc2?\xa0")
+KEY_RANGE = re.compile(rb"([^\s,;]+\s*-\s*[^\s,;]+)")
+KEY_WORD = re.compile(rb"[:;\s]*([^\s,;]+)")
 # An `auth` of a password, one that lets nobody in, and the longest name of a maintainer.
 PASSWORD = re.compile(rb"SHA256-PW [A-Za-z0-9]{0,16}:[0-9A-Fa-f]{64}", re.I)
 NOBODY = b"FILTERED"
@@ -141,8 +146,10 @@ class Mender:
         return [name for name in found if name]
 
     def name_in(self, block: syntax.Block) -> Name | None:
-        """Which object it is that may be none, by the lines that can be read; None where they tell
-        none."""
+        """Which object it is that may be none, by the lines that can be read, of a key by what it
+        begins with; None where they tell none."""
+        first, end, rest = block.text.partition(b"\n")
+        block = block._replace(text=ODD_BLANK.sub(b" ", first).lstrip() + end + rest)
         kind = class_of(block)
         lines = readable(block.text) if kind in NUMBERS else b""
         found = syntax.read_any(lines).attributes if lines else []
@@ -154,10 +161,10 @@ class Mender:
         own = found[: ends.index(True) + 1]
         sources = [source_of(one.meaning()) for one in own if one.name == b"source"]
         source = next(filter(None, sources), "")
-        try:
-            return Name(NUMBERS[kind], self.keyed(NUMBERS[kind], own)[0], source)
-        except LeftOut:
-            return None
+        for key in key_fronts(own[0]):
+            with contextlib.suppress(LeftOut):
+                return Name(NUMBERS[kind], self.keyed(NUMBERS[kind], [key, *own[1:]])[0], source)
+        return None
 
     def need_one(self, number: int, attributes: list[Attribute], text: bytes) -> None:
         """That nothing shows that the line is lost which began another object: the lists of two
@@ -457,6 +464,15 @@ def ordered(number: int, value: bytes, origins: list[bytes]) -> int | str | None
 def class_of(block: syntax.Block) -> bytes:
     """What stands before the first colon of a block, which is the class of an object."""
     return block.text.partition(b":")[0].strip(syntax.BLANKS).lower()
+
+
+def key_fronts(key: Attribute) -> Iterator[Attribute]:
+    """A key as it stands, and then what it begins with: a range, or a word."""
+    yield key
+    for front in KEY_RANGE, KEY_WORD:
+        found = front.match(key.meaning())
+        if found:
+            yield key._replace(lines=[found[1]])
 
 
 def readable(text: bytes) -> bytes:

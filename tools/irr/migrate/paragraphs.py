@@ -44,12 +44,12 @@ JOINED_ITEM = re.compile(rb".*(?:%s):(?!:).*|:(?!:).*|.*(?<!:):" % b"|".join(CLA
 # A class with such a key as it has, directly after a letter, a digit, a dot or a comma: what a line
 # of text has, or a name, that was joined to one which begins with a class.
 JOINED_TEXT = re.compile(
-    rb":(?:(?:(?<=[a-z0-9.,]aut-num:)|(?<=[a-z0-9.,]as-block:))[ \t\r]*as[0-9]"
-    rb"|(?:(?<=[a-z0-9.,]as-set:)|(?<=[a-z0-9.,]route-set:)|(?<=[a-z0-9.,]as-macro:))"
+    rb":(?:(?:(?<=[a-z0-9.,\xbf]aut-num:)|(?<=[a-z0-9.,\xbf]as-block:))[ \t\r]*as[0-9]"
+    rb"|(?:(?<=[a-z0-9.,\xbf]as-set:)|(?<=[a-z0-9.,\xbf]route-set:)|(?<=[a-z0-9.,\xbf]as-macro:))"
     rb"[ \t\r]*[ar]s[-0-9]"
-    rb"|(?:(?<=[a-z0-9.,]route:)|(?<=[a-z0-9.,]inetnum:))[ \t\r]*[0-9]{1,3}[./]"
-    rb"|(?:(?<=[a-z0-9.,]route6:)|(?<=[a-z0-9.,]inet6num:))[ \t\r]*[0-9a-f]{1,4}:"
-    rb"|(?<=[a-z0-9.,]mntner:)[ \t\r]*(?:ma?i?nt-|[a-z0-9_-]+-mnt[ \t\r]*(?:\Z|[\n#])))"
+    rb"|(?:(?<=[a-z0-9.,\xbf]route:)|(?<=[a-z0-9.,\xbf]inetnum:))[ \t\r]*[0-9]{1,3}[./]"
+    rb"|(?:(?<=[a-z0-9.,\xbf]route6:)|(?<=[a-z0-9.,\xbf]inet6num:))[ \t\r]*[0-9a-f]{1,4}:"
+    rb"|(?<=[a-z0-9.,\xbf]mntner:)[ \t\r]*(?:ma?i?nt-|[a-z0-9_-]+-mnt[ \t\r]*(?:\Z|[\n#])))"
 )
 # What a line has, such as one of an `auth`, that was joined to one which begins with a class.
 JOINED_LINE = re.compile(rb"(?:%s)[ \t\r]*:(?!:)" % b"|".join(CLASSES), re.I)

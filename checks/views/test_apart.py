@@ -222,6 +222,26 @@ def test_a_set_that_a_source_between_has_and_cannot_be_read_is_apart(
     expect(asked(program, folder, "object", "as-set", "AS-Z"), "% no entries\n", "AS-Z")
 
 
+def test_a_set_that_cannot_be_read_keeps_its_name_from_one_that_would_be_apart(
+    program: str, tmp_path: Path, monkeypatch: pytest.MonkeyPatch
+) -> None:
+    monkeypatch.setenv("IRRDESK", program)
+    sources = {
+        "TEST": """
+            as-set: AS-X|members: AS1|mnt-by: T-MNT
+            as-set: AS-X--RADB|members: AS1 EXCEPT AS2|mnt-by: T-MNT
+            as-set: AS-ALL|members: AS-X--RADB, RADB::AS-X, AS3|mnt-by: T-MNT
+        """,
+        "RIPE": "route: 10.5.0.0/16|origin: AS5|mnt-by: X-MNT",
+        "RADB": "as-set: AS-X|members: AS6|mnt-by: X-MNT",
+    }
+    view = written(tmp_path, several_of(sources))
+    folder = made(view)
+    expect(asked(program, folder, "expand", "AS-ALL"), "AS3\n% missing AS-X--RADB\n", "AS-ALL")
+    lost = {"its name is that of a set of another registry": 1}
+    expect(view.outcomes["TEST"].lost, lost, "what is told")
+
+
 def test_a_set_inside_what_an_earlier_source_has_is_no_other_one(
     program: str, tmp_path: Path, monkeypatch: pytest.MonkeyPatch
 ) -> None:

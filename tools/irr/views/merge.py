@@ -335,7 +335,7 @@ class Merge(conversion.Import):
         registries."""
         mended, part, path = self.beaten[source, name]
         new = apart_name(name, source)
-        if keys.read_set(new) != new or new in self.taken[mended.number]:
+        if keys.read_set(new) != new or self.first_of(mended.number, new) is not None:
             return None
         first, *rest = syntax.read_any(mended.text).attributes
         attributes = [first._replace(lines=[new.encode()]), *rest]

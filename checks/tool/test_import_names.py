@@ -103,15 +103,17 @@ BESIDE = [
     ("KIND\rmnt-by: A-MNT\rsource: RIPE\r\raut-num: AS1\rmnt-by: A-MNT\rsource: RIPE",),
     ("aut-num: AS1", "source: RIPE\xef\xbb\xbfKIND", "mnt-by: A-MNT", SOURCE),
 ]
-# One whose key has more on its line, or odd blanks.
-BESIDE += [(f"KIND{more}", "mnt-by: A-MNT", SOURCE) for more in (" descr: x", " B-MNT", ";")]
-BESIDE += [("KIND", "%members:", " x", "mnt-by: A-MNT", SOURCE), ("KIND\v", SOURCE)]
-BESIDE += [("\xa0KIND", SOURCE), ("KIND\xc2\xa0", SOURCE), ("KIND\f", "mnt-by: A-MNT", SOURCE)]
-
-
 # One that is taken, with another one inside a line of its text.
 BESIDE += [("aut-num: AS1", "descr: x\rKIND\rmnt-by: A-MNT", SOURCE)]
 BESIDE += [("route: 10.0.0.0/8", "descr: x\rKIND\ror: y", "origin: AS1", SOURCE)]
+# First lines with more than a class, a colon and a key, with odd blanks, or without the colon.
+BESIDE += [(f"KIND{more}", "mnt-by: A-MNT", SOURCE) for more in (" descr: x", " B-MNT", ";", "^24")]
+BESIDE += [("KIND", "%members:", " x", "mnt-by: A-MNT", SOURCE), ("KIND\v", SOURCE)]
+BESIDE += [("\xa0KIND", SOURCE), ("KIND\xc2\xa0", SOURCE), ("KIND\f", "mnt-by: A-MNT", SOURCE)]
+BESIDE += [("\xe2\x80\x8bKIND", SOURCE), ("KIND\xe2\x80\x8b", SOURCE), ("KIND\x01", SOURCE)]
+BESIDE += [(f"CLASS{marks}NAME", SOURCE) for marks in ("; ", " ", "\t", "\xa0", "=", " - ", ":: ")]
+BESIDE += [(f"CLASS{line}", SOURCE) for line in (" NAME descr: x", ": (NAME)", ': "NAME".')]
+BESIDE += [("CLASS; NAME\rmnt-by: A-MNT\rsource: RIPE",), ("CLASS\xa0: # x", " NAME", SOURCE)]
 
 
 @pytest.mark.parametrize("kind", ["mntner: A-MNT", "as-set: AS-X", "route-set: RS-X"])
@@ -120,12 +122,22 @@ def test_a_name_inside_another_object_is_of_no_other_registry(
     kind: str, lines: tuple[str, ...]
 ) -> None:
     """Where a blank line is missing, also before a byte order mark, or lines end in CR alone."""
-    first = obj("aut-num: AS2", SOURCE) + obj(*(line.replace("KIND", kind) for line in lines))
+    word, name = kind.split(": ")
+    named = "\n".join(lines).replace("KIND", kind).replace("CLASS", word).replace("NAME", name)
+    first = obj("aut-num: AS2", SOURCE) + obj(named)
     other = obj(kind, "mnt-by: B-MNT", "source: RADB")
     text, tally = made(first, other)
     assert tally.causes[UNREAD] == 1 and b"B-MNT" not in text
     assert b"B-MNT" in made(first, other.replace(b"RADB", b"RIPE"))[0]
     assert made(other, first)[1].causes[UNREAD] == 0
+
+
+def test_a_name_in_lines_that_end_in_crs_is_of_the_registry_that_they_tell() -> None:
+    for end in "", " descr: x":
+        first = obj(f"as-set: AS-X{end}\rmembers: AS2\rsource: RIPE")
+        own = obj("as-set: AS-X", "members: AS1", SOURCE)
+        assert b"members:        AS1\n" in made(first, own)[0]
+        assert made(first, own.replace(b"RIPE", b"RADB"))[1].causes[UNREAD] == 1
 
 
 # Files that were joined within a line, the first of which is cut off.
@@ -165,9 +177,12 @@ def test_a_name_in_a_joined_auth_is_of_no_other_registry() -> None:
         assert tally.causes[UNREAD] == 1 and b"another" not in text
 
 
-def test_a_name_that_an_object_only_tells_of_is_free() -> None:
-    """A class after a blank joins no lines."""
-    first = obj("person: Jo Doe", "remarks: our as-set: AS-X", SOURCE)
+@pytest.mark.parametrize(
+    "line", ["person: Jo Doe", "x as-set: AS-X", "as-sets AS-X", "as-set_AS-X"]
+)
+def test_a_name_that_an_object_only_tells_of_is_free(line: str) -> None:
+    """A class after a blank joins no lines, and a longer word is no class."""
+    first = obj(line, "remarks: our as-set: AS-X", SOURCE)
     assert b"B-MNT" in made(first, obj("as-set: AS-X", "mnt-by: B-MNT", "source: RADB"))[0]
 
 

@@ -1,5 +1,7 @@
 """What of a dump is one object: paragraphs that hold several are parted, or left out."""
 
+import time
+
 import pytest
 from hypothesis import given
 from hypothesis import strategies as st
@@ -262,6 +264,15 @@ def test_a_dump_without_blank_lines_loses_nothing(monkeypatch: pytest.MonkeyPatc
     assert (tally.taken, dict(tally.causes)) == (99, {"class person": 2})
     assert [line.split("\t")[1].rpartition(":")[2] for line in left_out(obj(*lines))] == ["251"]
     assert tally.mended["part"] == 100
+
+
+@pytest.mark.parametrize("line", ["as-set: AS-A%s", "as-set%s; AS-A", "as-set: AS-A%sx"])
+@pytest.mark.parametrize("mark", ["\r", "- ", " \r", "a-", ":"])
+def test_a_first_line_costs_what_it_is_long(line: str, mark: str) -> None:
+    text = obj(line % (mark * 20_000), *A[1:])
+    started = time.process_time()
+    assert made(text)[1].read == 1
+    assert time.process_time() - started < 2
 
 
 def test_what_is_too_large_and_has_no_seam(monkeypatch: pytest.MonkeyPatch) -> None:

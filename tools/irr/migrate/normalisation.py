@@ -41,10 +41,12 @@ READ = [
 OTHERS = frozenset((b"mp-members", b"password", b"delete"))
 # Those that name maintainers, in the order in which a database has these.
 NAMING = (b"mnt-by", b"mnt-lower", b"mnt-routes", b"mbrs-by-ref")
-# Blanks of other systems and pages of codes, and what a key with more behind it begins with.
-ODD_BLANK = re.compile(rb"[\f\v]|\xc2?\xa0")
-KEY_RANGE = re.compile(rb"([^\s,;]+\s*-\s*[^\s,;]+)")
-KEY_WORD = re.compile(rb"[:;\s]*([^\s,;]+)")
+# What a key with more around it begins with: a range, or a word.
+KEY_WORD = rb"[A-Za-z0-9](?:[A-Za-z0-9_.:/-]*[A-Za-z0-9])?"
+KEY_FRONTS = [
+    re.compile(rb"[^A-Za-z0-9]*(%s)" % front)
+    for front in (rb"%s\s*-\s*%s" % (KEY_WORD, KEY_WORD), KEY_WORD)
+]
 # An `auth` of a password, one that lets nobody in, and the longest name of a maintainer.
 PASSWORD = re.compile(rb"SHA256-PW [A-Za-z0-9]{0,16}:[0-9A-Fa-f]{64}", re.I)
 NOBODY = b"FILTERED"
@@ -142,19 +144,16 @@ class Mender:
         is_joined = cause is not None and str(cause) in (paragraphs.JOINED, paragraphs.JOINED_AUTH)
         line = cause.item[1] if cause and cause.item and is_joined else b""
         begun = part.begun(cause is None, line)
-        found = (self.name_in(block) or self.name_in(by_crs(block)) for block in begun)
-        return [name for name in found if name]
+        return [name for block in begun if (name := self.name_in(block))]
 
     def name_in(self, block: syntax.Block) -> Name | None:
         """Which object it is that may be none, by the lines that can be read, of a key by what it
         begins with; None where they tell none."""
-        first, end, rest = block.text.partition(b"\n")
-        block = block._replace(text=ODD_BLANK.sub(b" ", first).lstrip() + end + rest)
-        kind = class_of(block)
-        lines = readable(block.text) if kind in NUMBERS else b""
-        found = syntax.read_any(lines).attributes if lines else []
-        if not found or found[0].name != kind:
+        text = paragraphs.headed(block.text)
+        kind = text.partition(b":")[0].lower()
+        if kind not in NUMBERS:
             return None
+        found = syntax.read_any(readable(text)).attributes
         # From another class on it is of no object, or of another one.
         names = [attribute.name for attribute in found[1:]]
         ends = [one in NUMBERS or one in paragraphs.FOREIGN for one in names] + [True]
@@ -467,9 +466,9 @@ def class_of(block: syntax.Block) -> bytes:
 
 
 def key_fronts(key: Attribute) -> Iterator[Attribute]:
-    """A key as it stands, and then what it begins with: a range, or a word."""
+    """A key as it stands, and then what it begins with."""
     yield key
-    for front in KEY_RANGE, KEY_WORD:
+    for front in KEY_FRONTS:
         found = front.match(key.meaning())
         if found:
             yield key._replace(lines=[found[1]])
@@ -489,11 +488,6 @@ def readable(text: bytes) -> bytes:
             goes_on = is_good
         kept += [line] if is_good else []
     return b"\n".join(kept)
-
-
-def by_crs(block: syntax.Block) -> syntax.Block:
-    """A block whose lines end in CR too."""
-    return block._replace(text=paragraphs.CR_INSIDE.sub(b"\n", block.text))
 
 
 def not_mended(kind: str) -> str:

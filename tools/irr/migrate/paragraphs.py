@@ -53,9 +53,12 @@ JOINED_TEXT = re.compile(
 )
 # What a line has, such as one of an `auth`, that was joined to one which begins with a class.
 JOINED_LINE = re.compile(rb"(?:%s)[ \t\r]*:(?!:)" % b"|".join(CLASSES), re.I)
-# A CR that ends no line, with what is after it, and alone.
-CR_BEFORE = re.compile(rb"\r[ \t\r]*[^ \t\r\n]")
-CR_INSIDE = re.compile(rb"\r(?=[ \t\r]*[^ \t\r\n])")
+# A CR that ends no line: the last of several, so that many of them take no longer each.
+CR_INSIDE = re.compile(rb"\r(?=[ \t]*[^ \t\r\n])")
+# Of a first line the bytes that are no visible ASCII, such as blanks of other pages of codes; and
+# its class, with the marks between that and a key.
+NOT_SHOWN = re.compile(rb"[^!-~]")
+CLASS_WORD = re.compile(rb" *([A-Za-z0-9_-]+)[^A-Za-z0-9#]*")
 CUT_OFF = "cut off at the end of the file"
 CLASS_AGAIN = "a class again after the first line"
 SOURCE_AGAIN = "`source` twice"
@@ -107,13 +110,13 @@ class Part(NamedTuple):
 
     def may_have_more(self) -> bool:
         """Whether there may be further objects in it."""
-        return bool(self.doubt) or CR_BEFORE.search(self.block.text) is not None
+        return bool(self.doubt) or CR_INSIDE.search(self.block.text) is not None
 
     def odd_lines(self) -> tuple[tuple[int, bytes], ...]:
         """The lines with `#` or `%` first, which are not kept, those with a CR first, which go on
         with the line before, and those with a CR inside: each with its number in the file."""
         text = self.block.text
-        has_cr = b"\r" in text and CR_BEFORE.search(text) is not None
+        has_cr = b"\r" in text and CR_INSIDE.search(text) is not None
         if b"\n#" not in text and b"\n%" not in text and not has_cr:
             return ()
         numbered = enumerate(text.split(b"\n"), self.block.line)
@@ -188,6 +191,16 @@ def joined_at(small: bytes, line: bytes) -> Iterator[int]:
     place, found = small.find(line), JOINED_LINE.search(line)
     if found and place >= 0:
         yield place + found.start()
+
+
+def headed(text: bytes) -> bytes:
+    """The lines of what may be an object, the first of which has a class, a colon and a key even if
+    other marks stand there. If it ends in a CR, so do the others."""
+    if CR_INSIDE.search(text.partition(b"\n")[0]):
+        text = CR_INSIDE.sub(b"\n", text)
+    first, end, rest = text.partition(b"\n")
+    first = NOT_SHOWN.sub(b" ", first)
+    return CLASS_WORD.sub(rb"\1:", first, 1) + end + rest
 
 
 def is_source(line: bytes) -> bool:

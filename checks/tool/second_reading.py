@@ -236,7 +236,7 @@ def refusal(piece: Piece, is_cut_off: bool) -> str:
 
 def shows_another(piece: Piece) -> str:
     """A word of the cause where the first line of another object may be lost in a piece: a list
-    goes on after `source`, or an `auth` has a class in it."""
+    goes on after `source`, an `auth` has a class in it, or a person's name is left."""
     listed = [name for name, kinds in LISTS.items() if piece.kind in kinds]
     listed += ["auth"] if piece.kind == "mntner" else []
     for place, (name, lines) in enumerate(piece.attributes):
@@ -247,6 +247,8 @@ def shows_another(piece: Piece) -> str:
         front = piece.names[:place]
         if name in listed and "source" in front and name in front[: front.index("source")]:
             return "goes on after"
+        if name == "nic-hdl":
+            return "a `nic-hdl`"
         if any(map(has_class, [f"{name}:{lines[0]}", *lines[1:]])):
             return "inside a text"
     return ""

@@ -225,6 +225,16 @@ def test_lists_of_one_side_of_a_source() -> None:
         assert made(obj(*lines))[1].taken == 1, lines
 
 
+@pytest.mark.parametrize("cut", ["descr: Ex", "descr: a text ", "descr:"])
+@pytest.mark.parametrize("kind", ["person", "role"])
+def test_an_object_that_is_joined_with_a_person(cut: str, kind: str) -> None:
+    """Otherwise it would be that of the person's maintainer."""
+    text = obj(*A[:2], f"{cut}{kind}: Jo Doe", "nic-hdl: JO1", "mnt-by: B-MNT", A[3])
+    (line,) = left_out(text)
+    assert line.startswith("a `nic-hdl`, as of a person that was joined\t")
+    assert b"B-MNT" not in made(text)[0]
+
+
 @pytest.mark.parametrize(
     "auth",
     [

@@ -183,6 +183,9 @@ class Mender:
                 for line in attribute.lines:
                     if paragraphs.JOINED_LINE.search(PASSWORD.sub(b"", line)):
                         raise LeftOut(paragraphs.JOINED_AUTH, name, line)
+            if name == b"nic-hdl":
+                # No other class has one (RFC 2622, 3.2 and 3.3).
+                raise LeftOut(paragraphs.JOINED_PERSON, name, attribute.meaning())
             if is_joined:
                 for place, line in enumerate(attribute.lines):
                     whole = line if place else name + b":" + line

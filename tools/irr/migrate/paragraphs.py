@@ -66,6 +66,7 @@ INSIDE = "no `source`, and no blank line before it"
 JOINED = "an item with a colon, as of two lines that were joined"
 JOINED_IN_TEXT = "a class inside a text, as of two lines that were joined"
 JOINED_AUTH = "a class inside an `auth`, as of two lines that were joined"
+JOINED_PERSON = "a `nic-hdl`, as of a person that was joined"
 GOES_ON = "a list before `source` that goes on after it"
 
 

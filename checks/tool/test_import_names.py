@@ -113,6 +113,8 @@ BESIDE += [("\xa0KIND", SOURCE), ("KIND\xc2\xa0", SOURCE), ("KIND\f", "mnt-by: A
 BESIDE += [("\xe2\x80\x8bKIND", SOURCE), ("KIND\xe2\x80\x8b", SOURCE), ("KIND\x01", SOURCE)]
 BESIDE += [(f"CLASS{marks}NAME", SOURCE) for marks in ("; ", " ", "\t", "\xa0", "=", " - ", ":: ")]
 BESIDE += [(f"CLASS{line}", SOURCE) for line in (" NAME descr: x", ": (NAME)", ': "NAME".')]
+INSIDE = ("CLASS; NAME", "\xa0KIND", "CLASS\xa0NAME descr: x")
+BESIDE += [("aut-num: AS1", SOURCE, line, "mnt-by: A-MNT", SOURCE) for line in INSIDE]
 BESIDE += [("CLASS; NAME\rmnt-by: A-MNT\rsource: RIPE",), ("CLASS\xa0: # x", " NAME", SOURCE)]
 
 

@@ -29,6 +29,8 @@ LATER_CLASS = re.compile(rb"\n" + CLASS_LINE)
 LATER_SOURCE = re.compile(SOURCE_LINE)
 # Also within a line, whose parts end in a CR alone where a file of another kind has them.
 BEGINNING = re.compile(rb"[\n\r]" + CLASS_LINE)
+# In what is no object: the colon may be missing, or blanks of another kind be before the class.
+HEADING = re.compile(rb"[\n\r][\x80-\xff]*(?:%s)(?![a-z0-9_-])" % b"|".join(CLASSES))
 LATER = re.compile(BEGINNING.pattern + rb"|" + SOURCE_LINE)
 LINE_END = re.compile(rb"[\n\r]")
 # A `source` after the first line, with the lines that continue it and those that are skipped,
@@ -101,7 +103,7 @@ class Part(NamedTuple):
         text = self.block.text
         text = text[: max(text.rfind(b"\n"), text.rfind(b"\r")) + 1]
         small = text.lower()
-        found = BEGINNING.finditer(small) if self.may_have_more() else ()
+        found = (BEGINNING if is_taken else HEADING).finditer(small)
         within = () if is_taken else joined_at(small, joined_line.lower())
         starts = sorted({0, *(one.start() + 1 for one in found), *within})
         for start, end in zip(starts, [*starts[1:], len(text)]):

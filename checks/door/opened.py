@@ -14,7 +14,7 @@ import time
 from collections.abc import Callable
 from typing import Any, Self
 
-from checks.running import AUTH, PATIENCE, TOP, Failure, Trial, write, write_settings
+from checks.running import AUTH, PATIENCE, TOP, Failure, Trial, expect, write, write_settings
 from checks.serving import Serving, free_port
 from checks.worlds import COUNT
 
@@ -199,6 +199,12 @@ class Opened:
         text = self.http("GET", "/metrics", port=self.status_port)[2].decode()
         lines = [line.rpartition(" ") for line in text.splitlines() if not line.startswith("#")]
         return {name: float(value) for name, _, value in lines}
+
+
+def has_no_trace(door: Opened) -> None:
+    reported = door.words_reported()
+    expect("Traceback" in reported or "report this" in reported, False, reported[-600:])
+    expect(door.metrics()["irrdesk_door_faults_total"], 0.0, "faults of the door")
 
 
 def seconds_of(number: int) -> float:

@@ -10,7 +10,7 @@ from collections.abc import Iterator
 import pytest
 
 from checks.door import worlds
-from checks.door.opened import Opened, read_all
+from checks.door.opened import Opened, has_no_trace, read_all
 from checks.running import Each, expect
 
 POST = b"POST /submissions HTTP/1.1\r\nHost: irr.example\r\nConnection: close\r\n"
@@ -90,12 +90,6 @@ def asked(door: Opened, text: bytes, port: int = 0) -> bytes:
             peer.sendall(text)
             peer.shutdown(socket.SHUT_WR)
         return read_all(peer)
-
-
-def has_no_trace(door: Opened) -> None:
-    reported = door.words_reported()
-    expect("Traceback" in reported or "report this" in reported, False, reported[-600:])
-    expect(door.metrics()["irrdesk_door_faults_total"], 0.0, "faults of the door")
 
 
 def test_an_origin_that_is_none_submits_nothing(door: Opened, each: Each) -> None:

@@ -13,7 +13,7 @@ from pathlib import Path
 import pytest
 
 from checks.door import worlds
-from checks.door.opened import Opened, Registries, read_all, wait_until
+from checks.door.opened import Opened, Registries, has_no_trace, read_all, wait_until
 from checks.running import Each, Trial, expect, write
 from checks.serving import free_port
 from irr.door import proxy_protocol
@@ -175,12 +175,6 @@ def sent(door: Opened, *parts: bytes) -> bytes:
             peer.sendall(part)
         peer.shutdown(socket.SHUT_WR)
         return read_all(peer)
-
-
-def has_no_trace(door: Opened) -> None:
-    reported = door.words_reported()
-    expect("Traceback" in reported or "report this" in reported, False, reported[-600:])
-    expect(door.metrics()["irrdesk_door_faults_total"], 0.0, "faults of the door")
 
 
 @pytest.mark.parametrize("header", [FIRST, second("192.0.2.7", more=b"\4\0\1x")])

@@ -9,6 +9,7 @@ from checks.mirrors.client4 import NOTIFICATION
 from checks.mirrors.writer4 import Writer4
 from checks.running import expect
 from checks.views.serving import Files
+from checks.views.test_merge import made
 from checks.views.test_sources import OWN, route
 from irr.views import settings
 from irr.views.view import View
@@ -48,12 +49,7 @@ shrink = 100
 
     def renew(self) -> str:
         """What is wrong with the source after a renewal."""
-        work = self.view.folder / "made"
-        work.mkdir(parents=True, exist_ok=True)
-        for path in work.iterdir():
-            path.unlink()
-        found = self.view.make(work, "")
-        assert found
+        work = made(self.view)
         self.view.commit()
         self.known = (work / "dump.rpsl").read_text()
         return self.view.faults.get(self.name, "")

@@ -11,15 +11,15 @@ import pytest
 from checks.door.opened import HEAD, SPACE
 from checks.running import Trial, expect, write, write_settings
 from checks.serving import Serving, free_port
-from checks.views import test_sources
-from checks.views.test_merge import asked, made, several_of, written
+from checks.views import test_merge, test_sources
+from checks.views.test_merge import ViewOf, asked, made
 from checks.views.test_sources import World, dump, fault, route
 from checks.worlds import COUNT
 from irr.errors import Failure
 from irr.views import nrtm, settings
 from irr.views.view import View
 
-followed = test_sources.followed
+followed, view_of = test_sources.followed, test_merge.view_of
 # Attributes that the rules take as text in an object of a stranger, who may register it.
 INSIDE = {
     "route": "route: 192.0.2.0/24\norigin: AS666\n",
@@ -87,9 +87,7 @@ def test_a_stranger_adds_no_object_by_the_text_of_another(
             state = view.states["TEST"]
             state.changes.write_text(f"ADD\n\n{evil}\n")
             view.states["TEST"] = state._replace(serial=1)
-            folder = tmp_path / "view" / "again"
-            folder.mkdir()
-            assert view.make(folder, "") is not None
+            folder = made(view)
     expect(queried(folder, "exact", "192.0.2.0/24"), "% no entries\n", "a route")
     found = queried(folder, "object", "aut-num", "AS1")
     expect("mnt-by:         A-MNT" in found, True, found)
@@ -165,37 +163,31 @@ def test_what_a_registry_filters_is_followed() -> None:
 
 
 def test_a_set_of_an_earlier_source_is_no_other_one_where_it_cannot_be_read(
-    program: str, tmp_path: Path, monkeypatch: pytest.MonkeyPatch
+    view_of: ViewOf,
 ) -> None:
     """Its name means that one, and strangers may register it at a later source."""
-    monkeypatch.setenv("IRRDESK", program)
     sources = {
         "TEST": """
             as-set: AS-X|members: AS1 EXCEPT AS2|mnt-by: T-MNT
             as-set: AS-ALL|members: AS-X, RADB::AS-X|mnt-by: T-MNT
             route-set: RS-X|members: 10.5.0.0/16, (x)|mnt-by: T-MNT
         """,
-        "RIPE": "route: 10.5.0.0/16|origin: AS5|mnt-by: X-MNT",
         "RADB": """
             route: 10.6.0.0/16|origin: AS6|mnt-by: X-MNT
             as-set: AS-X|members: AS6|mnt-by: X-MNT
             route-set: RS-X|members: AS6|mnt-by: X-MNT
         """,
     }
-    view = written(tmp_path, several_of(sources))
-    folder = made(view)
+    few = view_of(sources)
     for name in "AS-X", "RS-X":
-        expect(asked(program, folder, "prefixes", name), "% no entries\n", name)
-    found = asked(program, folder, "prefixes", "AS-ALL")
+        expect(few.asked("prefixes", name), "% no entries\n", name)
+    found = few.asked("prefixes", "AS-ALL")
     expect(found, "10.6.0.0/16\n% missing AS-X\n", "AS-ALL, which names also that of RADB")
-    expect(view.outcomes["RADB"].left, {"an earlier source has it": 1}, "what is told")
+    expect(few.view.outcomes["RADB"].left, {"an earlier source has it": 1}, "what is told")
 
 
-def test_a_set_that_a_source_between_has_and_cannot_be_read_is_apart(
-    program: str, tmp_path: Path, monkeypatch: pytest.MonkeyPatch
-) -> None:
+def test_a_set_that_a_source_between_has_and_cannot_be_read_is_apart(view_of: ViewOf) -> None:
     """And what a source has of another one takes no name of it."""
-    monkeypatch.setenv("IRRDESK", program)
     sources = {
         "TEST": """
             as-set: AS-X|members: AS1|mnt-by: T-MNT
@@ -205,6 +197,7 @@ def test_a_set_that_a_source_between_has_and_cannot_be_read_is_apart(
             mntner: X-MNT|mnt-by: X-MNT
             as-set: AS-X|members: AS1 EXCEPT AS2|mnt-by: X-MNT
             as-set: AS-Z|members: AS1 EXCEPT AS2|mnt-by: X-MNT
+            as-set: AS-Y|members: AS1 EXCEPT AS2|source: OTHER
         """,
         "RADB": """
             as-set: AS-X|members: AS6|mnt-by: X-MNT
@@ -212,61 +205,49 @@ def test_a_set_that_a_source_between_has_and_cannot_be_read_is_apart(
             as-set: AS-Z|members: AS8|mnt-by: X-MNT
         """,
     }
-    view = written(tmp_path, several_of(sources))
-    with open(tmp_path / "RIPE", "a", encoding="ascii") as dump:
-        dump.write("as-set: AS-Y\nmembers: AS1 EXCEPT AS2\nsource: OTHER\n\n")
-    folder = made(view)
-    expect(asked(program, folder, "expand", "AS-ALL"), "AS6\n", "AS-ALL")
-    expect(asked(program, folder, "expand", "AS-X"), "AS1\n", "AS-X")
-    expect(asked(program, folder, "expand", "AS-Y"), "AS7\n", "AS-Y")
-    expect(asked(program, folder, "object", "as-set", "AS-Z"), "% no entries\n", "AS-Z")
+    few = view_of(sources)
+    expect(few.asked("expand", "AS-ALL"), "AS6\n", "AS-ALL")
+    expect(few.asked("expand", "AS-X"), "AS1\n", "AS-X")
+    expect(few.asked("expand", "AS-Y"), "AS7\n", "AS-Y")
+    expect(few.asked("object", "as-set", "AS-Z"), "% no entries\n", "AS-Z")
 
 
 def test_a_set_that_cannot_be_read_keeps_its_name_from_one_that_would_be_apart(
-    program: str, tmp_path: Path, monkeypatch: pytest.MonkeyPatch
+    view_of: ViewOf,
 ) -> None:
-    monkeypatch.setenv("IRRDESK", program)
     sources = {
         "TEST": """
             as-set: AS-X|members: AS1|mnt-by: T-MNT
             as-set: AS-X--RADB|members: AS1 EXCEPT AS2|mnt-by: T-MNT
             as-set: AS-ALL|members: AS-X--RADB, RADB::AS-X, AS3|mnt-by: T-MNT
         """,
-        "RIPE": "route: 10.5.0.0/16|origin: AS5|mnt-by: X-MNT",
         "RADB": "as-set: AS-X|members: AS6|mnt-by: X-MNT",
     }
-    view = written(tmp_path, several_of(sources))
-    folder = made(view)
-    expect(asked(program, folder, "expand", "AS-ALL"), "AS3\n% missing AS-X--RADB\n", "AS-ALL")
+    few = view_of(sources)
+    expect(few.asked("expand", "AS-ALL"), "AS3\n% missing AS-X--RADB\n", "AS-ALL")
     lost = {"its name is that of a set of another registry": 1}
-    expect(view.outcomes["TEST"].lost, lost, "what is told")
+    expect(few.view.outcomes["TEST"].lost, lost, "what is told")
 
 
-def test_a_set_inside_what_an_earlier_source_has_is_no_other_one(
-    program: str, tmp_path: Path, monkeypatch: pytest.MonkeyPatch
-) -> None:
+def test_a_set_inside_what_an_earlier_source_has_is_no_other_one(view_of: ViewOf) -> None:
     """Where a blank line is missing in a dump. A change is of one object, whatever is in it."""
-    monkeypatch.setenv("IRRDESK", program)
     sources = {
         "TEST": """
             aut-num: AS1|mnt-by: T-MNT|as-set: AS-X|members: AS1|mnt-by: T-MNT
             as-set: AS-ALL|members: AS-X|mnt-by: T-MNT
         """,
-        "RIPE": "route: 10.5.0.0/16|origin: AS5|mnt-by: X-MNT",
         "RADB": """
             as-set: AS-X|members: AS6|mnt-by: X-MNT
             as-set: AS-Y|members: AS7|mnt-by: X-MNT
         """,
     }
-    view = written(tmp_path, several_of(sources))
-    folder = made(view)
-    expect(asked(program, folder, "expand", "AS-ALL"), "% missing AS-X\n", "AS-ALL")
+    few = view_of(sources)
+    expect(few.asked("expand", "AS-ALL"), "% missing AS-X\n", "AS-ALL")
+    view = few.view
     view.commit()
     state = view.states["TEST"]
     change = "aut-num: AS2\nmnt-by: T-MNT\nas-set: AS-Y\rsource: TEST\ras-set: AS-Y\nsource: TEST\n"
     state.changes.write_bytes(f"ADD\n\n{change}\n".encode())
     view.states["TEST"] = state._replace(serial=1)
-    folder = tmp_path / "view" / "again"
-    folder.mkdir()
-    assert view.make(folder, "") is not None
-    expect(asked(program, folder, "expand", "AS-Y"), "AS7\n", "AS-Y")
+    made(view)
+    expect(few.asked("expand", "AS-Y"), "AS7\n", "AS-Y")

@@ -6,7 +6,9 @@ import re
 import subprocess
 import tempfile
 import time
+from collections.abc import Callable
 from pathlib import Path
+from typing import NamedTuple
 
 import pytest
 from hypothesis import Phase, given, settings
@@ -37,6 +39,32 @@ def written(folder: Path, several: Several) -> View:
     return View(read(str(folder / "view.toml")))
 
 
+class Few(NamedTuple):
+    """A view of a few objects, and the registry that is made of it."""
+
+    view: View
+    folder: Path
+    program: str
+
+    def asked(self, *words: str) -> str:
+        return asked(self.program, self.folder, *words)
+
+
+ViewOf = Callable[[dict[str, str]], Few]
+
+
+@pytest.fixture
+def view_of(program: str, tmp_path: Path, monkeypatch: pytest.MonkeyPatch) -> ViewOf:
+    """Makes a view of the objects that `several_of` reads."""
+    monkeypatch.setenv("IRRDESK", program)
+
+    def few(sources: dict[str, str]) -> Few:
+        view = written(tmp_path, several_of(sources))
+        return Few(view, made(view), program)
+
+    return few
+
+
 def roas_text(roas: Roas) -> str:
     entries = [
         {"prefix": rpsl.prefix_text(prefix), "maxLength": most, "asn": number}
@@ -45,10 +73,18 @@ def roas_text(roas: Roas) -> str:
     return json.dumps({"metadata": {"generated": int(time.time())}, "roas": entries})
 
 
-def made(view: View) -> Path:
-    """The folder of a registry that is made of a view."""
+def emptied(view: View) -> Path:
+    """The folder in which a registry is made of a view, without that of before."""
     folder = view.folder / "made"
     folder.mkdir(parents=True, exist_ok=True)
+    for path in folder.iterdir():
+        path.unlink()
+    return folder
+
+
+def made(view: View) -> Path:
+    """The folder of a registry that is made of a view."""
+    folder = emptied(view)
     assert view.make(folder, "") is not None
     return folder
 
@@ -126,24 +162,18 @@ def test_a_view_is_the_merge_of_its_sources(
 
 @pytest.mark.parametrize("count", [1, 3_000])
 def test_a_temporary_file_without_room_is_reported(
-    program: str, tmp_path: Path, monkeypatch: pytest.MonkeyPatch, count: int
+    view_of: ViewOf, monkeypatch: pytest.MonkeyPatch, count: int
 ) -> None:
     """Whether that is seen as it is written, or at its end."""
-    monkeypatch.setenv("IRRDESK", program)
     full = functools.partial(open, "/dev/full", "w+b")
     monkeypatch.setattr("irr.migrate.conversion.tempfile.TemporaryFile", lambda prefix: full())
-    one = "aut-num: AS{}|mnt-by: X-MNT"
-    texts = {"TEST": "\n".join(map(one.format, range(1, count + 1)))}
-    view = written(tmp_path, several_of(texts | {"RIPE": one.format(1), "RADB": one.format(1)}))
+    lines = [f"aut-num: AS{number}|mnt-by: X-MNT" for number in range(1, count + 1)]
     with pytest.raises(Failure, match="^the temporary file: no space left on device; make room"):
-        made(view)
+        view_of({"TEST": "\n".join(lines)})
 
 
-def test_a_set_taken_apart_has_its_members_by_reference(
-    program: str, tmp_path: Path, monkeypatch: pytest.MonkeyPatch
-) -> None:
+def test_a_set_taken_apart_has_its_members_by_reference(view_of: ViewOf) -> None:
     """Those of its own source, by a maintainer and by ANY, and no others."""
-    monkeypatch.setenv("IRRDESK", program)
     sources = {
         "TEST": """
             route: 10.8.0.0/16|origin: AS8|member-of: AS1:RS-Y|mnt-by: R-MNT
@@ -162,65 +192,59 @@ def test_a_set_taken_apart_has_its_members_by_reference(
             as-set: AS1:AS-Y|mbrs-by-ref: ANY|mnt-by: R-MNT
         """,
     }
-    folder = made(written(tmp_path, several_of(sources)))
+    few = view_of(sources)
     for name, prefixes in (
         ("AS1:RS-C", ["10.7.0.0/16"]),
         ("AS1:AS-C", ["10.7.0.0/16"]),
         # A plain name is the first source's, also in the objects of later ones.
         ("AS1:RS-Y", ["10.7.0.0/16", "10.8.0.0/16", "10.9.0.0/16"]),
     ):
-        assert asked(program, folder, "prefixes", name).split() == prefixes, name
+        assert few.asked("prefixes", name).split() == prefixes, name
 
 
-def test_a_set_whose_name_ends_in_an_as_number_is_taken_apart(
-    program: str, tmp_path: Path, monkeypatch: pytest.MonkeyPatch
-) -> None:
+def test_a_set_whose_name_ends_in_an_as_number_is_taken_apart(view_of: ViewOf) -> None:
     """What lists it by its own registry has its members, as of any other set."""
-    monkeypatch.setenv("IRRDESK", program)
     sources = {
         "TEST": "as-set: AS-Y:AS2|members: AS8|mnt-by: T-MNT"
         "\nas-set: AS-C|members: RADB::as-y:as02, AS-D|mnt-by: T-MNT"
         "\nroute-set: RS-C|members: RADB::RS-Y:AS2^24|mnt-by: T-MNT"
         "\nroute-set: RS-Y:AS2|members: AS8|mnt-by: T-MNT",
-        "RIPE": "route: 10.8.0.0/16|origin: AS8|mnt-by: X-MNT",
         "RADB": "as-set: AS-Y:AS2|members: AS6|mnt-by: R-MNT"
         "\nroute-set: RS-Y:AS2|members: 10.6.0.0/24|mnt-by: R-MNT"
         "\nas-set: AS-D|mbrs-by-ref: ANY|mnt-by: R-MNT"
         "\nroute: 10.6.0.0/16|origin: AS6|mnt-by: R-MNT",
     }
-    view = written(tmp_path, several_of(sources))
-    folder = made(view)
-    assert asked(program, folder, "prefixes", "AS-C").split() == ["10.6.0.0/16"]
-    assert asked(program, folder, "prefixes", "RS-C").split() == ["10.6.0.0/24"]
-    assert not view.outcomes["TEST"].lost, view.outcomes
+    few = view_of(sources)
+    assert few.asked("prefixes", "AS-C").split() == ["10.6.0.0/16"]
+    assert few.asked("prefixes", "RS-C").split() == ["10.6.0.0/24"]
+    assert not few.view.outcomes["TEST"].lost, few.view.outcomes
     for name in "AS-Y:AS2:AS---RADB", "RS-Y:AS2:RS---RADB":
-        assert "# RADB" in asked(program, folder, name)
+        assert "# RADB" in few.asked(name)
 
 
-def test_a_set_taken_apart_lacks_a_member_whose_text_has_no_room(
-    program: str, tmp_path: Path, monkeypatch: pytest.MonkeyPatch
-) -> None:
+def test_a_set_taken_apart_lacks_a_member_whose_text_has_no_room(view_of: ViewOf) -> None:
     """It is told then, and the view is made."""
-    monkeypatch.setenv("IRRDESK", program)
     sources = {
         "TEST": "route-set: AS1:RS-Y|mnt-by: T-MNT"
         "\nroute-set: RS-C|members: RADB::AS1:RS-Y|mnt-by: T-MNT",
-        "RIPE": "route: 10.5.0.0/16|origin: AS5|mnt-by: X-MNT",
         "RADB": "route-set: AS1:RS-Y|mbrs-by-ref: ANY|mnt-by: R-MNT"
         "\nroute: 10.6.0.0/16|origin: AS6|member-of: AS1:RS-Y|mnt-by: R-MNT"
         f"\nroute: 10.7.0.0/16|origin: AS7|member-of: AS1:RS-Y|mnt-by: R-MNT|descr: {'x' * 65_440}",
     }
-    view = written(tmp_path, several_of(sources))
-    assert asked(program, made(view), "prefixes", "RS-C").split() == ["10.6.0.0/16"]
-    assert view.outcomes["RADB"].lost == {"above 65,536 bytes": 1}, view.outcomes
-    assert not view.outcomes["RADB"].left, view.outcomes
+    few = view_of(sources)
+    assert few.asked("prefixes", "RS-C").split() == ["10.6.0.0/16"]
+    assert few.view.outcomes["RADB"].lost == {"above 65,536 bytes": 1}, few.view.outcomes
+    assert not few.view.outcomes["RADB"].left, few.view.outcomes
 
 
 def several_of(sources: dict[str, str]) -> Several:
-    """Registries whose objects are a line each, with bars between the attributes."""
+    """Registries whose objects are a line each, with bars between the attributes; `source` is that
+    of the registry, and one that nothing is said of has an object of its own."""
     found = {}
-    for name, text in sources.items():
-        lines = [f"{line.strip()}|source: {name}" for line in text.strip().split("\n")]
+    for place, name in enumerate(SOURCES, 1):
+        text = sources.get(name, f"as-block: AS{place} - AS{place}|mnt-by: X-MNT")
+        lines = [line.strip() for line in text.strip().split("\n")]
+        lines = [line if "|source: " in line else f"{line}|source: {name}" for line in lines]
         objects = [[part.split(": ") for part in line.split("|")] for line in lines]
         found[name] = rpsl.Registry(
             tuple(rpsl.Object(tuple((key, value) for key, value in pairs)) for pairs in objects)

@@ -11,7 +11,7 @@ import pytest
 
 from checks.running import Trial, expect
 from checks.views.serving import Files, Nrtm
-from checks.views.test_merge import asked
+from checks.views.test_merge import asked, emptied
 from irr.errors import Failure
 from irr.migrate.normalisation import ROUTE, LeftOut
 from irr.migrate.paragraphs import Part, parts
@@ -65,10 +65,7 @@ serial = "{self.files.url}/RIPE.CURRENTSERIAL"
 
     def renew(self) -> bool:
         """Whether the view is another one than before."""
-        work = self.view.folder / "made"
-        os.makedirs(work, exist_ok=True)
-        for path in work.iterdir():
-            path.unlink()
+        work = emptied(self.view)
         found = self.view.make(work, self.known)
         self.view.commit()
         if found:

@@ -4,6 +4,7 @@ the turns of its loop."""
 import asyncio
 import contextlib
 import socket
+import time
 from collections.abc import AsyncIterator, Awaitable, Callable
 from contextvars import ContextVar
 from typing import Any
@@ -15,6 +16,8 @@ from irr.door import service, settings
 from irr.door.sockets import Watch
 
 
+# The look that the door has at each upstream.
+LOOK = b"less 0.0.0.0/0\r\n"
 # What an upstream does once it has read a line.
 Answering = Callable[[bytes, asyncio.StreamWriter], Awaitable[None]]
 # What watches the sockets of the door that runs.
@@ -36,7 +39,7 @@ class Upstream:
             if not line:
                 # A look whether anybody listens.
                 pass
-            elif line.startswith(b"less 0.0.0.0/0\r"):
+            elif line == LOOK:
                 writer.write(worlds.ALL + b"\n")
             else:
                 self.lines.append(line.strip())
@@ -44,6 +47,28 @@ class Upstream:
                 writer.write(self.answers(line.strip()))
             await writer.drain()
         writer.close()
+
+
+class Timed:
+    """An upstream whose dear answers take as long as it is told, or until they may be given."""
+
+    def __init__(self, seconds: float = 0.0, text: bytes = worlds.AS1 + b"\n") -> None:
+        self.seconds, self.text, self.lines = seconds, text, list[bytes]()
+        self.report = b""
+        self.may_answer = asyncio.Event()
+        self.may_answer.set()
+
+    async def __call__(self, line: bytes, writer: asyncio.StreamWriter) -> None:
+        if line == LOOK:
+            writer.write(worlds.ALL + b"\n")
+        elif line.startswith(b"POST "):
+            writer.write(b"HTTP/1.1 200 OK\r\n\r\n" + self.report)
+        elif line.strip():
+            self.lines.append(line.strip())
+            if line.startswith((b"prefixes", b"expand")):
+                await asyncio.sleep(self.seconds)
+                await self.may_answer.wait()
+            writer.write(self.text)
 
 
 @contextlib.asynccontextmanager
@@ -96,6 +121,12 @@ async def answering(answer: Answering) -> AsyncIterator[str]:
         server.close()
 
 
+def left(door: service.Service, name: str) -> float:
+    """The seconds that a client may use now."""
+    clients, now = door.pool.clients, time.monotonic()
+    return clients.left(clients.of(name, now), now)
+
+
 async def until(is_so: Callable[[], object]) -> None:
     """Waits for a condition."""
     async with asyncio.timeout(60):
@@ -129,6 +160,13 @@ async def asked(text: str, line: bytes, last: int = 1) -> bytes:
     answer = await reader.read()
     writer.close()
     return answer
+
+
+async def submitted(door: service.Service, user: str) -> bytes:
+    """The reply to a submission of a user."""
+    text = b"POST /submissions HTTP/1.1\r\nX-Remote-User: %s\r\nConnection: close\r\n"
+    body = b"Content-Length: 4\r\n\r\nfoo"
+    return await asked(door.settings.http[0], text % user.encode() + body)
 
 
 def run(work: Awaitable[Any]) -> Any:

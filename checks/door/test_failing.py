@@ -11,7 +11,7 @@ import time
 
 import pytest
 
-from checks.door import worlds
+from checks.door import inside, worlds
 from checks.door.opened import HEAD, SPACE, Opened, Registries, read_all, wait_until
 from checks.running import Each, Trial, expect
 from checks.serving import accepted, free_port
@@ -45,7 +45,7 @@ class Halves:
     def serve(self) -> None:
         for peer in accepted(self.listener):
             line = peer.recv(4_096)
-            if line.startswith(b"less 0.0.0.0/0"):
+            if line == inside.LOOK:
                 peer.sendall(worlds.ALL + b"\n")
                 peer.close()
                 continue
@@ -81,6 +81,24 @@ def test_an_answer_that_stops_in_the_middle_is_asked_anew_within_a_second(
                     break
             expect(halves.asked > 0, True, "whether it was asked")
             expect(took < 4, True, f"{took:.2f} s, beside other work")
+
+
+def test_a_replica_that_is_stopped_before_its_first_byte_keeps_nobody_waiting(
+    trial: Trial, big: str
+) -> None:
+    """Asked what is taken to cost a second, since nobody has asked it before."""
+    with Registries(trial, "before", big, replicas=1) as registries:
+        wanted = direct(registries.ports[0], "inverse origin AS1")
+        with Opened(trial, "before-door", registries.words) as door:
+            os.kill(registries.pid(1), signal.SIGSTOP)
+            try:
+                begun = time.monotonic()
+                answer = door.whois("inverse origin AS1")
+                took = time.monotonic() - begun
+            finally:
+                os.kill(registries.pid(1), signal.SIGCONT)
+    expect(answer == wanted, True, f"{len(answer)} bytes of {len(wanted)}")
+    expect(took < 6, True, f"{took:.2f} s, beside other work")
 
 
 def direct(port: int, query: str) -> bytes:

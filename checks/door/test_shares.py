@@ -10,7 +10,7 @@ from typing import Any
 import pytest
 
 from checks.door import inside, worlds
-from checks.door.inside import answering
+from checks.door.inside import Timed, answering, left, submitted
 from checks.running import expect
 from irr.door import submissions
 from irr.door.cache import DEAR
@@ -18,44 +18,10 @@ from irr.door.pool import QUEUED, TRUSTED
 from irr.door.queries import HANDING
 from irr.door.service import Service
 
-LOOK = b"less 0.0.0.0/0\r\n"
 CHEAP = worlds.AS1 + b"\n"
 LONG = b"remarks: x\n" * 100_000 + b"\n"
 # The most seconds that anybody waits, on a machine that does other things.
 SOON = 60
-
-
-class Timed:
-    """An upstream whose dear answers take as long as it is told, or until they may be given."""
-
-    def __init__(self, seconds: float = 0.0, text: bytes = CHEAP) -> None:
-        self.seconds, self.text, self.lines = seconds, text, list[bytes]()
-        self.report = b""
-        self.may_answer = asyncio.Event()
-        self.may_answer.set()
-
-    async def __call__(self, line: bytes, writer: asyncio.StreamWriter) -> None:
-        if line == LOOK:
-            writer.write(worlds.ALL + b"\n")
-        elif line.startswith(b"POST "):
-            writer.write(b"HTTP/1.1 200 OK\r\n\r\n" + self.report)
-        elif line.strip():
-            self.lines.append(line.strip())
-            if line.startswith((b"prefixes", b"expand")):
-                await asyncio.sleep(self.seconds)
-                await self.may_answer.wait()
-            writer.write(self.text)
-
-
-def left(door: Service, name: str) -> float:
-    clients = door.pool.clients
-    return clients.left(clients.of(name, time.monotonic()), time.monotonic())
-
-
-async def submitted(door: Service, user: str) -> bytes:
-    text = b"POST /submissions HTTP/1.1\r\nX-Remote-User: %s\r\nConnection: close\r\n"
-    body = b"Content-Length: 4\r\n\r\nfoo"
-    return await inside.asked(door.settings.http[0], text % user.encode() + body)
 
 
 def test_who_asks_what_is_dear_pays_and_nobody_else() -> None:

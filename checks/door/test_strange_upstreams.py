@@ -12,14 +12,12 @@ from typing import Any
 import pytest
 
 from checks.door import inside, worlds
-from checks.door.inside import answering
+from checks.door.inside import LOOK, answering
 from checks.running import expect
 from checks.serving import free_port
 from irr.door import pool
-from irr.door.cache import Costs
 from irr.door.upstreams import MOST
 
-LOOK = b"less 0.0.0.0/0\r\n"
 ANSWER = worlds.AS1 + b"\n"
 PIECE = b"x" * (1 << 16)
 # The most seconds that anybody waits, on a machine that does other things.
@@ -174,35 +172,6 @@ def test_an_answer_that_drips_from_the_only_one_ends(monkeypatch: pytest.MonkeyP
                     return await inside.asked(door.settings.whois[0], b"AS1")
 
     expect(inside.run(ask()), b"% the registry does not answer\n", "the answer")
-
-
-@pytest.mark.parametrize(("cost", "count"), [(0.0, 2), (0.2, 1)], ids=["cheap", "dear"])
-def test_another_one_is_asked_for_what_is_cheap_alone(
-    monkeypatch: pytest.MonkeyPatch, cost: float, count: int
-) -> None:
-    """While the first is silent. Else a dear query would be paid for by each upstream at once."""
-    monkeypatch.setattr(pool, "SILENT", 0.2)
-    monkeypatch.setattr(pool, "STALLED", 0.1)
-    monkeypatch.setattr(Costs, "known", lambda costs, key: cost)
-    lines: list[bytes] = []
-
-    async def silent(line: bytes, writer: asyncio.StreamWriter) -> None:
-        if line != LOOK:
-            lines.append(line)
-            await asyncio.sleep(2)
-        await good(line, writer)
-
-    async def ask() -> bytes:
-        async with answering(silent) as strange, answering(silent) as other:
-            settings: dict[str, Any] = {"replica": [strange, other]}
-            async with inside.opened(lambda line: ANSWER, **settings) as (door, upstream):
-                async with asyncio.timeout(SOON):
-                    found = await inside.asked(door.settings.whois[0], b"AS1")
-                lines.extend(upstream.lines)
-                return found
-
-    expect(inside.run(ask()), ANSWER, "the answer")
-    expect(len(lines), count, "how often it was asked")
 
 
 # What an agent says, each a whole reply: the door goes on with what it knew.

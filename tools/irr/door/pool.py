@@ -21,8 +21,8 @@ from irr.errors import Failure
 if TYPE_CHECKING:
     from irr.door.views import Views
 
-# Seconds without a byte in the middle of an answer, and before the first one of a cheap query,
-# after which another upstream is asked.
+# Seconds without a byte in the middle of an answer, and before the first one, after which another
+# upstream is asked; before the first one also twice what the query is taken to cost.
 STALLED, SILENT = 0.5, 0.7
 # Seconds for an answer to come, for a turn to come, and for some upstream to answer again.
 ANSWERING, WAITING, DOWN = 60.0, 60.0, 5.0
@@ -121,6 +121,7 @@ class Request(Turn):
         "is_guess",
         "is_dear",
         "is_over",
+        "cost",
         "since",
         "state",
         "waiting",
@@ -135,6 +136,8 @@ class Request(Turn):
         super().__init__(client)
         self.key, self.line, self.kind, self.since, self.state = key, line, kind, since, state
         self.is_guess = self.is_dear = self.is_over = False
+        # The seconds that it is taken to cost, and has cost once it is answered.
+        self.cost = 0.0
         self.waiting: list[Waiting] = []
         self.tried: set[str] = set()
         # The exchanges that ask it now, and those that were begun.
@@ -269,7 +272,8 @@ class Pool:
                 self.count("budget")
                 raise Refused("budget", TOO_MUCH, int(wait) + 1)
             request = Request(client, key, line, kind, now, self.cache.state)
-            request.is_dear = kind == DUMP or self.costs.expected(key, kind) >= DEAR
+            request.cost = self.costs.expected(key, kind)
+            request.is_dear = kind == DUMP or request.cost >= DEAR
             if request.is_dear and self.costs.known(key) is None and self.may_surprise(client, now):
                 request.is_dear, request.is_guess = False, True
         waiting = Waiting(self, request, answered)
@@ -382,7 +386,7 @@ class Pool:
         """Has those who wait get what came, or asks again."""
         now, exchange = time.monotonic(), one.exchange
         assert exchange is not None
-        one.exchange, one.request = None, None
+        one.exchange, one.request, one.is_dear = None, None, False
         request.running -= 1
         one.seconds += now - exchange.begun
         seconds = max(0.0, now - exchange.begun - one.idle)
@@ -391,6 +395,9 @@ class Pool:
             seconds = min(seconds, self.settings.burst)
         if not request.is_over:
             self.learn(request, seconds, now)
+        elif fault is None:
+            # Two have done it.
+            self.pay(request, seconds, now)
         if fault is None and exchange.size >= WRITTEN and not listens(one.place):
             fault = "ECONNREFUSED"
         answer = None
@@ -401,6 +408,7 @@ class Pool:
             fault = None if answer is not None else "cut"
         if answer is not None:
             self.running.pop(request.key, None)
+            request.cost = seconds
             if seconds >= DEAR and isinstance(answer, Answer):
                 self.cache.put(request.key, answer, request.state, now)
             if not self.source and isinstance(answer, Answer):
@@ -412,11 +420,15 @@ class Pool:
         if one.is_registry:
             self.freed()
 
+    def pay(self, request: Request, seconds: float, now: float) -> None:
+        """Has the one who asked pay."""
+        self.clients.charge(request.client, seconds, now)
+        self.seconds[request.kind] = self.seconds.get(request.kind, 0.0) + seconds
+
     def learn(self, request: Request, seconds: float, now: float) -> None:
         """Has the one who asked pay, and remembers what it cost."""
-        self.clients.charge(request.client, seconds, now)
+        self.pay(request, seconds, now)
         self.costs.learn(request.key, request.kind, seconds)
-        self.seconds[request.kind] = self.seconds.get(request.kind, 0.0) + seconds
         if seconds < DEAR:
             request.client.cheap += 1
         elif request.is_guess:
@@ -492,7 +504,7 @@ class Pool:
 
     def hurry(self, one: Upstream, exchange: Exchange, now: float) -> None:
         """Ends an exchange that has stalled, or has little come of it, and asks a second upstream
-        where the first is silent for a query that is cheap."""
+        where the first is silent for longer than its query is taken to cost."""
         silence, request = now - exchange.heard, one.request
         if request is None:
             # A look; a submission has bounds of its own.
@@ -502,21 +514,32 @@ class Pool:
         if silence > ANSWERING or exchange.has_lasted(ANSWERING, exchange.begun, now):
             exchange.end("ETIMEDOUT")
             return
-        is_dripping = exchange.has_lasted(STALLED, exchange.since, now)
-        if silence <= STALLED and not (exchange.size and is_dripping):
-            return
-        if request.is_over:
-            # Another one has answered meanwhile: this one is left out until it answers a look.
-            exchange.end("silent")
-            return
+        if exchange.size:
+            # Once another one has answered, this one is left out until it answers a look.
+            has_stalled = silence > STALLED or exchange.has_lasted(STALLED, exchange.since, now)
+            if has_stalled and (request.is_over or self.others(one)):
+                exchange.end("silent" if request.is_over else "stalled")
+        elif silence > max(SILENT, 2 * request.cost):
+            if request.is_over:
+                exchange.end("silent")
+            elif request.waiting and request.running == 1:
+                self.begin_second(one, request, silence, now)
+
+    def begin_second(self, one: Upstream, request: Request, silence: float, now: float) -> None:
+        """Asks another upstream beside one that may be stopped, or only slow. So what is dear is
+        asked of no replica that is left for cheap queries, unless nobody waits and there is no
+        other; and only if its client can pay for both."""
         others = self.others(one)
-        if exchange.size and others:
-            exchange.end("stalled")
-        elif not exchange.size and others and request.running == 1 and not one.is_dear:
-            if silence > max(SILENT, 3 * self.costs.expected(request.key, request.kind)):
-                # It may be stopped: nothing dear takes the place of what it can't do.
-                one.is_dear = True
-                self.begin(request, others[0])
+        if one.is_dear:
+            if self.clients.left(request.client, now) < min(silence, self.clients.burst):
+                return
+            if not self.free()[1]:
+                spare = [other for other in others if other.is_registry]
+                others = spare or ([] if self.turns.count else others)
+        if others:
+            # Nothing dear takes the place of what one can't do that is stopped.
+            one.is_dear = True
+            self.begin(request, others[0])
 
     def others(self, one: Upstream) -> list[Upstream]:
         """Those that can be asked now in place of one."""

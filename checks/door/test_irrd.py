@@ -1,6 +1,7 @@
 """IRRd's questions at the door: golden replies, kept connections, and IRRd's clients unchanged."""
 
 import asyncio
+import json
 import shutil
 import socket
 import subprocess
@@ -9,7 +10,7 @@ from typing import Any
 
 import pytest
 
-from checks.door import worlds
+from checks.door import inside, worlds
 from checks.door.opened import Opened, Registries, read_all
 from checks.running import Each, Trial, expect
 from irr.door import irrd
@@ -92,6 +93,15 @@ REPLIES = {
     "!sTEST,TEST": b"C\n",
     "!stest, TEST": b"C\n",
     "!sTEST,RIPE": b"F One or more selected sources are unavailable: TEST,RIPE; there is TEST\n",
+    "!fno-rpki-filter": data(b"Nothing is left out of answers here by RPKI"),
+    "!FNO-RPKI-FILTER": data(b"Nothing is left out of answers here by RPKI"),
+    "!fno-scope-filter": data(b"Nothing is left out of answers here by scope"),
+    "!fno-route-preference-filter": data(
+        b"Nothing is left out of answers here by route preference"
+    ),
+    "!fno-such-filter": b"F Unrecognised command: fno-such-filter\n",
+    "!f": b"F Unrecognised command: f\n",
+    "!e": b"F Unrecognised command: e\n",
     "!x": b"F Unrecognised command: x\n",
     "!": b"F Missing IRRD command\n",
     **{f"!{one}": b"F Missing parameter for %c query\n" % ord(one.upper()) for one in "tg6ijmnors"},
@@ -155,6 +165,25 @@ def test_objects_of_a_maintainer_come_in_one_reply(door: Opened) -> None:
 def test_the_status_is_json_and_the_version_says_what_is_skipped(door: Opened) -> None:
     expect(b'"authoritative": true' in door.whois("!J-*"), True, "!J")
     expect(b"missing sets are skipped" in door.whois("!v"), True, "!v")
+
+
+def test_a_view_that_was_made_with_roas_is_not_answered_without_them() -> None:
+    view = {"name": "ALL", "sources": [{"name": "A"}, {"name": "B"}], "roas": "made"}
+    session = b"!!\n!sALL\n!fno-rpki-filter\n!fno-scope-filter\n!sTEST\n!fno-rpki-filter\n!q"
+
+    async def report(_: bytes, writer: asyncio.StreamWriter) -> None:
+        writer.write(json.dumps({"replicas": [], "view": view}).encode() + b"\n")
+
+    async def ask() -> bytes:
+        async with inside.answering(report) as agent, asyncio.timeout(SECONDS):
+            place = agent.removeprefix("http://")
+            async with inside.opened(lambda _: b"", view=[place]) as (door, _):
+                await inside.until(lambda: door.pool.views.pools[0].name)
+                return await inside.asked(door.settings.whois[0], session)
+
+    wanted = b"C\nF the view ALL was made with ROAs, and no query can change that\n"
+    wanted += REPLIES["!fno-scope-filter"] + b"C\n" + REPLIES["!fno-rpki-filter"]
+    expect(inside.run(ask()), wanted, "the replies")
 
 
 def test_a_strict_door_refuses_what_lacks_a_set(trial: Trial, registries: Registries) -> None:

@@ -90,7 +90,7 @@ HELP_TEXT = """\
 %
 % IRRd's, for bgpq4, bgpq3 and peval: a line that begins with an exclamation mark.
 %   !gAS  !iSET  !iSET,1  !aSET  !a4SET  !mCLASS,KEY  !oNAME  !rPREFIX  !rPREFIX,o (l, L, M)
-%   !jNAME  !J-*  !s-lc  !sNAME  !tSECONDS  !v  !!  !q
+%   !jNAME  !J-*  !s-lc  !sNAME  !fno-rpki-filter  !tSECONDS  !v  !!  !q
 %
 % RIPE's: a line with flags.
 %   -r -B -G -K -F -a   -s SOURCE   -T CLASSES   -i ATTRIBUTES   -L -l -M -m -x   -k

@@ -20,7 +20,7 @@ from irr.door.cache import Answer
 from irr.door.dialects import Reply
 from irr.door.pool import Refused
 from irr.door.queries import Asker
-from irr.door.views import sources_of
+from irr.door.views import made_with_roas, sources_of
 from irr.errors import Failure
 from irr.registry import answers
 from irr.rpsl import keys, syntax
@@ -45,6 +45,12 @@ CLASSES = frozenset(
 )
 
 
+# What IRRd leaves out of its answers, unless it is told not to.
+FILTERS = {
+    "fno-rpki-filter": "RPKI",
+    "fno-scope-filter": "scope",
+    "fno-route-preference-filter": "route preference",
+}
 # Questions that are none without a word.
 WITH_WORD = frozenset("tg6ijmnors")
 
@@ -116,7 +122,7 @@ class Session:
         if len(line) > LONGEST:
             return self.too_long()
         question = line[1:].decode("latin-1").rstrip("\r\n\t ")
-        if question.lower() in ("q", "e"):
+        if question.lower() == "q":
             return Reply(b"", "answered", False)
         state = self.asker.pool.cache.state
         try:
@@ -151,6 +157,8 @@ class Session:
         """The reply to a question without its `!`."""
         if question in WITH_WORD:
             raise Fault(f"Missing parameter for {question.upper()} query")
+        if question.lower() in FILTERS:
+            return self.unfiltered(FILTERS[question.lower()])
         for begin, answer in QUESTIONS:
             if question.startswith(begin):
                 return await answer(self, question[len(begin) :].strip(" \t"))
@@ -433,6 +441,13 @@ class Session:
         """`!nWORDS`: what the client is."""
         self.is_bgpq = client.startswith("bgpq")
         return NOTHING
+
+    def unfiltered(self, what: str) -> bytes:
+        """`!fno-rpki-filter` and its like: that nothing is left out from then on, as before."""
+        view = made_with_roas(self.asker.pool) if what == "RPKI" else ""
+        if view:
+            raise Fault(f"the view {view} was made with ROAs, and no query can change that")
+        return data(f"Nothing is left out of answers here by {what}".encode())
 
     async def version(self, _: str) -> bytes:
         missing = "refused" if self.is_strict else "skipped"

@@ -123,3 +123,9 @@ class Views:
 def sources_of(pool: Pool) -> str:
     """The names of what a pool serves."""
     return pool.sources if isinstance(pool, ViewPool) else pool.source
+
+
+def made_with_roas(pool: Pool) -> str:
+    """The name of a view that ROAs have made smaller; nothing for anything else."""
+    view = pool.reported.get("view", {}) if isinstance(pool, ViewPool) else {}
+    return str(view["name"]) if view.get("roas") else ""

@@ -222,6 +222,29 @@ def test_others_are_served_between_the_parts_of_a_long_one(trial: Trial) -> None
             expect(max(slow.sizes) <= 50, True, f"the parts {slow.sizes}")
 
 
+def test_the_lines_of_a_report_come_as_soon_as_they_are_decided(trial: Trial) -> None:
+    """Those of the parts that are over, while the registry has the next one."""
+    with Slow() as slow:
+        with Opened(trial, "line-by-line", [f"--registry=http://127.0.0.1:{slow.port}"]) as door:
+            many = "".join(f"as-set: AS-M{n}\nmnt-by: A-MNT\nsource: TEST\n\n" for n in range(400))
+            head = b"POST /submissions HTTP/1.1\r\nHost: x\r\nConnection: close\r\n"
+            head += b"Content-Length: %d\r\n\r\n" % len(many)
+            with contextlib.closing(door.connect(door.http_port)) as peer:
+                peer.sendall(head + many.encode())
+                wait_until("a part", 20, lambda: slow.sizes)
+                slow.may_answer.clear()
+                wait_until("a part that is held", 20, lambda: slow.is_held)
+                count, came = sum(slow.sizes), b""
+                while b"\n%d as-set AS-M%d: added\n" % (count, count - 1) not in came:
+                    piece = peer.recv(1 << 16)
+                    expect(bool(piece), True, f"whether the connection stays: {came[-200:]!r}")
+                    came += piece
+                expect(sum(slow.sizes), count, "the items of the parts that are over")
+                slow.may_answer.set()
+                came += read_all(peer)
+    expect((came.count(b": added"), b"% items 400" in came), (400, True), "the report")
+
+
 def test_a_registry_that_goes_away_between_two_parts_cuts_the_report(trial: Trial) -> None:
     with Slow(parts=2) as slow:
         with Opened(trial, "cut-parts", [f"--registry=http://127.0.0.1:{slow.port}"]) as door:

@@ -8,8 +8,10 @@ from collections.abc import Iterator
 
 import pytest
 
-from checks.door.opened import Opened, read_all, wait_until
-from checks.running import expect
+from checks.door import worlds
+from checks.door.opened import Opened, Registries, read_all, wait_until
+from checks.running import Trial, expect
+from checks.serving import free_port
 from irr.door.exchange import Exchange
 from irr.door.settings import Place
 from irr.door.sockets import IN, Watch
@@ -133,3 +135,21 @@ def test_the_end_of_an_answer_is_not_taken_for_a_fault(way: str, wanted: str | N
                 watch.select(1)
     expect((parts, ends), ([b"an answer\n"], [wanted]), "what came, and how it ended")
     watch.loop.close()
+
+
+def test_one_place_takes_clients_of_both_versions(trial: Trial, registries: Registries) -> None:
+    """As `[::]:43` does: and one of IPv4 is the same client there as elsewhere."""
+    port = free_port()
+    words = [*registries.words, f"--whois=[::]:{port}"]
+    with Opened(trial, "both-versions", words, "of_client = 2\n") as door:
+        held = [door.connect(port, 7) for _ in range(2)]
+        for peer in held:
+            peer.sendall(b"!!\n!s-lc\n")
+            expect(peer.recv(64), b"A5\nTEST\nC\n", "an answer over IPv4")
+        told = b"% too many connections of yours; come again later\n"
+        expect(door.whois("AS1", 7), told, "one more at another place")
+        with socket.create_connection(("::1", port), 30) as peer:
+            peer.sendall(b"AS1\r\n")
+            expect(read_all(peer), worlds.AS1 + b"\n", "an answer over IPv6")
+        for peer in held:
+            peer.close()

@@ -188,6 +188,43 @@ def test_nobody_is_asked_for_who_has_gone() -> None:
     expect(inside.run(ask()), 0, "how often another one was asked")
 
 
+def test_a_registry_that_is_held_for_a_submission_is_not_asked(
+    monkeypatch: pytest.MonkeyPatch,
+) -> None:
+    """Though nothing is on its way to it yet."""
+
+    async def ask() -> tuple[int, bytes]:
+        registry, silent = Timed(), Silent()
+        async with opened(registry, silent) as door:
+            # No submission takes it, and none lets it go.
+            monkeypatch.setattr(door.submissions, "turn", lambda: None)
+            door.pool.freed, door.pool.is_held = lambda: None, True
+            asking = asyncio.create_task(asked(door, DEAR))
+            await asyncio.sleep(2)
+            count, door.pool.is_held = len(registry.lines), False
+            return count, await asking
+
+    expect(inside.run(ask()), (0, TEXT), "how often it was asked meanwhile, and the answer")
+
+
+def test_a_replica_that_is_looked_at_does_nothing_dear() -> None:
+    """Though a dear query was its last: else no other one would be begun meanwhile."""
+
+    async def ask() -> bool:
+        replicas = [Timed(), Timed()]
+        async with opened(Timed(), *replicas) as door:
+            await asked(door, DEAR)
+            await inside.until(lambda: is_idle(door))
+            one = door.pool.replicas[0 if replicas[0].lines else 1]
+            look: Any = object()
+            one.exchange, before = look, one.exchange
+            _, may_be_dear = door.pool.free()
+            one.exchange = before
+            return may_be_dear
+
+    expect(inside.run(ask()), True, "whether what is dear may be begun")
+
+
 def test_a_registry_that_has_a_submission_is_asked_once_that_is_over() -> None:
     async def ask() -> tuple[int, bytes]:
         registry, silent = Timed(), Silent()

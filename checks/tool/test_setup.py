@@ -263,6 +263,26 @@ def test_a_service_is_made_of_the_files_of_the_package(trial: Trial, tool: Tool)
     )
     expect_line(service.full(), 4, ".*a registry is here; .*", "a second one")
     expect(service.asked(), [], "what a second one asks of systemd")
+    example = Path(TOP, "examples", "nginx.conf").read_text(encoding="ascii")
+    place = re.search(r"location = /submissions \{\n(.*?)\}", example, re.DOTALL)
+    stands = re.findall(r"^ *([a-z_]+) ", place[1], re.MULTILINE) if place else []
+    stands = stands[: stands.index("auth_basic_user_file") + 1]
+    expect(set(stands), {line.split()[0] for line in lines}, "the lines that they replace")
+    said = b"in place of the lines from `satisfy` to\n    `auth_basic_user_file`"
+    expect(said in ran.printed, True, f"whether it says so: {ran.printed!r}")
+
+
+@AS_ROOT
+def test_the_examples_are_those_beside_the_tool(trial: Trial, tool: Tool) -> None:
+    """That what is next names the example where the tool is installed, if it is there."""
+    service = Service(trial, tool, "prefix")
+    place = service.place / "share/doc/irrdesk/examples"
+    place.mkdir(parents=True)
+    (place / "nginx.conf").touch()
+    service.tool = service.tool.at()
+    service.tool.path = shutil.copy(tool.path, service.place / "bin" / "irr")
+    ran = service.full()
+    expect(f"{place}/nginx.conf" in ran.printed.decode(), True, f"what is next: {ran.printed!r}")
 
 
 @AS_ROOT

@@ -4,6 +4,8 @@ import argparse
 import os
 import re
 import shutil
+import sys
+from pathlib import Path
 from typing import Any, Callable, TypeVar
 
 from irr.door.settings import networks
@@ -25,7 +27,7 @@ stopped is gone on with by the next one. Where a registry is it changes nothing.
 """
 Answer = TypeVar("Answer")
 WHO = ("nobody", "users", "anybody")
-EXAMPLE_FILES = "/usr/share/doc/irrdesk/examples"
+EXAMPLE_FILES = "share/doc/irrdesk/examples"
 
 
 def arguments(parser: argparse.ArgumentParser) -> None:
@@ -357,6 +359,12 @@ def show(name: str, password: str) -> None:
 # What is next.
 
 
+def examples() -> Path:
+    """The folder of the examples: that beside this tool, or else the package's."""
+    beside = Path(sys.argv[0]).resolve().parent.parent / EXAMPLE_FILES
+    return beside if beside.is_dir() else Path("/usr", EXAMPLE_FILES)
+
+
 def next_steps(plan: Plan) -> list[str]:
     """What an operator does then."""
     lines = ["", "What is next:"]
@@ -373,8 +381,10 @@ def next_steps(plan: Plan) -> list[str]:
     ]
     if plan.door and plan.is_service:
         lines += [
-            f"  TLS and the page for people: {EXAMPLE_FILES}/nginx.conf; who may submit:",
-            f"    include {plan.submitters}; in its `location = /submissions`",
+            f"  TLS and the page for people: {examples()}/nginx.conf; who may submit:",
+            f"    include {plan.submitters};",
+            "    in its `location = /submissions`, in place of the lines from `satisfy` to",
+            "    `auth_basic_user_file`",
             *[f"    htpasswd -B -c {setups.USERS} USER"] * ("users" in plan.submit),
         ]
     if plan.replicas and plan.limit != setups.PACKAGED["limit"]:

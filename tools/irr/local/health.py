@@ -36,7 +36,7 @@ REMEDIES = {
     "unit-stopped": "start it, or disable it",
     "backup-old": "`journalctl --unit irrdesk-backup` says why; make one by hand",
     "history-old": "`journalctl --unit irrdesk-history` says why",
-    "mirror-behind": "tell its operator: it may have to begin from a dump",
+    "mirror-behind": "tell its operator: it may need a new dump; if it has left, restart the door",
     "certificate-ends": "renew it, and reload the proxy",
     "certificate-bad": "correct the proxy's certificate, or the name",
     "disk-full": "make room: a full disk stops the registry",

@@ -339,11 +339,12 @@ class Service:
         guest.done(f"{AS_OWNER} irrdesk init {SETTINGS}; systemctl start irrdesk")
         self.serves("a new registry")
         wanted = self.trial.chance("restart").randrange(20, 200)
-        # One command, since all of it may take less than a second.
+        # All of it may take less than a second: nothing is begun between the line and the signal.
         guest.done(
-            f"curl --silent --no-buffer --data-binary @/run/given/items.rpsl {URL}/submissions >"
-            f" report 2> reported < /dev/null & until test $(wc -l < report) -ge {wanted};"
-            " do sleep 0.01; done; systemctl restart irrdesk"
+            "server=$(systemctl show --property=MainPID --value irrdesk);"
+            f" curl --silent --no-buffer --data-binary @/run/given/items.rpsl {URL}/submissions |"
+            f' {{ for n in {{1..{wanted}}}; do read -r line; echo "$line"; done; kill $server;'
+            " systemctl restart irrdesk; cat; } > report"
         )
         self.serves("the restart")
         reported = len(
@@ -352,14 +353,14 @@ class Service:
             )
         )
         stands = self.fronts.get(sum_of(self.full_dump()), [])
-        if reported >= count or not {reported, reported + 1} & set(stands):
+        if not wanted <= reported < count or not {reported, reported + 1} & set(stands):
             raise Failure(
                 f"{reported} lines were reported of {count}, and the rows are those of"
                 f" {stands} items"
             )
         guest.done(
             "systemctl stop irrdesk; rm /var/lib/irrdesk/irr.db*; mv /root/kept/* /var/lib/irrdesk;"
-            " systemctl start irrdesk"
+            " rmdir /root/kept; systemctl start irrdesk"
         )
         self.serves("the first registry again")
         return f"{reported} reported, {stands[0]} stand"

@@ -14,7 +14,7 @@ import socket
 import subprocess
 import tarfile
 import time
-from collections.abc import Mapping
+from collections.abc import Mapping, Sequence
 from typing import Any, Self
 
 from checks.running import Failure, Skipped, short
@@ -39,6 +39,9 @@ PACKAGES = [
     "whois",
     "sqlite3",
 ]
+# What the long form has besides: a proxy whose certificate comes of a test authority. debootstrap
+# does not find what certbot needs by another name.
+PROXY = ["nginx", "certbot", "python3-cffi-backend", "pebble", "ca-certificates"]
 SIZE = "3G"
 # A tar file is the second disk: it brings the agent, and what a case needs. Debian's own timers
 # stay quiet meanwhile.
@@ -69,8 +72,9 @@ QUIET = [
     "getty@tty1.service",
     "serial-getty@ttyS0.service",
     "bird.service",
+    "nginx.service",
+    "certbot.timer",
 ]
-RECIPE = json.dumps([PACKAGES, SIZE, FILES, QUIET], indent=1)
 AGENT = """import json, os, subprocess
 port = os.open("/dev/virtio-ports/asked", os.O_RDWR)
 def tell(**ended):
@@ -118,8 +122,9 @@ class Image:
     """The machine's disk as Debian makes it, with its kernel: made once in a folder, and again if
     what it is made of has changed."""
 
-    def __init__(self, folder: str) -> None:
-        self.folder = os.path.abspath(folder)
+    def __init__(self, folder: str, more: Sequence[str] = ()) -> None:
+        self.folder, self.packages = os.path.abspath(folder), [*PACKAGES, *more]
+        self.recipe = json.dumps([self.packages, SIZE, FILES, QUIET], indent=1)
         self.disk, self.kernel, self.first = (
             os.path.join(self.folder, name) for name in ["disk", "kernel", "initrd"]
         )
@@ -129,7 +134,7 @@ class Image:
         """Whether the disk is there, of this recipe."""
         try:
             with open(self.record, encoding="utf-8") as opened:
-                return opened.read() == RECIPE
+                return opened.read() == self.recipe
         except FileNotFoundError:
             return False
 
@@ -146,12 +151,16 @@ class Image:
         finally:
             shutil.rmtree(root, ignore_errors=True)
         with open(self.record, "w", encoding="utf-8") as out:
-            out.write(RECIPE)
+            out.write(self.recipe)
         return f"Debian {version}, {os.stat(self.disk).st_blocks // 2048} MiB"
 
     def lay_out(self, root: str) -> None:
         self.do(
-            "debootstrap", "--variant=minbase", f"--include={','.join(PACKAGES)}", "bookworm", root
+            "debootstrap",
+            "--variant=minbase",
+            f"--include={','.join(self.packages)}",
+            "bookworm",
+            root,
         )
         for path, text in FILES.items():
             os.makedirs(os.path.dirname(f"{root}/{path}"), exist_ok=True)

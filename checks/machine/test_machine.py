@@ -1,8 +1,8 @@
 """The package, its units and a registry in a whole machine: Debian with systemd, which qemu runs,
-and beside it some whose power is cut. The disk is made by debootstrap once, in out/machine or the
-folder of --image, and each run works on copies. With --container the same systemd runs in
-namespaces of this system's kernel: that is quick, and no power can be cut. The checks go on one
-after the other in one machine."""
+and beside it some whose power is cut. The disk is made by debootstrap once, in out/machine, or for
+the long form in out/machine-long, or in the folder of --image, and each run works on copies. With
+--container the same systemd runs in namespaces of this system's kernel: that is quick, and no power
+can be cut. The checks go on one after the other in one machine."""
 
 import argparse
 import os
@@ -13,6 +13,7 @@ import pytest
 
 from checks.machine import guest
 from checks.machine.contained import Contained
+from checks.machine.failures import Failures
 from checks.machine.outages import Fleet
 from checks.machine.sandbox import Sandbox
 from checks.machine.service import Service
@@ -52,7 +53,20 @@ STEPS = [
     pytest.param("timers", "moved", id="a move to a second machine", marks=LONG),
     pytest.param("timers", "filters", id="filters by their timer", marks=LONG),
     pytest.param("timers", "mirrors", id="the dump and the serials for mirrors", marks=LONG),
+    pytest.param("timers", "released", id="each released package, and back", marks=LONG),
     pytest.param("timers", "untouched", id="what all this left", marks=LONG),
+    pytest.param("timers", "mailed", id="who did what, and mail of it", marks=LONG),
+    pytest.param("failures", "exposed", id="a certificate by ACME", marks=LONG),
+    pytest.param("failures", "prepared", id="nothing wrong", marks=LONG),
+    pytest.param("failures", "certificate", id="a certificate near its end", marks=LONG),
+    pytest.param("failures", "backup", id="an old backup", marks=LONG),
+    pytest.param("failures", "replica", id="old replicas", marks=LONG),
+    pytest.param("failures", "mirror", id="a mirror that is behind", marks=LONG),
+    pytest.param("failures", "disk", id="a disk that is full, as it is watched", marks=LONG),
+    pytest.param("failures", "clock", id="a backup of the future", marks=LONG),
+    pytest.param("failures", "memory", id="memory near its bound", marks=LONG),
+    pytest.param("failures", "year", id="a year of timers", marks=LONG),
+    pytest.param("failures", "over", id="what the failures left", marks=LONG),
     pytest.param("service", "taken_away", id="a removal, a purge and a new installation"),
 ]
 
@@ -75,8 +89,9 @@ def package(trial: Trial, options: argparse.Namespace) -> str:
 
 @pytest.fixture(scope="module")
 def image(options: argparse.Namespace) -> guest.Image:
-    """The machine's disk."""
-    made = guest.Image(options.image or os.path.join(TOP, "out", "machine"))
+    """The machine's disk, which has more in the long form."""
+    folder, more = ("machine-long", guest.PROXY) if options.long else ("machine", [])
+    made = guest.Image(options.image or os.path.join(TOP, "out", folder), more)
     made.figures = made.make()
     return made
 
@@ -101,7 +116,8 @@ def parts(
     """The machine, and what is looked at in it."""
     kind = Contained if options.container else guest.Guest
     service = Service(trial, image, package, kind)
-    yield {"service": service, "sandbox": Sandbox(service), "timers": Timers(service)}
+    kinds = {"sandbox": Sandbox, "timers": Timers, "failures": Failures}
+    yield {"service": service} | {name: kind(service) for name, kind in kinds.items()}
     service.end()
 
 

@@ -2,10 +2,13 @@
 
 import os
 import re
+from pathlib import Path
 
 from checks.machine.guest import found
 from checks.machine.service import AS_OWNER, ASKED, SETTINGS, TRIGGERED, Service
-from checks.running import TOP, expect
+from checks.package import packages
+from checks.pages.text import text_of
+from checks.running import AUTH, TOP, expect
 from checks.sums import sum_of
 
 # The example's filter by bgpq4, of an AS that the registry has; its number is one for
@@ -14,6 +17,16 @@ FILTERS = (
     'sed -i \'/^make/d; s/^# make = "bgpq4 /make = "bgpq4 -p /;'
     " s/ AS64496:AS-CUSTOMERS/ AS64496/' /etc/irrdesk/filters.toml"
 )
+# A mail server that keeps what it is given, and a maintainer that wants mail.
+SENDMAIL = b"#!/bin/sh\ncat >> /var/lib/irrdesk-notify/mail\n"
+MAILED = f"""password: bc
+
+mntner: MAILED-MNT
+auth: {AUTH}
+mnt-by: MAILED-MNT
+upd-to: up@example.net
+source: TEST
+""".encode()
 SOON = "/run/systemd/system/irrdesk-backup.timer.d"
 
 
@@ -217,6 +230,61 @@ class Timers:
         printed = guest.done(f'bash -c "{asked}"')
         expect(f"-{serial}\n" in printed, True, f"whether serial {serial} is told: {printed}")
         return f"serial {serial}"
+
+    def mailed(self) -> str:
+        """That `irr log` tells who submitted what without any option, and that what the door was
+        refused is mailed by the unit, as the package has both."""
+        guest = self.service.guest
+        guest.done("cat > /usr/sbin/sendmail; chmod 755 /usr/sbin/sendmail", given=SENDMAIL)
+        lines = found(
+            r"^```sh\n(mkdir /etc/systemd/system/irrdesk-notify(?:.*\n)*?)```$",
+            text_of("docs/OPERATING.md"),
+            "the lines of docs/OPERATING.md",
+        )
+        guest.done(f"set -e\n{lines}systemctl start irrdesk-history irrdesk-notify", seconds=300)
+        door = "irr submit -s http://127.0.0.1:4380 -"
+        guest.ended(door, given=MAILED)
+        guest.ended(door, given=MAILED.replace(b"password: bc", b"password: no"))
+        told = guest.done("irr log --maintainer MAILED-MNT")
+        wanted = ["mntner MAILED-MNT: added", "mntner MAILED-MNT: refused E11"]
+        seen = [line.partition(": ")[2] for line in told.splitlines()]
+        expect(seen, wanted, f"what irr log tells: {told}")
+        guest.done("systemctl start irrdesk-history irrdesk-notify", seconds=300)
+        mail = guest.done("cat /var/lib/irrdesk-notify/mail")
+        expect("To: up@example.net" in mail and "refused E11" in mail, True, f"the mail: {mail}")
+        ended = guest.ended("runuser -u irrdesk-public -- irr log")
+        expect((ended.status, ended.printed), (3, ""), f"who else reads it: {ended.reported}")
+        guest.done("systemctl disable --now irrdesk-notify.timer")
+        return f"{len(mail.splitlines())} lines of mail"
+
+    def released(self) -> str:
+        """A package of each released version in the place of this one, and this one again: the
+        registry, its settings and what is enabled stay, and whoever asks at the door is
+        answered."""
+        service, guest = self.service, self.service.guest
+        looked = f"cat {SETTINGS}; stat -c '%U:%G %a' {SETTINGS}; ls /etc/systemd/system/*.wants"
+        before, wanted = guest.done(looked), service.dump()
+        paths = packages.released(service.trial.place("released"))
+        versions = {os.path.basename(path).partition("-")[2]: path for path in paths}
+        for name, path in versions.items():
+            guest.done("cat > /root/older.deb", given=Path(path).read_bytes())
+            install = "apt-get install --yes --allow-downgrades"
+            guest.done(f"{install} /root/older.deb", seconds=600)
+            service.serves(name)
+            expect(service.dump() == wanted, True, f"whether {name} has the same registry")
+            guest.done(f"{install} /run/given/irrdesk.deb", seconds=600)
+            # As docs/UPGRADING.md says of timers that the older one lacks.
+            guest.done(
+                "systemctl list-units --failed --plain --no-legend 'irrdesk-*.timer'"
+                " | cut -d ' ' -f 1 | xargs --no-run-if-empty systemctl start"
+            )
+            service.serves(f"the upgrade from {name}")
+            expect(service.dump() == wanted, True, f"whether it is the same after {name}")
+            expect(guest.done(looked), before, f"settings and what is enabled after {name}")
+            asked = "whois -h 127.0.0.1 -p 43 ROOT-MNT | grep -q ^mntner"
+            guest.until(asked, f"an answer at the door after {name}")
+            guest.until("systemctl start irrdesk-check", f"that all is well after {name}")
+        return f"{len(versions)} packages, and back"
 
     def untouched(self) -> str:
         """That nothing of all this changed the registry, or failed."""

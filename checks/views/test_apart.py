@@ -147,6 +147,66 @@ def test_a_line_of_blanks_in_a_change_moves_no_other(followed: World) -> None:
     expect(found, [True, True, False], "what is there")
 
 
+def odd_set(key: str, lines: str = "") -> str:
+    return f"as-set: {key}\n{lines}members: AS2\nmnt-by: B-MNT\nsource: RIPE\n"
+
+
+# What keeps AS-D from later sources, or is none.
+ODD_SETS = [
+    odd_set("AS-D descr: x"),
+    odd_set("AS-D").replace(":", ";", 1),
+    odd_set("AS-C", "descr: x\ras-set: AS-D\n"),
+    odd_set("AS-C", "descr: Exampleas-set: AS-D\n"),
+    odd_set("AS-D").replace("AS2", "AS2 EXCEPT AS3"),
+    odd_set("AS-D").replace("RIPE", "RADB"),
+]
+
+
+@pytest.mark.parametrize("number", range(len(ODD_SETS)))
+@pytest.mark.parametrize("own", ["", odd_set("AS-D").replace("AS2", "AS7")])
+def test_a_change_means_what_a_dump_does(
+    followed: World, tmp_path: Path, number: int, own: str
+) -> None:
+    """Of the object itself, of names in it, and of an own set of a like name."""
+    (tmp_path / "other").mkdir()
+    other = World(tmp_path / "other")
+    for world in followed, other:
+        (world.folder / "two.db").write_text(odd_set("AS-D").replace("RIPE", "TWO"))
+        with open(world.folder / "view.toml", "a", encoding="utf-8") as out:
+            out.write(f'[[source]]\nname = "TWO"\ndump = "{world.folder}/two.db"\n')
+        world.view = View(settings.read(str(world.folder / "view.toml")))
+        world.files.texts["/ripe.db.as-set"] = own.encode() or odd_set("AS-X").encode()
+    expect(followed.renew(), True, "the first time")
+    before = dump(followed)
+    followed.nrtm.publish([("ADD", ODD_SETS[number])])
+    followed.renew()
+    # One that has the key of the own set replaces it.
+    replaced = bool(own) and "EXCEPT" in ODD_SETS[number]
+    texts = [ODD_SETS[number]] if replaced else [own or odd_set("AS-X"), ODD_SETS[number]]
+    other.files.texts["/ripe.db.as-set"] = "\n".join(texts).encode()
+    with other.files:
+        expect((other.renew(), fault(other)), (True, ""), "a dump of both")
+    expect((dump(followed), fault(followed)), (dump(other), ""), "after the change")
+    followed.nrtm.publish([("DEL", ODD_SETS[number])])
+    followed.renew()
+    if not replaced:
+        expect((dump(followed), fault(followed)), (before, ""), "after it is taken back")
+
+
+def test_what_comes_after_the_object_of_a_change_is_counted(followed: World) -> None:
+    world = followed
+    expect(world.renew(), True, "the first time")
+    world.nrtm.publish([("ADD", odd_set("AS-B") + route(900))])
+    expect((world.renew(), fault(world)), (True, ""), "the change")
+    found = [name in dump(world) for name in (b"AS-B", b"10.3.132.0/24")]
+    left = world.view.outcomes["RIPE"].left
+    expect(
+        (found, left),
+        ([True, False], {"after the object of a change": 1}),
+        "what there is, and what was left out",
+    )
+
+
 @pytest.mark.parametrize("text", ["% a remark\n", "# a\n% b\n", "  \n\t\n"])
 def test_a_change_without_an_object_is_none(text: str) -> None:
     answer = f"%START Version: 3 RIPE 2-3\n\nADD 2\n\n{text}\nADD 3\n\n{route(1)}\n%END RIPE\n"

@@ -146,21 +146,21 @@ class Mender:
         begun = part.begun(cause is None, line)
         return [name for block in begun if (name := self.name_in(block))]
 
-    def name_in(self, block: syntax.Block) -> Name | None:
-        """Which object it is that may be none, by the lines that can be read, of a key by what it
-        begins with; None where they tell none."""
-        text = paragraphs.headed(block.text)
-        kind = text.partition(b":")[0].lower()
-        if kind not in NUMBERS:
+    def name_in(self, block: syntax.Block, is_whole: bool = False) -> Name | None:
+        """Which object it is that may be none, by the lines that can be read: by what its key
+        begins with, or by a whole key alone; None where they tell none."""
+        text = block.text if is_whole else paragraphs.headed(block.text)
+        kind = text.partition(b":")[0].strip(syntax.BLANKS).lower()
+        found = syntax.read_any(readable(text)).attributes if kind in NUMBERS else []
+        if not found or found[0].name != kind:
             return None
-        found = syntax.read_any(readable(text)).attributes
         # From another class on it is of no object, or of another one.
         names = [attribute.name for attribute in found[1:]]
         ends = [one in NUMBERS or one in paragraphs.FOREIGN for one in names] + [True]
         own = found[: ends.index(True) + 1]
         sources = [source_of(one.meaning()) for one in own if one.name == b"source"]
         source = next(filter(None, sources), "")
-        for key in key_fronts(own[0]):
+        for key in own[:1] if is_whole else key_fronts(own[0]):
             with contextlib.suppress(LeftOut):
                 return Name(NUMBERS[kind], self.keyed(NUMBERS[kind], [key, *own[1:]])[0], source)
         return None

@@ -31,6 +31,7 @@ from irr.views.sources import State
 
 # Why an object is left out.
 OTHER_SOURCE, EARLIER = "of another source", "an earlier source has it"
+FURTHER = "after the object of a change"
 CHANGED, INVALID = "changed since the dump", "invalid by ROAs"
 # Of how many objects of a class a source does not lose all at once.
 SOME = 10
@@ -65,8 +66,6 @@ class ViewMender(Mender):
         super().__init__(view, VIEW_ROOT)
         self.table, self.keeps_invalid = table, keeps_invalid
         self.own, self.is_irrdesk, self.is_apart = "", False, False
-        # Whether what is read now is one object, whatever stands in its text.
-        self.is_one = False
         # What is of before the changes of the source; how many objects it has of each class; how
         # many of its routes are invalid.
         self.superseded: Collection[tuple[int, int | str]] = ()
@@ -82,7 +81,7 @@ class ViewMender(Mender):
         if str(cause) == OTHER_SOURCE:
             return []
         own = self.name_in(part.block)
-        found = super().left(part, cause) if not self.is_one else [own] if own else []
+        found = super().left(part, cause) if not self.is_apart else [own] if own else []
         return [
             name._replace(source=self.own)
             for name in found
@@ -93,9 +92,9 @@ class ViewMender(Mender):
         """Which object of the source a change is of."""
         try:
             mended = super().mend(part)
-        except LeftOut as cause:
-            names = self.left(part, cause)
-            return names[0][:2] if names else None
+        except LeftOut:
+            name = self.name_in(part.block, is_whole=True)
+            return name[:2] if name and name.source in ("", self.own) else None
         return mended.number, mended.key
 
     def mend(self, part: Part, is_cut: bool = False) -> Mended:
@@ -234,12 +233,10 @@ class Merge(conversion.Import):
         self.sources.setdefault(name, len(self.sources))
         for path in (*state.parts, state.changes):
             self.by_source.source_of[str(path)] = name
-        self.own.is_one = True
         added = self.changed(state)
-        self.own.is_one = self.own.is_apart
         for path in state.parts:
             self.read_file(str(path))
-        self.own.superseded, self.own.is_one = (), True
+        self.own.superseded = ()
         self.paths.append(str(state.changes))
         for part in added:
             self.take(part, str(state.changes))
@@ -248,19 +245,25 @@ class Merge(conversion.Import):
     def changed(self, state: State) -> list[Part]:
         """The objects that changes have added, and are there still. What they changed in the dump
         is known from then on."""
-        last: dict[tuple[int, int | str], Part | None] = {}
-        unread: list[Part] = []
+        last: dict[tuple[int, int | str], list[Part]] = {}
+        # Those without a key that can be read, by their text.
+        unread: dict[bytes, list[Part]] = {}
         for is_there, block in state.changed():
-            # A change is of one object, whatever stands in its text.
-            for part in self.parts(block)[:1]:
-                key = self.own.key_changed(part)
-                if key:
-                    last[key] = part if is_there else None
-                elif is_there:
-                    unread.append(part)
+            # A change is of one object, and what comes after that is none.
+            first, *others = self.parts(block) or [None]
+            if first is None:
+                continue
+            found = [first, *(part._replace(doubt=FURTHER) for part in others)]
+            key = self.own.key_changed(first)
+            if key:
+                last[key] = found if is_there else []
+            elif is_there:
+                unread[block.text] = found
+            else:
+                unread.pop(block.text, None)
         self.own.superseded = last.keys()
         # What can't be taken is counted once it is tried.
-        return [*(part for part in last.values() if part), *unread]
+        return [part for found in (*last.values(), *unread.values()) for part in found]
 
     def take(self, part: Part, path: str, is_cut: bool = False) -> None:
         self.at = part, path

@@ -10,7 +10,7 @@ from collections.abc import Iterator
 import pytest
 
 from checks.door import worlds
-from checks.door.opened import Opened, has_no_trace, read_all
+from checks.door.opened import Opened, Registries, has_no_trace, read_all
 from checks.running import Each, expect
 
 POST = b"POST /submissions HTTP/1.1\r\nHost: irr.example\r\nConnection: close\r\n"
@@ -82,6 +82,29 @@ TARGETS = [
     b"/metrics",
     b"/status?json",
 ]
+AS_THE_REGISTRY = [
+    b"/",
+    b"/?/dump",
+    b"/query",
+    b"/query/",
+    b"/query/?AS1",
+    b"/query//",
+    b"/query/AS1/",
+    b"/query/less%20192.0.2.0/26",
+    b"/query/less%20192.0.2.0%2F26",
+    b"/query/AS1",
+    b"/query/AS1?",
+    b"/query/AS1?x/y?z",
+    b"/query/%3F",
+    b"/query/%",
+    b"/dump",
+    b"/dump?",
+    b"/dump?x",
+    b"/dump/",
+    b"/submissions",
+    b"/submissions?x",
+    b"/submissions/x",
+]
 
 
 def asked(door: Opened, text: bytes, port: int = 0) -> bytes:
@@ -126,6 +149,21 @@ def test_a_target_of_any_form_has_an_answer(door: Opened, each: Each) -> None:
         reply = asked(door, GET.replace(b"/query/AS1", target) + b"\r\n")
         expect(reply[:12], b"HTTP/1.1 404", f"{target!r} at the port of everybody")
     has_no_trace(door)
+
+
+def test_a_target_is_that_of_the_registry(door: Opened, registries: Registries, each: Each) -> None:
+    methods = {b"/submissions": b"POST", b"/submissions?x": b"POST"}
+    for target in AS_THE_REGISTRY:
+        method = methods.get(target, b"GET")
+        text = GET.replace(b"GET /query/AS1", method + b" " + target)
+        text += b"Content-Length: 0\r\n\r\n" if method == b"POST" else b"\r\n"
+        replies = [asked(door, text, port) for port in (door.http_port, registries.ports[0])]
+        found = [(reply[:12], reply.partition(b"\r\n\r\n")[2]) for reply in replies]
+        # A report comes in chunks; what a refusal says is their own.
+        if method == b"POST" or found[1][0][9:] != b"200":
+            found = [(status, b"") for status, _ in found]
+        with each(repr(target)):
+            expect(found[0], found[1], "the status, and what is answered")
 
 
 # Requests that are refused by their heads, each with far more of a body than is read at once, and

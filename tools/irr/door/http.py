@@ -59,10 +59,16 @@ class Bad(Exception):
         self.status, self.fields, self.text = status, fields, text
 
 
+def is_query(path: str) -> bool:
+    """Whether one segment follows `/query/`, as the registry has it."""
+    start, mark, query = path.partition("/query/")
+    return bool(mark and query) and not start and "/" not in query
+
+
 class Request:
     """The head of a request."""
 
-    __slots__ = ("method", "path", "fields", "is_kept", "is_new", "length")
+    __slots__ = ("method", "target", "path", "fields", "is_kept", "is_new", "length")
 
     def __init__(self, head: bytes) -> None:
         lines = LINE_END.split(head.decode("latin-1"))
@@ -73,7 +79,8 @@ class Request:
             or any(map(BAD_BYTE.search, lines))
         ):
             raise Bad(400)
-        self.method, self.path = words[0], words[1]
+        self.method, self.target = words[0], words[1]
+        self.path = self.target.partition("?")[0]
         self.is_new = words[2] != "HTTP/1.0"
         if len(lines) > FIELDS + 1:
             raise Bad(431)
@@ -185,8 +192,8 @@ class Http(Connection):
             if path == "/submissions"
             else "GET"
             if path == "/dump"
-            or path.startswith("/query/")
-            or path != request.path
+            or is_query(path)
+            or path == "/state" != request.path
             or is_asked(path)
             else ""
         )
@@ -237,7 +244,7 @@ class Http(Connection):
                 await self.dump(request)
                 return
             if is_asked(request.path):
-                self.end_page(request, await self.page.answer(self.client, request.path))
+                self.end_page(request, await self.page.answer(self.client, request.target))
                 return
             pool, path = self.door.pool.views.at(request.path)
             if isinstance(pool, ViewPool) and path == "/state":
@@ -390,7 +397,7 @@ class StatusHttp(Http):
         return True
 
     def check(self, request: Request) -> None:
-        if request.path.partition("?")[0] not in ("/status", "/metrics"):
+        if request.path not in ("/status", "/metrics"):
             raise Bad(404)
         if request.method != "GET":
             raise Bad(405, "Allow: GET\r\n")
@@ -398,9 +405,9 @@ class StatusHttp(Http):
             raise Bad(413)
 
     async def work(self, request: Request, body: bytes) -> None:
-        path, _, words = request.path.partition("?")
+        words = request.target.partition("?")[2]
         serves, kind = True, f"{PLAIN}; version=0.0.4"
-        if path == "/metrics":
+        if request.path == "/metrics":
             text = self.status.metrics()
         elif "json" in words or "json" in request.fields.get("accept", ""):
             text, kind, serves = (

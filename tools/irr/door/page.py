@@ -45,7 +45,7 @@ LONG = "this takes more than the door gives to one question; ask of a set that i
 
 def is_asked(path: str) -> bool:
     """Whether a path is one of these."""
-    return path.partition("?")[0] == "/about" or path.startswith(("/why/", "/history/"))
+    return path == "/about" or path.startswith(("/why/", "/history/"))
 
 
 class Work(Turn):

@@ -3,6 +3,8 @@
 import re
 
 import pytest
+from hypothesis import assume, example, given
+from hypothesis import strategies as st
 
 from checks.tool.importing import left_out, made, obj, texts_of
 from irr.migrate import conversion
@@ -132,6 +134,27 @@ def test_a_name_inside_another_object_is_of_no_other_registry(
     assert tally.causes[UNREAD] == 1 and b"B-MNT" not in text
     assert b"B-MNT" in made(first, other.replace(b"RADB", b"RIPE"))[0]
     assert made(other, first)[1].causes[UNREAD] == 0
+
+
+@given(
+    st.sampled_from(["mntner: A-MNT", "as-set: AS-X", "route-set: RS-X"]),
+    st.sampled_from([(), ("aut-num: AS1", "mnt-by: A-MNT"), ("aut-num: AS1", SOURCE)]),
+    st.integers(0, 90),
+    st.binary(max_size=2),
+    st.integers(0, 1),
+)
+@example("as-set: AS-X", ("aut-num: AS1", "mnt-by: A-MNT"), 35, b"\r", 0)
+def test_a_name_among_other_bytes_is_of_no_other_registry(
+    kind: str, before: tuple[str, ...], place: int, new: bytes, gone: int
+) -> None:
+    """Whatever stands elsewhere, if a line still begins with its class, and then has that name."""
+    text = obj(*before, kind, "members: AS1", "mnt-by: A-MNT", SOURCE)
+    text = text[:place] + new + text[place + gone :]
+    word, name = kind.encode().split(b": ")
+    line = rb"(?im)^[\x80-\xff]*%s(?![a-z0-9_-])[^a-z0-9#\n]*%s(?![a-z0-9_.:/-])" % (word, name)
+    assume(re.search(line, text))
+    other = obj(kind, "mnt-by: B-MNT", "source: RADB")
+    assert b"B-MNT" not in made(obj("aut-num: AS2", SOURCE) + text + b"\n", other)[0]
 
 
 def test_a_name_in_lines_that_end_in_crs_is_of_the_registry_that_they_tell() -> None:

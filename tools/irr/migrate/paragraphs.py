@@ -57,10 +57,10 @@ JOINED_TEXT = re.compile(
 JOINED_LINE = re.compile(rb"(?:%s)[ \t\r]*:(?!:)" % b"|".join(CLASSES), re.I)
 # A CR that ends no line: the last of several, so that many of them take no longer each.
 CR_INSIDE = re.compile(rb"\r(?=[ \t]*[^ \t\r\n])")
-# Of a first line the bytes that are no visible ASCII, such as blanks of other pages of codes; and
-# its class, with the marks between that and a key.
+# A class at the beginning of a first line, with the marks before a key; and bytes in what follows
+# that are no visible ASCII, such as blanks of other pages of codes.
+CLASS_WORD = re.compile(rb"[^!-~\n]*([A-Za-z0-9_-]+)[^A-Za-z0-9#\n]*")
 NOT_SHOWN = re.compile(rb"[^!-~]")
-CLASS_WORD = re.compile(rb" *([A-Za-z0-9_-]+)[^A-Za-z0-9#]*")
 CUT_OFF = "cut off at the end of the file"
 CLASS_AGAIN = "a class again after the first line"
 SOURCE_AGAIN = "`source` twice"
@@ -199,11 +199,14 @@ def joined_at(small: bytes, line: bytes) -> Iterator[int]:
 def headed(text: bytes) -> bytes:
     """The lines of what may be an object, the first of which has a class, a colon and a key even if
     other marks stand there. If it ends in a CR, so do the others."""
+    found = CLASS_WORD.match(text)
+    if not found:
+        return text
+    text = text[found.end() :]
     if CR_INSIDE.search(text.partition(b"\n")[0]):
         text = CR_INSIDE.sub(b"\n", text)
     first, end, rest = text.partition(b"\n")
-    first = NOT_SHOWN.sub(b" ", first)
-    return CLASS_WORD.sub(rb"\1:", first, 1) + end + rest
+    return found[1] + b":" + NOT_SHOWN.sub(b" ", first) + end + rest
 
 
 def is_source(line: bytes) -> bool:

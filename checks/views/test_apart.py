@@ -84,10 +84,10 @@ def test_a_stranger_adds_no_object_by_the_text_of_another(
         folder = made(view)
         if way == "nrtm":
             view.commit()
-            state = view.states["TEST"]
-            state.changes.write_text(f"ADD\n\n{evil}\n")
-            view.states["TEST"] = state._replace(serial=1)
+            view.states["TEST"].changes.write_text(f"ADD\n\n{evil}\n")
             folder = made(view)
+            found = queried(folder, "object", "mntner", "EVIL-MNT")
+            expect("mnt-by:         EVIL-MNT" in found, True, "the change")
     expect(queried(folder, "exact", "192.0.2.0/24"), "% no entries\n", "a route")
     found = queried(folder, "object", "aut-num", "AS1")
     expect("mnt-by:         A-MNT" in found, True, found)
@@ -305,9 +305,9 @@ def test_a_set_inside_what_an_earlier_source_has_is_no_other_one(view_of: ViewOf
     expect(few.asked("expand", "AS-ALL"), "% missing AS-X\n", "AS-ALL")
     view = few.view
     view.commit()
-    state = view.states["TEST"]
     change = "aut-num: AS2\nmnt-by: T-MNT\nas-set: AS-Y\rsource: TEST\ras-set: AS-Y\nsource: TEST\n"
-    state.changes.write_bytes(f"ADD\n\n{change}\n".encode())
-    view.states["TEST"] = state._replace(serial=1)
+    view.states["TEST"].changes.write_bytes(f"ADD\n\n{change}\n".encode())
     made(view)
+    left = {"a class again after the first line": 2}
+    expect(view.outcomes["TEST"].left, left, "what is left out, with the change")
     expect(few.asked("expand", "AS-Y"), "AS7\n", "AS-Y")

@@ -8,10 +8,37 @@ from pathlib import Path
 import pytest
 
 from checks.pages.text import PAGES, TOP, text_of
-from checks.running import expect
+from checks.running import Trial, expect, write, write_settings
+from checks.serving import Server
+from checks.worlds import Tool
 
 TEXTS = {path.stem: path.read_text("utf-8") for path in sorted(TOP.glob("docs/drawings/*.drawing"))}
 IMAGE = re.compile(r"!\[([^\]]*)\]\(([^)\s]+)\)")
+# What is registered in START when it draws the map.
+SPACE = b"""password: bc
+
+mntner: EXAMPLE-MNT
+auth: SHA256-PW a:ba7816bf8f01cfea414140de5dae2223b00361a396177a9cb410ff61f20015ad
+mnt-by: EXAMPLE-MNT
+source: TEST
+
+aut-num: AS64496
+mnt-by: ROOT-MNT
+source: TEST
+
+inetnum: 192.0.2.0/24
+mnt-by: EXAMPLE-MNT, ROOT-MNT
+source: TEST
+
+inetnum: 192.0.2.0/24
+mnt-by: EXAMPLE-MNT
+source: TEST
+
+route: 192.0.2.0/24
+origin: AS64496
+mnt-by: EXAMPLE-MNT
+source: TEST
+"""
 BOX = re.compile(r"^box \S+ \S+ (\d+) \S+ \S+ \| (.*)$", re.M)
 
 
@@ -39,6 +66,7 @@ def test_each_picture_is_the_one_of_its_text() -> None:
 def test_each_drawing_is_shown_in_a_page_with_its_words() -> None:
     shown = {path.stem: words for _, words, path in images() if path.suffix == ".svg"}
     drawn = {name: " ".join(re.findall(r"^alt (.*)$", text, re.M)) for name, text in TEXTS.items()}
+    shown.pop("space")
     expect(shown, drawn, "the words beside the pictures")
 
 
@@ -71,3 +99,19 @@ def test_the_crates_stand_above_what_they_use() -> None:
         for used in uses[name]
         if used in tops and tops[used] <= tops[name]
     ]
+
+
+def test_the_map_is_the_one_of_what_start_registers(trial: Trial, tool: Tool) -> None:
+    folder = trial.place("space")
+    write_settings(folder)
+    write(folder, "space.rpsl", SPACE)
+    for words in ["init", "s.toml"], ["submit", "s.toml", "space.rpsl"]:
+        expect(trial.run(folder, *words).status, 0, " ".join(words))
+    with Server(trial.program, folder, 100) as served:
+        place = f"http://127.0.0.1:{served.port}"
+        command = re.search(r"`irr (tree --svg space.svg \S+)`", text_of("docs/START.md"))
+        assert command
+        words = command[1].replace("space.svg", f"{folder}/space.svg").split()
+        expect(tool(*words, "-s", place).status, 0, command[0])
+    made = Path(folder, "space.svg").read_bytes()
+    expect(made, (TOP / "docs/pictures/space.svg").read_bytes(), "the map")

@@ -30,6 +30,7 @@ STARTED = (
     "systemctl reset-failed irrdesk-check.service; systemctl list-units --failed --plain"
     " --no-legend 'irrdesk-*.service' | cut -d ' ' -f 1 | xargs --no-run-if-empty systemctl start"
 )
+SOON = "/run/systemd/system/{}.timer.d"
 # The authority, as Debian has it: its settings, and those of what asks it.
 PEBBLE = {
     "listenAddress": "127.0.0.1:14000",
@@ -212,7 +213,7 @@ class Failures:
         nothing is left unchecked."""
         guest = self.service.guest
         guest.done(
-            f"rm -rf /run/systemd/system/irrdesk-backup.timer.d; cat >> {SETTINGS}",
+            f"rm -rf {SOON.format('irrdesk-backup')}; cat >> {SETTINGS}",
             given=CHECK.encode(),
         )
         guest.done("sed -i 's/^mirrors = .*/mirrors = [\"127.0.0.1\"]/' /etc/irrdesk/door.toml")
@@ -387,6 +388,13 @@ class Failures:
         guest, place = self.service.guest, "/var/lib/irrdesk-backup"
         if guest.ended("date --set=@$(date +%s)").status:
             raise Skipped("a container has no clock of its own")
+        # What a timer missed it makes up for after its random delay, from the machine's start on.
+        for timer in ["irrdesk-backup", "certbot"]:
+            guest.done(
+                f"mkdir -p {SOON.format(timer)}; cat > {SOON.format(timer)}/trial.conf;"
+                f" systemctl daemon-reload; systemctl restart {timer}.timer",
+                given=b"[Timer]\nRandomizedDelaySec=0\n",
+            )
         for month in range(13):
             guest.done(f"date --set=@$(($(date +%s) + {28 * DAY})) > /dev/null")
             guest.until(f"ls {place} | grep -q ^$(date --utc +%Y%m%dT)", "a backup by its timer")
@@ -413,5 +421,7 @@ class Failures:
         guest = self.service.guest
         guest.done(f"sed -i '/^\\[check\\]/,$d' {SETTINGS}; systemctl stop nginx certbot.timer")
         guest.done("systemctl disable --now irrdesk-backup.timer")
+        soon = f"{SOON.format('irrdesk-backup')} {SOON.format('certbot')}"
+        guest.done(f"rm -rf {soon}; systemctl daemon-reload")
         expect(guest.ended("systemctl --failed --plain --no-legend").printed, "", "what has failed")
         return "nothing has failed"

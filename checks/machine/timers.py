@@ -245,6 +245,8 @@ class Timers:
         door = "irr submit -s http://127.0.0.1:4380 -"
         guest.ended(door, given=MAILED)
         guest.ended(door, given=MAILED.replace(b"password: bc", b"password: no"))
+        # The door writes a line once it has answered.
+        guest.until("irr log --maintainer MAILED-MNT | grep -q E11", "the line of a refusal")
         told = guest.done("irr log --maintainer MAILED-MNT")
         wanted = ["mntner MAILED-MNT: added", "mntner MAILED-MNT: refused E11"]
         seen = [line.partition(": ")[2] for line in told.splitlines()]

@@ -256,7 +256,10 @@ class Timers:
         expect("To: up@example.net" in mail and "refused E11" in mail, True, f"the mail: {mail}")
         ended = guest.ended("runuser -u irrdesk-public -- irr log")
         expect((ended.status, ended.printed), (3, ""), f"who else reads it: {ended.reported}")
-        guest.done("systemctl disable --now irrdesk-notify.timer")
+        guest.done(
+            "systemctl disable --now irrdesk-notify.timer;"
+            " rm -r /etc/systemd/system/irrdesk-notify.service.d; systemctl daemon-reload"
+        )
         return f"{len(mail.splitlines())} lines of mail"
 
     def released(self) -> str:

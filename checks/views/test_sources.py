@@ -237,6 +237,58 @@ def test_a_class_that_is_gone_counts_from_ten_objects_on() -> None:
         expect(shrank(old, new, 100), "", "where all may go")
 
 
+@pytest.mark.parametrize("first", [150, 1])
+def test_what_leads_on_from_no_dump_is_reported(followed: World, first: int) -> None:
+    """The journal is shorter than the time between two dumps, or its serials began anew."""
+    world = followed
+    world.nrtm.first = first
+    world.nrtm.publish([("ADD", route(number)) for number in range(200, 211)])
+    world.renew()
+    expect(world.routes_seen(), 40, "what the dump has")
+    for _ in range(2):
+        world.renew()
+        words = "it tells no changes after 100, and the dump has serial 100 still"
+        expect(words in fault(world), True, fault(world))
+        expect("RIPE is not renewed since" in world.view.lines()[0], True, world.view.lines()[0])
+    world.publish()
+    if first == 150:
+        # A registry whose serials began anew may have what it had.
+        world.routes |= {number: route(number) for number in range(200, 211)}
+        world.publish()
+    world.renew()
+    expect((world.routes_seen(), fault(world)), (len(world.routes), ""), "with a dump of now")
+    world.nrtm.publish([("ADD", route(211))])
+    world.renew()
+    expect((world.routes_seen(), fault(world)), (len(world.routes) + 1, ""), "what comes then")
+
+
+def test_a_gap_in_what_is_followed_takes_nothing_back(followed: World) -> None:
+    """The dump is from before it, and nothing leads on from that either."""
+    world = followed
+    expect(world.renew(), True, "the first time")
+    world.nrtm.publish([("ADD", route(number)) for number in range(200, 250)])
+    world.files.texts["/RIPE.CURRENTSERIAL"] = b"150\n"
+    world.nrtm.publish([("ADD", route(number)) for number in range(250, 298)])
+    world.renew()
+    expect((world.routes_seen(), fault(world)), (138, ""), "what was followed")
+    world.routes |= {number: route(number) for number in range(200, 250)}
+    world.publish()
+    world.files.texts["/RIPE.CURRENTSERIAL"] = b"150\n"
+    world.nrtm.first, world.nrtm.changes = 250, [("ADD", route(number)) for number in range(11)]
+    for _ in range(2):
+        world.renew()
+        words = "it tells no changes after 198, and the dump has serial 150 still"
+        expect(words in fault(world), True, fault(world))
+        expect(world.routes_seen(), 138, "what was followed")
+    # Serials that began anew are taken.
+    world.nrtm.first, world.nrtm.changes = 1, [("ADD", route(300))]
+    world.routes |= {number: route(number) for number in range(250, 301)}
+    world.publish()
+    world.nrtm.publish([("ADD", route(301))])
+    world.renew()
+    expect((world.routes_seen(), fault(world)), (142, ""), "what there is then")
+
+
 def test_a_dump_from_before_what_was_followed_takes_nothing_back(followed: World) -> None:
     """Where the changes since are no longer told, what there is stays until a newer dump comes."""
     world = followed

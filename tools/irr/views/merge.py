@@ -66,6 +66,8 @@ class ViewMender(Mender):
         super().__init__(view, VIEW_ROOT)
         self.table, self.keeps_invalid = table, keeps_invalid
         self.own, self.is_irrdesk, self.is_apart = "", False, False
+        # Whether what is read now is one object, whatever stands in its text.
+        self.is_one = False
         # What is of before the changes of the source; how many objects it has of each class; how
         # many of its routes are invalid.
         self.superseded: Collection[tuple[int, int | str]] = ()
@@ -81,7 +83,7 @@ class ViewMender(Mender):
         if str(cause) == OTHER_SOURCE:
             return []
         own = self.name_in(part.block)
-        found = super().left(part, cause) if not self.is_apart else [own] if own else []
+        found = super().left(part, cause) if not self.is_one else [own] if own else []
         return [
             name._replace(source=self.own)
             for name in found
@@ -234,9 +236,10 @@ class Merge(conversion.Import):
         for path in (*state.parts, state.changes):
             self.by_source.source_of[str(path)] = name
         added = self.changed(state)
+        self.own.is_one = self.own.is_apart
         for path in state.parts:
             self.read_file(str(path))
-        self.own.superseded = ()
+        self.own.superseded, self.own.is_one = (), True
         self.paths.append(str(state.changes))
         for part in added:
             self.take(part, str(state.changes))

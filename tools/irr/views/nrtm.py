@@ -23,7 +23,16 @@ WITHIN = re.compile(rb"([0-9]{1,18})-([0-9]{1,18})")
 
 
 class Behind(Exception):
-    """The changes after a serial are not told any more: a dump has to be taken."""
+    """The changes after a serial are not told any more: a dump has to be taken. The last serial
+    that is told, if that is said."""
+
+    def __init__(self, last: int | None = None) -> None:
+        super().__init__(last)
+        self.last = last
+
+    def is_anew(self, serial: int) -> bool:
+        """Whether serials began anew since one."""
+        return self.last is not None and self.last < serial
 
 
 def follow(place: tuple[str, int], name: str, serial: int, out: BinaryIO) -> int:
@@ -104,7 +113,7 @@ def start(answer: Iterator[bytes], thing: str, name: str, serial: int) -> int:
             if error[1] == b"401" and within and int(within[2]) == serial:
                 return serial
             if error[1] == b"401":
-                raise Behind
+                raise Behind(int(within[2]) if within else None)
             raise Failure(thing, f"it answers `{line.decode('latin-1')}`")
         if found := START.fullmatch(line):
             first, last = int(found[2]), int(found[3])

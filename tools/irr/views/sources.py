@@ -133,27 +133,41 @@ def renewed(source: Source, old: State | None, work: Path) -> State | None:
         old = None
     if source.nrtm4:
         return published(source, old, work)
-    if old and source.nrtm and old.serial is not None:
-        if old.has_room():
-            with contextlib.suppress(nrtm.Behind):
-                return followed(source, old, old.serial, work)
+    gap: nrtm.Behind | None = None
+    if old and source.nrtm and old.serial is not None and old.has_room():
+        try:
+            return followed(source, old, old.serial, work)
+        except nrtm.Behind as behind:
+            gap = behind
             empty(work)
-    state = taken(source, old, work)
+    state = taken(source, old, work, gap)
     if state is None or not source.nrtm or state.serial is None:
         return state
-    is_back = old is not None and old.serial is not None and state.serial < old.serial
+    before = (old.serial if old else None) or 0
     try:
         with appended(state.changes) as out:
             state = state._replace(
                 serial=nrtm.follow(source.place(), source.name, state.serial, out)
             )
-    except (nrtm.Behind, Failure) as fault:
-        if is_back and isinstance(fault, Failure):
+    except nrtm.Behind as behind:
+        # Serials may have begun anew. Otherwise the dump has to be newer than what there was; the
+        # next check says that nothing leads on from it.
+        if state.serial < before and not behind.is_anew(before):
+            raise unfollowed(source, before, state.serial) from None
+        state.changes.unlink()
+    except Failure:
+        if state.serial < before:
             raise
-        # The dump is newer than what there was.
         state.changes.unlink()
     state.put()
     return state
+
+
+def unfollowed(source: Source, before: int, serial: int | None) -> Failure:
+    return Failure(
+        f"nrtm://{source.nrtm}",
+        f"it tells no changes after {before}, and the dump has serial {serial} still",
+    )
 
 
 def empty(folder: Path) -> None:
@@ -250,9 +264,9 @@ def noticed(
     return state
 
 
-def taken(source: Source, old: State | None, work: Path) -> State | None:
+def taken(source: Source, old: State | None, work: Path, gap: nrtm.Behind | None) -> State | None:
     """The dumps of a source. Its serial is read before them, so that changes are told twice rather
-    than never."""
+    than never. A Failure where they are those of before, and nothing leads on from them."""
     serial = serial_of(source) if source.serial else None
     places = [source.registry] if source.registry else list(source.dump)
     stamps, digests = [], []
@@ -275,14 +289,13 @@ def taken(source: Source, old: State | None, work: Path) -> State | None:
     counts = old.counts if old else []
     state = State(work, source.origin(), stamps, digests, serial, counts)
     if old and old.digests == digests:
+        before, now = old.serial or 0, serial or 0
+        leads_on = gap is None or gap.is_anew(before) and now <= (gap.last or 0)
+        if source.nrtm and (before > now and gap is None or before >= now and not leads_on):
+            raise unfollowed(source, before, serial)
         if old.serial == serial:
             old._replace(stamps=stamps).put()
             return None
-        if source.nrtm and (old.serial or 0) > (serial or 0):
-            raise Failure(
-                f"nrtm://{source.nrtm}",
-                f"it tells no changes after {old.serial}, and the dump has serial {serial} still",
-            )
     state.put()
     return state
 

@@ -1,15 +1,20 @@
 """The registry's own queries and RIPE's flags at the door, and Debian's whois with its own
 flags."""
 
+import asyncio
 import shutil
 import socket
 import subprocess
+from collections.abc import AsyncIterator
+from typing import cast
 
 import pytest
 
 from checks.door import worlds
 from checks.door.opened import Opened, Registries, read_all
 from checks.running import Each, expect
+from irr.door import ripe
+from irr.door.queries import Asker
 from irr.rpsl import grammar
 
 NATIVE = [
@@ -115,6 +120,33 @@ def objects(answer: bytes) -> list[bytes]:
     ]
 
 
+def test_what_joins_a_set_is_of_its_maintainers(monkeypatch: pytest.MonkeyPatch) -> None:
+    """By `mnt-by`, each once: as the set stands for them."""
+    form = "aut-num: AS{}\nmember-of: AS-A\nmnt-by: {}\nmnt-lower: {}\nsource: TEST\n"
+    found = {
+        "object as-set AS-A": ["as-set: AS-A\nmbrs-by-ref: B-MNT, C-MNT\n"],
+        "inverse mnt B-MNT": [
+            form.format(1, "A-MNT", "B-MNT"),
+            form.format(3, "C-MNT, B-MNT", "X-MNT"),
+        ],
+        "inverse mnt C-MNT": [
+            form.format(3, "C-MNT, B-MNT", "X-MNT"),
+            form.format(4, "C-MNT", "X-MNT"),
+        ],
+    }
+
+    async def objects(_: object, query: str) -> AsyncIterator[tuple[bytes, float]]:
+        for text in found[query]:
+            yield text.encode(), 0.0
+
+    async def joined() -> list[bytes]:
+        asker = cast(Asker, None)
+        return [text.split(b"\n")[0] async for text, _ in ripe.joined(asker, "AS-A")]
+
+    monkeypatch.setattr(ripe, "objects", objects)
+    expect(asyncio.run(joined()), [b"aut-num: AS3", b"aut-num: AS4"], "what is in it")
+
+
 def test_the_registrys_own_queries_are_answered_byte_for_byte(
     door: Opened, registries: Registries, each: Each
 ) -> None:
@@ -124,7 +156,9 @@ def test_the_registrys_own_queries_are_answered_byte_for_byte(
             wanted = Peer(registries.ports[0]).ask(with_line)
             expect(door.whois(with_line), wanted, query)
             path = "/query/" + "".join(f"%{byte:02X}" for byte in query.encode())
-            expect(door.http("GET", path)[::2], (200, wanted), f"{query} over HTTP")
+            # A path of HTTP has no empty query.
+            answer = (200, wanted) if query else (404, b"404 Not Found\n")
+            expect(door.http("GET", path)[::2], answer, f"{query} over HTTP")
 
 
 class Peer:

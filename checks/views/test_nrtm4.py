@@ -220,6 +220,10 @@ FAULTS: dict[str, tuple[Fault, str]] = {
     "deep": (signed(lambda w, _: w.signed(b"[" * 100_000)), "it has not JSON"),
     "too long": (signed(lambda w, text: w.signed(text + b" " * (1 << 23))), "it has over 8 MiB"),
     "gone itself": (lambda world: world.files.texts.update({PATH: 404}), "status 404"),
+    "as it was, though nobody asked": (
+        lambda world: world.files.texts.update({PATH: 304}),
+        "status 304",
+    ),
     "of version 3": (notified(nrtm_version=3), "it is not a notification file of NRTM, version 4"),
     "of another kind": (notified(type="snapshot"), "it is not a notification file"),
     "of another registry": (notified(source="RADB"), "it is of RADB, and not of RIPE"),
@@ -231,6 +235,7 @@ FAULTS: dict[str, tuple[Fault, str]] = {
     "without a snapshot": (notified(snapshot=None), "`snapshot`"),
     "changes that are none": (notified(deltas=["x"]), "it has not files"),
     "a next key that is none": (notified(next_signing_key="x"), "it has no public key"),
+    "a next key of half a character": (notified(next_signing_key="\ud800"), "no public key"),
     "stale": (notified(timestamp=stamp(time.time() - 25 * HOUR)), "it is stale: it was made at"),
     "of the future": (notified(timestamp=stamp(time.time() + 25 * HOUR)), "it is stale"),
     "back": (back, "it went back from version 3 to 1"),

@@ -237,6 +237,25 @@ def test_a_class_that_is_gone_counts_from_ten_objects_on() -> None:
         expect(shrank(old, new, 100), "", "where all may go")
 
 
+@pytest.mark.parametrize("path", ["/RIPE.CURRENTSERIAL", "/ripe.db.as-set"])
+def test_as_it_was_is_a_fault_where_nobody_asked(world: World, path: str) -> None:
+    """A file that was never fetched, or of which nothing tells it from a later one."""
+    text, world.files.texts[path] = world.files.texts[path], 304
+    with pytest.raises(Failure, match="status 304"):
+        world.renew()
+    world.files.texts[path] = text
+    expect((world.renew(), fault(world)), (True, ""), "once it is there")
+
+
+@pytest.mark.parametrize(
+    "line",
+    ["%ERROR:401: (Requesting serials older than 7 days)", "%% ERROR: Serials 2 - 9 do not exist"],
+)
+def test_what_is_gone_is_known_by_the_words_of_ripe_and_irrd(line: str) -> None:
+    with pytest.raises(nrtm.Behind):
+        nrtm.taken(iter([b"% x", line.encode()]), "x", "RIPE", 1, io.BytesIO())
+
+
 @pytest.mark.parametrize("first", [150, 1])
 def test_what_leads_on_from_no_dump_is_reported(followed: World, first: int) -> None:
     """The journal is shorter than the time between two dumps, or its serials began anew."""

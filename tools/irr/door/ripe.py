@@ -329,18 +329,23 @@ def names(paragraph: syntax.Paragraph, attribute: str, maintainer: str) -> bool:
 
 
 async def joined(asker: Asker, name: str) -> AsyncIterator[tuple[bytes, float]]:
-    """The objects that join a set, by its maintainers as it lists them."""
+    """The objects that join a set, by its maintainers as it lists them, each with the first of them
+    that it names."""
     async for block, _ in objects(asker, f"object {keys.set_class(name)} {name}"):
-        for maintainer in holders.names(syntax.read_any(block), "mbrs-by-ref"):
-            if maintainer == "ANY":
-                raise Bad(
-                    114,
-                    "unsupported query",
-                    "The set takes members of anybody; ask expand, or IRRd's !i.",
-                )
+        maintainers = holders.names(syntax.read_any(block), "mbrs-by-ref")
+        if "ANY" in maintainers:
+            raise Bad(
+                114,
+                "unsupported query",
+                "The set takes members of anybody; ask expand, or IRRd's !i.",
+            )
+        for maintainer in maintainers:
             async for one, seconds in objects(asker, f"inverse mnt {maintainer}"):
-                if name in map(keys.read_set, syntax.read_any(one).items(b"member-of")):
-                    yield one, seconds
+                paragraph = syntax.read_any(one)
+                by = holders.names(paragraph, "mnt-by")
+                if maintainer == next(filter(by.__contains__, maintainers), ""):
+                    if name in map(keys.read_set, paragraph.items(b"member-of")):
+                        yield one, seconds
 
 
 # The form of an object.

@@ -52,7 +52,8 @@ def opened(url: str, is_plain: bool, fields: dict[str, str] | None = None) -> It
         with opener.open(request, timeout=WAITING) as reply:
             yield reply
     except urllib.error.HTTPError as error:
-        if error.code == 304:
+        # Without a condition it is a fault as any other status.
+        if error.code == 304 and fields:
             raise Unchanged from None
         kind = Gone if error.code in (404, 410) else Failure
         raise kind(url, f"status {error.code}; correct the address, or ask later") from None

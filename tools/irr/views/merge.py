@@ -253,11 +253,11 @@ class Merge(conversion.Import):
         unread: dict[bytes, list[Part]] = {}
         for is_there, block in state.changed():
             # A change is of one object, and what comes after that is none.
-            first, *others = self.parts(block) or [None]
-            if first is None:
+            found = self.parts(block)
+            if not found:
                 continue
-            found = [first, *(part._replace(doubt=FURTHER) for part in others)]
-            key = self.own.key_changed(first)
+            found[1:] = [part._replace(doubt=FURTHER) for part in found[1:]]
+            key = self.own.key_changed(found[0])
             if key:
                 last[key] = found if is_there else []
             elif is_there:

@@ -19,6 +19,8 @@ START = re.compile(
 CHANGE = re.compile(rb"(ADD|DEL) ([0-9]{1,18})")
 NONE_NEWER = re.compile(rb"% ?Warning:.*no newer", re.I)
 ERROR = re.compile(rb"%ERROR:([0-9]+):.*")
+# IRRd's words, version 4, where RIPE has number 401.
+GONE = re.compile(rb"%% ?ERROR: .*do not exist", re.I)
 WITHIN = re.compile(rb"([0-9]{1,18})-([0-9]{1,18})")
 
 
@@ -108,6 +110,8 @@ def start(answer: Iterator[bytes], thing: str, name: str, serial: int) -> int:
     for line in answer:
         if NONE_NEWER.match(line):
             return serial
+        if GONE.match(line):
+            raise Behind
         if error := ERROR.match(line):
             within = WITHIN.search(line)
             if error[1] == b"401" and within and int(within[2]) == serial:

@@ -137,7 +137,7 @@ class Follower:
             raise self.other("a snapshot, and the changes of each version after it")
         next_key = self.field(found, "next_signing_key", str, "")
         if next_key:
-            next_key = signing.public_in(next_key.encode(), self.thing)
+            next_key = signing.public_in(next_key.encode("ascii", "replace"), self.thing)
         return Notification(session, version, self.made(found), next_key, snapshot, deltas)
 
     def made(self, found: Record) -> float:

@@ -143,20 +143,18 @@ def renewed(source: Source, old: State | None, work: Path) -> State | None:
     state = taken(source, old, work, gap)
     if state is None or not source.nrtm or state.serial is None:
         return state
-    before = (old.serial if old else None) or 0
+    before, now = (old.serial if old else None) or 0, state.serial
     try:
         with appended(state.changes) as out:
-            state = state._replace(
-                serial=nrtm.follow(source.place(), source.name, state.serial, out)
-            )
+            state = state._replace(serial=nrtm.follow(source.place(), source.name, now, out))
     except nrtm.Behind as behind:
         # Serials may have begun anew. Otherwise the dump has to be newer than what there was; the
         # next check says that nothing leads on from it.
-        if state.serial < before and not behind.is_anew(before):
-            raise unfollowed(source, before, state.serial) from None
+        if now < before and not behind.is_anew(before):
+            raise unfollowed(source, before, now) from None
         state.changes.unlink()
     except Failure:
-        if state.serial < before:
+        if now < before:
             raise
         state.changes.unlink()
     state.put()

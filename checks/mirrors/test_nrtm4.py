@@ -197,6 +197,22 @@ def test_lost_serials_begin_a_session_anew(states: Publishing) -> None:
     need_anew("others in the place of those that were lost")
 
 
+def test_a_restored_folder_of_keys_begins_a_session_anew(states: Publishing) -> None:
+    """Where more was published in its session, which a mirror may have."""
+    first = states.publish(aut_num(1))
+    copy = states.keys.folder.with_name("copy")
+    shutil.copytree(states.keys.folder, copy)
+    states.publish(aut_num(1), aut_num(2))
+    mirror = states.mirror()
+    mirror.follow()
+    shutil.rmtree(states.keys.folder)
+    copy.rename(states.keys.folder)
+    again = states.publish(aut_num(1), aut_num(3))
+    expect((versions(again), again.session == first.session), ((1, 1, []), False), "what is anew")
+    expect((mirror.follow(), mirror.snapshots), (True, 2), "the mirror")
+    states.need_same(mirror)
+
+
 def test_states_that_nobody_knows_any_more_begin_a_session_anew(
     states: Publishing, monkeypatch: pytest.MonkeyPatch
 ) -> None:

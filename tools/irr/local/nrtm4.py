@@ -94,6 +94,14 @@ def published_in(folder: Path) -> Published | None:
     return Published(**found)
 
 
+def was_restored(old: Published, notification: Record) -> bool:
+    """Whether more was published in the session than is kept of it, as after a restored backup:
+    mirrors may have other changes of the next version."""
+    return bool(notification) and (
+        notification["session_id"] == old.session and notification["version"] > old.version
+    )
+
+
 class Publisher:
     """Publishes the last state of a history in a folder, signed by keys of this machine, of which
     it keeps what it published."""
@@ -110,10 +118,10 @@ class Publisher:
             )
         if not self.signers.now.exists():
             self.signers.make("EdDSA")
-        old = published_in(self.signers.folder)
-        state = self.followed(old, last) if old and self.is_known(old) else self.begun(last)
+        old, before = published_in(self.signers.folder), self.published()
+        is_known = old and self.is_known(old) and not was_restored(old, before)
+        state = self.followed(old, last) if old and is_known else self.begun(last)
         next_key = public(self.signers.next) if self.signers.next.exists() else ""
-        before = self.published()
         self.keep(before, state)
         if state != old:
             text = json.dumps(

@@ -45,9 +45,10 @@ def backends(doors: list[Opened]) -> str:
 
 
 def answering(http_port: int, whois_port: int) -> tuple[set[str], set[str]]:
-    """Who answers over HTTP, and by whois: the set that each alone has is asked for."""
+    """Who answers over HTTP, and by whois: the set that each alone has is asked for, twice in a row,
+    since HAProxy takes them in turn."""
     found: tuple[set[str], set[str]] = set(), set()
-    for name in NAMES * 2:
+    for name in sorted(NAMES * 2):
         with contextlib.suppress(OSError, http.client.HTTPException):
             connection = http.client.HTTPConnection("127.0.0.1", http_port, timeout=30)
             with contextlib.closing(connection):

@@ -45,7 +45,7 @@ def backends(doors: list[Opened]) -> str:
 
 
 def answering(http_port: int, whois_port: int) -> tuple[set[str], set[str]]:
-    """Who answers over HTTP, and by whois: the set that each alone has is asked for, twice in a row,
+    """Who answers over HTTP, and by whois: the set that each alone has is asked for, twice at once,
     since HAProxy takes them in turn."""
     found: tuple[set[str], set[str]] = set(), set()
     for name in sorted(NAMES * 2):

@@ -37,8 +37,6 @@ UNBROKEN = {".cfg": re.compile(r" *[^# ]"), ".conf": re.compile(r'[^"]*"[^"]{80,
 # Files of /etc in the package, whose old comments stay: where one of these files changed, and its
 # operator changed it too, dpkg asks which one to keep.
 AS_RELEASED = {"units/irr.toml", "units/door.toml"}
-# What a command of the tool prints, which another check makes again.
-AS_PRINTED = {"docs/pictures/space.svg"}
 # A file of the rooms has fewer lines.
 LINES = 600
 # Packages of one version with several sets of bytes, from before a version was released once.
@@ -174,7 +172,7 @@ def test_no_line_beside_the_crates_is_too_wide(tell: Tell) -> None:
     paths = {path for path in files_beside_the_crates() if path.suffix in WIDE}
     paths |= {*programs_of("python3"), *programs_of("/bin/sh"), TOP / "dist/files"}
     tell(f"{len(paths)} files")
-    assert not long_lines(sorted(paths - {TOP / name for name in AS_RELEASED | AS_PRINTED}))
+    assert not long_lines(sorted(paths - {TOP / name for name in AS_RELEASED}))
 
 
 def test_no_file_of_the_rooms_is_too_long() -> None:

@@ -36,8 +36,8 @@ def picture(top: Prefix, found: list[Holding]) -> str:
     return "\n".join(
         [
             (
-                f'<svg xmlns="http://www.w3.org/2000/svg" viewBox="0 0 {width} {height}"'
-                f' width="{width}" height="{height}" font-family="sans-serif" font-size="14">'
+                f'<svg xmlns="http://www.w3.org/2000/svg" viewBox="0 0 {width} {height}"\n'
+                f'width="{width}" height="{height}" font-family="sans-serif" font-size="14">'
             ),
             f"<title>Who holds what below {top.text()}</title>",
             f'<rect width="{width}" height="{height}" fill="{GROUND}"/>',
@@ -119,8 +119,8 @@ def drawn(one: Holding, top: Prefix, colours: dict[str, str], is_line: bool) -> 
             else f'fill="{colour}" stroke="{INK}" stroke-width="{min(0.8, width / 10):.2f}"'
         )
         found.append(
-            f'<rect x="{x + inset:.2f}" y="{y + inset:.2f}" width="{width - 2 * inset:.2f}" '
-            f'height="{height - 2 * inset:.2f}" {paint}><title>{words}</title></rect>'
+            f'<rect x="{x + inset:.2f}" y="{y + inset:.2f}" width="{width - 2 * inset:.2f}"\n'
+            f'height="{height - 2 * inset:.2f}" {paint}>\n<title>{words}</title></rect>'
         )
     return found
 
@@ -186,13 +186,13 @@ def legend_of(colours: dict[str, str], found: list[Holding]) -> list[str]:
     for number, (colour, name) in enumerate(rows):
         y = MARGIN + LINE * number
         lines.append(
-            f'<rect x="{left}" y="{y}" width="16" height="16" fill="{colour}" stroke="{INK}"'
-            f' stroke-width="0.8"/><text x="{left + 26}" y="{y + 13}"'
+            f'<rect x="{left}" y="{y}" width="16" height="16" fill="{colour}" stroke="{INK}"\n'
+            f'stroke-width="0.8"/>\n<text x="{left + 26}" y="{y + 13}"'
             f' fill="{INK}">{escape(texts.shown_line(name))}</text>'
         )
     y = MARGIN + LINE * (len(rows) + 1)
     lines.append(
-        f'<rect x="{left}" y="{y}" width="16" height="16" fill="none" stroke="{INK}"'
-        f' stroke-dasharray="4 3"/><text x="{left + 26}" y="{y + 13}" fill="{INK}">a route</text>'
+        f'<rect x="{left}" y="{y}" width="16" height="16" fill="none" stroke="{INK}"\n'
+        f'stroke-dasharray="4 3"/>\n<text x="{left + 26}" y="{y + 13}" fill="{INK}">a route</text>'
     )
     return lines

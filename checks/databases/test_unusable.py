@@ -25,16 +25,16 @@ from checks.serving import Listening, free_port
 
 SECONDS = 20
 MISSING = (
-    "irrdesk: irr.db: there is no such database, but its log or journal (`-wal`, `-journal`): put"
-    " the database back, or move that elsewhere and restore a backup"
+    "irrdesk: irr.db: there is no such database, but its write-ahead log or journal (`-wal`,"
+    " `-journal`): put the database back, or move that elsewhere and restore a backup"
 )
 EMPTY = (
-    "irrdesk: irr.db: it is empty, but not its log or journal (`-wal`, `-journal`): move that"
-    " elsewhere, and restore a backup"
+    "irrdesk: irr.db: it is empty, but not its write-ahead log or journal (`-wal`, `-journal`):"
+    " move that elsewhere, and restore a backup"
 )
 DENIED = (
-    "irrdesk: hidden.db: permission is denied for the database, its log or its folder: let the user"
-    " who runs irrdesk own and write them"
+    "irrdesk: hidden.db: permission is denied for the database, its write-ahead log or its folder:"
+    " let the user who runs irrdesk own and write them"
 )
 AS_NOBODY = ["setpriv", "--reuid=65534", "--regid=65534", "--clear-groups"]
 

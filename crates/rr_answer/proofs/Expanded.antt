@@ -13,7 +13,7 @@ use Rattle.rr_number.specs.declared.set_kind.SetKind.{SetKind}
 use Rattle.rr_number.specs.declared.set_kind.SetKind.TheVariants as kinds
 use Rattle.rr_number.proofs.NumberOrders.{ranges_ordered}
 use Rattle.rr_auth.specs.Registries.{Reg}
-use Rattle.rr_answer.specs.declared.fault.QueryFault.{QueryFault}
+use Rattle.rr_answer.specs.declared.query_fault.QueryFault.{QueryFault}
 use Rattle.rr_answer.specs.Answers.{IsExpanded, IsNumberAnswer, IsRangeAnswer}
 use Rattle.rr_answer.specs.Expansions.{IsExpansion, IsListed, Meaning, as_set_at, route_set_at}
 use Rattle.rr_answer.specs.Texts.{members_text}

@@ -16,7 +16,7 @@ use Rattle.rr_bytes.specs.Parts.{words}
 use Rattle.rr_object.specs.KeySpellings.{key_of_text}
 use Rattle.rr_object.specs.Objects.{Obj}
 use Rattle.rr_object.specs.Readings.{public_of}
-use Rattle.rr_answer.specs.declared.fault.QueryFault.TheVariants.{Bad, Stopped}
+use Rattle.rr_answer.specs.declared.query_fault.QueryFault.TheVariants.{Bad, Stopped}
 use Rattle.rr_answer.specs.declared.query.Query.TheVariants.{Object, Closest, Less, Naming, Expand}
 use Rattle.rr_answer.specs.Dumps.{dumped}
 use Rattle.rr_answer.specs.Faults.{error_line}

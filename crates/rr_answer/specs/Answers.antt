@@ -8,7 +8,7 @@ use Rattle.rr_number.specs.Ranges.{range_cmp}
 use Rattle.rr_number.specs.SetNames.{kind_of}
 use Rattle.rr_number.specs.declared.set_kind.SetKind.{SetKind}
 use Rattle.rr_number.specs.declared.set_kind.SetKind.TheVariants as kinds
-use Rattle.rr_answer.specs.declared.fault.QueryFault.{QueryFault}
+use Rattle.rr_answer.specs.declared.query_fault.QueryFault.{QueryFault}
 use Rattle.rr_answer.specs.declared.query.Query.{Query}
 use Rattle.rr_answer.specs.declared.query.Query.TheVariants.{Object, Exact, Closest, Less, More}
 use Rattle.rr_answer.specs.declared.query.Query.TheVariants.{Naming, Originated, Expand, Prefixes}

@@ -10,8 +10,8 @@ use Rattle.rr_graph.specs.Chain.{MoreThan}
 use Rattle.rr_number.specs.Ranges.{RangeParts}
 use Rattle.rr_sets.specs.AsSets.{InAsSet, IsMissing, IsReachedSet, has_as_set}
 use Rattle.rr_sets.specs.RouteSets.{HasTooMany, InRouteSet, IsMissingName, has_set}
-use Rattle.rr_answer.specs.declared.fault.QueryFault.{QueryFault}
-use Rattle.rr_answer.specs.declared.fault.QueryFault.TheVariants.{TooMany}
+use Rattle.rr_answer.specs.declared.query_fault.QueryFault.{QueryFault}
+use Rattle.rr_answer.specs.declared.query_fault.QueryFault.TheVariants.{TooMany}
 use Rattle.rr_answer.specs.Texts.{members_text, no_entries}
 
 -- What a set stands for: whether there is such a set, what is in it, which names are missing, and

@@ -1,9 +1,10 @@
 -- Why a query is not answered.
 use Rattle.std.specs.Prelude.{ℕ, ◌+◌, List, [], ◌∷◌, ◌++◌, codes}
 use Rattle.rr_text.specs.CanonicalText.{ended}
-use Rattle.rr_answer.specs.declared.fault.QueryFault.{QueryFault}
-use Rattle.rr_answer.specs.declared.fault.QueryFault.TheVariants.{Bad, TooLong, TooMany, Memory}
-use Rattle.rr_answer.specs.declared.fault.QueryFault.TheVariants.{Stopped}
+use Rattle.rr_answer.specs.declared.query_fault.QueryFault.{QueryFault}
+use Rattle.rr_answer.specs.declared.query_fault.QueryFault.TheVariants.{Bad, TooLong, TooMany}
+use Rattle.rr_answer.specs.declared.query_fault.QueryFault.TheVariants.{Memory}
+use Rattle.rr_answer.specs.declared.query_fault.QueryFault.TheVariants.{Stopped}
 
 -- The number of an error (profile).
 abbrev pub error_number : QueryFault → ℕ

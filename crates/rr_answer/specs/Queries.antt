@@ -17,8 +17,8 @@ use Rattle.rr_object.specs.declared.key.Key.{Key}
 use Rattle.rr_object.specs.Classes.{class_named}
 use Rattle.rr_object.specs.Items.{only}
 use Rattle.rr_object.specs.KeySpellings.{key_of_text}
-use Rattle.rr_answer.specs.declared.fault.QueryFault.{QueryFault}
-use Rattle.rr_answer.specs.declared.fault.QueryFault.TheVariants.{Bad, TooLong}
+use Rattle.rr_answer.specs.declared.query_fault.QueryFault.{QueryFault}
+use Rattle.rr_answer.specs.declared.query_fault.QueryFault.TheVariants.{Bad, TooLong}
 use Rattle.rr_answer.specs.declared.query.Query.{Query}
 use Rattle.rr_answer.specs.declared.query.Query.TheVariants.{Object, Exact, Closest, Less, More}
 use Rattle.rr_answer.specs.declared.query.Query.TheVariants.{Naming, Originated, Expand, Prefixes}

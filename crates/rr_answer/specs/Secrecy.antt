@@ -7,7 +7,7 @@ use Rattle.rr_object.specs.Objects.{Obj}
 use Rattle.rr_object.specs.Readings.{obj_of, public_of}
 use Rattle.rr_auth.specs.Registries.{Reg}
 use Rattle.rr_auth.specs.Sources.{IsRegistryOf}
-use Rattle.rr_answer.specs.declared.fault.QueryFault.{QueryFault}
+use Rattle.rr_answer.specs.declared.query_fault.QueryFault.{QueryFault}
 use Rattle.rr_answer.specs.Answers.{IsAnswerTo}
 use Rattle.rr_answer.specs.Dumps.{dump}
 

@@ -1,16 +1,16 @@
 //! Answers.
 
 ghost use Rattle.std.specs.Prelude.{◌≢◌, Err, IfErr, IfOk, Ok};
-ghost use Rattle.rr_answer.specs.declared.fault.QueryFault.TheVariants.{Memory};
+ghost use Rattle.rr_answer.specs.declared.query_fault.QueryFault.TheVariants.{Memory};
 ghost use Rattle.rr_number.specs.SetNames.{kind_of};
 ghost use Rattle.rr_answer.specs.Answers.{IsAnswer, IsAnswerTo, IsExpanded};
 ghost use Rattle.rr_answer.specs.Founds.{found_text};
 
 use crate::expansion::{numbers, ranges};
-use crate::fault::QueryFault;
 use crate::found::Found;
 use crate::query::Query;
-use crate::reading::read_query;
+use crate::query_fault::QueryFault;
+use crate::query_reading::read_query;
 use crate::selection::asked;
 use rr_book::Keeper;
 use rr_number::{SetKind, SetName};

@@ -1,12 +1,12 @@
 //! Expansions as they are answered.
 
 ghost use Rattle.std.specs.Prelude.{◌≢◌, Err, IfErr, IfOk, Ok};
-ghost use Rattle.rr_answer.specs.declared.fault.QueryFault.TheVariants.{Memory};
+ghost use Rattle.rr_answer.specs.declared.query_fault.QueryFault.TheVariants.{Memory};
 ghost use Rattle.rr_answer.specs.Answers.{IsNumberAnswer, IsRangeAnswer};
 ghost use Rattle.rr_answer.specs.Founds.{found_text};
 
-use crate::fault::QueryFault;
 use crate::found::Found;
+use crate::query_fault::QueryFault;
 use rr_number::SetName;
 use rr_sets::{ExpandFault, SetBook, expand_as_set, expand_route_set};
 use std::alloc::Global;

@@ -4,21 +4,21 @@
 mod answering;
 mod dumping;
 mod expansion;
-mod fault;
 mod found;
 pub mod laws;
 mod part;
 mod place;
 mod query;
-mod reading;
+mod query_fault;
+mod query_reading;
 mod selection;
 mod text;
 mod writing;
 
 pub use answering::{answer, answer_to, find, find_for};
 pub use dumping::{DumpFault, dump};
-pub use fault::QueryFault;
 pub use found::Found;
 pub use place::Place;
 pub use query::Query;
-pub use reading::{is_too_long, read_query};
+pub use query_fault::QueryFault;
+pub use query_reading::{is_too_long, read_query};

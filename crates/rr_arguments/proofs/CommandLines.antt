@@ -27,8 +27,8 @@ use Rattle.rr_arguments.specs.CommandLine.{joined, line_command, line_kinds, tol
 use Rattle.rr_arguments.specs.Grammar.{program_app}
 use Rattle.rr_arguments.specs.declared.command.Command.{Command}
 use Rattle.rr_arguments.specs.declared.command.Command.TheVariants as command
-use Rattle.rr_arguments.specs.declared.fault.ArgumentsFault.{ArgumentsFault}
-use Rattle.rr_arguments.specs.declared.fault.ArgumentsFault.TheVariants as fault
+use Rattle.rr_arguments.specs.declared.arguments_fault.ArgumentsFault.{ArgumentsFault}
+use Rattle.rr_arguments.specs.declared.arguments_fault.ArgumentsFault.TheVariants as fault
 
 -- ---- words
 

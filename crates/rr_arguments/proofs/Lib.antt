@@ -1,4 +1,5 @@
 mod CommandLines
+mod DumpWords
 mod Flags
 mod Named
 mod Stops

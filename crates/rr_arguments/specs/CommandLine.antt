@@ -17,8 +17,8 @@ use Rattle.rr_arguments.specs.Grammar.{program_app}
 use Rattle.rr_arguments.specs.Numbers.{number_within}
 use Rattle.rr_arguments.specs.declared.command.Command.{Command}
 use Rattle.rr_arguments.specs.declared.command.Command.TheVariants as command
-use Rattle.rr_arguments.specs.declared.fault.ArgumentsFault.{ArgumentsFault}
-use Rattle.rr_arguments.specs.declared.fault.ArgumentsFault.TheVariants as fault
+use Rattle.rr_arguments.specs.declared.arguments_fault.ArgumentsFault.{ArgumentsFault}
+use Rattle.rr_arguments.specs.declared.arguments_fault.ArgumentsFault.TheVariants as fault
 
 -- what a command line asks for: a command, with its arguments as text; or it names what is no port
 -- or no count; or it is answered with help, the version or a refusal, of one of these kinds; or it

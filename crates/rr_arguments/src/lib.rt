@@ -2,14 +2,14 @@
 //! that is shown.
 #![tactic(auto)]
 
+mod arguments_fault;
 mod command;
-mod fault;
+mod command_reading;
 mod grammar;
 mod help;
 pub mod laws;
 mod numbers;
-mod reading;
 
+pub use arguments_fault::ArgumentsFault;
 pub use command::Command;
-pub use fault::ArgumentsFault;
-pub use reading::read_command;
+pub use command_reading::read_command;

@@ -2,13 +2,13 @@
 //! (RFC 2725, 9 and 10).
 #![tactic(auto)]
 
+mod auth_line;
 mod authority;
 mod book;
 mod item;
 mod judging;
 mod known;
 pub mod laws;
-mod line;
 mod passing;
 mod salted;
 mod secret;

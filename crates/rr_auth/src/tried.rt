@@ -10,7 +10,7 @@ ghost use Rattle.rr_object.specs.Parts.{AuthParts};
 ghost use Rattle.rr_auth.specs.Passing.{passes};
 ghost use Rattle.rr_auth.specs.TrialParts.{AreAnswers, IsAnswer, IsTrial, Recalls, Records};
 
-use crate::line::{Line, are_lines, copy_lines};
+use crate::auth_line::{Line, are_lines, copy_lines};
 use crate::salted::some_line_fits;
 use crate::secret::Secret;
 use rr_number::Name;

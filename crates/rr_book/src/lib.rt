@@ -6,7 +6,7 @@ mod closest;
 mod keeper;
 mod keys;
 pub mod listings;
-pub mod lists;
+pub mod object_lists;
 mod plain_book;
 pub mod set_book;
 pub mod set_index;

@@ -8,7 +8,7 @@ ghost use Rattle.rr_sets.specs.Lists.{IsReferrer, ListsOnce};
 use crate::closest::{closest, closest_routes};
 use crate::keeper::Keeper;
 use crate::set_index::{SetIndex, objects_of};
-use crate::{listings, lists};
+use crate::{listings, object_lists};
 use rr_auth::Book;
 use rr_number::{AsNumber, Name, Prefix, SetName, Span};
 use rr_object::{Class, Key, Object};
@@ -73,11 +73,11 @@ impl Book for PlainBook {
     ghost contents = { λ b. b };
 
     fn get(&self, key: &Key) -> Option<&Object> {
-        lists::find_key(&self.objects, key)
+        object_lists::find_key(&self.objects, key)
     }
 
     fn maintainer(&self, name: &Name) -> Option<&Object> {
-        lists::find_mntner_in_order(&self.objects, name)
+        object_lists::find_mntner_in_order(&self.objects, name)
     }
 
     fn closest_inetnum(&self, span: Span) -> Option<&Object> {
@@ -93,15 +93,15 @@ impl Book for PlainBook {
     }
 
     fn origins(&self, alloc: Global, prefix: Prefix) -> Result<Vec<AsNumber>, AllocError> {
-        lists::origins(alloc, &self.objects, prefix)
+        object_lists::origins(alloc, &self.objects, prefix)
     }
 
     fn crosses(&self, key: &Key) -> bool {
-        lists::some_crosses(&self.objects, key)
+        object_lists::some_crosses(&self.objects, key)
     }
 
     fn names_maintainer(&self, name: &Name) -> bool {
-        lists::some_names(&self.objects, name)
+        object_lists::some_names(&self.objects, name)
     }
 }
 
@@ -120,9 +120,9 @@ impl Keeper for PlainBook {
     }
 
     fn insert(&mut self, alloc: Global, object: Object) -> Result<(), AllocError> {
-        let standing = lists::find_key(&self.objects, object.key());
+        let standing = object_lists::find_key(&self.objects, object.key());
         let sets = self.referrers.enter(alloc, &object, standing)?;
-        match lists::put(&mut self.objects, object) {
+        match object_lists::put(&mut self.objects, object) {
             Ok(Some(old)) => {
                 self.referrers.take_and_free(old, &sets.after);
                 Ok(())
@@ -136,7 +136,7 @@ impl Keeper for PlainBook {
     }
 
     fn remove(&mut self, key: &Key) {
-        if let Some(old) = lists::remove(&mut self.objects, key) {
+        if let Some(old) = object_lists::remove(&mut self.objects, key) {
             self.referrers.take_all_and_free(old);
         }
     }

@@ -19,7 +19,7 @@ ghost use Rattle.rr_book.specs.SetIndexes.{is_meant, stands_under, HasAdded, Has
 ghost use Rattle.rr_book.specs.SetIndexes.{HasTaken};
 ghost use Rattle.rr_book.specs.SetLists.{names_set};
 
-use crate::lists::find_key;
+use crate::object_lists::find_key;
 use rr_number::SetName;
 use rr_object::{Key, Object};
 use std::alloc::{AllocError, Global};

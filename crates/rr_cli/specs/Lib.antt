@@ -1,3 +1,4 @@
+pub mod Networks
 pub mod Probing
 pub mod Running
 pub mod Runs

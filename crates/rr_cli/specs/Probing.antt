@@ -1,8 +1,10 @@
 -- What `irrdesk probe` does, and what it prints (profile).
-use Rattle.std.specs.Prelude.{◌≡◌, ◌≢◌, ◌⊎◌, ℕ, Bool, true, false, List, [], Option, Result}
-use Rattle.std.specs.Prelude.{Ok, Err, IfSome, IsTrue, codes, if◌then◌else◌, nat_eq}
+use Rattle.std.specs.Prelude.{◌≡◌, ◌≢◌, ◌<◌, ◌⊎◌, ℕ, List, [], Option, Ok, Err, IfSome, codes}
+use Rattle.std.specs.Prelude.{if◌then◌else◌, nat_eq}
+use Rattle.std.specs.IoError.{error_kind}
 use Rattle.std.specs.List.{starts_with}
 use Rattle.std.specs.declared.io.Error.{Error}
+use Rattle.std.specs.declared.io.ErrorKind.TheVariants.{OutOfMemory}
 use Rattle.sqlite_trees.specs.declared.store.Store.{Ghosts}
 use Rattle.rr_io.specs.Sending.{Takes, TakesPrefix}
 use Rattle.rr_io.specs.Told.{Told}
@@ -11,17 +13,15 @@ use Rattle.rr_desk.specs.Stocks.{DatabaseLasts, StoresUntilStopped}
 use Rattle.rr_desk.specs.Turns.{Serving, TakesTurns, Tally}
 use Rattle.rr_desk.specs.declared.desk.Desk.{Desk}
 use Rattle.rr_commands.specs.Commands.{ActsBySettings, AtDesk, CommandEnd, DatabaseCalls}
-use Rattle.rr_commands.specs.Commands.{DeskAction, ProgramEnd, Reads}
+use Rattle.rr_commands.specs.Commands.{DeskAction, FailsSilently, ProgramEnd, cause_of}
+use Rattle.rr_commands.specs.Faults.{IsAbout}
+use Rattle.rr_commands.specs.Files.{FileCalls}
 use Rattle.rr_commands.specs.declared.cause.Cause.{Cause}
+use Rattle.rr_commands.specs.declared.cause.Cause.TheVariants as cause
 use Rattle.rr_commands.specs.declared.trouble.Trouble.{Trouble}
 use Rattle.rr_commands.specs.declared.trouble.Trouble.TheVariants.{ListenerUnopened, Memory}
 use Rattle.rr_commands.specs.declared.trouble.Trouble.TheVariants.{ProbeFailed, Unwritten}
-use Rattle.rr_cli.specs.Serving.{Listens}
-
--- a peer that asked this is to be given these bytes, if it tells them, or nobody could ask it, by
--- this error (profile)
-abbrev pub Asking : Type 1
-Asking = List ℕ → Result (Option (List ℕ)) Error → Type 0
+use Rattle.rr_cli.specs.Networks.{NetworkCalls}
 
 -- the status of a probe: 1 if the reply is an error, and else 0 (profile)
 abbrev pub reply_status : List ℕ → ℕ
@@ -33,30 +33,22 @@ abbrev pub PrintsReply : List ℕ → Told → Told → CommandEnd → Type 0
 PrintsReply reply old new (Ok status) = (status ≡ reply_status reply) × Takes old new reply
 PrintsReply reply old new (Err trouble) = (trouble ≡ Unwritten) × TakesPrefix old new reply
 
--- there is no reply, and this is why; nothing was printed (profile)
-pub record HasNoReply (why : Trouble → Type 0) (old new : Told) (ended : CommandEnd)
-    : Type 0 where
-  pub trouble : Trouble
-  pub told : ended ≡ Err trouble
-  pub cause : why trouble
-  pub silent : new ≡ old
-
 -- a reply is all that was to be given, if that is told, and it is not empty (profile)
 pub record IsWhole (given : Option (List ℕ)) (reply : List ℕ) : Type 0 where
   pub all : IfSome given (λ bytes. reply ≡ bytes)
   pub some : reply ≢ []
 
 -- a peer asked this, and the reply is all that it was to be given (profile)
-pub record IsReplyTo (asks : Asking) (query reply : List ℕ) : Type 0 where
+pub record IsReplyTo (network : NetworkCalls) (query reply : List ℕ) : Type 0 where
   pub given : Option (List ℕ)
-  pub asked : asks query (Ok given)
+  pub asked : network.asks query (Ok given)
   pub whole : IsWhole given reply
 
 -- the reply to this was printed (profile)
-pub record HasReply (asks : Asking) (query : List ℕ) (old new : Told) (ended : CommandEnd)
-    : Type 0 where
+pub record HasReply (network : NetworkCalls) (query : List ℕ) (old new : Told)
+    (ended : CommandEnd) : Type 0 where
   pub reply : List ℕ
-  pub is_reply : IsReplyTo asks query reply
+  pub is_reply : IsReplyTo network query reply
   pub prints : PrintsReply reply old new ended
 
 -- of a listener that told `tally_before` one turn was taken, and `failed` says how many failed, 0
@@ -72,67 +64,106 @@ pub record TakesOneTurn {S : Type 0} (g : Ghosts S) (serves : Serving) (tally_be
   pub rows : StoresUntilStopped g after.stored
 
 -- any free port was listened on, and one turn of what listens on it was taken and served (profile)
-pub record ListensOnce {S : Type 0} (g : Ghosts S) (listens : Listens) (serves : Serving)
+pub record ListensOnce {S : Type 0} (g : Ghosts S) (network : NetworkCalls) (serves : Serving)
     (before after : Desk S) : Type 0 where
   pub tally : Tally
-  pub listened : listens 0 (Ok tally)
+  pub listened : network.listens 0 (Ok tally)
   pub takes : TakesOneTurn g serves tally before after 0
 
--- what may go wrong with a question once something listens: it failed, or memory ran out (profile)
-abbrev pub is_of_question : Trouble → Bool
-is_of_question (ProbeFailed cause) = true
-is_of_question Memory = true
-is_of_question _ = false
+-- what is told of a question that failed for this cause (profile)
+abbrev pub question_trouble : Cause → Trouble
+question_trouble cause.Memory = Memory
+question_trouble cause = ProbeFailed cause
 
 -- nothing listened, for this cause, and the desk is as it was (profile)
-pub record HasNoListener {S : Type 0} (listens : Listens) (before after : Desk S)
+pub record HasNoListener {S : Type 0} (network : NetworkCalls) (before after : Desk S)
     (trouble : Trouble) : Type 0 where
   pub cause : Cause
   pub told : trouble ≡ ListenerUnopened cause
-  pub refused : listens 0 (Err cause)
+  pub refused : network.listens 0 (Err cause)
   pub kept : after ≡ before
 
--- nobody could ask for the root maintainer, and the desk is as it was (profile)
-pub record IsUnasked {S : Type 0} (asks : Asking) (before after : Desk S) : Type 0 where
+-- nobody could ask for the root maintainer, for this cause, and the desk is as it was (profile)
+pub record FailsToConnect {S : Type 0} (network : NetworkCalls) (before after : Desk S)
+    (trouble : Trouble) : Type 0 where
   pub error : Error
-  pub refused : asks before.settings.root (Err error)
+  pub refused : network.asks before.settings.root (Err error)
+  pub told : trouble ≡ question_trouble (cause_of error)
   pub kept : after ≡ before
 
--- a peer asked for it, and one turn was taken, which failed or of which no reply could be read
--- (profile)
-pub record IsUnanswered {S : Type 0} (g : Ghosts S) (asks : Asking) (serves : Serving)
-    (tally : Tally) (before after : Desk S) : Type 0 where
-  pub given : Option (List ℕ)
-  pub asked : asks before.settings.root (Ok given)
+-- the connection of a peer was closed after a read that failed (profile)
+pub record BreaksPeer (network : NetworkCalls) : Type 0 where
   pub failed : ℕ
+  pub closed : network.closes failed
+  pub some : 0 < failed
+
+-- why a peer that was to be given these bytes has no reply, by this error: a read failed, or there
+-- was nothing to be given, or memory ran out (profile)
+abbrev pub HearsNothing : NetworkCalls → Option (List ℕ) → Error → Type 0
+HearsNothing network given error =
+    BreaksPeer network
+    ⊎ (IfSome given (λ bytes. bytes ≡ []) ⊎ (error_kind error ≡ OutOfMemory))
+
+-- one turn was taken, and it failed (profile)
+pub record FailsTurn {S : Type 0} (g : Ghosts S) (serves : Serving) (tally : Tally)
+    (before after : Desk S) (trouble : Trouble) : Type 0 where
+  pub failed : ℕ
+  pub some : 0 < failed
   pub takes : TakesOneTurn g serves tally before after failed
+  pub cause : Cause
+  pub told : trouble ≡ ProbeFailed cause
+
+-- one turn was taken and served, and this is why no reply was read of what was given (profile)
+pub record FailsToHear {S : Type 0} (g : Ghosts S) (network : NetworkCalls) (serves : Serving)
+    (tally : Tally) (given : Option (List ℕ)) (before after : Desk S) (trouble : Trouble)
+    : Type 0 where
+  pub takes : TakesOneTurn g serves tally before after 0
+  pub error : Error
+  pub why : HearsNothing network given error
+  pub told : trouble ≡ question_trouble (cause_of error)
+
+-- a turn that was asked for failed, or gave no reply (profile)
+abbrev pub GivesNoReply : {S : Type 0} → Ghosts S → NetworkCalls → Serving → Tally
+    → Option (List ℕ) → Desk S → Desk S → Trouble → Type 0
+GivesNoReply g network serves tally given before after trouble =
+    FailsTurn g serves tally before after trouble
+    ⊎ FailsToHear g network serves tally given before after trouble
+
+-- a peer asked for the root maintainer, and one turn gave no reply (profile)
+pub record HasNoReply {S : Type 0} (g : Ghosts S) (network : NetworkCalls) (serves : Serving)
+    (tally : Tally) (before after : Desk S) (trouble : Trouble) : Type 0 where
+  pub given : Option (List ℕ)
+  pub asked : network.asks before.settings.root (Ok given)
+  pub fails : GivesNoReply g network serves tally given before after trouble
 
 -- something listened, and the question failed (profile)
-pub record FailsToAsk {S : Type 0} (g : Ghosts S) (listens : Listens) (asks : Asking)
-    (serves : Serving) (before after : Desk S) (trouble : Trouble) : Type 0 where
-  pub cause : IsTrue (is_of_question trouble)
+pub record FailsToAsk {S : Type 0} (g : Ghosts S) (network : NetworkCalls) (serves : Serving)
+    (before after : Desk S) (trouble : Trouble) : Type 0 where
   pub tally : Tally
-  pub listened : listens 0 (Ok tally)
-  pub fails : IsUnasked asks before after ⊎ IsUnanswered g asks serves tally before after
+  pub listened : network.listens 0 (Ok tally)
+  pub fails : FailsToConnect network before after trouble
+      ⊎ HasNoReply g network serves tally before after trouble
 
 -- why there is no reply: nothing listened, or the question failed (profile)
-abbrev pub AsksInVain : {S : Type 0} → Ghosts S → Listens → Asking → Serving → Desk S → Desk S
+abbrev pub AsksInVain : {S : Type 0} → Ghosts S → NetworkCalls → Serving → Desk S → Desk S
     → Trouble → Type 0
-AsksInVain g listens asks serves before after trouble =
-    HasNoListener listens before after trouble
-    ⊎ FailsToAsk g listens asks serves before after trouble
+AsksInVain g network serves before after trouble =
+    HasNoListener network before after trouble
+    ⊎ FailsToAsk g network serves before after trouble
 
 -- what `irrdesk probe` does at a desk: it asks in vain, and prints nothing; or it asks for the root
 -- maintainer of the settings, one turn is taken and served, and the reply is printed (profile)
-abbrev pub ProbesDesk : {S : Type 0} → Ghosts S → Listens → Asking → Serving → Told
-    → Told → DeskAction S
-ProbesDesk g listens asks serves old new before after ended =
-    HasNoReply (AsksInVain g listens asks serves before after) old new ended
-    ⊎ (HasReply asks before.settings.root old new ended × ListensOnce g listens serves before after)
+abbrev pub ProbesDesk : {S : Type 0} → Ghosts S → NetworkCalls → Serving → Told → Told
+    → DeskAction S
+ProbesDesk g network serves old new before after ended =
+    FailsSilently (AsksInVain g network serves before after) old new ended
+    ⊎ (HasReply network before.settings.root old new ended
+    × ListensOnce g network serves before after)
 
 -- what `irrdesk probe` does, by its settings file (profile)
-abbrev pub ProbesBy : {D S : Type 0} → Ghosts S → DatabaseCalls D S → Reads → List ℕ → Listens
-    → Asking → Serving → D → D → Told → Told → ProgramEnd → Type 0
-ProbesBy g calls reads file listens asks serves start end old new = ActsBySettings reads file
-    (AtDesk g calls (ProbesDesk g listens asks serves old new) start end old new)
+abbrev pub ProbesBy : {D S : Type 0} → Ghosts S → DatabaseCalls D S → FileCalls → List ℕ
+    → NetworkCalls → Serving → D → D → Told → Told → ProgramEnd → Type 0
+ProbesBy g calls files file network serves start end old new =
+    ActsBySettings files file (IsAbout file)
+    (AtDesk g calls (ProbesDesk g network serves old new) start end old new)
     start end old new

@@ -6,20 +6,20 @@ use Rattle.rr_io.specs.Told.{Told}
 use Rattle.rr_desk.specs.Turns.{Serving}
 use Rattle.rr_arguments.specs.CommandLine.{Invocation, IsInvoked, FailsToInvoke, invoked}
 use Rattle.rr_arguments.specs.declared.command.Command.{Command}
-use Rattle.rr_arguments.specs.declared.fault.ArgumentsFault.{ArgumentsFault}
-use Rattle.rr_arguments.specs.declared.fault.ArgumentsFault.TheVariants as fault
-use Rattle.rr_commands.specs.Commands.{DatabaseCalls, ProgramEnd, Reads}
+use Rattle.rr_arguments.specs.declared.arguments_fault.ArgumentsFault.{ArgumentsFault}
+use Rattle.rr_arguments.specs.declared.arguments_fault.ArgumentsFault.TheVariants as fault
+use Rattle.rr_commands.specs.Commands.{DatabaseCalls, ProgramEnd}
 use Rattle.rr_commands.specs.Faults.{IsLegible, fault_line}
+use Rattle.rr_commands.specs.Files.{FileCalls}
 use Rattle.rr_commands.specs.Troubles.{trouble_status}
 use Rattle.rr_commands.specs.declared.cause.Cause.{Cause}
-use Rattle.rr_commands.specs.declared.fault.About.{About}
-use Rattle.rr_commands.specs.declared.fault.About.TheVariants as about
-use Rattle.rr_commands.specs.declared.fault.ProgramFault.{ProgramFault}
+use Rattle.rr_commands.specs.declared.command_fault.About.{About}
+use Rattle.rr_commands.specs.declared.command_fault.About.TheVariants as about
+use Rattle.rr_commands.specs.declared.command_fault.ProgramFault.{ProgramFault}
 use Rattle.rr_commands.specs.declared.trouble.Trouble.{Trouble}
 use Rattle.rr_commands.specs.declared.trouble.Trouble.TheVariants as trouble
-use Rattle.rr_cli.specs.Probing.{Asking}
+use Rattle.rr_cli.specs.Networks.{NetworkCalls}
 use Rattle.rr_cli.specs.Running.{CarriesOut}
-use Rattle.rr_cli.specs.Serving.{Listens}
 
 -- what goes wrong where a line asks for nothing (profile)
 abbrev pub arguments_trouble : ArgumentsFault → Trouble
@@ -56,20 +56,21 @@ pub record InvokesNothing {D : Type 0} (invocation : Invocation) (start end : D)
   pub unwritten : writer_new ≡ writer_old
 
 -- a command that was asked for was carried out (profile)
-pub record InvokesCommand {D S : Type 0} (g : Ghosts S) (calls : DatabaseCalls D S) (reads : Reads)
-    (listens : Listens) (asks : Asking) (serves : Serving) (invocation : Invocation) (start end : D)
+pub record InvokesCommand {D S : Type 0} (g : Ghosts S) (calls : DatabaseCalls D S)
+    (files : FileCalls) (network : NetworkCalls) (serves : Serving) (invocation : Invocation)
+    (start end : D)
     (reader_old reader_new writer_old writer_new : Told) (result : ProgramEnd) : Type 0 where
   pub command : Command
   pub is_invoked : IsInvoked command invocation
-  pub carried_out : CarriesOut g calls reads listens asks serves command start end
+  pub carried_out : CarriesOut g calls files network serves command start end
       reader_old reader_new writer_old writer_new result
 
 -- what was asked for was done, or nothing was (profile)
-abbrev pub DoesAsInvoked : {D S : Type 0} → Ghosts S → DatabaseCalls D S → Reads → Listens → Asking
+abbrev pub DoesAsInvoked : {D S : Type 0} → Ghosts S → DatabaseCalls D S → FileCalls → NetworkCalls
     → Serving → Invocation → D → D → Told → Told → Told → Told → ProgramEnd → Type 0
-DoesAsInvoked g calls reads listens asks serves invocation start end reader_old reader_new
+DoesAsInvoked g calls files network serves invocation start end reader_old reader_new
     writer_old writer_new result =
-    InvokesCommand g calls reads listens asks serves invocation start end reader_old reader_new
+    InvokesCommand g calls files network serves invocation start end reader_old reader_new
     writer_old writer_new result
     ⊎ InvokesNothing invocation start end reader_old reader_new writer_old writer_new result
 
@@ -91,11 +92,11 @@ EndsUnread cause errors_old errors_new status = (status ≡ trouble_status cause
     × ((stream : Cause) × TakesSome errors_old errors_new (fault_line about.Nothing cause stream))
 
 -- a run over these words (profile)
-pub record Runs {D S : Type 0} (g : Ghosts S) (calls : DatabaseCalls D S) (reads : Reads)
-    (listens : Listens) (asks : Asking) (serves : Serving) (words : List (List ℕ)) (start end : D)
+pub record Runs {D S : Type 0} (g : Ghosts S) (calls : DatabaseCalls D S) (files : FileCalls)
+    (network : NetworkCalls) (serves : Serving) (words : List (List ℕ)) (start end : D)
     (reader_old reader_new writer_old writer_new errors_old errors_new : Told) (status : ℕ)
     : Type 0 where
   pub result : ProgramEnd
-  pub does : DoesAsInvoked g calls reads listens asks serves (invoked words) start end
+  pub does : DoesAsInvoked g calls files network serves (invoked words) start end
       reader_old reader_new writer_old writer_new result
   pub ends : EndsRun result errors_old errors_new status

@@ -1,6 +1,6 @@
 -- What `irrdesk serve` does, and what it prints (profile).
-use Rattle.std.specs.Prelude.{◌≡◌, ◌⊎◌, ℕ, List, [], ◌∷◌, ◌++◌, IfSome, Result, Ok, Err}
-use Rattle.std.specs.Prelude.{codes, decimal}
+use Rattle.std.specs.Prelude.{◌≡◌, ◌⊎◌, ℕ, Bool, true, false, List, [], ◌∷◌, ◌++◌, map, IfSome}
+use Rattle.std.specs.Prelude.{IsTrue, Ok, Err, codes, decimal}
 use Rattle.sqlite_trees.specs.declared.store.Store.{Ghosts}
 use Rattle.rr_io.specs.Sending.{Takes, TakesPrefix}
 use Rattle.rr_io.specs.Told.{Told}
@@ -13,11 +13,11 @@ use Rattle.rr_commands.specs.declared.trouble.Trouble.{Trouble}
 use Rattle.rr_commands.specs.declared.trouble.Trouble.TheVariants.{ListenerUnopened, Unaccepted}
 use Rattle.rr_commands.specs.declared.trouble.Trouble.TheVariants.{Unwritten}
 use Rattle.rr_commands.specs.Commands.{ActsBySettings, AtDesk, CommandEnd, DatabaseCalls}
-use Rattle.rr_commands.specs.Commands.{DeskAction, ProgramEnd, Reads}
-
--- what listens on this port may tell this, or the port is refused for this cause (profile)
-abbrev pub Listens : Type 1
-Listens = ℕ → Result Tally Cause → Type 0
+use Rattle.rr_commands.specs.Commands.{DeskAction, ProgramEnd}
+use Rattle.rr_commands.specs.Faults.{IsAbout, byte_on_line, name_on_line}
+use Rattle.rr_commands.specs.Files.{FileCalls}
+use Rattle.rr_commands.specs.declared.command_fault.ProgramFault.{ProgramFault}
+use Rattle.rr_cli.specs.Networks.{NetworkCalls}
 
 -- the line that says how many turns were served, and how many failed (profile)
 unfoldable pub served_line : ℕ → ℕ → List ℕ
@@ -81,42 +81,67 @@ listening_line port = listening_head ++ (decimal port ++ codes "\n")
 
 -- why nothing was served: the listener was not opened, for this cause, and nothing was printed; or
 -- it was, and where it listens could not be printed (profile)
-abbrev pub FailsToListen : Listens → ℕ → Trouble → Told → Told → Type 0
-FailsToListen listens port (ListenerUnopened cause) old new =
-    listens port (Err cause) × (new ≡ old)
-FailsToListen listens port Unwritten old new =
-    ((tally : Tally) × listens port (Ok tally)) × TakesPrefix old new (listening_line port)
-FailsToListen listens port _ old new = ⊥
+abbrev pub FailsToListen : NetworkCalls → ℕ → Trouble → Told → Told → Type 0
+FailsToListen network port (ListenerUnopened cause) old new =
+    network.listens port (Err cause) × (new ≡ old)
+FailsToListen network port Unwritten old new =
+    ((tally : Tally) × network.listens port (Ok tally)) × TakesPrefix old new (listening_line port)
+FailsToListen network port _ old new = ⊥
 
 -- the port is not listened on, or that could not be said: nothing was served (profile)
-pub record HasNotListened (listens : Listens) (port : ℕ) (old new : Told) (ended : CommandEnd)
+pub record HasNotListened (network : NetworkCalls) (port : ℕ) (old new : Told) (ended : CommandEnd)
     : Type 0 where
   pub trouble : Trouble
   pub told : ended ≡ Err trouble
-  pub said : FailsToListen listens port trouble old new
+  pub said : FailsToListen network port trouble old new
 
 -- the port was listened on, that was said, and then turns of what listens on it were served
 -- (profile)
-pub record HasListened {S : Type 0} (g : Ghosts S) (listens : Listens) (serves : Serving)
+pub record HasListened {S : Type 0} (g : Ghosts S) (network : NetworkCalls) (serves : Serving)
     (port count : ℕ) (old new : Told) (before after : Desk S) (ended : CommandEnd) : Type 0 where
   pub between : Told
   pub said : Takes old between (listening_line port)
   pub tally_before : Tally
   pub tally_after : Tally
-  pub listened : listens port (Ok tally_before)
+  pub listened : network.listens port (Ok tally_before)
   pub served : HasServed g serves count before after tally_before tally_after between new ended
 
 -- what `irrdesk serve` does at a desk (profile)
 abbrev pub ServesDesk : {S : Type 0} →
-    Ghosts S → Listens → Serving → ℕ → ℕ → Told → Told → DeskAction S
-ServesDesk g listens serves port count old new before after ended =
-    (HasNotListened listens port old new ended × (after ≡ before))
-    ⊎ HasListened g listens serves port count old new before after ended
+    Ghosts S → NetworkCalls → Serving → ℕ → ℕ → Told → Told → DeskAction S
+ServesDesk g network serves port count old new before after ended =
+    (HasNotListened network port old new ended × (after ≡ before))
+    ⊎ HasListened g network serves port count old new before after ended
+
+-- where a port is listened on (profile)
+abbrev pub address : ℕ → List ℕ
+address port = codes "127.0.0.1:" ++ decimal port
+
+-- trouble with what listens (profile)
+abbrev pub is_of_listener : Trouble → Bool
+is_of_listener (ListenerUnopened cause) = true
+is_of_listener (Unaccepted cause) = true
+is_of_listener _ = false
+
+-- a fault shows where this port is listened on, or nothing where memory ran out (profile)
+abbrev pub ShowsPort : ℕ → ProgramFault → Type 0
+ShowsPort port fault =
+    (name_on_line fault.about ≡ map byte_on_line (address port) ++ codes ": ")
+    ⊎ (name_on_line fault.about ≡ [])
+
+-- a fault of what listens on this port shows where (profile)
+abbrev pub IsAboutPort : ℕ → ProgramFault → Type 0
+IsAboutPort port fault = IsTrue (is_of_listener fault.trouble) × ShowsPort port fault
+
+-- what a fault of `irrdesk serve` shows (profile)
+abbrev pub IsAboutServing : ℕ → List ℕ → List ℕ → List ℕ → ProgramFault → Type 0
+IsAboutServing port file path found fault =
+    IsAbout file path found fault ⊎ IsAboutPort port fault
 
 -- what `irrdesk serve` does, by its settings file (profile)
-abbrev pub ServesBy : {D S : Type 0} → Ghosts S → DatabaseCalls D S → Reads → List ℕ → Listens
-    → Serving → ℕ → ℕ → D → D → Told → Told → ProgramEnd → Type 0
-ServesBy g calls reads file listens serves port count start end old new =
-    ActsBySettings reads file
-    (AtDesk g calls (ServesDesk g listens serves port count old new) start end old new)
+abbrev pub ServesBy : {D S : Type 0} → Ghosts S → DatabaseCalls D S → FileCalls → List ℕ
+    → NetworkCalls → Serving → ℕ → ℕ → D → D → Told → Told → ProgramEnd → Type 0
+ServesBy g calls files file network serves port count start end old new =
+    ActsBySettings files file (IsAboutServing port file)
+    (AtDesk g calls (ServesDesk g network serves port count old new) start end old new)
     start end old new

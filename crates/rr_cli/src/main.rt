@@ -3,13 +3,13 @@
 
 mod network;
 mod peers_with_cause;
-mod probing;
-mod run;
-mod serving;
-mod streams;
+mod probe_command;
+mod program_run;
+mod serve_command;
+mod standard_streams;
 
 use crate::network::Sockets;
-use crate::streams::{StandardInput, fill_closed};
+use crate::standard_streams::{StandardInput, fill_closed};
 use rr_commands::{DatabaseFiles, Progress, Reading, SystemFiles};
 use rr_io::Counted;
 use std::env;
@@ -25,8 +25,8 @@ fn main(rt: HostRuntime) -> ExitCode {
     let mut databases = DatabaseFiles::new(&rt);
     let files = SystemFiles::new(&rt);
     let network = Sockets::new(&rt);
-    ExitCode::from(match run::collect(&rt, env::args(&rt)) {
-        Ok(arguments) => run::run(
+    ExitCode::from(match program_run::collect(&rt, env::args(&rt)) {
+        Ok(arguments) => program_run::run(
             &rt,
             &mut databases,
             &files,
@@ -36,6 +36,6 @@ fn main(rt: HostRuntime) -> ExitCode {
             &mut output,
             &mut errors,
         ),
-        Err(trouble) => run::tell_unread(trouble, &mut errors),
+        Err(trouble) => program_run::tell_unread(trouble, &mut errors),
     })
 }

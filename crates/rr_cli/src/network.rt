@@ -1,12 +1,12 @@
 //! How the program listens, and how it asks itself.
 
-ghost use Rattle.std.specs.Prelude.{◌≡◌, ℕ, Err, IfErr, IfOk, List, Ok, Option, Result};
-ghost use Rattle.std.specs.declared.io.Error.{Error};
-ghost use Rattle.rr_desk.specs.Turns.{Tally};
-ghost use Rattle.rr_commands.specs.declared.cause.Cause.{Cause};
+ghost use Rattle.std.specs.Prelude.{◌≡◌, Err, IfErr, IfOk, Ok};
+ghost use Rattle.rr_io.specs.Counted.{counted_failed_reads};
+ghost use Rattle.rr_cli.specs.Networks.{NetworkCalls};
 
 use crate::peers_with_cause::PeersWithCause;
 use rr_commands::Cause;
+use rr_io::Counted;
 use rr_listener::Listener;
 use std::io;
 use std::io::{Read, Write};
@@ -25,25 +25,25 @@ pub trait Network {
     /// A connection that has asked.
     type Peer: Read + Drop;
 
-    // What listens on this port may tell this, or the port is refused for this cause.
-    ghost listens: { Self → ℕ → Result Tally Cause → Type 0 };
-
-    // A peer that asked this is to be given these bytes, if it tells them, or nobody could ask it,
-    // by this error.
-    ghost asks: { Self → List ℕ → Result (Option (List ℕ)) Error → Type 0 };
+    // What its calls do.
+    ghost calls: { Self → NetworkCalls };
 
     /// Listens on this port, or on any free one if it is 0.
     fn listen(&self, port: u16) -> Result<Self::Listener, Cause>
         ensures turns { IfOk result (λ listener. (Self.Listener.tally listener).turns ≡ 0) }
         ensures listens { IfOk result
-            (λ listener. listens self.now port (Ok (Self.Listener.tally listener))) }
-        ensures refused { IfErr result (λ cause. listens self.now port (Err cause)) };
+            (λ listener. (calls self.now).listens port (Ok (Self.Listener.tally listener))) }
+        ensures refused { IfErr result (λ cause. (calls self.now).listens port (Err cause)) };
 
     /// Connects to a listener, and writes a query, its line end, and nothing more (RFC 3912, 2).
     fn ask(&self, listener: &Self::Listener, query: &[u8]) -> io::Result<Self::Peer>
         ensures asked { IfOk result
-            (λ peer. asks self.now query.now (Ok (Self.Peer.remaining peer))) }
-        ensures unasked { IfErr result (λ error. asks self.now query.now (Err error)) };
+            (λ peer. (calls self.now).asks query.now (Ok (Self.Peer.remaining peer))) }
+        ensures unasked { IfErr result (λ error. (calls self.now).asks query.now (Err error)) };
+
+    /// Closes the connection of a peer, with its failed reads counted.
+    fn close(&self, peer: Counted<Self::Peer>)
+        ensures { (calls self.now).closes (counted_failed_reads peer) };
 }
 
 /// The sockets of this machine.
@@ -65,9 +65,8 @@ impl<'a> Network for Sockets<'a> {
     type Peer = TcpStream;
 
     // No contract can say what a socket has.
-    ghost listens = { λ _ _ _. Unit {0} };
-
-    ghost asks = { λ _ _ _. Unit {0} };
+    ghost calls = { λ _. record
+        { listens = λ _ _. Unit {0}; asks = λ _ _. Unit {0}; closes = λ _. Unit {0} } };
 
     fn listen(&self, port: u16) -> Result<Listener<'a>, Cause> {
         match Listener::open(self.rt, port) {
@@ -84,4 +83,8 @@ impl<'a> Network for Sockets<'a> {
         peer.shutdown(Shutdown::Write)?;
         Ok(peer)
     }
+
+    fn close(&self, _peer: Counted<TcpStream>)
+        ensures { Unit {0} }
+    {}
 }

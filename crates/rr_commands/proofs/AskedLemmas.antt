@@ -1,8 +1,9 @@
 -- Lemmas on the statuses of queries.
 use Rattle.std.proofs.Common.{◌≡◌, ℕ, List, Result, Ok, Err, refl}
-use Rattle.rr_answer.specs.declared.fault.QueryFault.{QueryFault}
-use Rattle.rr_answer.specs.declared.fault.QueryFault.TheVariants.{Bad, TooLong, TooMany, Memory}
-use Rattle.rr_answer.specs.declared.fault.QueryFault.TheVariants.{Stopped}
+use Rattle.rr_answer.specs.declared.query_fault.QueryFault.{QueryFault}
+use Rattle.rr_answer.specs.declared.query_fault.QueryFault.TheVariants.{Bad, TooLong, TooMany}
+use Rattle.rr_answer.specs.declared.query_fault.QueryFault.TheVariants.{Memory}
+use Rattle.rr_answer.specs.declared.query_fault.QueryFault.TheVariants.{Stopped}
 use Rattle.rr_desk.specs.Answering.{told_number}
 use Rattle.rr_commands.specs.Asked.{answer_status, error_status}
 

@@ -1,4 +1,5 @@
 mod AskedLemmas
 mod FileLemmas
 mod LineLemmas
+mod PlaceLemmas
 mod WritingLemmas

@@ -4,13 +4,15 @@ use Rattle.std.specs.Prelude.{if◌then◌else◌}
 use Rattle.sqlite_trees.specs.declared.store.Store.{Ghosts}
 use Rattle.rr_io.specs.Sending.{Writes}
 use Rattle.rr_io.specs.Told.{Told}
-use Rattle.rr_answer.specs.declared.fault.QueryFault.{QueryFault}
+use Rattle.rr_answer.specs.declared.query_fault.QueryFault.{QueryFault}
 use Rattle.rr_answer.specs.Answers.{answer_bytes}
 use Rattle.rr_desk.specs.Desks.{GivesAnswer, desk_state}
 use Rattle.rr_desk.specs.Rows.{KeepsRows}
 use Rattle.rr_desk.specs.declared.desk.Desk.{Desk}
 use Rattle.rr_commands.specs.Commands.{ActsBySettings, AtDesk, CommandEnd, DatabaseCalls}
-use Rattle.rr_commands.specs.Commands.{ProgramEnd, Reads}
+use Rattle.rr_commands.specs.Commands.{ProgramEnd}
+use Rattle.rr_commands.specs.Faults.{IsAbout}
+use Rattle.rr_commands.specs.Files.{FileCalls}
 use Rattle.rr_commands.specs.declared.trouble.Trouble.TheVariants.{Unwritten}
 
 -- 0 where no error was written, and else 1, by the number of the error (profile)
@@ -36,7 +38,7 @@ pub record HasAsked {S : Type 0} (g : Ghosts S) (text : List ℕ) (old new : Tol
   pub keeps : KeepsRows before.stored.registry (desk_state g after)
 
 -- what `irrdesk query` does, by its settings file (profile)
-abbrev pub AsksBy : {D S : Type 0} → Ghosts S → DatabaseCalls D S → Reads → List ℕ → List ℕ
+abbrev pub AsksBy : {D S : Type 0} → Ghosts S → DatabaseCalls D S → FileCalls → List ℕ → List ℕ
     → D → D → Told → Told → ProgramEnd → Type 0
-AsksBy g calls reads file text start end old new = ActsBySettings reads file
+AsksBy g calls files file text start end old new = ActsBySettings files file (IsAbout file)
     (AtDesk g calls (HasAsked g text old new) start end old new) start end old new

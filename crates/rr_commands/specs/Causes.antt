@@ -163,14 +163,14 @@ abbrev pub database_cause_text : DatabaseCause → List ℕ
 database_cause_text database.Missing =
     codes "there is no such database: `irrdesk init` or `irrdesk load` makes it"
 database_cause_text database.MissingWithLog =
-    codes "there is no such database, but its log or journal (`-wal`, `-journal`): put the "
-    ++ codes "database back, or move that elsewhere and restore a backup"
+    codes "there is no such database, but its write-ahead log or journal (`-wal`, `-journal`): "
+    ++ codes "put the database back, or move that elsewhere and restore a backup"
 database_cause_text database.NoFolder =
     codes "the folder of the database is missing: make it, or correct `store`"
 database_cause_text (database.Refused cause) = codes "the database cannot be opened or made: "
 database_cause_text database.Denied =
-    codes "permission is denied for the database, its log or its folder: let the user who runs "
-    ++ codes "irrdesk own and write them"
+    codes "permission is denied for the database, its write-ahead log or its folder: let the user "
+    ++ codes "who runs irrdesk own and write them"
 database_cause_text database.HasJournal =
     codes "a program of SQLite left a journal (`-journal`): copy both elsewhere, and run `sqlite3 "
     ++ codes "DATABASE 'PRAGMA integrity_check'`, which applies it"
@@ -181,8 +181,8 @@ database_cause_text database.Empty =
     codes "the database has no registry that can be read: restore a backup, or make one by "
     ++ codes "`irrdesk init` or `irrdesk load`"
 database_cause_text database.EmptyWithLog =
-    codes "it is empty, but not its log or journal (`-wal`, `-journal`): move that elsewhere, and "
-    ++ codes "restore a backup"
+    codes "it is empty, but not its write-ahead log or journal (`-wal`, `-journal`): move that "
+    ++ codes "elsewhere, and restore a backup"
 database_cause_text database.Busy =
     codes "in use, most likely by the running server: ask it over its port, or stop it first"
 database_cause_text database.NoDatabase = unread_text

@@ -1,27 +1,29 @@
 -- What commands do that read settings from a file and use the database that these name, by how they
 -- end (profile).
-use Rattle.std.specs.Prelude.{◌≡◌, ◌≤◌, ◌+◌, ◌⊎◌, ℕ, false, List, [], length, take, IfSome}
-use Rattle.std.specs.Prelude.{Option, Result, Ok, Err}
+use Rattle.std.specs.Prelude.{◌≡◌, ◌≤◌, ◌+◌, ◌<◌, ◌⊎◌, ℕ, false, List, [], length, take, IfErr}
+use Rattle.std.specs.Prelude.{IfSome, Option, Result, Ok, Err}
 use Rattle.std.specs.IoError.{error_kind, raw_os_error}
 use Rattle.std.specs.declared.io.Error.{Error}
+use Rattle.std.specs.declared.io.ErrorKind.TheVariants.{OutOfMemory}
 use Rattle.sqlite_trees.specs.declared.store.Store.{Ghosts}
 use Rattle.sqlite.specs.Held.{Held, state}
 use Rattle.rr_io.specs.Told.{Told}
-use Rattle.rr_store.specs.declared.fault.OpenFault.{OpenFault}
+use Rattle.rr_store.specs.declared.store_fault.OpenFault.{OpenFault}
 use Rattle.rr_desk.specs.declared.desk.Desk.{Desk}
 use Rattle.rr_desk.specs.Opened.{FailsToOpenTables, IsRunning, OpensTables}
 use Rattle.rr_desk.specs.Rows.{CommitsNothing}
 use Rattle.rr_desk.specs.Settings.{SettingsParts}
 use Rattle.rr_commands.specs.Causes.{system_cause}
 use Rattle.rr_commands.specs.Faults.{name_on_line, place_on_line}
+use Rattle.rr_commands.specs.Files.{FileCalls}
 use Rattle.rr_commands.specs.Found.{IsToldUnopened}
 use Rattle.rr_commands.specs.SettingsFiles.{AreNoSettings, settings_of_text}
 use Rattle.rr_commands.specs.declared.cause.Cause.{Cause}
 use Rattle.rr_commands.specs.declared.cause.Cause.TheVariants as cause
 use Rattle.rr_commands.specs.declared.cause.DatabaseCause.{DatabaseCause}
-use Rattle.rr_commands.specs.declared.databases.Absent.{Absent}
-use Rattle.rr_commands.specs.declared.databases.Absent.TheVariants.{Refused}
-use Rattle.rr_commands.specs.declared.fault.ProgramFault.{ProgramFault}
+use Rattle.rr_commands.specs.declared.registry_databases.Absent.{Absent}
+use Rattle.rr_commands.specs.declared.registry_databases.Absent.TheVariants.{Refused}
+use Rattle.rr_commands.specs.declared.command_fault.ProgramFault.{ProgramFault}
 use Rattle.rr_commands.specs.declared.settings_reading.TheConstants.{MOST_BYTES}
 use Rattle.rr_commands.specs.declared.trouble.Place.TheVariants as place
 use Rattle.rr_commands.specs.declared.trouble.Trouble.{Trouble}
@@ -54,10 +56,9 @@ pub record DatabaseCalls (D S : Type 0) : Type 1 where
   pub opens : List ℕ → Absent → Result (Held S) DatabaseCause → D → D → Type 0
   pub closes : Held S → D → D → Type 0
 
--- as which bytes the file at a path may be read, if it tells them, or by which error it may be
--- refused (profile)
-abbrev pub Reads : Type 1
-Reads = List ℕ → Result (Option (List ℕ)) Error → Type 0
+-- what a fault of a command shows, by the path of its database and what was found in that (profile)
+abbrev pub Naming : Type 1
+Naming = List ℕ → List ℕ → ProgramFault → Type 0
 
 -- how a command ends and how the program does: with the same status, or by a fault with the same
 -- trouble (profile)
@@ -83,69 +84,80 @@ unopened_trouble cause = trouble.FileUnopened cause
 
 -- the file at this path was read to its end, or up to one byte more than the most of such a file,
 -- and has these bytes (profile)
-pub record ReadsFile (reads : Reads) (file text : List ℕ) : Type 0 where
+pub record ReadsFile (files : FileCalls) (file text : List ℕ) : Type 0 where
   pub given : Option (List ℕ)
-  pub opened : reads file (Ok given)
+  pub opened : files.opens file (Ok given)
   pub part : IfSome given (λ bytes. text ≡ take (MOST_BYTES + 1) bytes)
 
 -- the bytes of the file at this path are no settings, and this is why (profile)
-pub record RefusesFile (reads : Reads) (file : List ℕ) (trouble : Trouble) : Type 0 where
+pub record RefusesFile (files : FileCalls) (file : List ℕ) (trouble : Trouble) : Type 0 where
   pub text : List ℕ
-  pub read : ReadsFile reads file text
+  pub read : ReadsFile files file text
   pub why : AreNoSettings text trouble
 
--- the file at this path was refused by this error, or it was opened, and a read failed so (profile)
-abbrev pub FailsToRead : Reads → List ℕ → Error → Type 0
-FailsToRead reads file error =
-    reads file (Err error) ⊎ ((given : Option (List ℕ)) × reads file (Ok given))
+-- the file at this path was opened, and was closed after a read that failed, or memory ran out
+-- (profile)
+pub record BreaksFile (files : FileCalls) (file : List ℕ) (error : Error) : Type 0 where
+  pub given : Option (List ℕ)
+  pub opened : files.opens file (Ok given)
+  pub failed : ℕ
+  pub closed : files.closes file failed
+  pub why : (0 < failed) ⊎ (error_kind error ≡ OutOfMemory)
+
+-- the file at this path was not read: it was refused by this error, or a read of it failed, or
+-- memory ran out (profile)
+abbrev pub IsNotRead : FileCalls → List ℕ → Error → Type 0
+IsNotRead files file error = files.opens file (Err error) ⊎ BreaksFile files file error
 
 -- the settings in the file at this path cannot be read, and the trouble is why (profile)
-pub record IsUnreadFile (reads : Reads) (file : List ℕ) (told : Trouble) : Type 0 where
+pub record IsUnreadFile (files : FileCalls) (file : List ℕ) (told : Trouble) : Type 0 where
   pub error : Error
-  pub fails : FailsToRead reads file error
+  pub fails : IsNotRead files file error
   pub is_told : told ≡ unread_trouble (cause_of error)
 
 -- why the file at this path gives no settings: it cannot be read, or its bytes are none (profile)
-abbrev pub GivesNoSettings : Reads → List ℕ → Trouble → Type 0
-GivesNoSettings reads file trouble =
-    IsUnreadFile reads file trouble ⊎ RefusesFile reads file trouble
+abbrev pub GivesNoSettings : FileCalls → List ℕ → Trouble → Type 0
+GivesNoSettings files file trouble =
+    IsUnreadFile files file trouble ⊎ RefusesFile files file trouble
 
 -- there are no settings, the fault names their file, no database was opened or closed, and nothing
 -- was printed (profile)
-pub record HasNoSettings {D : Type 0} (reads : Reads) (file : List ℕ) (start end : D)
+pub record HasNoSettings {D : Type 0} (files : FileCalls) (file : List ℕ) (start end : D)
     (old new : Told) (result : ProgramEnd) : Type 0 where
   pub fault : ProgramFault
   pub told : result ≡ Err fault
-  pub cause : GivesNoSettings reads file fault.trouble
+  pub cause : GivesNoSettings files file fault.trouble
   pub about : name_on_line fault.about ≡ place_on_line place.File file []
   pub untouched : end ≡ start
   pub silent : new ≡ old
 
 -- the settings and the path of the database are those of the file at this path, which is no longer
 -- than such a file may be, and so was read to its end (profile)
-pub record HasSettings (reads : Reads) (file : List ℕ) (settings : SettingsParts)
+pub record HasSettings (files : FileCalls) (file : List ℕ) (settings : SettingsParts)
     (path : List ℕ) : Type 0 where
   pub text : List ℕ
-  pub read : ReadsFile reads file text
+  pub read : ReadsFile files file text
   pub short : length text ≤ MOST_BYTES
   pub says : settings_of_text text ≡ Ok (settings, path)
 
 -- there are settings and the path of a database in a file, a command did what it does by these, and
--- the program ends so (profile)
-pub record IsDone (reads : Reads) (file : List ℕ) (does : Action) (result : ProgramEnd)
-    : Type 0 where
+-- the program ends so; its fault shows what it is about (profile)
+pub record HasActed (files : FileCalls) (file : List ℕ) (names : Naming) (does : Action)
+    (result : ProgramEnd) : Type 0 where
   pub settings : SettingsParts
   pub path : List ℕ
-  pub read : HasSettings reads file settings path
+  pub read : HasSettings files file settings path
   pub ended : CommandEnd
   pub did : does settings path ended
   pub ends : EndsAs ended result
+  pub found : List ℕ
+  pub about : IfErr result (names path found)
 
 -- what a command does that reads its settings from the file at this path first (profile)
-abbrev pub ActsBySettings : {D : Type 0} → Reads → List ℕ → Action → D → D → Told → Told
-    → ProgramEnd → Type 0
-ActsBySettings reads file does start end old new result =
-    HasNoSettings reads file start end old new result ⊎ IsDone reads file does result
+abbrev pub ActsBySettings : {D : Type 0} → FileCalls → List ℕ → Naming → Action → D → D → Told
+    → Told → ProgramEnd → Type 0
+ActsBySettings files file names does start end old new result =
+    HasNoSettings files file start end old new result ⊎ HasActed files file names does result
 
 -- a look at a database for a message, from one connection to the next, which is in no transaction:
 -- nothing was committed (profile)
@@ -187,8 +199,8 @@ OpensNoDesk g calls path parts start end trouble =
     IsNotGiven calls path Refused start end trouble
     ⊎ IsRefused g calls path parts.source start end trouble
 
--- the database is not opened, and this is why; nothing was printed (profile)
-pub record IsUnopened (why : Trouble → Type 0) (old new : Told) (ended : CommandEnd)
+-- nothing was done but what this says of the trouble, and nothing was printed (profile)
+pub record FailsSilently (why : Trouble → Type 0) (old new : Told) (ended : CommandEnd)
     : Type 0 where
   pub trouble : Trouble
   pub told : ended ≡ Err trouble
@@ -196,18 +208,10 @@ pub record IsUnopened (why : Trouble → Type 0) (old new : Told) (ended : Comma
   pub silent : new ≡ old
 
 -- the file at this path was refused, and the trouble is why (profile)
-pub record IsUnopenedFile (reads : Reads) (file : List ℕ) (told : Trouble) : Type 0 where
+pub record IsUnopenedFile (files : FileCalls) (file : List ℕ) (told : Trouble) : Type 0 where
   pub error : Error
-  pub refused : reads file (Err error)
+  pub refused : files.opens file (Err error)
   pub is_told : told ≡ unopened_trouble (cause_of error)
-
--- the file that is read is not opened, and this is why; nothing was printed (profile)
-pub record HasNoFile (reads : Reads) (file : List ℕ) (old new : Told) (ended : CommandEnd)
-    : Type 0 where
-  pub trouble : Trouble
-  pub told : ended ≡ Err trouble
-  pub cause : IsUnopenedFile reads file trouble
-  pub silent : new ≡ old
 
 -- the database at a path was given and holds the rows of a registry of these settings, and the desk
 -- runs over it (profile)
@@ -234,7 +238,7 @@ pub record IsDoneAtDesk {D S : Type 0} (g : Ghosts S) (calls : DatabaseCalls D S
 abbrev pub AtDesk : {D S : Type 0} →
     Ghosts S → DatabaseCalls D S → DeskAction S → D → D → Told → Told → Action
 AtDesk g calls does start end old new parts path ended =
-    IsUnopened (OpensNoDesk g calls path parts start end) old new ended
+    FailsSilently (OpensNoDesk g calls path parts start end) old new ended
     ⊎ IsDoneAtDesk g calls path does parts start end ended
 
 -- a database was opened, and this was done in it; as this left it, it was closed (profile)
@@ -253,5 +257,5 @@ pub record IsDoneInDatabase {D S : Type 0} (calls : DatabaseCalls D S) (path : L
 abbrev pub InDatabase : {D S : Type 0} → DatabaseCalls D S → Absent → ConnectionAction S → D → D
     → Told → Told → List ℕ → CommandEnd → Type 0
 InDatabase calls absent does start end old new path ended =
-    IsUnopened (IsNotGiven calls path absent start end) old new ended
+    FailsSilently (IsNotGiven calls path absent start end) old new ended
     ⊎ IsDoneInDatabase calls path absent does start end ended

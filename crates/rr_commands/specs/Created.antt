@@ -3,15 +3,17 @@ use Rattle.std.specs.Prelude.{◌≡◌, ℕ, ◌⊎◌, List, Err, codes}
 use Rattle.sqlite_trees.specs.declared.store.Store.{Ghosts}
 use Rattle.sqlite.specs.Held.{Held}
 use Rattle.rr_io.specs.Told.{Told}
-use Rattle.rr_store.specs.declared.fault.CreateFault.{CreateFault}
+use Rattle.rr_store.specs.declared.store_fault.CreateFault.{CreateFault}
 use Rattle.rr_desk.specs.Opened.{FailsToMakeTables, HasOpeningRows, IsRunning, MakesTables}
 use Rattle.rr_desk.specs.Opening.{IsOpeningRegistry}
 use Rattle.rr_desk.specs.Settings.{SettingsParts}
 use Rattle.rr_desk.specs.declared.desk.Desk.{Desk}
 use Rattle.rr_commands.specs.Commands.{ActsBySettings, CommandEnd, ConnectionAction, DatabaseCalls}
-use Rattle.rr_commands.specs.Commands.{InDatabase, ProgramEnd, Reads}
+use Rattle.rr_commands.specs.Commands.{InDatabase, ProgramEnd}
+use Rattle.rr_commands.specs.Faults.{IsAbout}
+use Rattle.rr_commands.specs.Files.{FileCalls}
 use Rattle.rr_commands.specs.Printed.{Tells}
-use Rattle.rr_commands.specs.declared.databases.Absent.TheVariants.{Made}
+use Rattle.rr_commands.specs.declared.registry_databases.Absent.TheVariants.{Made}
 use Rattle.rr_commands.specs.declared.trouble.Trouble.TheVariants.{Creating}
 
 -- the line that says how many objects a registry opens with (profile)
@@ -43,8 +45,8 @@ CreatesIn g settings old new before after ended =
     ⊎ IsCreated g settings old new before after ended
 
 -- what `irrdesk init` does, by its settings file (profile)
-abbrev pub CreatesBy : {D S : Type 0} → Ghosts S → DatabaseCalls D S → Reads → List ℕ → D → D
+abbrev pub CreatesBy : {D S : Type 0} → Ghosts S → DatabaseCalls D S → FileCalls → List ℕ → D → D
     → Told → Told → ProgramEnd → Type 0
-CreatesBy g calls reads file start end old new = ActsBySettings reads file
+CreatesBy g calls files file start end old new = ActsBySettings files file (IsAbout file)
     (λ settings. InDatabase calls Made (CreatesIn g settings old new) start end old new)
     start end old new

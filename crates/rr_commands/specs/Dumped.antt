@@ -6,7 +6,9 @@ use Rattle.rr_io.specs.Told.{Told}
 use Rattle.rr_answer.specs.Dumps.{dump}
 use Rattle.rr_desk.specs.Dumping.{IsCutShort}
 use Rattle.rr_commands.specs.Commands.{ActsBySettings, AtDesk, CommandEnd, DatabaseCalls}
-use Rattle.rr_commands.specs.Commands.{DeskAction, ProgramEnd, Reads}
+use Rattle.rr_commands.specs.Commands.{DeskAction, ProgramEnd}
+use Rattle.rr_commands.specs.Faults.{IsAbout}
+use Rattle.rr_commands.specs.Files.{FileCalls}
 use Rattle.rr_commands.specs.declared.trouble.Trouble.TheVariants.{Dumping}
 
 -- the bytes of a dump were written, and the status is 0; or it was cut short (profile)
@@ -22,7 +24,7 @@ DumpsDesk full old new before after ended =
     (after ≡ before) × HasDumped (dump full before.stored.registry) old new ended
 
 -- what `irrdesk dump` does, by its settings file (profile)
-abbrev pub DumpsBy : {D S : Type 0} → Ghosts S → DatabaseCalls D S → Reads → List ℕ → Bool
+abbrev pub DumpsBy : {D S : Type 0} → Ghosts S → DatabaseCalls D S → FileCalls → List ℕ → Bool
     → D → D → Told → Told → ProgramEnd → Type 0
-DumpsBy g calls reads file full start end old new = ActsBySettings reads file
+DumpsBy g calls files file full start end old new = ActsBySettings files file (IsAbout file)
     (AtDesk g calls (DumpsDesk full old new) start end old new) start end old new

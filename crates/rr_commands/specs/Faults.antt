@@ -8,9 +8,9 @@ use Rattle.rr_commands.specs.Shown.{needs_no_escape}
 use Rattle.rr_commands.specs.Troubles.{cause_words, place_of, trouble_cause, trouble_number}
 use Rattle.rr_commands.specs.Words.{after_number, before_cause, before_number}
 use Rattle.rr_commands.specs.declared.cause.Cause.{Cause}
-use Rattle.rr_commands.specs.declared.fault.About.{About}
-use Rattle.rr_commands.specs.declared.fault.About.TheVariants.{Nothing, Word, Named}
-use Rattle.rr_commands.specs.declared.fault.ProgramFault.{ProgramFault}
+use Rattle.rr_commands.specs.declared.command_fault.About.{About}
+use Rattle.rr_commands.specs.declared.command_fault.About.TheVariants.{Nothing, Word, Named}
+use Rattle.rr_commands.specs.declared.command_fault.ProgramFault.{ProgramFault}
 use Rattle.rr_commands.specs.declared.trouble.Place.{Place}
 use Rattle.rr_commands.specs.declared.trouble.Place.TheVariants as place
 use Rattle.rr_commands.specs.declared.trouble.Trouble.{Trouble}
@@ -37,12 +37,11 @@ place_on_line place.Output file database = map byte_on_line (codes "standard out
 abbrev pub IsShownAs : List ℕ → List ℕ → Type 0
 IsShownAs text line = IsTrue (needs_no_escape text) → line ≡ text
 
--- a text for the database at a path, in which this was found: the path as it is, or the path as a
--- line shows it and what was found (profile)
-abbrev pub NamesDatabase : List ℕ → List ℕ → List ℕ → Type 0
-NamesDatabase path found database =
-    (database ≡ path)
-    ⊎ ((start : List ℕ) × IsShownAs path start × (database ≡ start ++ found))
+-- a text for the file or database at a path, in which this was found: the path as it is, or the
+-- path as a line shows it and what was found (profile)
+abbrev pub NamesPath : List ℕ → List ℕ → List ℕ → Type 0
+NamesPath path found text =
+    (text ≡ path) ⊎ ((start : List ℕ) × IsShownAs path start × (text ≡ start ++ found))
 
 -- what a fault is about, as a line shows it: the same, and a word so or, without memory, as it was
 -- given (profile)
@@ -59,8 +58,20 @@ IsLegible (Word word) (Named name) = IsShownAs word.now (string_bytes name)
 abbrev pub IsAbout : List ℕ → List ℕ → List ℕ → ProgramFault → Type 0
 IsAbout file path found fault =
     (database : List ℕ)
-    × NamesDatabase path found database
+    × NamesPath path found database
     × (name_on_line fault.about ≡ place_on_line (place_of fault.trouble) file database)
+
+-- a fault of what a file has shows the file, and where in it (profile)
+pub record IsInFile (file : List ℕ) (fault : ProgramFault) : Type 0 where
+  pub of_file : place_of fault.trouble ≡ place.File
+  pub found : List ℕ
+  pub text : List ℕ
+  pub names : NamesPath file found text
+  pub shows : name_on_line fault.about ≡ place_on_line place.File text []
+
+-- the same of a command that loads this file: what it has may be shown with its place (profile)
+abbrev pub IsAboutDump : List ℕ → List ℕ → List ℕ → ProgramFault → Type 0
+IsAboutDump file path found fault = IsAbout file path found fault ⊎ IsInFile file fault
 
 -- a number in decimal digits, or nothing (profile)
 abbrev pub number_text : Option ℕ → List ℕ

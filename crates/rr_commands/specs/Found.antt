@@ -1,9 +1,9 @@
 -- What a look at a database may find whose tables were not opened or not migrated (profile).
 use Rattle.std.specs.Prelude.{◌≡◌, ◌⊎◌, ℕ, ◌==◌, Bool, true, false, IsTrue, nat_lt}
-use Rattle.rr_store.specs.declared.fault.MigrateFault.{MigrateFault}
-use Rattle.rr_store.specs.declared.fault.MigrateFault.TheVariants as migrating
-use Rattle.rr_store.specs.declared.fault.OpenFault.{OpenFault}
-use Rattle.rr_store.specs.declared.fault.OpenFault.TheVariants as opening
+use Rattle.rr_store.specs.declared.store_fault.MigrateFault.{MigrateFault}
+use Rattle.rr_store.specs.declared.store_fault.MigrateFault.TheVariants as migrating
+use Rattle.rr_store.specs.declared.store_fault.OpenFault.{OpenFault}
+use Rattle.rr_store.specs.declared.store_fault.OpenFault.TheVariants as opening
 use Rattle.rr_store.specs.declared.version.TheConstants.{OLD_VERSION, VERSION}
 use Rattle.rr_commands.specs.declared.trouble.Trouble.{Trouble}
 use Rattle.rr_commands.specs.declared.trouble.Trouble.TheVariants as trouble

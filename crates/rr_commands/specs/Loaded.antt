@@ -11,9 +11,11 @@ use Rattle.rr_desk.specs.Settings.{SettingsParts}
 use Rattle.rr_desk.specs.declared.desk.Desk.{Desk}
 use Rattle.rr_desk.specs.declared.loading.DeskLoadFault.{DeskLoadFault}
 use Rattle.rr_commands.specs.Commands.{ActsBySettings, CommandEnd, ConnectionAction, DatabaseCalls}
-use Rattle.rr_commands.specs.Commands.{HasNoFile, InDatabase, ProgramEnd, Reads}
+use Rattle.rr_commands.specs.Commands.{FailsSilently, InDatabase, IsUnopenedFile, ProgramEnd}
+use Rattle.rr_commands.specs.Faults.{IsAboutDump}
+use Rattle.rr_commands.specs.Files.{FileCalls}
 use Rattle.rr_commands.specs.Printed.{Tells}
-use Rattle.rr_commands.specs.declared.databases.Absent.TheVariants.{Made}
+use Rattle.rr_commands.specs.declared.registry_databases.Absent.TheVariants.{Made}
 use Rattle.rr_commands.specs.declared.trouble.Trouble.TheVariants.{Loading}
 
 -- the line that says how many objects were loaded (profile)
@@ -57,25 +59,25 @@ Loads g settings reader_old reader_new writer_old writer_new before after ended 
 
 -- the file at this path was loaded into a database: what its reader told when it was opened, and
 -- when all was done (profile)
-pub record LoadsFile {S : Type 0} (g : Ghosts S) (settings : SettingsParts) (reads : Reads)
+pub record LoadsFile {S : Type 0} (g : Ghosts S) (settings : SettingsParts) (files : FileCalls)
     (file : List ℕ) (writer_old writer_new : Told) (before after : Held S) (ended : CommandEnd)
     : Type 0 where
   pub reader_old : Told
   pub reader_new : Told
-  pub opened : reads file (Ok reader_old.bytes)
+  pub opened : files.opens file (Ok reader_old.bytes)
   pub loads : Loads g settings reader_old reader_new writer_old writer_new before after ended
 
 -- what `irrdesk load` does in a database: its file is not opened and the database stays as it was,
 -- or what is read is loaded (profile)
-abbrev pub LoadsIn : {S : Type 0} → Ghosts S → SettingsParts → Reads → List ℕ → Told → Told
+abbrev pub LoadsIn : {S : Type 0} → Ghosts S → SettingsParts → FileCalls → List ℕ → Told → Told
     → ConnectionAction S
-LoadsIn g settings reads file old new before after ended =
-    (HasNoFile reads file old new ended × (after ≡ before))
-    ⊎ LoadsFile g settings reads file old new before after ended
+LoadsIn g settings files file old new before after ended =
+    (FailsSilently (IsUnopenedFile files file) old new ended × (after ≡ before))
+    ⊎ LoadsFile g settings files file old new before after ended
 
 -- what `irrdesk load` does, by its settings file (profile)
-abbrev pub LoadsBy : {D S : Type 0} → Ghosts S → DatabaseCalls D S → Reads → List ℕ → List ℕ
+abbrev pub LoadsBy : {D S : Type 0} → Ghosts S → DatabaseCalls D S → FileCalls → List ℕ → List ℕ
     → D → D → Told → Told → ProgramEnd → Type 0
-LoadsBy g calls reads file dump start end old new = ActsBySettings reads file
-    (λ settings. InDatabase calls Made (LoadsIn g settings reads dump old new) start end old new)
+LoadsBy g calls files file dump start end old new = ActsBySettings files file (IsAboutDump dump)
+    (λ settings. InDatabase calls Made (LoadsIn g settings files dump old new) start end old new)
     start end old new

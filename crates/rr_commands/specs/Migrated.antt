@@ -3,17 +3,19 @@ use Rattle.std.specs.Prelude.{◌≡◌, ◌⊎◌, ℕ, Bool, true, false, List
 use Rattle.sqlite_trees.specs.declared.store.Store.{Ghosts}
 use Rattle.sqlite.specs.Held.{Held}
 use Rattle.rr_io.specs.Told.{Told}
-use Rattle.rr_store.specs.declared.fault.MigrateFault.{MigrateFault}
-use Rattle.rr_store.specs.declared.fault.MigrateFault.TheVariants as migrating
+use Rattle.rr_store.specs.declared.store_fault.MigrateFault.{MigrateFault}
+use Rattle.rr_store.specs.declared.store_fault.MigrateFault.TheVariants as migrating
 use Rattle.rr_desk.specs.Migrating.{FailsToMigrateTables, MigratesTables}
 use Rattle.rr_desk.specs.Opened.{IsRunning}
 use Rattle.rr_desk.specs.Settings.{SettingsParts}
 use Rattle.rr_desk.specs.declared.desk.Desk.{Desk}
 use Rattle.rr_commands.specs.Commands.{ActsBySettings, CommandEnd, ConnectionAction, DatabaseCalls}
-use Rattle.rr_commands.specs.Commands.{InDatabase, LooksAt, ProgramEnd, Reads}
+use Rattle.rr_commands.specs.Commands.{InDatabase, LooksAt, ProgramEnd}
+use Rattle.rr_commands.specs.Faults.{IsAbout}
+use Rattle.rr_commands.specs.Files.{FileCalls}
 use Rattle.rr_commands.specs.Found.{is_found}
 use Rattle.rr_commands.specs.Printed.{Tells}
-use Rattle.rr_commands.specs.declared.databases.Absent.TheVariants.{Refused}
+use Rattle.rr_commands.specs.declared.registry_databases.Absent.TheVariants.{Refused}
 use Rattle.rr_commands.specs.declared.trouble.Trouble.{Trouble}
 use Rattle.rr_commands.specs.declared.trouble.Trouble.TheVariants.{Migrating}
 
@@ -31,7 +33,7 @@ module _ {S : Type 0} (g : Ghosts S) (settings : SettingsParts) (old new : Told)
 
   -- the rows of a registry of version 1 were made those of version 2, with the block of the other
   -- AS numbers, and that was printed (RFC 6793; profile)
-  pub record IsMigrated (before after : Held S) (ended : CommandEnd) : Type 0 where
+  pub record HasMigrated (before after : Held S) (ended : CommandEnd) : Type 0 where
     pub desk : Desk S
     pub runs : IsRunning g settings desk
     pub migrates : MigratesTables g settings before desk.stored
@@ -43,7 +45,7 @@ abbrev pub MigratesIn : {S : Type 0} →
     Ghosts S → SettingsParts → Told → Told → ConnectionAction S
 MigratesIn g settings old new before after ended =
     IsUnmigrated g settings old new before after ended
-    ⊎ IsMigrated g settings old new before after ended
+    ⊎ HasMigrated g settings old new before after ended
 
 -- the database was refused, and what a further look at it found is told (profile)
 pub record IsFoundOut (first ended : CommandEnd) : Type 0 where
@@ -88,8 +90,8 @@ pub record IsDiagnosed {S : Type 0} (g : Ghosts S) (does : ConnectionAction S)
   pub diagnosis : IsDiagnosis first ended
 
 -- what `irrdesk migrate` does, by its settings file (profile)
-abbrev pub MigratesBy : {D S : Type 0} → Ghosts S → DatabaseCalls D S → Reads → List ℕ → D → D
+abbrev pub MigratesBy : {D S : Type 0} → Ghosts S → DatabaseCalls D S → FileCalls → List ℕ → D → D
     → Told → Told → ProgramEnd → Type 0
-MigratesBy g calls reads file start end old new = ActsBySettings reads file
+MigratesBy g calls files file start end old new = ActsBySettings files file (IsAbout file)
     (λ settings. InDatabase calls Refused (IsDiagnosed g (MigratesIn g settings old new))
     start end old new) start end old new

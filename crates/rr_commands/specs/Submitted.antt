@@ -1,6 +1,6 @@
 -- What `irrdesk submit` does, and `irrdesk` without arguments, by how it ends (profile).
-use Rattle.std.specs.Prelude.{◌≡◌, ℕ, ◌==◌, ◌⊎◌, false, List, Result, Ok, Err}
-use Rattle.std.specs.Prelude.{if◌then◌else◌}
+use Rattle.std.specs.Prelude.{◌≡◌, ℕ, ◌==◌, ◌⊎◌, false, List, [], Result, Ok, Err, IfErr}
+use Rattle.std.specs.Prelude.{codes, if◌then◌else◌}
 use Rattle.sqlite_trees.specs.declared.store.Store.{Ghosts}
 use Rattle.sqlite.specs.Held.{state}
 use Rattle.rr_io.specs.Told.{Told}
@@ -15,7 +15,10 @@ use Rattle.rr_desk.specs.Stocks.{DatabaseLasts, StoresUntilStopped}
 use Rattle.rr_desk.specs.declared.desk.Desk.{Desk}
 use Rattle.rr_commands.specs.Causes.{stop_cause}
 use Rattle.rr_commands.specs.Commands.{ActsBySettings, AtDesk, CommandEnd, DatabaseCalls}
-use Rattle.rr_commands.specs.Commands.{DeskAction, EndsAs, HasNoFile, ProgramEnd, Reads}
+use Rattle.rr_commands.specs.Commands.{DeskAction, EndsAs, FailsSilently, IsUnopenedFile}
+use Rattle.rr_commands.specs.Commands.{ProgramEnd}
+use Rattle.rr_commands.specs.Faults.{IsAbout}
+use Rattle.rr_commands.specs.Files.{FileCalls}
 use Rattle.rr_commands.specs.declared.cause.DatabaseCause.{DatabaseCause}
 use Rattle.rr_commands.specs.declared.trouble.Trouble.{Trouble}
 use Rattle.rr_commands.specs.declared.trouble.Trouble.TheVariants.{Creating, Submission, Memory}
@@ -80,34 +83,36 @@ RunsPlain g reader_old reader_new writer_old writer_new ended =
 
 -- the file at this path was submitted to a desk: what its reader told when it was opened, and when
 -- all was done (profile)
-pub record SubmitsFile {S : Type 0} (g : Ghosts S) (reads : Reads) (file : List ℕ)
+pub record SubmitsFile {S : Type 0} (g : Ghosts S) (files : FileCalls) (file : List ℕ)
     (writer_old writer_new : Told) (before after : Desk S) (ended : CommandEnd) : Type 0 where
   pub reader_old : Told
   pub reader_new : Told
-  pub opened : reads file (Ok reader_old.bytes)
+  pub opened : files.opens file (Ok reader_old.bytes)
   pub submitted : HasSubmitted g before after reader_old reader_new writer_old writer_new ended
 
 -- what `irrdesk submit` does at a desk: its file is not opened and the desk stays as it was, or the
 -- file is submitted (profile)
-abbrev pub SubmitsDesk : {S : Type 0} → Ghosts S → Reads → List ℕ → Told → Told → DeskAction S
-SubmitsDesk g reads file old new before after ended =
-    (HasNoFile reads file old new ended × (after ≡ before))
-    ⊎ SubmitsFile g reads file old new before after ended
+abbrev pub SubmitsDesk : {S : Type 0} → Ghosts S → FileCalls → List ℕ → Told → Told → DeskAction S
+SubmitsDesk g files file old new before after ended =
+    (FailsSilently (IsUnopenedFile files file) old new ended × (after ≡ before))
+    ⊎ SubmitsFile g files file old new before after ended
 
 -- what `irrdesk submit` does, by its settings file (profile)
-abbrev pub SubmitsBy : {D S : Type 0} → Ghosts S → DatabaseCalls D S → Reads → List ℕ → List ℕ
-    → D → D → Told → Told → ProgramEnd → Type 0
-SubmitsBy g calls reads file items start end old new = ActsBySettings reads file
-    (AtDesk g calls (SubmitsDesk g reads items old new) start end old new) start end old new
+abbrev pub SubmitsBy : {D S : Type 0} → Ghosts S → DatabaseCalls D S → FileCalls → List ℕ
+    → List ℕ → D → D → Told → Told → ProgramEnd → Type 0
+SubmitsBy g calls files file items start end old new = ActsBySettings files file (IsAbout items)
+    (AtDesk g calls (SubmitsDesk g files items old new) start end old new) start end old new
 
 -- how a run without arguments ends (profile)
 abbrev pub plain_end : CommandEnd → CommandEnd
 plain_end (Ok status) = Ok status
 plain_end (Err trouble) = Err (plain_trouble trouble)
 
--- what the program does without arguments, and how it ends (profile)
+-- what the program does without arguments, and how it ends: a fault shows standard input, standard
+-- output or nothing (profile)
 pub record EndsPlain {S : Type 0} (g : Ghosts S)
     (reader_old reader_new writer_old writer_new : Told) (result : ProgramEnd) : Type 0 where
   pub ended : CommandEnd
   pub runs : RunsPlain g reader_old reader_new writer_old writer_new ended
   pub ends : EndsAs (plain_end ended) result
+  pub about : IfErr result (IsAbout (codes "standard input") [] [])

@@ -3,17 +3,17 @@ use Rattle.std.specs.Prelude.{ℕ, ◌==◌, nat_lt, List, [], ◌++◌, codes, 
 use Rattle.sqlite.specs.declared.error.Error.{Error}
 use Rattle.rr_object.specs.declared.code.Code.{Code}
 use Rattle.rr_object.specs.declared.code.Code.TheVariants.{E02, E03, E04, E05, E06}
-use Rattle.rr_store.specs.declared.fault.CreateFault.{CreateFault}
-use Rattle.rr_store.specs.declared.fault.CreateFault.TheVariants as creating
-use Rattle.rr_store.specs.declared.fault.MigrateFault.{MigrateFault}
-use Rattle.rr_store.specs.declared.fault.MigrateFault.TheVariants as migrating
-use Rattle.rr_store.specs.declared.fault.OpenFault.{OpenFault}
-use Rattle.rr_store.specs.declared.fault.OpenFault.TheVariants as opening
+use Rattle.rr_store.specs.declared.store_fault.CreateFault.{CreateFault}
+use Rattle.rr_store.specs.declared.store_fault.CreateFault.TheVariants as creating
+use Rattle.rr_store.specs.declared.store_fault.MigrateFault.{MigrateFault}
+use Rattle.rr_store.specs.declared.store_fault.MigrateFault.TheVariants as migrating
+use Rattle.rr_store.specs.declared.store_fault.OpenFault.{OpenFault}
+use Rattle.rr_store.specs.declared.store_fault.OpenFault.TheVariants as opening
 use Rattle.rr_store.specs.declared.version.TheConstants.{OLD_VERSION, VERSION}
 use Rattle.rr_submission.specs.declared.submission.DeskFault.{DeskFault}
 use Rattle.rr_submission.specs.declared.submission.DeskFault.TheVariants as desk
-use Rattle.rr_desk.specs.declared.dumping.DeskDumpFault.{DeskDumpFault}
-use Rattle.rr_desk.specs.declared.dumping.DeskDumpFault.TheVariants as dumping
+use Rattle.rr_desk.specs.declared.desk_dumping.DeskDumpFault.{DeskDumpFault}
+use Rattle.rr_desk.specs.declared.desk_dumping.DeskDumpFault.TheVariants as dumping
 use Rattle.rr_desk.specs.declared.loading.DeskLoadFault.{DeskLoadFault}
 use Rattle.rr_desk.specs.declared.loading.DeskLoadFault.TheVariants as loading
 use Rattle.rr_commands.specs.Causes.{database_cause, database_cause_text, text_or}

@@ -246,21 +246,21 @@ impl Cause {
 pub enum DatabaseCause {
     /// The file is missing.
     Missing,
-    /// The file is missing, and its log or journal is there.
+    /// The file is missing, and its write-ahead log or journal is there.
     MissingWithLog,
     /// The folder of a file that is to be made is missing.
     NoFolder,
     /// The system refuses the file.
     Refused(Cause),
-    /// The user may not use the file, its log or its folder.
+    /// The user may not use the file, its write-ahead log or its folder.
     Denied,
     /// SQLite's own program left a journal of what it was about to change.
     HasJournal,
-    /// The file, its log or its folder cannot be opened or made.
+    /// The file, its write-ahead log or its folder cannot be opened or made.
     Unopened,
     /// The file is empty.
     Empty,
-    /// The file is empty, and its log or journal is not.
+    /// The file is empty, and its write-ahead log or journal is not.
     EmptyWithLog,
     /// Another process has it open.
     Busy,
@@ -327,14 +327,14 @@ impl DatabaseCause {
             DatabaseCause::Missing =>
                 "there is no such database: `irrdesk init` or `irrdesk load` makes it",
             DatabaseCause::MissingWithLog =>
-                "there is no such database, but its log or journal (`-wal`, `-journal`): put the \
-                database back, or move that elsewhere and restore a backup",
+                "there is no such database, but its write-ahead log or journal (`-wal`, \
+                `-journal`): put the database back, or move that elsewhere and restore a backup",
             DatabaseCause::NoFolder =>
                 "the folder of the database is missing: make it, or correct `store`",
             DatabaseCause::Refused(_) => "the database cannot be opened or made: ",
             DatabaseCause::Denied =>
-                "permission is denied for the database, its log or its folder: let the user who \
-                runs irrdesk own and write them",
+                "permission is denied for the database, its write-ahead log or its folder: let \
+                the user who runs irrdesk own and write them",
             DatabaseCause::HasJournal =>
                 "a program of SQLite left a journal (`-journal`): copy both elsewhere, and run \
                 `sqlite3 DATABASE 'PRAGMA integrity_check'`, which applies it",
@@ -345,8 +345,8 @@ impl DatabaseCause {
                 "the database has no registry that can be read: restore a backup, or make one by \
                 `irrdesk init` or `irrdesk load`",
             DatabaseCause::EmptyWithLog =>
-                "it is empty, but not its log or journal (`-wal`, `-journal`): move that \
-                elsewhere, and restore a backup",
+                "it is empty, but not its write-ahead log or journal (`-wal`, `-journal`): move \
+                that elsewhere, and restore a backup",
             DatabaseCause::Busy =>
                 "in use, most likely by the running server: ask it over its port, or stop it first",
             DatabaseCause::NoDatabase | DatabaseCause::Damaged =>

@@ -1,11 +1,13 @@
 //! Where the files are that commands read.
 
-ghost use Rattle.std.specs.Prelude.{◌≡◌, ℕ, Err, IfErr, IfOk, List, Ok, Option, Result};
-ghost use Rattle.std.specs.declared.io.Error.{Error};
+ghost use Rattle.std.specs.Prelude.{◌≡◌, Err, IfErr, IfOk, Ok};
+ghost use Rattle.rr_io.specs.Counted.{counted_failed_reads};
 ghost use Rattle.rr_commands.specs.Commands.{IsUnopenedFile, unopened_trouble};
+ghost use Rattle.rr_commands.specs.Files.{FileCalls};
 
 use crate::cause::Cause;
 use crate::trouble::Trouble;
+use rr_io::Counted;
 use std::fs::File;
 use std::io;
 use std::io::Read;
@@ -15,15 +17,19 @@ pub trait Files {
     /// A file that is read.
     type File: Read + Drop;
 
-    // The file at a path may be read as these bytes, if it tells them, or refused by this error.
-    ghost reads: { Self → List ℕ → Result (Option (List ℕ)) Error → Type 0 };
+    // What its calls do that open and close files.
+    ghost calls: { Self → FileCalls };
 
     /// Opens the file at a path to read it. The error is that it cannot be opened, or that memory
     /// ran out.
     fn open(&self, path: &str) -> io::Result<Self::File>
         ensures opened { IfOk result (λ file.
-            reads self.now path.now (Ok (Self.File.remaining file))) }
-        ensures refused { IfErr result (λ error. reads self.now path.now (Err error)) };
+            (calls self.now).opens path.now (Ok (Self.File.remaining file))) }
+        ensures refused { IfErr result (λ error. (calls self.now).opens path.now (Err error)) };
+
+    /// Closes a file that was opened at a path, with its failed reads counted.
+    fn close(&self, path: &str, file: Counted<Self::File>)
+        ensures { (calls self.now).closes path.now (counted_failed_reads file) };
 }
 
 /// The files of this machine.
@@ -43,18 +49,22 @@ impl Files for SystemFiles<'_> {
     type File = File;
 
     // No contract can say what a file has.
-    ghost reads = { λ _ _ _. Unit {0} };
+    ghost calls = { λ _. record { opens = λ _ _. Unit {0}; closes = λ _ _. Unit {0} } };
 
     fn open(&self, path: &str) -> io::Result<File> {
         File::open(self.rt, path)
     }
+
+    fn close(&self, _path: &str, _file: Counted<File>)
+        ensures { Unit {0} }
+    {}
 }
 
 /// Opens a file to read it. The error is that it cannot be opened, or that memory ran out.
 pub(crate) fn open_file<F: Files>(files: &F, path: &str) -> Result<F::File, Trouble>
     ensures opened { IfOk result (λ file.
-        F.reads files.now path.now (Ok (F.File.remaining file))) }
-    ensures fails { IfErr result (IsUnopenedFile (F.reads files.now) path.now) }
+        (F.calls files.now).opens path.now (Ok (F.File.remaining file))) }
+    ensures fails { IfErr result (IsUnopenedFile (F.calls files.now) path.now) }
 {
     match files.open(path) {
         Ok(file) => Ok(file),

@@ -2,7 +2,7 @@
 //! another order, or with what keeps them from being read.
 
 use crate::shown::push_key;
-use rr_rows::{META_TREE, NAMED_TREE, OBJECT_TREE, has_tables};
+use rr_store::{META_TREE, NAMED_TREE, OBJECT_TREE, has_tables};
 use sqlite::Row;
 use sqlite_schema::schema::{Column, Reference, Schema, Table};
 use sqlite_value::keys::Collation;

@@ -2,11 +2,11 @@
 
 ghost use Rattle.std.specs.Prelude.{◌≡◌, ◌++◌, ℕ, IfErr, IfOk, List, string_bytes};
 ghost use Rattle.rr_commands.specs.Commands.{EndsAs};
-ghost use Rattle.rr_commands.specs.Faults.{IsAbout, IsShownAs, NamesDatabase};
+ghost use Rattle.rr_commands.specs.Faults.{IsAbout, IsShownAs, NamesPath};
 ghost use Rattle.rr_commands.specs.Printed.{Prints, Tells};
 
 use crate::cause::Cause;
-use crate::fault::ProgramFault;
+use crate::command_fault::ProgramFault;
 use crate::progress::Shown;
 use crate::shown::shown_name;
 use crate::trouble::{Place, Trouble};
@@ -40,7 +40,7 @@ pub trait Input: Source {
 fn is_about_file(end: Result<u8, Trouble>) -> bool {
     match end {
         Ok(_) => false,
-        Err(trouble) => matches!(trouble.place(), Place::File),
+        Err(trouble) => matches!(trouble.end().place, Place::File),
     }
 }
 
@@ -105,7 +105,7 @@ pub fn ended<'a, W: Output>(
 /// The path of a database as a line shows it, and what was found in it: without memory the path as
 /// it is.
 fn shown_database(alloc: Global, path: String, found: &str) -> String
-    ensures { NamesDatabase (string_bytes path) found.now (string_bytes result) }
+    ensures { NamesPath (string_bytes path) found.now (string_bytes result) }
 {
     match path_and_found(alloc, path.as_str(), found) {
         Ok(shown) => shown,
@@ -115,7 +115,7 @@ fn shown_database(alloc: Global, path: String, found: &str) -> String
 
 /// The path of a database as a line shows it, and what was found in it; the error is that memory
 /// ran out.
-fn path_and_found(alloc: Global, path: &str, found: &str) -> Result<String, AllocError>
+pub(crate) fn path_and_found(alloc: Global, path: &str, found: &str) -> Result<String, AllocError>
     ensures { IfOk result (λ text. (start : List ℕ) × IsShownAs path.now start
         × (string_bytes text ≡ start ++ found.now)) }
 {

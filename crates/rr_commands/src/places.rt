@@ -1,14 +1,17 @@
 //! Where a paragraph stands in a file: its line and its key, for messages.
 
-ghost use Rattle.std.specs.Prelude.{◌≡◌, ◌≤◌, length};
+ghost use Rattle.std.specs.Prelude.{◌≡◌, ◌≤◌, ℕ, [], IfSome, List, length, string_bytes};
+ghost use Rattle.rr_commands.specs.Faults.{NamesPath, name_on_line, place_on_line};
+ghost use Rattle.rr_commands.specs.declared.trouble.Place.TheVariants as place;
 
-use crate::fault::ProgramFault;
-use crate::shown::{push_key, shown_name};
+use crate::command_fault::ProgramFault;
+use crate::output::path_and_found;
+use crate::shown::push_key;
 use crate::trouble::Trouble;
 use rr_io::{Counted, Source};
 use rr_object::{Key, key_of};
 use rr_text::{Paragraphs, TextFault, next_paragraph};
-use std::alloc::Global;
+use std::alloc::{AllocError, Global};
 use std::fs::File;
 use std::io::{BufRead, BufReader, Read};
 use std::{fs, io};
@@ -21,16 +24,30 @@ pub(crate) fn about_paragraph<'a>(
     number: u64,
     trouble: Trouble,
 ) -> ProgramFault<'a>
-    ensures { result.trouble ≡ trouble }
+    ensures trouble { result.trouble ≡ trouble }
+    ensures about { (found : List ℕ) × (text : List ℕ) × NamesPath file.now found text
+        × (name_on_line result.about ≡ place_on_line place.File text []) }
 {
-    match place(rt, file, number) {
-        Some(place) => ProgramFault::named(place, trouble),
+    match named_place(rt, file, number) {
+        Some(name) => ProgramFault::named(name, trouble),
         None => ProgramFault::of(file, trouble),
     }
 }
 
-/// The name of a file with the line, class and key of a paragraph.
-fn place(rt: &HostRuntime, file: &str, number: u64) -> Option<String> {
+/// The name of a file as a line shows it, with the line, class and key of a paragraph.
+fn named_place(rt: &HostRuntime, file: &str, number: u64) -> Option<String>
+    ensures { IfSome result (λ name. (found : List ℕ)
+        × NamesPath file.now found (string_bytes name)) }
+{
+    let place = place_in(rt, file, number)?;
+    match path_and_found(rt.alloc(), file, place.as_str()) {
+        Ok(name) => Some(name),
+        Err(AllocError) => None,
+    }
+}
+
+/// The line, class and key of a paragraph in a file, as they stand after its name.
+fn place_in(rt: &HostRuntime, file: &str, number: u64) -> Option<String> {
     if !fs::metadata(rt, file).ok()?.is_file() {
         return None;
     }
@@ -39,14 +56,13 @@ fn place(rt: &HostRuntime, file: &str, number: u64) -> Option<String> {
     let mut lines = Lines::new(alloc, reader);
     let key = find_paragraph(alloc, &mut lines, number)?;
     let line = lines.start?;
-    let file = shown_name(alloc, file).ok()?;
     match key {
         Some(key) => {
             let class = key.class().name();
             let key = key_text(alloc, &key)?;
-            format!(in alloc; "{file}, line {line}, {class} {key}").ok()
+            format!(in alloc; ", line {line}, {class} {key}").ok()
         }
-        None => format!(in alloc; "{file}, line {line}").ok(),
+        None => format!(in alloc; ", line {line}").ok(),
     }
 }
 

@@ -1,22 +1,24 @@
 //! Settings files.
 
-ghost use Rattle.std.specs.Prelude.{◌≡◌, ◌≤◌, ◌+◌, [], IfErr, IfOk, IfSome};
-ghost use Rattle.std.specs.Prelude.{Ok, OnOk, length, string_bytes, take};
-ghost use Rattle.rr_commands.specs.Commands.{FailsToRead, GivesNoSettings, HasSettings};
+ghost use Rattle.std.specs.Prelude.{◌≡◌, ◌≤◌, [], IfErr, IfOk};
+ghost use Rattle.std.specs.Prelude.{Ok, OnOk, length, string_bytes};
+ghost use Rattle.rr_commands.specs.Commands.{GivesNoSettings, HasSettings, IsNotRead};
 ghost use Rattle.rr_commands.specs.Commands.{ReadsFile, unread_trouble};
 ghost use Rattle.rr_commands.specs.Faults.{name_on_line, place_on_line};
 ghost use Rattle.rr_commands.specs.SettingsFiles.{AreNoSettings, settings_of_text};
 ghost use Rattle.rr_commands.specs.declared.trouble.Place.TheVariants as place;
 
 use crate::cause::Cause;
-use crate::fault::ProgramFault;
+use crate::command_fault::ProgramFault;
 use crate::files::Files;
+use crate::readable::Readable;
 use crate::settings_file::{SettingsFault, read_settings};
 use crate::trouble::Trouble;
 use rr_desk::Settings;
+use rr_io::Source;
 use std::alloc::Global;
 use std::io;
-use std::io::Read;
+use std::io::{ErrorKind, Read};
 
 /// The most bytes of a settings file (profile).
 const MOST_BYTES: u64 = 1_048_576;
@@ -29,9 +31,9 @@ pub fn read_settings_file<'a, F: Files>(
     file: &'a str,
 ) -> Result<(Settings, String), ProgramFault<'a>>
     ensures read { IfOk result (λ read.
-        HasSettings (F.reads files.now) file.now read.0 (string_bytes read.1)) }
+        HasSettings (F.calls files.now) file.now read.0 (string_bytes read.1)) }
     ensures fails { IfErr result (λ fault.
-        GivesNoSettings (F.reads files.now) file.now fault.trouble) }
+        GivesNoSettings (F.calls files.now) file.now fault.trouble) }
     ensures about { IfErr result (λ fault.
         name_on_line fault.about ≡ place_on_line place.File file.now []) }
 {
@@ -44,8 +46,8 @@ pub fn read_settings_file<'a, F: Files>(
 /// The settings in a file, and the path of the database.
 fn read_at<F: Files>(alloc: Global, files: &F, file: &str) -> Result<(Settings, String), Trouble>
     ensures read { IfOk result (λ read.
-        HasSettings (F.reads files.now) file.now read.0 (string_bytes read.1)) }
-    ensures fails { IfErr result (GivesNoSettings (F.reads files.now) file.now) }
+        HasSettings (F.calls files.now) file.now read.0 (string_bytes read.1)) }
+    ensures fails { IfErr result (GivesNoSettings (F.calls files.now) file.now) }
 {
     match read_bytes(alloc, files, file) {
         Ok(bytes) => read_text(alloc, bytes.as_slice()),
@@ -53,23 +55,23 @@ fn read_at<F: Files>(alloc: Global, files: &F, file: &str) -> Result<(Settings, 
     }
 }
 
-/// The bytes of a file, or one more than the most if it has more.
+/// The bytes of a file, or one more than the most if it has more. The error is that the file cannot
+/// be opened, or that of a failed read, or else that memory ran out.
 fn read_bytes<F: Files>(alloc: Global, files: &F, file: &str) -> io::Result<Vec<u8>>
-    ensures read { IfOk result (λ read. ReadsFile (F.reads files.now) file.now read.items) }
-    ensures fails { IfErr result (FailsToRead (F.reads files.now) file.now) }
+    ensures read { IfOk result (λ read. ReadsFile (F.calls files.now) file.now read.items) }
+    ensures fails { IfErr result (IsNotRead (F.calls files.now) file.now) }
 {
-    let file = files.open(file)?;
-    read_prefix(alloc, file)
-}
-
-/// What a reader gives to its end, or one byte more than the most if it gives more.
-fn read_prefix<R: Read + Drop>(alloc: Global, reader: R) -> io::Result<Vec<u8>>
-    ensures { IfOk result (λ read. IfSome (R.remaining reader)
-        (λ bytes. read.items ≡ take (MOST_BYTES + 1) bytes)) }
-{
+    let mut taken = Readable::new(files.open(file)?).take(MOST_BYTES + 1);
     let mut bytes = Vec::new(alloc);
-    reader.take(MOST_BYTES + 1).read_to_end(&mut bytes)?;
-    Ok(bytes)
+    let end = taken.read_to_end(&mut bytes);
+    let counted = taken.into_inner().into_counted();
+    let failed = counted.failed_reads();
+    files.close(file, counted);
+    match end {
+        Ok(_) => Ok(bytes),
+        Err(error) if failed > 0 => Err(error),
+        Err(_) => Err(io::Error::from(ErrorKind::OutOfMemory)),
+    }
 }
 
 fn unread_trouble(cause: Cause) -> Trouble

@@ -1,9 +1,8 @@
 //! What went wrong: the status that it ends the program with, and what it is about.
 
 ghost use Rattle.std.specs.Prelude.{◌≡◌};
-ghost use Rattle.rr_commands.specs.Troubles.{cause_words, paragraph_in, paragraph_of, place_of};
-ghost use Rattle.rr_commands.specs.Troubles.{submission_status, trouble_cause, trouble_number};
-ghost use Rattle.rr_commands.specs.Troubles.{trouble_status};
+ghost use Rattle.rr_commands.specs.Troubles.{cause_words, paragraph_in, paragraph_of};
+ghost use Rattle.rr_commands.specs.Troubles.{trouble_cause, trouble_end, trouble_number};
 
 use crate::cause::{Cause, DatabaseCause};
 use crate::settings_file::SettingKey;
@@ -113,59 +112,43 @@ pub enum Place {
     Output,
 }
 
+/// How the program ends by trouble.
+#[derive(Clone, Copy)]
+pub struct Ending {
+    /// The status: 2 at wrong arguments, 3 at wrong settings, 4 at trouble with the database or if
+    /// the desk is stopped, and else 5, also if memory ran out (profile).
+    pub status: u8,
+    /// What the line is about.
+    pub place: Place,
+}
+
 impl Trouble {
-    /// The status of the program: 2 at wrong arguments, 3 at wrong settings, 4 at trouble with the
-    /// database or if the desk is stopped, and else 5, also if memory ran out (profile).
-    pub fn status(self) -> u8
-        ensures { result ≡ trouble_status self }
+    /// The status and the place of each trouble.
+    pub fn end(self) -> Ending
+        ensures { result ≡ trouble_end self }
     {
         match self {
             Trouble::BadArguments
             | Trouble::BadPort
             | Trouble::BadCount
-            | Trouble::ArgumentsNotText => WRONG_ARGUMENTS,
+            | Trouble::ArgumentsNotText => Ending {
+                status: WRONG_ARGUMENTS,
+                place: Place::Nothing,
+            },
             Trouble::SettingsUnread(_)
             | Trouble::SettingsNotText
             | Trouble::SettingsTooLong
             | Trouble::SettingsNotToml(_)
-            | Trouble::SettingBad(_) => WRONG_SETTINGS,
-            Trouble::Database(cause) => database_status(cause),
-            Trouble::Creating(fault) => creating_status(fault),
-            Trouble::Opening(fault) => opening_status(fault),
-            Trouble::OtherSource
-            | Trouble::OtherSourceRow
-            | Trouble::BadObject
-            | Trouble::Unnamed
-            | Trouble::Overlap
-            | Trouble::OtherRows
-            | Trouble::OldKeys
-            | Trouble::NewKeys
-            | Trouble::NoObject
-            | Trouble::Empty
-            | Trouble::OtherOrder
-            | Trouble::OtherTables
-            | Trouble::Obstacle
-            | Trouble::ServedInVain(_) => DATABASE_TROUBLE,
-            Trouble::Submission(fault, _) => submission_status(fault),
-            Trouble::Dumping(fault) => dumping_status(fault),
-            Trouble::Loading(fault) => loading_status(fault),
-            Trouble::Migrating(fault) => migrating_status(fault),
-            Trouble::FileUnopened(_)
-            | Trouble::ListenerUnopened(_)
-            | Trouble::Unaccepted(_)
-            | Trouble::ProbeFailed(_)
-            | Trouble::Unwritten
-            | Trouble::Memory => FAILED,
-        }
-    }
-
-    /// What it is about.
-    pub fn place(self) -> Place
-        ensures { result ≡ place_of self }
-    {
-        match self {
-            Trouble::Database(_)
-            | Trouble::Opening(_)
+            | Trouble::SettingBad(_) => Ending {
+                status: WRONG_SETTINGS,
+                place: Place::File,
+            },
+            Trouble::Database(cause) => database_end(cause),
+            Trouble::Opening(OpenFault::Memory) => Ending {
+                status: FAILED,
+                place: Place::Database,
+            },
+            Trouble::Opening(OpenFault::WrongVersion(_) | OpenFault::BadRow | OpenFault::Store(_))
             | Trouble::OtherSource
             | Trouble::OtherSourceRow
             | Trouble::BadObject
@@ -189,16 +172,17 @@ impl Trouble {
                 | MigrateFault::BadRow
                 | MigrateFault::NoRoot
                 | MigrateFault::Store(_),
-            ) => Place::Database,
+            ) => Ending {
+                status: DATABASE_TROUBLE,
+                place: Place::Database,
+            },
             Trouble::Unwritten
             | Trouble::Dumping(DeskDumpFault::Write)
-            | Trouble::Submission(DeskFault::WriteFault { .. }, _) => Place::Output,
-            Trouble::SettingsUnread(_)
-            | Trouble::SettingsNotText
-            | Trouble::SettingsTooLong
-            | Trouble::SettingsNotToml(_)
-            | Trouble::SettingBad(_)
-            | Trouble::FileUnopened(_)
+            | Trouble::Submission(DeskFault::WriteFault { .. }, _) => Ending {
+                status: FAILED,
+                place: Place::Output,
+            },
+            Trouble::FileUnopened(_)
             | Trouble::Submission(DeskFault::ReadFault { .. }, _)
             | Trouble::Loading(
                 DeskLoadFault::Read
@@ -208,12 +192,11 @@ impl Trouble {
                 | DeskLoadFault::Duplicate(_)
                 | DeskLoadFault::Overlap(_)
                 | DeskLoadFault::Unnamed(_),
-            ) => Place::File,
-            Trouble::BadArguments
-            | Trouble::BadPort
-            | Trouble::BadCount
-            | Trouble::ArgumentsNotText
-            | Trouble::Creating(CreateFault::Memory)
+            ) => Ending {
+                status: FAILED,
+                place: Place::File,
+            },
+            Trouble::Creating(CreateFault::Memory)
             | Trouble::Submission(DeskFault::Memory, _)
             | Trouble::Dumping(DeskDumpFault::Memory)
             | Trouble::Loading(DeskLoadFault::Memory)
@@ -221,7 +204,10 @@ impl Trouble {
             | Trouble::ListenerUnopened(_)
             | Trouble::Unaccepted(_)
             | Trouble::ProbeFailed(_)
-            | Trouble::Memory => Place::Nothing,
+            | Trouble::Memory => Ending {
+                status: FAILED,
+                place: Place::Nothing,
+            },
         }
     }
 
@@ -290,76 +276,19 @@ impl Trouble {
     }
 }
 
-fn database_status(cause: DatabaseCause) -> u8
-    ensures { result ≡ trouble_status (Trouble.Database cause) }
+/// The status and the place of a database that cannot be used for this cause.
+fn database_end(cause: DatabaseCause) -> Ending
+    ensures { result ≡ trouble_end (Trouble.Database cause) }
 {
     match cause {
-        DatabaseCause::Memory | DatabaseCause::Refused(Cause::Memory) => FAILED,
-        _ => DATABASE_TROUBLE,
-    }
-}
-
-fn creating_status(fault: CreateFault) -> u8
-    ensures { result ≡ trouble_status (Trouble.Creating fault) }
-{
-    match fault {
-        CreateFault::NotEmpty | CreateFault::Store(_) => DATABASE_TROUBLE,
-        CreateFault::Memory => FAILED,
-    }
-}
-
-fn opening_status(fault: OpenFault) -> u8
-    ensures { result ≡ trouble_status (Trouble.Opening fault) }
-{
-    match fault {
-        OpenFault::WrongVersion(_) | OpenFault::BadRow | OpenFault::Store(_) => DATABASE_TROUBLE,
-        OpenFault::Memory => FAILED,
-    }
-}
-
-fn submission_status(fault: DeskFault) -> u8
-    ensures { result ≡ submission_status fault }
-{
-    match fault {
-        DeskFault::StoreFault { .. } | DeskFault::Stopped => DATABASE_TROUBLE,
-        DeskFault::ReadFault { .. } | DeskFault::WriteFault { .. } | DeskFault::Memory => FAILED,
-    }
-}
-
-fn dumping_status(fault: DeskDumpFault) -> u8
-    ensures { result ≡ trouble_status (Trouble.Dumping fault) }
-{
-    match fault {
-        DeskDumpFault::Stopped => DATABASE_TROUBLE,
-        DeskDumpFault::Write | DeskDumpFault::Memory => FAILED,
-    }
-}
-
-fn loading_status(fault: DeskLoadFault) -> u8
-    ensures { result ≡ trouble_status (Trouble.Loading fault) }
-{
-    match fault {
-        DeskLoadFault::NotEmpty | DeskLoadFault::Store(_) => DATABASE_TROUBLE,
-        DeskLoadFault::Read
-        | DeskLoadFault::Endless
-        | DeskLoadFault::Text(_)
-        | DeskLoadFault::Object(_, _)
-        | DeskLoadFault::Duplicate(_)
-        | DeskLoadFault::Overlap(_)
-        | DeskLoadFault::Unnamed(_)
-        | DeskLoadFault::Memory => FAILED,
-    }
-}
-
-fn migrating_status(fault: MigrateFault) -> u8
-    ensures { result ≡ trouble_status (Trouble.Migrating fault) }
-{
-    match fault {
-        MigrateFault::WrongVersion(_)
-        | MigrateFault::BadRow
-        | MigrateFault::NoRoot
-        | MigrateFault::Store(_) => DATABASE_TROUBLE,
-        MigrateFault::Memory => FAILED,
+        DatabaseCause::Memory | DatabaseCause::Refused(Cause::Memory) => Ending {
+            status: FAILED,
+            place: Place::Database,
+        },
+        _ => Ending {
+            status: DATABASE_TROUBLE,
+            place: Place::Database,
+        },
     }
 }
 

@@ -5,15 +5,16 @@ use Rattle.std.specs.Prelude.{IfErr, IfOk}
 use Rattle.rr_io.specs.Sending.{Writes}
 use Rattle.rr_io.specs.Told.{Told}
 use Rattle.rr_auth.specs.Registries.{Reg}
-use Rattle.rr_answer.specs.declared.fault.QueryFault.{QueryFault}
-use Rattle.rr_answer.specs.declared.fault.QueryFault.TheVariants.{Bad, TooLong, TooMany, Memory}
-use Rattle.rr_answer.specs.declared.fault.QueryFault.TheVariants.{Stopped}
+use Rattle.rr_answer.specs.declared.query_fault.QueryFault.{QueryFault}
+use Rattle.rr_answer.specs.declared.query_fault.QueryFault.TheVariants.{Bad, TooLong, TooMany}
+use Rattle.rr_answer.specs.declared.query_fault.QueryFault.TheVariants.{Memory}
+use Rattle.rr_answer.specs.declared.query_fault.QueryFault.TheVariants.{Stopped}
 use Rattle.rr_answer.specs.declared.found.Found.{Found}
 use Rattle.rr_answer.specs.Answers.{IsAnswerTo, answer_bytes}
 use Rattle.rr_answer.specs.Founds.{found_text}
 use Rattle.rr_answer.specs.Queries.{is_too_long}
-use Rattle.rr_desk.specs.declared.answering.Answered.{Answered}
-use Rattle.rr_desk.specs.declared.answering.WriteFault.{WriteFault}
+use Rattle.rr_desk.specs.declared.desk_answering.Answered.{Answered}
+use Rattle.rr_desk.specs.declared.desk_answering.WriteFault.{WriteFault}
 use Rattle.rr_desk.specs.Answering.{Answers, IsAnswered, IsAnswerWhere, IsRunningAnswer}
 use Rattle.rr_desk.specs.Answering.{made_answer, told_number}
 

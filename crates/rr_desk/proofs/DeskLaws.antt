@@ -11,12 +11,12 @@ use Rattle.rr_registry.specs.declared.load.LoadFault.{LoadFault}
 use Rattle.rr_registry.specs.declared.load.LoadFault.TheVariants as list
 use Rattle.rr_registry.specs.Loading.{load_fault}
 use Rattle.rr_answer.specs.Dumps.{dump}
-use Rattle.rr_load.specs.Dumps.{IsDumpOf, dump_objects}
-use Rattle.rr_load.specs.Laws.{IsReadAgain}
-use Rattle.rr_load.specs.Readings.{HasFault}
-use Rattle.rr_load.specs.declared.fault.DumpReadFault.{DumpReadFault}
-use Rattle.rr_load.specs.declared.fault.DumpReadFault.TheVariants as unread
-use Rattle.rr_load.proofs.ReadAgain.{full_dumps_read}
+use Rattle.rr_desk.specs.Dumps.{IsDumpOf, dump_objects}
+use Rattle.rr_desk.specs.DumpLaws.{IsReadAgain}
+use Rattle.rr_desk.specs.DumpReadings.{HasFault}
+use Rattle.rr_desk.specs.declared.dump_read_fault.DumpReadFault.{DumpReadFault}
+use Rattle.rr_desk.specs.declared.dump_read_fault.DumpReadFault.TheVariants as unread
+use Rattle.rr_desk.proofs.ReadAgain.{full_dumps_read}
 use Rattle.rr_desk.specs.declared.loading.DeskLoadFault.{DeskLoadFault}
 use Rattle.rr_desk.specs.declared.loading.DeskLoadFault.TheVariants.{NotEmpty, Read, Endless, Text}
 use Rattle.rr_desk.specs.declared.loading.DeskLoadFault.TheVariants.{Object, Duplicate, Overlap}

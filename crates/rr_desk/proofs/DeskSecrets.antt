@@ -1,8 +1,8 @@
 -- Desks whose registries look alike answer alike.
 use Rattle.std.proofs.Common.{◌≡◌, ◌≢◌, ℕ, Bool, true, false, List, Result, Err, inl, inr, sym, ◌∙◌}
 use Rattle.rr_auth.specs.Registries.{Reg}
-use Rattle.rr_answer.specs.declared.fault.QueryFault.{QueryFault}
-use Rattle.rr_answer.specs.declared.fault.QueryFault.TheVariants.{Memory}
+use Rattle.rr_answer.specs.declared.query_fault.QueryFault.{QueryFault}
+use Rattle.rr_answer.specs.declared.query_fault.QueryFault.TheVariants.{Memory}
 use Rattle.rr_answer.specs.Answers.{IsAnswerTo}
 use Rattle.rr_answer.specs.Queries.{is_too_long}
 use Rattle.rr_answer.specs.Secrecy.{IsRead, LookAlike}

@@ -26,15 +26,15 @@ use Rattle.rr_auth.specs.Registries.{Reg}
 use Rattle.rr_auth.specs.Verdicts.{after, change, is_met_by, submission, verdict}
 use Rattle.rr_object.proofs.KeyLaws.{keys_total, tied_key}
 use Rattle.rr_auth.proofs.Steps.{verdicts_are_met}
-use Rattle.rr_confinement.specs.Laws.{LeavesOthers}
+use Rattle.rr_registry.specs.ConfinementLaws.{LeavesOthers}
 use Rattle.rr_registry.specs.declared.outcome.Outcome.{Outcome}
 use Rattle.rr_registry.specs.declared.outcome.Outcome.TheVariants.{Added, Changed, Unchanged}
 use Rattle.rr_registry.specs.declared.outcome.Outcome.TheVariants.{Deleted, Refused}
 use Rattle.rr_registry.specs.Runs.{IsStep, outcome_of}
-use Rattle.rr_rows.specs.Contents.{KeepsOthers}
-use Rattle.rr_rows.specs.Entries.{TreesOf}
-use Rattle.rr_rows.specs.Maps.{HasRows, Puts, TakesOut}
-use Rattle.rr_rows.proofs.OtherLemmas.{others_itself}
+use Rattle.rr_store.specs.Contents.{KeepsOthers}
+use Rattle.rr_store.specs.Entries.{TreesOf}
+use Rattle.rr_store.specs.Maps.{HasRows, Puts, TakesOut}
+use Rattle.rr_store.proofs.OtherLemmas.{others_itself}
 use Rattle.rr_store.specs.Adding.{AddsTo}
 use Rattle.rr_store.specs.Calls.{IsSettled, Transacts, WhileOpen, database}
 use Rattle.rr_desk.specs.Stops.{LeavesStopped, changes}

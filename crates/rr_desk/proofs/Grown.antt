@@ -10,7 +10,7 @@ use Rattle.std.specs.List.{AllByRecursion}
 use Rattle.std.specs.FinMap.{empty, get, insert}
 use Rattle.sqlite_trees.proofs.ListLemmas.{all_weaker, ascending-append}
 use Rattle.rr_number.specs.Spans.{covers}
-use Rattle.rr_object.specs.declared.fault.ObjectFault.{ObjectFault}
+use Rattle.rr_object.specs.declared.object_fault.ObjectFault.{ObjectFault}
 use Rattle.rr_object.specs.declared.key.Key.{Key}
 use Rattle.rr_object.specs.declared.key.Key.TheVariants.{Mntner, AsBlock, AutNum, Inetnum, Route}
 use Rattle.rr_object.specs.declared.key.Key.TheVariants.{AsSet, RouteSet}
@@ -21,14 +21,14 @@ use Rattle.rr_object.proofs.KeyBounds.{object_key_formed}
 use Rattle.rr_auth.specs.Registries.{Reg, Sound, keys_cross, some_is_unknown}
 use Rattle.rr_auth.proofs.Keeping.{kept_names, sound_insert}
 use Rattle.rr_registry.specs.Loading.{IsTaken, load_fault}
-use Rattle.rr_rows.specs.Maps.{AreApart}
-use Rattle.rr_rows.proofs.MapLists.{put_all}
+use Rattle.rr_store.specs.Maps.{AreApart}
+use Rattle.rr_store.proofs.MapLists.{put_all}
 use Rattle.rr_store.specs.Migrating.{has_mntner, is_mntner_of, upper_block}
 use Rattle.rr_desk.specs.MigratingParts.{HasLoadFault}
 use Rattle.rr_desk.specs.Settings.{IsSettings, SettingsParts}
 use Rattle.rr_desk.proofs.ListRows.{gathered_is}
 use Rattle.rr_desk.proofs.TakenApart.{taken_apart}
-use Rattle.rr_load.proofs.SoundLists.{sound_list, stands}
+use Rattle.rr_desk.proofs.SoundLists.{sound_list, stands}
 use Rattle.rr_desk.proofs.Opens.{block_named, upper_read, upper_span}
 use Rattle.rr_desk.proofs.OpeningRegistry.{upper_object}
 use Rattle.rr_desk.proofs.Sources.{taken_each}

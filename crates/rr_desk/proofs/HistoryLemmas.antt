@@ -14,13 +14,13 @@ use Rattle.rr_auth.specs.declared.item.Item.{Item}
 use Rattle.rr_answer.specs.Dumps.{dump}
 use Rattle.rr_answer.specs.Answers.{answer_bytes}
 use Rattle.rr_answer.specs.Queries.{is_too_long}
-use Rattle.rr_answer.specs.declared.fault.QueryFault.{QueryFault}
-use Rattle.rr_rows.specs.Entries.{TreesOf}
-use Rattle.rr_rows.specs.Made.{IsMadeWith}
-use Rattle.rr_rows.specs.Maps.{HasRows}
+use Rattle.rr_answer.specs.declared.query_fault.QueryFault.{QueryFault}
+use Rattle.rr_store.specs.Entries.{TreesOf}
+use Rattle.rr_store.specs.Made.{IsMadeWith}
+use Rattle.rr_store.specs.Maps.{HasRows}
 use Rattle.rr_store.specs.Calls.{database}
-use Rattle.rr_store.specs.declared.fault.MigrateFault.{MigrateFault}
-use Rattle.rr_store.specs.declared.fault.OpenFault.{OpenFault}
+use Rattle.rr_store.specs.declared.store_fault.MigrateFault.{MigrateFault}
+use Rattle.rr_store.specs.declared.store_fault.OpenFault.{OpenFault}
 use Rattle.rr_submission.specs.declared.submission.DeskFault.{DeskFault}
 use Rattle.rr_submission.specs.declared.submission.DeskFault.TheVariants.{ReadFault, WriteFault}
 use Rattle.rr_submission.specs.declared.submission.DeskFault.TheVariants.{StoreFault, Memory}

@@ -9,15 +9,15 @@ use Rattle.sqlite.specs.Effect.{Database}
 use Rattle.rr_object.specs.Objects.{Obj}
 use Rattle.rr_object.specs.OldKeys.{old_key_bytes}
 use Rattle.rr_auth.specs.Registries.{Reg}
-use Rattle.rr_rows.specs.Contents.{AreNumbered, IsTidy, contents, meta_row, meta_rows}
-use Rattle.rr_rows.specs.Entries.{AreRowsOf, Entry, TreesOf, entry_of, named_rows, object_row}
-use Rattle.rr_rows.specs.Made.{IsVacant}
-use Rattle.rr_rows.specs.Maps.{AreOldStored, HasRows, HasVersion, current_version, entry_in}
-use Rattle.rr_rows.specs.Maps.{old_version}
-use Rattle.rr_rows.specs.Tables.{HasTables, meta_tree, named_tree, object_tree}
-use Rattle.rr_rows.proofs.ListForms.{stored_alike}
-use Rattle.rr_rows.proofs.MapLists.{one_map}
-use Rattle.rr_rows.proofs.OtherLemmas.{no_tables}
+use Rattle.rr_store.specs.Contents.{AreNumbered, IsTidy, contents, meta_row, meta_rows}
+use Rattle.rr_store.specs.Entries.{AreRowsOf, Entry, TreesOf, entry_of, named_rows, object_row}
+use Rattle.rr_store.specs.Made.{IsVacant}
+use Rattle.rr_store.specs.Maps.{AreOldStored, HasRows, HasVersion, current_version, entry_in}
+use Rattle.rr_store.specs.Maps.{old_version}
+use Rattle.rr_store.specs.Tables.{HasTables, meta_tree, named_tree, object_tree}
+use Rattle.rr_store.proofs.ListForms.{stored_alike}
+use Rattle.rr_store.proofs.MapLists.{one_map}
+use Rattle.rr_store.proofs.OtherLemmas.{no_tables}
 use Rattle.rr_desk.specs.Events.{IsMadeBy, Making}
 use Rattle.rr_desk.specs.HistoryLaws.{BareTreesAreOfNone, RowsTellTheRegistry, TreesTellTheRegistry}
 use Rattle.rr_desk.specs.Histories.{AreOf, AreOfOne, HaveFound, ListsTables}

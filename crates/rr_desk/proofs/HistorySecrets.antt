@@ -4,8 +4,8 @@ use Rattle.rr_auth.specs.Registries.{Reg}
 use Rattle.rr_answer.specs.Answers.{answer_bytes}
 use Rattle.rr_answer.specs.Dumps.{dump}
 use Rattle.rr_answer.specs.Secrecy.{IsRead, LookAlike}
-use Rattle.rr_answer.specs.declared.fault.QueryFault.{QueryFault}
-use Rattle.rr_answer.specs.declared.fault.QueryFault.TheVariants.{Memory}
+use Rattle.rr_answer.specs.declared.query_fault.QueryFault.{QueryFault}
+use Rattle.rr_answer.specs.declared.query_fault.QueryFault.TheVariants.{Memory}
 use Rattle.rr_answer.proofs.Secrets.{dumps_keep}
 use Rattle.rr_desk.specs.Answering.{IsAnswered}
 use Rattle.rr_desk.specs.Events.{Event, asked, dumped}

@@ -14,12 +14,12 @@ use Rattle.rr_object.specs.KeyOrders.{key_cmp}
 use Rattle.rr_object.specs.Objects.{Obj, lent}
 use Rattle.rr_auth.specs.Registries.{Reg, Sound}
 use Rattle.rr_registry.specs.Loading.{IsTaken, gathered}
-use Rattle.rr_rows.specs.Entries.{entry_of}
-use Rattle.rr_rows.specs.Made.{IsMadeWith}
-use Rattle.rr_rows.specs.Maps.{AreStored, HasRows, IsFilled, IsObject}
-use Rattle.rr_rows.proofs.MapLists.{put_all, stored_rows}
+use Rattle.rr_store.specs.Entries.{entry_of}
+use Rattle.rr_store.specs.Made.{IsMadeWith}
+use Rattle.rr_store.specs.Maps.{AreStored, HasRows, IsFilled, IsObject}
+use Rattle.rr_store.proofs.MapLists.{put_all, stored_rows}
 use Rattle.rr_store.specs.Creating.{IsStoreOf}
-use Rattle.rr_load.proofs.Sources.{one_found}
+use Rattle.rr_desk.proofs.DumpSources.{one_found}
 use Rattle.sqlite_trees.specs.declared.store.Store.{Ghosts}
 use Rattle.sqlite.specs.Held.{Held, state}
 use Rattle.rr_store.specs.Calls.{database}

@@ -11,11 +11,11 @@ use Rattle.rr_registry.specs.declared.load.LoadFault.{LoadFault}
 use Rattle.rr_registry.specs.declared.load.LoadFault.TheVariants.{Duplicate, Overlap, Unnamed}
 use Rattle.rr_registry.specs.declared.load.LoadFault.TheVariants.{Memory}
 use Rattle.rr_registry.specs.Loading.{IsFaultOf, load_fault}
-use Rattle.rr_rows.specs.Maps.{AreStored, HasRows, IsObjectOf}
-use Rattle.rr_rows.proofs.MapLists.{in_order_apart, one_map, put_all, stored_rows, values_in_order}
-use Rattle.rr_rows.proofs.MapRows.{each_value}
-use Rattle.rr_store.specs.declared.fault.OpenFault.TheVariants as opened
-use Rattle.rr_load.proofs.SoundLists.{sound_list}
+use Rattle.rr_store.specs.Maps.{AreStored, HasRows, IsObjectOf}
+use Rattle.rr_store.proofs.MapLists.{in_order_apart, one_map, put_all, stored_rows, values_in_order}
+use Rattle.rr_store.proofs.MapRows.{each_value}
+use Rattle.rr_store.specs.declared.store_fault.OpenFault.TheVariants as opened
+use Rattle.rr_desk.proofs.SoundLists.{sound_list}
 use Rattle.rr_desk.specs.Opened.{HasNoRegistry}
 use Rattle.rr_desk.specs.Private.{opening_fault}
 use Rattle.rr_desk.proofs.ListRows.{gathered_is}

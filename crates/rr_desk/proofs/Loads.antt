@@ -6,11 +6,11 @@ use Rattle.rr_auth.specs.Registries.{Reg}
 use Rattle.rr_registry.specs.declared.load.LoadFault.{LoadFault}
 use Rattle.rr_registry.specs.declared.load.LoadFault.TheVariants as list
 use Rattle.rr_registry.specs.Loading.{IsFaultOf, IsTaken}
-use Rattle.rr_store.specs.declared.fault.CreateFault.{CreateFault}
-use Rattle.rr_store.specs.declared.fault.CreateFault.TheVariants as store
-use Rattle.rr_load.specs.Readings.{FailsToRead, HasRead}
-use Rattle.rr_load.specs.declared.fault.DumpReadFault.{DumpReadFault}
-use Rattle.rr_load.specs.declared.fault.DumpReadFault.TheVariants as dump
+use Rattle.rr_store.specs.declared.store_fault.CreateFault.{CreateFault}
+use Rattle.rr_store.specs.declared.store_fault.CreateFault.TheVariants as store
+use Rattle.rr_desk.specs.DumpReadings.{FailsToRead, HasRead}
+use Rattle.rr_desk.specs.declared.dump_read_fault.DumpReadFault.{DumpReadFault}
+use Rattle.rr_desk.specs.declared.dump_read_fault.DumpReadFault.TheVariants as dump
 use Rattle.rr_desk.specs.declared.loading.DeskLoadFault.TheVariants.{NotEmpty, Store}
 use Rattle.sqlite.specs.declared.error.Error.{Error}
 use Rattle.rr_desk.specs.Loaded.{FailsToLoad, IsLoaded, IsUntaken}

@@ -12,7 +12,7 @@ use Rattle.sqlite.specs.declared.error.Error.{Error}
 use Rattle.sqlite.specs.State.{HasCleanDisk, IsUnchanged, Survives}
 use Rattle.sqlite.proofs.StateLemmas.{survives_then, survives_weaker}
 use Rattle.rr_text.specs.Fields.{Field}
-use Rattle.rr_object.specs.declared.fault.ObjectFault.{ObjectFault}
+use Rattle.rr_object.specs.declared.object_fault.ObjectFault.{ObjectFault}
 use Rattle.rr_object.specs.Objects.{Obj}
 use Rattle.rr_object.specs.OldKeys.{old_key_bytes}
 use Rattle.rr_object.specs.Readings.{ReadsAs}
@@ -24,22 +24,22 @@ use Rattle.rr_registry.specs.declared.load.LoadFault.{LoadFault}
 use Rattle.rr_registry.specs.declared.load.LoadFault.TheVariants.{Duplicate, Overlap, Unnamed}
 use Rattle.rr_registry.specs.declared.load.LoadFault.TheVariants.{Memory}
 use Rattle.rr_registry.specs.Loading.{IsFaultOf}
-use Rattle.rr_rows.specs.Contents.{IsTidy}
-use Rattle.rr_rows.specs.Entries.{TreesOf, entry_of}
-use Rattle.rr_rows.specs.Maps.{AreOldStored, HasRows, IsKeyed, IsObject, IsObjectOf, old_version}
-use Rattle.rr_rows.proofs.ListForms.{stored_alike}
-use Rattle.rr_rows.proofs.MapLists.{listed_rows, of_any, permuted_map}
-use Rattle.rr_rows.proofs.MapRows.{rows_permuted}
-use Rattle.rr_store.specs.declared.fault.MigrateFault.{MigrateFault}
-use Rattle.rr_store.specs.declared.fault.MigrateFault.TheVariants as migrate
+use Rattle.rr_store.specs.Contents.{IsTidy}
+use Rattle.rr_store.specs.Entries.{TreesOf, entry_of}
+use Rattle.rr_store.specs.Maps.{AreOldStored, HasRows, IsKeyed, IsObject, IsObjectOf, old_version}
+use Rattle.rr_store.proofs.ListForms.{stored_alike}
+use Rattle.rr_store.proofs.MapLists.{listed_rows, of_any, permuted_map}
+use Rattle.rr_store.proofs.MapRows.{rows_permuted}
+use Rattle.rr_store.specs.declared.store_fault.MigrateFault.{MigrateFault}
+use Rattle.rr_store.specs.declared.store_fault.MigrateFault.TheVariants as migrate
 use Rattle.sqlite_trees.specs.declared.store.Store.{Ghosts}
 use Rattle.sqlite.specs.Held.{Held, state}
 use Rattle.rr_store.specs.Calls.{WhereOpen, database}
 use Rattle.rr_store.specs.Faults.{no_tables, unread_fault}
 use Rattle.rr_store.specs.Opening.{RefusesTables}
 use Rattle.rr_store.specs.declared.version.Version.TheVariants.{Old}
-use Rattle.rr_store.specs.declared.fault.OpenFault.{OpenFault}
-use Rattle.rr_store.specs.declared.fault.OpenFault.TheVariants as opened
+use Rattle.rr_store.specs.declared.store_fault.OpenFault.{OpenFault}
+use Rattle.rr_store.specs.declared.store_fault.OpenFault.TheVariants as opened
 use Rattle.rr_desk.specs.Opened.{GivesBack}
 use Rattle.rr_desk.specs.Rows.{CommitsNothing}
 use Rattle.rr_desk.specs.Stocks.{Stock}
@@ -54,7 +54,7 @@ use Rattle.rr_desk.specs.Settings.{IsSettings, SettingsParts}
 use Rattle.rr_desk.proofs.Grown.{rootless, the_upper_object}
 use Rattle.rr_desk.proofs.ListRows.{gathered_is}
 use Rattle.rr_desk.proofs.TakenApart.{taken_apart}
-use Rattle.rr_load.proofs.SoundLists.{sound_list}
+use Rattle.rr_desk.proofs.SoundLists.{sound_list}
 use Rattle.rr_desk.proofs.Sources.{IsReadIn, block_read, taken_read}
 
 -- a fault of a list is told as that memory ran out, or as the fault that it stands for

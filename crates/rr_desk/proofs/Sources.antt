@@ -23,7 +23,7 @@ use Rattle.rr_registry.specs.declared.outcome.Outcome.{Outcome}
 use Rattle.rr_registry.specs.Loading.{IsTaken, gathered}
 use Rattle.rr_registry.specs.Runs.{Decides, Run}
 use Rattle.rr_registry.proofs.Running.{run_more}
-use Rattle.rr_rows.specs.Maps.{IsObjectOf}
+use Rattle.rr_store.specs.Maps.{IsObjectOf}
 use Rattle.rr_submission.specs.declared.submission.DeskFault.{DeskFault}
 use Rattle.rr_submission.specs.declared.submission.DeskFault.TheVariants.{ReadFault, WriteFault}
 use Rattle.rr_submission.specs.declared.submission.DeskFault.TheVariants.{StoreFault, Memory}

@@ -18,7 +18,7 @@ use Rattle.rr_registry.specs.declared.load.LoadFault.{LoadFault}
 use Rattle.rr_registry.specs.declared.load.LoadFault.TheVariants.{Duplicate, Overlap}
 use Rattle.rr_registry.specs.Loading.{IsTaken, clash, clash_of, gathered, is_crossed_by_some}
 use Rattle.rr_registry.specs.Loading.{is_key_of_some, unnamed}
-use Rattle.rr_rows.specs.Maps.{AreApart}
+use Rattle.rr_store.specs.Maps.{AreApart}
 
 first_none : {X : Type 0} (a b : Option X) → option_or a b ≡ None → a ≡ None
 first_none None b e = refl

@@ -3,15 +3,15 @@ use Rattle.std.specs.Prelude.{◌≡◌, ◌⊎◌, ℕ, Bool, true, false, List
 use Rattle.rr_io.specs.Sending.{Writes}
 use Rattle.rr_io.specs.Told.{Told}
 use Rattle.rr_auth.specs.Registries.{Reg}
-use Rattle.rr_answer.specs.declared.fault.QueryFault.{QueryFault}
-use Rattle.rr_answer.specs.declared.fault.QueryFault.TheVariants.{TooLong, Memory, Stopped}
+use Rattle.rr_answer.specs.declared.query_fault.QueryFault.{QueryFault}
+use Rattle.rr_answer.specs.declared.query_fault.QueryFault.TheVariants.{TooLong, Memory, Stopped}
 use Rattle.rr_answer.specs.declared.found.Found.{Found}
 use Rattle.rr_answer.specs.Answers.{IsAnswerTo, answer_bytes}
 use Rattle.rr_answer.specs.Faults.{error_number}
 use Rattle.rr_answer.specs.Founds.{found_text}
 use Rattle.rr_answer.specs.Queries.{is_too_long}
-use Rattle.rr_desk.specs.declared.answering.Answered.{Answered}
-use Rattle.rr_desk.specs.declared.answering.WriteFault.{WriteFault}
+use Rattle.rr_desk.specs.declared.desk_answering.Answered.{Answered}
+use Rattle.rr_desk.specs.declared.desk_answering.WriteFault.{WriteFault}
 
 -- what was found, or the error, as an answer
 abbrev pub made_answer : Result Found QueryFault → Result (List ℕ) QueryFault

@@ -8,9 +8,9 @@ use Rattle.rr_auth.specs.Sources.{IsRegistryOf}
 use Rattle.rr_submission.specs.Submissions.{SubmitsText}
 use Rattle.rr_submission.specs.declared.submission.DeskFault.{DeskFault}
 use Rattle.rr_submission.specs.declared.submission.Done.{Done}
-use Rattle.rr_answer.specs.declared.fault.QueryFault.{QueryFault}
-use Rattle.rr_desk.specs.declared.answering.Answered.{Answered}
-use Rattle.rr_desk.specs.declared.answering.WriteFault.{WriteFault}
+use Rattle.rr_answer.specs.declared.query_fault.QueryFault.{QueryFault}
+use Rattle.rr_desk.specs.declared.desk_answering.Answered.{Answered}
+use Rattle.rr_desk.specs.declared.desk_answering.WriteFault.{WriteFault}
 use Rattle.rr_desk.specs.declared.desk.Desk.{Desk}
 use Rattle.rr_desk.specs.Answering.{Answers, IsAnswered}
 use Rattle.rr_desk.specs.Stocks.{stock_ledger}

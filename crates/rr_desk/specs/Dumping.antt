@@ -5,8 +5,8 @@ use Rattle.rr_io.specs.Told.{Told}
 use Rattle.rr_answer.specs.declared.dumping.DumpFault.{DumpFault as Cut}
 use Rattle.rr_answer.specs.declared.dumping.DumpFault.TheVariants as cut
 use Rattle.rr_answer.specs.Dumps.{TakesPart}
-use Rattle.rr_desk.specs.declared.dumping.DeskDumpFault.{DeskDumpFault}
-use Rattle.rr_desk.specs.declared.dumping.DeskDumpFault.TheVariants.{Write, Memory, Stopped}
+use Rattle.rr_desk.specs.declared.desk_dumping.DeskDumpFault.{DeskDumpFault}
+use Rattle.rr_desk.specs.declared.desk_dumping.DeskDumpFault.TheVariants.{Write, Memory, Stopped}
 
 -- why a dump of a registry was cut short is why that of a desk was (profile)
 abbrev pub fault_of_cut : Cut → DeskDumpFault

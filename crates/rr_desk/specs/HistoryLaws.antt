@@ -7,7 +7,7 @@ use Rattle.rr_io.specs.Told.{Told}
 use Rattle.rr_text.specs.Entries as texts
 use Rattle.rr_text.specs.Fields.{Field}
 use Rattle.rr_text.specs.WholePart.{whole_entries}
-use Rattle.rr_text.specs.declared.fault.TextFault.{TextFault}
+use Rattle.rr_text.specs.declared.text_fault.TextFault.{TextFault}
 use Rattle.rr_auth.specs.Registries.{Reg, Sound}
 use Rattle.rr_registry.specs.Confined.{Confines}
 use Rattle.rr_registry.specs.Runs.{Run}
@@ -15,10 +15,10 @@ use Rattle.rr_registry.specs.declared.outcome.Outcome.{Outcome}
 use Rattle.rr_registry.specs.declared.run.Submitted.{Submitted}
 use Rattle.rr_answer.specs.Answers.{answer_bytes}
 use Rattle.rr_answer.specs.Secrecy.{IsRead, LookAlike}
-use Rattle.rr_answer.specs.declared.fault.QueryFault.TheVariants as query_fault
-use Rattle.rr_rows.specs.Entries.{TreesOf}
-use Rattle.rr_rows.specs.Maps.{HasRows}
-use Rattle.rr_rows.specs.Tables.{meta_tree}
+use Rattle.rr_answer.specs.declared.query_fault.QueryFault.TheVariants as query_fault
+use Rattle.rr_store.specs.Entries.{TreesOf}
+use Rattle.rr_store.specs.Maps.{HasRows}
+use Rattle.rr_store.specs.Tables.{meta_tree}
 use Rattle.rr_submission.specs.declared.submission.DeskFault.{DeskFault}
 use Rattle.rr_submission.specs.declared.submission.Done.{Done}
 use Rattle.rr_submission.specs.SubmissionItems.{AreItems, ItemRequest, submitted as submitted_of}

@@ -5,7 +5,7 @@ use Rattle.sqlite_trees.specs.declared.store.Store as store
 use Rattle.sqlite.specs.Held.{state}
 use Rattle.sqlite.specs.State.{State, HasCleanDisk}
 use Rattle.sqlite.proofs.StateLemmas.{survives_then}
-use Rattle.rr_rows.proofs.OtherLemmas.{others_itself, others_then}
+use Rattle.rr_store.proofs.OtherLemmas.{others_itself, others_then}
 use Rattle.rr_desk.specs.Stocks.{DatabaseLasts, Stock, stock_ledger}
 
 -- a connection lasts where nothing is done

@@ -11,12 +11,12 @@ use Rattle.rr_object.specs.declared.key.Key.{Key}
 use Rattle.rr_object.specs.Objects.{Obj}
 use Rattle.rr_auth.specs.Registries.{Reg}
 use Rattle.rr_auth.specs.Sources.{IsRegistryOf}
-use Rattle.rr_rows.specs.Maps.{HasRows}
+use Rattle.rr_store.specs.Maps.{HasRows}
 use Rattle.rr_answer.specs.Dumps.{dump}
 use Rattle.rr_answer.specs.Secrecy.{IsRead, LookAlike}
-use Rattle.rr_answer.specs.declared.fault.QueryFault.{QueryFault}
-use Rattle.rr_answer.specs.declared.fault.QueryFault.TheVariants as query_fault
-use Rattle.rr_load.specs.Laws.{IsDumpable}
+use Rattle.rr_answer.specs.declared.query_fault.QueryFault.{QueryFault}
+use Rattle.rr_answer.specs.declared.query_fault.QueryFault.TheVariants as query_fault
+use Rattle.rr_desk.specs.DumpLaws.{IsDumpable}
 use Rattle.rr_desk.specs.declared.loading.DeskLoadFault.{DeskLoadFault}
 use Rattle.rr_desk.specs.declared.loading.DeskLoadFault.TheVariants.{NotEmpty, Read, Endless, Text}
 use Rattle.rr_desk.specs.declared.loading.DeskLoadFault.TheVariants.{Object, Duplicate, Overlap}

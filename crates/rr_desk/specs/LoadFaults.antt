@@ -1,10 +1,10 @@
 -- The faults of a load, from those of the layers below (profile).
 use Rattle.rr_registry.specs.declared.load.LoadFault.{LoadFault}
 use Rattle.rr_registry.specs.declared.load.LoadFault.TheVariants as list
-use Rattle.rr_store.specs.declared.fault.CreateFault.{CreateFault}
-use Rattle.rr_store.specs.declared.fault.CreateFault.TheVariants as store
-use Rattle.rr_load.specs.declared.fault.DumpReadFault.{DumpReadFault}
-use Rattle.rr_load.specs.declared.fault.DumpReadFault.TheVariants as dump
+use Rattle.rr_store.specs.declared.store_fault.CreateFault.{CreateFault}
+use Rattle.rr_store.specs.declared.store_fault.CreateFault.TheVariants as store
+use Rattle.rr_desk.specs.declared.dump_read_fault.DumpReadFault.{DumpReadFault}
+use Rattle.rr_desk.specs.declared.dump_read_fault.DumpReadFault.TheVariants as dump
 use Rattle.rr_desk.specs.declared.loading.DeskLoadFault.{DeskLoadFault}
 use Rattle.rr_desk.specs.declared.loading.DeskLoadFault.TheVariants.{NotEmpty, Read, Endless, Text}
 use Rattle.rr_desk.specs.declared.loading.DeskLoadFault.TheVariants.{Object, Duplicate, Overlap}

@@ -12,13 +12,13 @@ use Rattle.rr_auth.specs.Registries.{Reg}
 use Rattle.rr_registry.specs.declared.load.LoadFault.{LoadFault}
 use Rattle.rr_registry.specs.declared.load.LoadFault.TheVariants as list
 use Rattle.rr_registry.specs.Loading.{load_fault}
-use Rattle.rr_rows.specs.Made.{IsOccupied}
-use Rattle.rr_rows.specs.Maps.{HasRows}
+use Rattle.rr_store.specs.Made.{IsOccupied}
+use Rattle.rr_store.specs.Maps.{HasRows}
 use Rattle.rr_store.specs.Calls.{OnCleanDisk, database}
 use Rattle.rr_store.specs.Creating.{FailsOverRow}
-use Rattle.rr_load.specs.Dumps.{IsDumpOf, dump_objects}
-use Rattle.rr_load.specs.Readings.{FailsToRead}
-use Rattle.rr_load.specs.declared.fault.DumpReadFault.TheVariants as dump
+use Rattle.rr_desk.specs.Dumps.{IsDumpOf, dump_objects}
+use Rattle.rr_desk.specs.DumpReadings.{FailsToRead}
+use Rattle.rr_desk.specs.declared.dump_read_fault.DumpReadFault.TheVariants as dump
 use Rattle.rr_desk.specs.declared.loading.DeskLoadFault.{DeskLoadFault}
 use Rattle.rr_desk.specs.declared.loading.DeskLoadFault.TheVariants.{NotEmpty, Read, Endless, Text}
 use Rattle.rr_desk.specs.declared.loading.DeskLoadFault.TheVariants.{Object, Duplicate, Overlap}

@@ -12,17 +12,17 @@ use Rattle.rr_object.specs.Readings.{ReadsAs}
 use Rattle.rr_auth.specs.Registries.{Reg, Sound}
 use Rattle.rr_auth.specs.Sources.{IsRegistryOf}
 use Rattle.rr_registry.specs.Loading.{IsTaken}
-use Rattle.rr_rows.specs.Contents.{IsTidy}
-use Rattle.rr_rows.specs.Entries.{TreesOf}
-use Rattle.rr_rows.specs.Maps.{AreOldStored, HasRows}
-use Rattle.rr_rows.specs.Tables.{HasTables}
+use Rattle.rr_store.specs.Contents.{IsTidy}
+use Rattle.rr_store.specs.Entries.{TreesOf}
+use Rattle.rr_store.specs.Maps.{AreOldStored, HasRows}
+use Rattle.rr_store.specs.Tables.{HasTables}
 use Rattle.rr_store.specs.Calls.{IsCaused, OnCleanDisk, WhereOpen, database}
 use Rattle.rr_store.specs.Faults.{no_tables}
 use Rattle.rr_store.specs.Migrating.{IsMigrated, IsOfOldRows, has_mntner, upper_block}
 use Rattle.rr_store.specs.Opening.{SaysNoOther, SaysOther}
-use Rattle.rr_store.specs.declared.fault.MigrateFault.{MigrateFault}
-use Rattle.rr_store.specs.declared.fault.MigrateFault.TheVariants.{BadRow, NoRoot, Store}
-use Rattle.rr_store.specs.declared.fault.MigrateFault.TheVariants.{WrongVersion}
+use Rattle.rr_store.specs.declared.store_fault.MigrateFault.{MigrateFault}
+use Rattle.rr_store.specs.declared.store_fault.MigrateFault.TheVariants.{BadRow, NoRoot, Store}
+use Rattle.rr_store.specs.declared.store_fault.MigrateFault.TheVariants.{WrongVersion}
 use Rattle.rr_store.specs.declared.version.Version.TheVariants.{Old}
 use Rattle.rr_desk.specs.Opened.{GivesBack}
 use Rattle.rr_desk.specs.Settings.{SettingsParts}

@@ -7,8 +7,8 @@ use Rattle.rr_registry.specs.declared.load.LoadFault.TheVariants.{Duplicate, Ove
 use Rattle.rr_registry.specs.declared.load.LoadFault.TheVariants.{Memory}
 use Rattle.rr_registry.specs.Loading.{load_fault}
 use Rattle.rr_store.specs.Migrating.{upper_block}
-use Rattle.rr_store.specs.declared.fault.MigrateFault.{MigrateFault}
-use Rattle.rr_store.specs.declared.fault.MigrateFault.TheVariants as migrate
+use Rattle.rr_store.specs.declared.store_fault.MigrateFault.{MigrateFault}
+use Rattle.rr_store.specs.declared.store_fault.MigrateFault.TheVariants as migrate
 use Rattle.rr_desk.specs.Settings.{SettingsParts}
 use Rattle.rr_desk.specs.Migrating.{AreRegistry}
 

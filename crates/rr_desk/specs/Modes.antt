@@ -12,10 +12,10 @@ use Rattle.rr_registry.specs.Runs.{IsStep}
 use Rattle.rr_answer.specs.Answers.{answer_bytes}
 use Rattle.rr_answer.specs.Dumps.{dump}
 use Rattle.rr_answer.specs.Queries.{is_too_long}
-use Rattle.rr_answer.specs.declared.fault.QueryFault.{QueryFault}
-use Rattle.rr_answer.specs.declared.fault.QueryFault.TheVariants as query_fault
-use Rattle.rr_store.specs.declared.fault.MigrateFault.{MigrateFault}
-use Rattle.rr_store.specs.declared.fault.OpenFault.{OpenFault}
+use Rattle.rr_answer.specs.declared.query_fault.QueryFault.{QueryFault}
+use Rattle.rr_answer.specs.declared.query_fault.QueryFault.TheVariants as query_fault
+use Rattle.rr_store.specs.declared.store_fault.MigrateFault.{MigrateFault}
+use Rattle.rr_store.specs.declared.store_fault.OpenFault.{OpenFault}
 use Rattle.rr_submission.specs.declared.ledger.Ledger as ledger
 use Rattle.rr_submission.specs.declared.submission.DeskFault.{DeskFault}
 use Rattle.rr_submission.specs.declared.submission.Done.{Done}

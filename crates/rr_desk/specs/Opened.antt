@@ -8,19 +8,19 @@ use Rattle.sqlite.specs.Held.{Held, state}
 use Rattle.sqlite.specs.State.{Survives}
 use Rattle.rr_auth.specs.Registries.{Reg}
 use Rattle.rr_auth.specs.Sources.{IsRegistryOf}
-use Rattle.rr_rows.specs.Entries.{TreesOf}
-use Rattle.rr_rows.specs.Made.{HasItsTables, IsMadeWith, IsOccupied, IsVacant, no_schema}
-use Rattle.rr_rows.specs.Maps.{HasRows}
-use Rattle.rr_rows.specs.Tables.{HasTables}
+use Rattle.rr_store.specs.Entries.{TreesOf}
+use Rattle.rr_store.specs.Made.{HasItsTables, IsMadeWith, IsOccupied, IsVacant, no_schema}
+use Rattle.rr_store.specs.Maps.{HasRows}
+use Rattle.rr_store.specs.Tables.{HasTables}
 use Rattle.rr_store.specs.Calls.{FailsOverTidy, OnCleanDisk, WhereOpen, WhileOpen, database}
 use Rattle.rr_store.specs.Creating.{FailsOverRow}
 use Rattle.rr_store.specs.Faults.{no_tables}
 use Rattle.rr_store.specs.Opening.{IfStore, IsOfRows, SaysNoOther, SaysOther}
-use Rattle.rr_store.specs.declared.fault.CreateFault.{CreateFault}
-use Rattle.rr_store.specs.declared.fault.CreateFault.TheVariants.{NotEmpty, Store}
-use Rattle.rr_store.specs.declared.fault.OpenFault.{OpenFault}
-use Rattle.rr_store.specs.declared.fault.OpenFault.TheVariants as opened
-use Rattle.rr_store.specs.declared.fault.OpenFault.TheVariants.{BadRow, WrongVersion}
+use Rattle.rr_store.specs.declared.store_fault.CreateFault.{CreateFault}
+use Rattle.rr_store.specs.declared.store_fault.CreateFault.TheVariants.{NotEmpty, Store}
+use Rattle.rr_store.specs.declared.store_fault.OpenFault.{OpenFault}
+use Rattle.rr_store.specs.declared.store_fault.OpenFault.TheVariants as opened
+use Rattle.rr_store.specs.declared.store_fault.OpenFault.TheVariants.{BadRow, WrongVersion}
 use Rattle.rr_store.specs.declared.version.Version.TheVariants.{Current}
 use Rattle.rr_desk.specs.declared.desk.Desk.{Desk}
 use Rattle.rr_desk.specs.Opening.{IsOpeningRegistry}

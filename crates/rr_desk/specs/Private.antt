@@ -21,14 +21,14 @@ use Rattle.rr_registry.specs.declared.outcome.Outcome.TheVariants.{Refused}
 use Rattle.rr_registry.specs.declared.load.LoadFault.{LoadFault}
 use Rattle.rr_registry.specs.declared.load.LoadFault.TheVariants.{Duplicate, Overlap, Unnamed}
 use Rattle.rr_registry.specs.declared.load.LoadFault.TheVariants.{Memory}
-use Rattle.rr_rows.specs.Contents.{KeepsOthers}
-use Rattle.rr_rows.specs.Entries.{TreesOf}
-use Rattle.rr_rows.specs.Maps.{HasRows}
+use Rattle.rr_store.specs.Contents.{KeepsOthers}
+use Rattle.rr_store.specs.Entries.{TreesOf}
+use Rattle.rr_store.specs.Maps.{HasRows}
 use Rattle.rr_store.specs.Calls.{IsSettled, OnCleanDisk, WhileOpen, database}
-use Rattle.rr_store.specs.declared.fault.StoreFault.{StoreFault}
-use Rattle.rr_store.specs.declared.fault.StoreFault.TheVariants as store_fault
-use Rattle.rr_store.specs.declared.fault.OpenFault.{OpenFault}
-use Rattle.rr_store.specs.declared.fault.OpenFault.TheVariants as opened
+use Rattle.rr_store.specs.declared.store_fault.StoreFault.{StoreFault}
+use Rattle.rr_store.specs.declared.store_fault.StoreFault.TheVariants as store_fault
+use Rattle.rr_store.specs.declared.store_fault.OpenFault.{OpenFault}
+use Rattle.rr_store.specs.declared.store_fault.OpenFault.TheVariants as opened
 use Rattle.rr_desk.specs.declared.loading.DeskLoadFault.{DeskLoadFault}
 use Rattle.rr_desk.specs.declared.loading.DeskLoadFault.TheVariants as load
 

@@ -10,7 +10,7 @@ use Rattle.sqlite.specs.State.{State, HasCleanDisk, Survives}
 use Rattle.rr_object.specs.contracts.key.Key as key
 use Rattle.rr_object.specs.contracts.object.Object as object
 use Rattle.rr_auth.specs.Registries.{Reg}
-use Rattle.rr_rows.specs.Contents.{KeepsOthers}
+use Rattle.rr_store.specs.Contents.{KeepsOthers}
 use Rattle.rr_submission.specs.declared.ledger.Ledger as ledger
 use Rattle.rr_store.specs.Calls.{OnCleanDisk}
 use Rattle.rr_desk.specs.Stops.{LeavesStopped}

@@ -4,15 +4,15 @@ use Rattle.sqlite_trees.specs.Tree.{Trees}
 use Rattle.sqlite.specs.State.{State, HasCleanDisk, Survives}
 use Rattle.rr_auth.specs.declared.item.Item.{Item}
 use Rattle.rr_auth.specs.Registries.{Reg}
-use Rattle.rr_confinement.specs.Laws.{LeavesOthers}
+use Rattle.rr_registry.specs.ConfinementLaws.{LeavesOthers}
 use Rattle.rr_registry.specs.declared.outcome.Outcome.{Outcome}
 use Rattle.rr_registry.specs.declared.outcome.Outcome.TheVariants.{Added, Changed}
 use Rattle.rr_registry.specs.declared.outcome.Outcome.TheVariants.{Unchanged, Deleted}
 use Rattle.rr_registry.specs.declared.outcome.Outcome.TheVariants.{Refused}
 use Rattle.rr_registry.specs.Runs.{IsStep}
-use Rattle.rr_rows.specs.Contents.{KeepsOthers}
-use Rattle.rr_rows.specs.Entries.{TreesOf}
-use Rattle.rr_rows.specs.Maps.{HasRows}
+use Rattle.rr_store.specs.Contents.{KeepsOthers}
+use Rattle.rr_store.specs.Entries.{TreesOf}
+use Rattle.rr_store.specs.Maps.{HasRows}
 
 -- the outcome changes the registry: the object was added, changed or deleted (profile)
 abbrev pub changes : Outcome → Bool

@@ -1,30 +1,35 @@
 //! The desk: a registry kept in tables, to which submissions and queries are made, and which is
-//! dumped.
+//! dumped and loaded.
 #![tactic(auto)]
 
-mod answering;
 mod desk;
-mod dumping;
+mod desk_answering;
+mod desk_dumping;
+mod desk_migrating;
+pub mod dump_laws;
+mod dump_read_fault;
+mod dump_reading;
 pub mod laws;
 mod loading;
 mod memory_peers;
-mod migrating;
 mod opened;
 mod opening;
 mod peers;
 mod service;
-mod serving;
 mod settings;
 mod stored;
+mod turn_serving;
 
-pub use answering::{Answered, WriteFault};
 pub use desk::Desk;
-pub use dumping::DeskDumpFault;
+pub use desk_answering::{Answered, WriteFault};
+pub use desk_dumping::DeskDumpFault;
+pub use dump_read_fault::DumpReadFault;
+pub use dump_reading::read_dump;
 pub use loading::DeskLoadFault;
 pub use memory_peers::{MemoryInput, MemoryPeers, MemoryTurn};
 pub use peers::{AcceptFault, ConnFault, Peers};
 pub use rr_store::{CreateFault, MigrateFault, OpenFault};
 pub use rr_submission::{DeskFault, Done};
 pub use service::Service;
-pub use serving::{Served, serve_all};
 pub use settings::{GREATEST_LIMIT, Setting, Settings, ValueFault};
+pub use turn_serving::{Served, serve_all};

@@ -9,11 +9,12 @@ ghost use Rattle.rr_desk.specs.Opened.{IsRunning, MakesTables};
 ghost use Rattle.rr_desk.specs.Private.{IsNotOfStore};
 
 use crate::desk::Desk;
+use crate::dump_read_fault::DumpReadFault;
+use crate::dump_reading::read_dump;
 use crate::opened::create_stored;
 use crate::settings::Settings;
 use rr_index::IndexedBook;
 use rr_io::Source;
-use rr_load::{DumpReadFault, read_dump};
 use rr_number::Name;
 use rr_object::Code;
 use rr_registry::{LoadFault, Registry};

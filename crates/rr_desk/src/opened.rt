@@ -3,7 +3,7 @@
 
 ghost use Rattle.std.specs.Prelude.{◌≡◌, false, IfErr, IfOk};
 ghost use Rattle.rr_auth.specs.Sources.{IsRegistryOf};
-ghost use Rattle.rr_rows.specs.Maps.{HasRows};
+ghost use Rattle.rr_store.specs.Maps.{HasRows};
 ghost use Rattle.rr_store.specs.Calls.{IsOpen, IsSettled, OnCleanDisk, database};
 ghost use Rattle.rr_desk.specs.Opened.{FailsToMakeTables, FailsToOpenTables, MakesTables};
 ghost use Rattle.rr_desk.specs.Opened.{OpensTables};

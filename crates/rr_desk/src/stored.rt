@@ -5,7 +5,7 @@ ghost use Rattle.std.specs.FinMap.{get};
 ghost use Rattle.sqlite.specs.Held.{state};
 ghost use Rattle.rr_auth.specs.Laws.{key_about};
 ghost use Rattle.rr_registry.specs.Runs.{IsStep};
-ghost use Rattle.rr_rows.specs.Maps.{HasRows};
+ghost use Rattle.rr_store.specs.Maps.{HasRows};
 ghost use Rattle.rr_store.specs.Calls.{IsOpen, IsSettled, OnCleanDisk, Transacts, database};
 ghost use Rattle.rr_desk.specs.Stops.{LeavesStopped, changes};
 ghost use Rattle.rr_desk.specs.Private.{Follows, FollowsGain, FollowsIn, FollowsNew};

@@ -3,7 +3,7 @@ use Rattle.std.proofs.Common.{◌≡◌, ℕ, List, Ok, Err, ap, ◌∙◌}
 use Rattle.std.specs.Prelude.{Result}
 use Rattle.sqlite_trees.specs.declared.store.Store as store
 use Rattle.rr_text.specs.Fields.{Field}
-use Rattle.rr_text.specs.declared.fault.TextFault.{TextFault}
+use Rattle.rr_text.specs.declared.text_fault.TextFault.{TextFault}
 use Rattle.rr_io.specs.Told.{Told}
 use Rattle.rr_object.specs.declared.code.Code.{Code}
 use Rattle.rr_auth.specs.declared.item.Item.{Item}
@@ -13,8 +13,8 @@ use Rattle.rr_submission.specs.declared.submission.DeskFault.TheVariants as faul
 use Rattle.rr_submission.specs.Handled.{StopsAt, HandlesThenStops}
 use Rattle.rr_submission.specs.Submissions.{Sides, Submits}
 use Rattle.rr_desk.specs.declared.desk.Desk.{Desk}
-use Rattle.rr_desk.specs.declared.dumping.DeskDumpFault.{DeskDumpFault}
-use Rattle.rr_desk.specs.declared.dumping.DeskDumpFault.TheVariants.{Stopped}
+use Rattle.rr_desk.specs.declared.desk_dumping.DeskDumpFault.{DeskDumpFault}
+use Rattle.rr_desk.specs.declared.desk_dumping.DeskDumpFault.TheVariants.{Stopped}
 use Rattle.rr_desk.specs.Dumping.{RefusesDump}
 use Rattle.rr_desk.specs.Stocks.{stock_ledger}
 use Rattle.rr_http.specs.DeskRegistrars.{desk_ledger}

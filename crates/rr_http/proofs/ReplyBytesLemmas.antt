@@ -8,8 +8,8 @@ use Rattle.rr_io.specs.Told.{Told}
 use Rattle.rr_io.specs.Receiving.{Gives}
 use Rattle.rr_io.specs.Sending.{Takes, TakesPrefix}
 use Rattle.rr_io.proofs.Transfers.{TakesPrefix-more, TakesPrefix-then}
-use Rattle.rr_desk.specs.declared.dumping.DeskDumpFault.{DeskDumpFault}
-use Rattle.rr_desk.specs.declared.dumping.DeskDumpFault.TheVariants as dump_fault
+use Rattle.rr_desk.specs.declared.desk_dumping.DeskDumpFault.{DeskDumpFault}
+use Rattle.rr_desk.specs.declared.desk_dumping.DeskDumpFault.TheVariants as dump_fault
 use Rattle.rr_desk.specs.declared.peers.ConnFault.TheVariants.{Read, Write}
 use Rattle.rr_desk.specs.Dumping.{Dumps}
 use Rattle.rr_desk.specs.Turns.{ConnEnd}

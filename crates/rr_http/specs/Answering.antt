@@ -11,8 +11,8 @@ use Rattle.rr_submission.specs.declared.submission.Done.{Done}
 use Rattle.rr_submission.specs.declared.submission.DeskFault.{DeskFault}
 use Rattle.rr_submission.specs.declared.submission.DeskFault.TheVariants as fault
 use Rattle.rr_submission.specs.Submissions.{Sides, Submits, UnlessStoreFault, sides}
-use Rattle.rr_desk.specs.declared.dumping.DeskDumpFault.{DeskDumpFault}
-use Rattle.rr_desk.specs.declared.dumping.DeskDumpFault.TheVariants as dump_fault
+use Rattle.rr_desk.specs.declared.desk_dumping.DeskDumpFault.{DeskDumpFault}
+use Rattle.rr_desk.specs.declared.desk_dumping.DeskDumpFault.TheVariants as dump_fault
 use Rattle.rr_desk.specs.declared.peers.ConnFault.TheVariants as conn_fault
 use Rattle.rr_desk.specs.Dumping.{Dumps}
 use Rattle.rr_desk.specs.Turns.{ConnEnd}

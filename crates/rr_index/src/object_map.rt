@@ -31,7 +31,7 @@ ghost use Rattle.rr_index.specs.Private.{is_from, IsTold};
 use crate::origin_index::OriginIndex;
 use crate::placed::Placed;
 use rr_book::listings::lies_in;
-use rr_book::lists::origin_at;
+use rr_book::object_lists::origin_at;
 use rr_number::{Address, AsNumber, Prefix, Span};
 use rr_object::{Key, Object};
 use std::alloc::{AllocError, AllocFailed, Global};

@@ -12,7 +12,8 @@ use Rattle.rr_number.specs.Prefixes.{PrefixParts, prefix_of}
 use Rattle.rr_number.specs.SpanTexts.{spelled_span}
 use Rattle.rr_object.specs.declared.class.Class.{Class}
 use Rattle.rr_object.specs.declared.class.Class.TheVariants as class
-use Rattle.rr_object.specs.declared.fault.ObjectFault.TheVariants.{BadCount, BadValue, OtherSource}
+use Rattle.rr_object.specs.declared.object_fault.ObjectFault.TheVariants.{BadCount, BadValue}
+use Rattle.rr_object.specs.declared.object_fault.ObjectFault.TheVariants.{OtherSource}
 use Rattle.rr_object.specs.declared.key.Key.{Key}
 use Rattle.rr_object.specs.declared.key.Key.TheVariants.{Mntner, AsBlock, AutNum, Inetnum, Route}
 use Rattle.rr_object.specs.declared.key.Key.TheVariants.{AsSet, RouteSet}

@@ -5,8 +5,8 @@ use Rattle.std.proofs.Common.{if◌then◌else◌}
 use Rattle.std.specs.Option.{option_map}
 use Rattle.rr_text.specs.Fields.{Field}
 use Rattle.rr_number.specs.Names.{maintainer_name_of}
-use Rattle.rr_object.specs.declared.fault.ObjectFault.TheVariants.{BadCount, BadValue}
-use Rattle.rr_object.specs.declared.fault.ObjectFault.{ObjectFault}
+use Rattle.rr_object.specs.declared.object_fault.ObjectFault.TheVariants.{BadCount, BadValue}
+use Rattle.rr_object.specs.declared.object_fault.ObjectFault.{ObjectFault}
 use Rattle.rr_object.specs.declared.class.Class.{Class}
 use Rattle.rr_object.specs.declared.key.Key.{Key}
 use Rattle.rr_object.specs.declared.kind.Kind.TheVariants.{MntBy}

@@ -2,9 +2,9 @@
 use Rattle.std.proofs.Common.{◌≡◌, ℕ, List, [], ◌∷◌, Some, Result, Ok, Err, Bool, true, false, refl}
 use Rattle.std.proofs.Common.{ap, sym, ◌∙◌, if◌then◌else◌}
 use Rattle.rr_text.specs.Fields.{Field}
-use Rattle.rr_object.specs.declared.fault.ObjectFault.TheVariants.{UnknownClass, BadCount, BadValue}
-use Rattle.rr_object.specs.declared.fault.ObjectFault.TheVariants.{OtherSource}
-use Rattle.rr_object.specs.declared.fault.ObjectFault.{ObjectFault}
+use Rattle.rr_object.specs.declared.object_fault.ObjectFault.TheVariants.{UnknownClass, BadCount}
+use Rattle.rr_object.specs.declared.object_fault.ObjectFault.TheVariants.{BadValue, OtherSource}
+use Rattle.rr_object.specs.declared.object_fault.ObjectFault.{ObjectFault}
 use Rattle.rr_object.specs.declared.key.Key.{Key}
 use Rattle.rr_object.specs.declared.kind.Kind.TheVariants.{MntBy, MntLower, MntRoutes, Auth}
 use Rattle.rr_object.specs.declared.kind.Kind.TheVariants.{Members, MbrsByRef, MemberOf}

@@ -5,9 +5,10 @@ use Rattle.std.specs.Option.{option_map_or}
 use Rattle.std.specs.Result.{result_err, result_ok}
 use Rattle.rr_text.specs.Fields.{Field}
 use Rattle.rr_object.specs.declared.class.Class.{Class}
-use Rattle.rr_object.specs.declared.fault.ObjectFault.{ObjectFault}
-use Rattle.rr_object.specs.declared.fault.ObjectFault.TheVariants.{UnknownClass, BadKey, BadCount}
-use Rattle.rr_object.specs.declared.fault.ObjectFault.TheVariants.{BadValue, OtherSource, Memory}
+use Rattle.rr_object.specs.declared.object_fault.ObjectFault.{ObjectFault}
+use Rattle.rr_object.specs.declared.object_fault.ObjectFault.TheVariants.{UnknownClass, BadKey}
+use Rattle.rr_object.specs.declared.object_fault.ObjectFault.TheVariants.{BadCount, BadValue}
+use Rattle.rr_object.specs.declared.object_fault.ObjectFault.TheVariants.{OtherSource, Memory}
 use Rattle.rr_object.specs.declared.key.Key.{Key}
 use Rattle.rr_object.specs.Classes.{class_named}
 use Rattle.rr_object.specs.KeySpellings.{key_of}

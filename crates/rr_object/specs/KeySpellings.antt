@@ -15,8 +15,8 @@ use Rattle.rr_object.specs.declared.class.Class.TheVariants as class
 use Rattle.rr_object.specs.declared.key.Key.{Key}
 use Rattle.rr_object.specs.declared.key.Key.TheVariants.{Mntner, AsBlock, AutNum, Inetnum, Route}
 use Rattle.rr_object.specs.declared.key.Key.TheVariants.{AsSet, RouteSet}
-use Rattle.rr_object.specs.declared.fault.ObjectFault.{ObjectFault}
-use Rattle.rr_object.specs.declared.fault.ObjectFault.TheVariants.{UnknownClass, BadKey}
+use Rattle.rr_object.specs.declared.object_fault.ObjectFault.{ObjectFault}
+use Rattle.rr_object.specs.declared.object_fault.ObjectFault.TheVariants.{UnknownClass, BadKey}
 use Rattle.rr_object.specs.declared.kind.Kind.TheVariants.{Origin}
 use Rattle.rr_object.specs.Classes.{class_named}
 use Rattle.rr_bytes.specs.Parts.{words}

@@ -2,8 +2,8 @@
 use Rattle.std.specs.Prelude.{List}
 use Rattle.rr_text.specs.Fields.{Field}
 use Rattle.rr_object.specs.declared.key.Key.{Key}
-use Rattle.rr_object.specs.declared.reading.Authority.{Authority}
-use Rattle.rr_object.specs.declared.reading.Membership.{Membership}
+use Rattle.rr_object.specs.declared.object_reading.Authority.{Authority}
+use Rattle.rr_object.specs.declared.object_reading.Membership.{Membership}
 use Rattle.rr_object.specs.Objects.{Obj}
 
 -- an object that says this of authority and of sets

@@ -15,8 +15,9 @@ use Rattle.rr_object.specs.declared.member.Member.{Member}
 use Rattle.rr_object.specs.declared.kind.Kind.{Kind}
 use Rattle.rr_object.specs.declared.kind.Kind.TheVariants.{MntBy, Source, Auth, MntLower, MntRoutes}
 use Rattle.rr_object.specs.declared.kind.Kind.TheVariants.{Origin, MemberOf, Members, MbrsByRef}
-use Rattle.rr_object.specs.declared.fault.ObjectFault.{ObjectFault}
-use Rattle.rr_object.specs.declared.fault.ObjectFault.TheVariants.{BadCount, BadValue, OtherSource}
+use Rattle.rr_object.specs.declared.object_fault.ObjectFault.{ObjectFault}
+use Rattle.rr_object.specs.declared.object_fault.ObjectFault.TheVariants.{BadCount, BadValue}
+use Rattle.rr_object.specs.declared.object_fault.ObjectFault.TheVariants.{OtherSource}
 use Rattle.rr_object.specs.declared.kind.Occurs.{Occurs}
 use Rattle.rr_object.specs.declared.kind.Occurs.TheVariants.{Once, WithItems, Freely, AsText}
 use Rattle.rr_object.specs.Auths.{auth_item}

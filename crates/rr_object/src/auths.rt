@@ -5,10 +5,10 @@ ghost use Rattle.std.specs.Char.{is_ascii_alphanumeric};
 ghost use Rattle.std.specs.List.{list_all};
 ghost use Rattle.rr_object.specs.Auths.{auth_item, auth_of_words, is_salt, is_sha256_pw};
 ghost use Rattle.rr_object.specs.Auths.{salted_digest_of};
-ghost use Rattle.rr_object.specs.declared.fault.ObjectFault.TheVariants.{BadValue, Memory};
+ghost use Rattle.rr_object.specs.declared.object_fault.ObjectFault.TheVariants.{BadValue, Memory};
 
 use crate::auth::{Auth, DIGEST_BYTES};
-use crate::fault::ObjectFault;
+use crate::object_fault::ObjectFault;
 use rr_bytes::{cut_around, is_keyword, words};
 use std::alloc::Global;
 

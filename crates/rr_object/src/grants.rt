@@ -5,11 +5,11 @@ ghost use Rattle.std.specs.Prelude.{Some};
 ghost use Rattle.std.specs.Option.{option_to_list};
 ghost use Rattle.rr_number.specs.Names.{maintainer_name_of};
 ghost use Rattle.rr_object.specs.Grants.{grants_of, is_any, last_grant, next_grant, range_item};
-ghost use Rattle.rr_object.specs.declared.fault.ObjectFault.TheVariants.{BadValue, Memory};
+ghost use Rattle.rr_object.specs.declared.object_fault.ObjectFault.TheVariants.{BadValue, Memory};
 ghost use Rattle.rr_object.specs.declared.grants.OpenGrant.TheVariants.{Braced, Named};
 
-use crate::fault::ObjectFault;
 use crate::grant::Grant;
+use crate::object_fault::ObjectFault;
 use rr_bytes::is_keyword;
 use rr_number::{Name, Range, read_ranged};
 use std::alloc::{AllocError, Global};

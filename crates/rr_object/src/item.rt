@@ -3,9 +3,9 @@
 ghost use Rattle.std.specs.Prelude.{◌≡◌, ◌≢◌, false, true, map, IfErr, IfOk, List};
 ghost use Rattle.std.specs.Prelude.{None, Option, Some, ℕ};
 ghost use Rattle.rr_object.specs.Items.{are_good, meant};
-ghost use Rattle.rr_object.specs.declared.fault.ObjectFault.TheVariants.{BadValue, Memory};
+ghost use Rattle.rr_object.specs.declared.object_fault.ObjectFault.TheVariants.{BadValue, Memory};
 
-use crate::fault::ObjectFault;
+use crate::object_fault::ObjectFault;
 use std::alloc::{AllocError, Global};
 
 /// How the items of a list are read.

@@ -6,14 +6,14 @@ ghost use Rattle.rr_object.specs.Auths.{auth_item};
 ghost use Rattle.rr_object.specs.Members.{as_set_item, is_as_set_kind, is_in_as_sets};
 ghost use Rattle.rr_object.specs.Members.{maintainer_item, operated_set, by_ref_item};
 ghost use Rattle.rr_object.specs.Members.{route_set_item, set_item, member_set_of};
-ghost use Rattle.rr_object.specs.declared.fault.ObjectFault.TheVariants.{BadValue, Memory};
+ghost use Rattle.rr_object.specs.declared.object_fault.ObjectFault.TheVariants.{BadValue, Memory};
 
 use crate::auth::Auth;
 use crate::auths::read_auth;
-use crate::fault::ObjectFault;
 use crate::grants::{is_any, read_maintainer, read_range};
 use crate::item::ReadItem;
 use crate::member::{Member, MemberSet};
+use crate::object_fault::ObjectFault;
 use rr_bytes::cut_before;
 use rr_number::{AsNumber, Name, Operator, SetKind, SetName};
 use std::alloc::Global;

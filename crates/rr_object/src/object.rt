@@ -5,21 +5,21 @@ ghost use Rattle.rr_object.specs.KeyOrders.{IsKeyValue};
 ghost use Rattle.rr_object.specs.KeySpellings.{key_of};
 ghost use Rattle.rr_object.specs.ObjectParts.{said};
 ghost use Rattle.rr_object.specs.Readings.{obj_of, object_of, source_of};
-ghost use Rattle.rr_object.specs.declared.fault.ObjectFault.TheVariants.{Memory};
+ghost use Rattle.rr_object.specs.declared.object_fault.ObjectFault.TheVariants.{Memory};
 
 use crate::auth::Auth;
 use crate::counts::is_miscounted;
 use crate::extra::Extra;
-use crate::fault::ObjectFault;
 use crate::grant::Grant;
 use crate::key::Key;
 use crate::kind::Kind;
 use crate::lists::{items, values_of};
 use crate::member::Member;
-use crate::paragraph_key::key_of;
-use crate::reading::{
+use crate::object_fault::ObjectFault;
+use crate::object_reading::{
     Authority, Membership, read_authority, read_membership, read_source, text_read,
 };
+use crate::paragraph_key::key_of;
 use rr_number::{Name, SetName};
 use rr_text::Paragraph;
 use std::alloc::{AllocError, Global};

@@ -3,16 +3,16 @@
 ghost use Rattle.std.specs.Prelude.{◌≡◌, ◌≢◌, Err, IfErr, IfOk, Ok};
 ghost use Rattle.rr_object.specs.Items.{only};
 ghost use Rattle.rr_object.specs.KeySpellings.{key_at, key_from, key_of, route_key_of};
-ghost use Rattle.rr_object.specs.declared.fault.ObjectFault.TheVariants.{Memory};
+ghost use Rattle.rr_object.specs.declared.object_fault.ObjectFault.TheVariants.{Memory};
 ghost use Rattle.rr_object.specs.declared.class.Class.TheVariants as class;
 ghost use Rattle.std.specs.Option.{option_and_then};
 
 use crate::class::Class;
-use crate::fault::ObjectFault;
 use crate::key::Key;
 use crate::key_text::route_key_of;
 use crate::kind::Kind;
 use crate::lists::values_of;
+use crate::object_fault::ObjectFault;
 use rr_text::{Attribute, Paragraph, Text, meaning};
 use std::alloc::{AllocError, Global};
 

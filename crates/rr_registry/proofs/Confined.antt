@@ -10,13 +10,13 @@ use Rattle.rr_auth.specs.declared.item.Item.{Item}
 use Rattle.rr_auth.specs.Registries.{Reg, Sound}
 use Rattle.rr_auth.specs.Verdicts.{step, verdict}
 use Rattle.rr_auth.proofs.Steps.{stays_sound}
-use Rattle.rr_confinement.specs.Holdings.{Agree, Holding, IsHeld, is_foreign, is_holder, is_own}
-use Rattle.rr_confinement.specs.Laws.{IsAlike, IsLeft}
-use Rattle.rr_confinement.proofs.Agreeing.{agree_back, agree_on}
-use Rattle.rr_confinement.proofs.Foreign.{foreign_items_leave}
-use Rattle.rr_confinement.proofs.Holders.{foreign_alike}
-use Rattle.rr_confinement.proofs.Kept.{maintainer_after}
-use Rattle.rr_confinement.proofs.Own.{own_items_are_alike}
+use Rattle.rr_registry.specs.Holdings.{Agree, Holding, IsHeld, is_foreign, is_holder, is_own}
+use Rattle.rr_registry.specs.ConfinementLaws.{IsAlike, IsLeft}
+use Rattle.rr_registry.proofs.Agreeing.{agree_back, agree_on}
+use Rattle.rr_registry.proofs.Foreign.{foreign_items_leave}
+use Rattle.rr_registry.proofs.Holders.{foreign_alike}
+use Rattle.rr_registry.proofs.Kept.{maintainer_after}
+use Rattle.rr_registry.proofs.Own.{own_items_are_alike}
 use Rattle.rr_registry.specs.Confined.{Confines, IsConfined, are_foreign_or_own, is_own_action}
 use Rattle.rr_registry.specs.Confined.{own_outcomes, own_submitted}
 use Rattle.rr_auth.specs.Laws.{IsItem}

@@ -5,7 +5,7 @@ use Rattle.std.specs.List.{list_all}
 use Rattle.rr_object.specs.declared.code.Code.{Code}
 use Rattle.rr_auth.specs.declared.item.Item.{Item}
 use Rattle.rr_auth.specs.Registries.{Reg, Sound}
-use Rattle.rr_confinement.specs.Holdings.{Agree, Holding, IsHeld, is_foreign, is_own}
+use Rattle.rr_registry.specs.Holdings.{Agree, Holding, IsHeld, is_foreign, is_own}
 use Rattle.rr_registry.specs.RunLaws.{AreFormed}
 use Rattle.rr_registry.specs.Runs.{Run}
 use Rattle.rr_registry.specs.declared.outcome.Outcome.{Outcome}

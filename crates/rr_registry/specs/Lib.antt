@@ -1,4 +1,7 @@
 pub mod Confined
+pub mod ConfinementLaws
+pub mod HoldingExample
+pub mod Holdings
 pub mod Loading
 pub mod OpenSpanParts
 pub mod Private

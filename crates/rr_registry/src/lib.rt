@@ -1,6 +1,7 @@
 //! The registry in memory: a sound set of objects, and what items do to it.
 #![tactic(auto)]
 
+pub mod confinement_laws;
 mod gathered;
 mod in_order;
 pub mod laws;

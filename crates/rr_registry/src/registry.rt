@@ -5,7 +5,7 @@ ghost use Rattle.std.specs.FinMap.{empty, insert, remove, values};
 ghost use Rattle.rr_auth.specs.declared.verdict.Verdict.TheVariants.{Add, Change, Delete};
 ghost use Rattle.rr_auth.specs.Verdicts.{is_met_by};
 ghost use Rattle.rr_auth.specs.Laws.{IsItem};
-ghost use Rattle.rr_confinement.specs.Laws.{LeavesOthers};
+ghost use Rattle.rr_registry.specs.ConfinementLaws.{LeavesOthers};
 ghost use Rattle.rr_registry.specs.Private.{IsJudged};
 ghost use Rattle.rr_registry.specs.Runs.{IsCarriedOut, IsOutOfMemory, IsStep};
 

@@ -6,14 +6,14 @@ use Rattle.std.proofs.lemmas.List.Sorted.{IsPermutation-map, IsPermutation-trans
 use Rattle.sqlite.specs.Effect.{Database}
 use Rattle.rr_object.specs.KeyOrders.{IsKeyValue}
 use Rattle.rr_object.specs.Objects.{Obj}
-use Rattle.rr_rows.specs.Contents.{contents, meta_rows}
-use Rattle.rr_rows.specs.Entries.{Entry, AreRowsOf, IsAdded, entry_of, named_rows, object_row}
-use Rattle.rr_rows.specs.Maps.{AreOfObjects, IsObject}
-use Rattle.rr_rows.proofs.AddedLemmas.{append_none}
-use Rattle.rr_rows.proofs.MapEntries.{values_with_new}
+use Rattle.rr_store.specs.Contents.{contents, meta_rows}
+use Rattle.rr_store.specs.Entries.{Entry, AreRowsOf, IsAdded, entry_of, named_rows, object_row}
+use Rattle.rr_store.specs.Maps.{AreOfObjects, IsObject}
+use Rattle.rr_store.proofs.AddedLemmas.{append_none}
+use Rattle.rr_store.proofs.MapEntries.{values_with_new}
 use Rattle.rr_object.proofs.KeyLaws.{keys_total}
-use Rattle.rr_rows.proofs.MapKeys.{keys_exact}
-use Rattle.rr_rows.proofs.MapRows.{put_keyed, rows_permuted}
+use Rattle.rr_store.proofs.MapKeys.{keys_exact}
+use Rattle.rr_store.proofs.MapRows.{put_keyed, rows_permuted}
 use Rattle.rr_store.specs.Adding.{AddsTo}
 
 one_more : (entry : Entry) (entries : List Entry) (old new : Database) → AreRowsOf entries old →

@@ -9,8 +9,9 @@ use Rattle.sqlite_trees.specs.declared.store.Store.{Ghosts}
 use Rattle.sqlite.specs.State.{State, HasCleanDisk, KeepsCommit, Survives}
 use Rattle.sqlite.specs.Held.{Held, state}
 use Rattle.sqlite.proofs.StateLemmas.{survives_then}
-use Rattle.rr_rows.specs.Contents.{IsTidy, Alters, Adds, RunsOn, Removes, is_name_among, is_name_of}
-use Rattle.rr_rows.proofs.OtherLemmas.{others_itself, others_then}
+use Rattle.rr_store.specs.Contents.{IsTidy, Alters, Adds, RunsOn, Removes, is_name_among}
+use Rattle.rr_store.specs.Contents.{is_name_of}
+use Rattle.rr_store.proofs.OtherLemmas.{others_itself, others_then}
 
 -- the rows of `named` were altered in a transaction that goes on
 pub record HasAltered {S : Type 0} (g : Ghosts S) (old new : Held S) (Change : List Row →

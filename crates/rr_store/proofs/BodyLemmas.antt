@@ -3,17 +3,17 @@ use Rattle.std.proofs.Common.{◌≡◌, ◌≢◌, ℕ, not, List, [], ◌∷�
 use Rattle.std.proofs.Common.{OnOk, sym, ap, subst, subst₂, ◌∙◌, arith, IsPermutation}
 use Rattle.std.specs.List.{AllByRecursion}
 use Rattle.sqlite.specs.Effect.{Database}
-use Rattle.rr_rows.specs.Contents.{Alters, Adds, KeepsOthers, Removes, contents, is_name_among}
-use Rattle.rr_rows.specs.Contents.{is_object_of, is_named_of, object_values, named_values}
+use Rattle.rr_store.specs.Contents.{Alters, Adds, KeepsOthers, Removes, contents, is_name_among}
+use Rattle.rr_store.specs.Contents.{is_object_of, is_named_of, object_values, named_values}
 use Rattle.sqlite_value.specs.Order.{Row}
 use Rattle.std.specs.Prelude.{codes}
-use Rattle.rr_rows.specs.Contents.{meta_values}
-use Rattle.rr_rows.specs.Entries.{Entry, IsAdded, IsPut, IsTakenOut, named_rows, object_row}
-use Rattle.rr_rows.specs.Made.{IsBare}
-use Rattle.rr_rows.specs.Maps.{AreNamesOf, AreOfObjects, IsFilled, current_version}
-use Rattle.rr_rows.proofs.AddedLemmas.{append_none, filled_by}
-use Rattle.rr_rows.proofs.ObjectRows.{names_gone}
-use Rattle.rr_rows.proofs.OtherLemmas.{others_then}
+use Rattle.rr_store.specs.Contents.{meta_values}
+use Rattle.rr_store.specs.Entries.{Entry, IsAdded, IsPut, IsTakenOut, named_rows, object_row}
+use Rattle.rr_store.specs.Made.{IsBare}
+use Rattle.rr_store.specs.Maps.{AreNamesOf, AreOfObjects, IsFilled, current_version}
+use Rattle.rr_store.proofs.AddedLemmas.{append_none, filled_by}
+use Rattle.rr_store.proofs.ObjectRows.{names_gone}
+use Rattle.rr_store.proofs.OtherLemmas.{others_then}
 
 pub then_ok : {X E P Q : Type 0} (r : Result X E) → OnOk r P → (P → Q) → OnOk r Q
 then_ok (Ok x) p f = f p

@@ -9,7 +9,7 @@ use Rattle.sqlite.specs.declared.error.Error.TheVariants.{SqliteFailure}
 use Rattle.sqlite.specs.declared.error.ErrorCode.TheVariants.{TransactionState}
 use Rattle.sqlite.specs.State.{State, IsUnchanged, KeepsCommit, Executes, ExecutesInside}
 use Rattle.sqlite.specs.Held.{Held, state}
-use Rattle.rr_rows.specs.Contents.{RunsOn}
+use Rattle.rr_store.specs.Contents.{RunsOn}
 
 unchanged_keeps : (old new : State) → IsUnchanged old new → KeepsCommit old new
 unchanged_keeps old new same = record {

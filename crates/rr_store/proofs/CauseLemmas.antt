@@ -26,14 +26,14 @@ use Rattle.sqlite.specs.Listing.{IsSourceOf, reads_listing, understood}
 use Rattle.sqlite.specs.State.{State, Fails, FailsToQuery, HasCause, HasCleanDisk, IsNotRun}
 use Rattle.sqlite.specs.State.{IsUnchanged, Survives}
 use Rattle.sqlite.proofs.Callers.{IsPlain, command_of}
-use Rattle.rr_rows.specs.Contents.{IsTidy}
-use Rattle.rr_rows.specs.Queries.{Means, alone, naming_query, rows_of}
-use Rattle.rr_rows.specs.Tables.{HasTables, Layout, laid}
-use Rattle.rr_rows.specs.Texts.{select_meta, select_naming, select_object, select_named}
-use Rattle.rr_rows.specs.Texts.{select_sorted_named, meta_numbers, object_numbers, named_numbers}
-use Rattle.rr_rows.proofs.TextLemmas.{select_meta_is, select_naming_is, select_object_is}
-use Rattle.rr_rows.proofs.TextLemmas.{select_named_is, select_sorted_named_is, meta_numbers_is}
-use Rattle.rr_rows.proofs.TextLemmas.{object_numbers_is, named_numbers_is}
+use Rattle.rr_store.specs.Contents.{IsTidy}
+use Rattle.rr_store.specs.Queries.{Means, alone, naming_query, rows_of}
+use Rattle.rr_store.specs.Tables.{HasTables, Layout, laid}
+use Rattle.rr_store.specs.Texts.{select_meta, select_naming, select_object, select_named}
+use Rattle.rr_store.specs.Texts.{select_sorted_named, meta_numbers, object_numbers, named_numbers}
+use Rattle.rr_store.proofs.TextLemmas.{select_meta_is, select_naming_is, select_object_is}
+use Rattle.rr_store.proofs.TextLemmas.{select_named_is, select_sorted_named_is, meta_numbers_is}
+use Rattle.rr_store.proofs.TextLemmas.{object_numbers_is, named_numbers_is}
 use Rattle.rr_store.specs.Calls.{FailsFor, FailsOverTidy, IsCaused}
 
 -- ---- one call after another

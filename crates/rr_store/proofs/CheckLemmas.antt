@@ -5,8 +5,9 @@ use Rattle.std.proofs.lemmas.List.Sorted.{IsPermutation-sym, Contains-permutatio
 use Rattle.sqlite_value.specs.Order.{Row}
 use Rattle.sqlite.proofs.Callers.{one_permutation}
 use Rattle.rr_store.specs.declared.version.Version.{Version}
-use Rattle.rr_store.specs.declared.fault.OpenFault.{OpenFault}
-use Rattle.rr_store.specs.declared.fault.OpenFault.TheVariants.{WrongVersion, BadRow, Store, Memory}
+use Rattle.rr_store.specs.declared.store_fault.OpenFault.{OpenFault}
+use Rattle.rr_store.specs.declared.store_fault.OpenFault.TheVariants.{WrongVersion, BadRow, Store}
+use Rattle.rr_store.specs.declared.store_fault.OpenFault.TheVariants.{Memory}
 use Rattle.rr_store.specs.CheckParts.{IsVersionFault}
 
 pub each_err : {X E : Type 0} (r : Result X E) (P Q : E → Type 0) → IfErr r P →

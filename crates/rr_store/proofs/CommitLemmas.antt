@@ -7,8 +7,8 @@ use Rattle.sqlite.specs.State.{HasCleanDisk, KeepsCommit, Survives}
 use Rattle.sqlite.specs.Held.{Held, state}
 use Rattle.sqlite.proofs.Callers.{survives_begin}
 use Rattle.sqlite.proofs.StateLemmas.{survives_then, survives_weaker}
-use Rattle.rr_rows.specs.Contents.{RunsOn}
-use Rattle.rr_rows.specs.Entries.{TreesOf}
+use Rattle.rr_store.specs.Contents.{RunsOn}
+use Rattle.rr_store.specs.Entries.{TreesOf}
 use Rattle.rr_store.specs.Calls.{Transacts, WhereOpen}
 use Rattle.rr_store.proofs.BodyLemmas.{then_ok}
 use Rattle.rr_store.proofs.LookLemmas.{of_both, on_err_as}

@@ -18,18 +18,19 @@ use Rattle.sqlite.specs.Held.{Held, state}
 use Rattle.sqlite.specs.State.{State, FailsToQuery, HasCleanDisk, IsUnchanged, Shown, Survives}
 use Rattle.sqlite.proofs.Callers.{unchanged_then}
 use Rattle.sqlite.proofs.StateLemmas.{survives_then}
-use Rattle.rr_rows.specs.Contents.{AreNumbered, IsInRank, IsTidy, by_one, number}
-use Rattle.rr_rows.specs.Queries.{Means}
-use Rattle.rr_rows.specs.Tables.{HasTables, Layout}
-use Rattle.rr_rows.proofs.NumberLemmas.{keyed_by}
+use Rattle.rr_store.specs.Contents.{AreNumbered, IsInRank, IsTidy, by_one, number}
+use Rattle.rr_store.specs.Queries.{Means}
+use Rattle.rr_store.specs.Tables.{HasTables, Layout}
+use Rattle.rr_store.proofs.NumberLemmas.{keyed_by}
 use Rattle.rr_store.specs.Calls.{FailsFor, FailsOverTidy, IsCaused}
 use Rattle.rr_store.specs.Faults.{store_fault}
 use Rattle.rr_store.specs.Listing.{FailsToList}
 use Rattle.rr_store.specs.Opening.{HoldNone, IfStore}
 use Rattle.rr_store.specs.ReadingParts.{TellsNoVersion}
 use Rattle.rr_store.specs.StreamParts.{FailsToCount, FailsAfterRows}
-use Rattle.rr_store.specs.declared.fault.OpenFault.{OpenFault}
-use Rattle.rr_store.specs.declared.fault.OpenFault.TheVariants.{WrongVersion, BadRow, Store, Memory}
+use Rattle.rr_store.specs.declared.store_fault.OpenFault.{OpenFault}
+use Rattle.rr_store.specs.declared.store_fault.OpenFault.TheVariants.{WrongVersion, BadRow, Store}
+use Rattle.rr_store.specs.declared.store_fault.OpenFault.TheVariants.{Memory}
 use Rattle.rr_store.specs.declared.version.Version.TheVariants.{Current}
 use Rattle.rr_store.proofs.CauseLemmas.{IsTold, caused_then, fails_then, tidy_then}
 use Rattle.rr_store.proofs.StreamLemmas.{Begins, HasRead, begun_answer}

@@ -7,11 +7,11 @@ use Rattle.sqlite_trees.specs.declared.store.Store.{Ghosts}
 use Rattle.sqlite.specs.State.{HasCleanDisk, KeepsCommit, Survives}
 use Rattle.sqlite.specs.Held.{Held, state}
 use Rattle.sqlite.proofs.StateLemmas.{survives_then}
-use Rattle.rr_rows.specs.Contents.{IsTidy, RunsOn}
+use Rattle.rr_store.specs.Contents.{IsTidy, RunsOn}
 use Rattle.rr_object.specs.Objects.{Obj}
-use Rattle.rr_rows.specs.Entries.{Entry, IsAdded, entry_of}
-use Rattle.rr_rows.specs.Maps.{IsObject}
-use Rattle.rr_rows.proofs.AddedLemmas.{none_added, added_then}
+use Rattle.rr_store.specs.Entries.{Entry, IsAdded, entry_of}
+use Rattle.rr_store.specs.Maps.{IsObject}
+use Rattle.rr_store.proofs.AddedLemmas.{none_added, added_then}
 use Rattle.rr_store.proofs.AddingLemmas.{keeps_itself, survives_itself, keeps_then}
 
 -- the rows of these were added in a transaction that goes on

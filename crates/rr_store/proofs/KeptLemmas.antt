@@ -4,9 +4,9 @@ use Rattle.sqlite_trees.specs.declared.store.Store.{Ghosts}
 use Rattle.sqlite.specs.Effect.{Database}
 use Rattle.sqlite.specs.Held.{Held, state}
 use Rattle.rr_object.specs.Objects.{Obj}
-use Rattle.rr_rows.specs.Entries.{Entry, IsAdded, IsPut, entry_of}
-use Rattle.rr_rows.specs.Maps.{AreOfObjects, IsObject}
-use Rattle.rr_rows.proofs.ObjectRows.{put_held}
+use Rattle.rr_store.specs.Entries.{Entry, IsAdded, IsPut, entry_of}
+use Rattle.rr_store.specs.Maps.{AreOfObjects, IsObject}
+use Rattle.rr_store.proofs.ObjectRows.{put_held}
 use Rattle.rr_store.specs.Calls.{Transacts}
 use Rattle.rr_store.specs.Kept.{IsKept}
 use Rattle.rr_store.proofs.AddLemmas.{added_held}

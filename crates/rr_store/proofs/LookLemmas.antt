@@ -9,11 +9,11 @@ use Rattle.sqlite_schema.specs.declared.command.Returning.{Returning}
 use Rattle.sqlite.specs.Listing.{understood}
 use Rattle.sqlite_schema.specs.declared.command.Command.{Command}
 use Rattle.sqlite_schema.specs.declared.schema.Schema.{Schema}
-use Rattle.rr_rows.specs.Tables.{Layout, HasTables}
-use Rattle.rr_rows.specs.Queries.{Means}
-use Rattle.rr_rows.specs.Entries.{TreesOf}
+use Rattle.rr_store.specs.Tables.{Layout, HasTables}
+use Rattle.rr_store.specs.Queries.{Means}
+use Rattle.rr_store.specs.Entries.{TreesOf}
 use Rattle.sqlite.specs.Effect.{Database}
-use Rattle.rr_rows.specs.Contents.{RunsOn}
+use Rattle.rr_store.specs.Contents.{RunsOn}
 use Rattle.rr_store.specs.Calls.{Looks, Rests, Transacts, WhereOpen}
 use Rattle.rr_store.proofs.AddingLemmas.{survives_itself}
 use Rattle.rr_store.proofs.BodyLemmas.{then_ok}

@@ -3,9 +3,9 @@ use Rattle.std.proofs.Common.{◌≡◌, true, false, not, List, [], ◌∷◌, 
 use Rattle.sqlite_value.specs.Order.{Row}
 use Rattle.sqlite_trees.proofs.ListLemmas.{all_of, filter_none}
 use Rattle.sqlite.specs.Effect.{Database}
-use Rattle.rr_rows.specs.Contents.{Alters, KeepsOthers, Removes, contents}
-use Rattle.rr_rows.specs.Made.{IsBare}
-use Rattle.rr_rows.proofs.OtherLemmas.{others_then}
+use Rattle.rr_store.specs.Contents.{Alters, KeepsOthers, Removes, contents}
+use Rattle.rr_store.specs.Made.{IsBare}
+use Rattle.rr_store.proofs.OtherLemmas.{others_then}
 use Rattle.rr_store.proofs.BodyLemmas.{none_two, none_four, two_four}
 
 no_contents : (rows : List Row) → contents rows ≡ [] → rows ≡ []

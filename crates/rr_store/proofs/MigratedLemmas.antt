@@ -14,7 +14,7 @@ use Rattle.rr_number.specs.Dashes.{dashed_of}
 use Rattle.rr_number.specs.EndsTexts.{ends_between}
 use Rattle.rr_number.specs.Numerals.{number_of}
 use Rattle.rr_number.specs.Spans.{Ends}
-use Rattle.rr_object.specs.declared.fault.ObjectFault.{ObjectFault}
+use Rattle.rr_object.specs.declared.object_fault.ObjectFault.{ObjectFault}
 use Rattle.rr_object.specs.declared.key.Key.{Key}
 use Rattle.rr_object.specs.declared.key.Key.TheVariants.{AsBlock}
 use Rattle.rr_object.specs.KeySpellings.{key_at, key_of, key_of_text}
@@ -22,7 +22,7 @@ use Rattle.rr_object.specs.Objects.{Obj}
 use Rattle.rr_object.specs.OldKeys.{old_key_bytes}
 use Rattle.rr_object.specs.Readings.{object_of}
 use Rattle.rr_object.proofs.Parsed.{kept_its_key, of_any_source}
-use Rattle.rr_rows.specs.Maps.{AreOldStored, IsObjectOf, current_form}
+use Rattle.rr_store.specs.Maps.{AreOldStored, IsObjectOf, current_form}
 use Rattle.rr_store.specs.Migrating.{IsMigrated, has_mntner, upper_block}
 use Rattle.rr_store.specs.MigratingParts.{IsRewritten}
 

@@ -16,7 +16,7 @@ use Rattle.sqlite_value.proofs.OrderLemmas.{value_cmp-Int, value_cmp-Text, then-
 use Rattle.sqlite_sql.proofs.QueryLemmas.{key_cmp_total}
 use Rattle.sqlite_exec.proofs.RowsLemmas.{IsSorted-map}
 use Rattle.rr_number.proofs.NumberOrders.{ties}
-use Rattle.rr_rows.specs.Contents.{by_three}
+use Rattle.rr_store.specs.Contents.{by_three}
 use Rattle.rr_store.specs.declared.namings.Naming.{Naming}
 use Rattle.rr_store.specs.contracts.namings.NamingOrd.TheImpl as derived
 use Rattle.rr_store.specs.NamingParts.{naming_row}

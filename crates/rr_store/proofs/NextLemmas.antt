@@ -12,7 +12,7 @@ use Rattle.sqlite_value.specs.Order.{Row, value_cmp}
 use Rattle.sqlite_value.proofs.OrderLemmas.{value_cmp-Int}
 use Rattle.sqlite_trees.specs.Tree.{rowid, IsAscending}
 use Rattle.sqlite_trees.specs.View.{is_int}
-use Rattle.rr_rows.specs.Contents.{AreNumbered, IsPast, by_one}
+use Rattle.rr_store.specs.Contents.{AreNumbered, IsPast, by_one}
 
 -- a number is that of the last row, if there is one
 abbrev pub IsLast : Option ℤ → List Row → Type 0

@@ -12,9 +12,9 @@ use Rattle.rr_object.specs.Readings.{object_of, obj_of, ReadsAs}
 use Rattle.rr_object.specs.KeySpellings.{key_of}
 use Rattle.rr_object.specs.declared.key.Key.{Key}
 use Rattle.rr_object.proofs.Parsed.{of_any_source, kept_its_key, kept_paragraph}
-use Rattle.rr_rows.specs.Entries.{entry_of, object_row, once}
-use Rattle.rr_rows.specs.Maps.{IsObject, IsObjectOf, KeyForm}
-use Rattle.rr_rows.proofs.MapLists.{of_any}
+use Rattle.rr_store.specs.Entries.{entry_of, object_row, once}
+use Rattle.rr_store.specs.Maps.{IsObject, IsObjectOf, KeyForm}
+use Rattle.rr_store.proofs.MapLists.{of_any}
 use Rattle.rr_store.specs.ReadingParts.{AreRead, IsRowOf}
 
 module _ (form : KeyForm) (source : List ℕ) where

@@ -9,7 +9,7 @@ use Rattle.std.specs.Cmp.Lexicographic.{nat_list_cmp_total, slice_cmp}
 use Rattle.std.specs.List.{list_any}
 use Rattle.std.proofs.lemmas.List.{map-append, reverse-append}
 use Rattle.std.proofs.lemmas.Map.Text.{is_eq-slice_cmp}
-use Rattle.rr_rows.specs.Entries.{once}
+use Rattle.rr_store.specs.Entries.{once}
 
 abbrev pub Lent : Type 0
 Lent = Bor (List ℕ)

@@ -12,7 +12,7 @@ use Rattle.sqlite_trees.proofs.ListLemmas.{all_weaker, all-permutation, along_pe
 use Rattle.rr_object.specs.Objects.{Obj}
 use Rattle.rr_object.specs.KeyOrders.{key_cmp}
 use Rattle.rr_object.proofs.KeyLaws.{keys_exact, keys_total}
-use Rattle.rr_rows.specs.Maps.{AreApart, AreInOrder}
+use Rattle.rr_store.specs.Maps.{AreApart, AreInOrder}
 use Rattle.rr_store.specs.ReadingParts.{by_key, is_below}
 use Rattle.rr_store.proofs.SortedLemmas.{rises}
 

@@ -7,18 +7,18 @@ use Rattle.std.proofs.lemmas.List.Elements.{Contains-push_cases}
 use Rattle.sqlite.specs.declared.error.Error.{Error}
 use Rattle.sqlite.specs.Effect.{Database}
 use Rattle.rr_object.specs.Objects.{Obj}
-use Rattle.rr_rows.specs.Contents.{meta_row}
-use Rattle.rr_rows.specs.Maps.{AreStoredIn}
-use Rattle.rr_rows.specs.Tables.{HasTables}
+use Rattle.rr_store.specs.Contents.{meta_row}
+use Rattle.rr_store.specs.Maps.{AreStoredIn}
+use Rattle.rr_store.specs.Tables.{HasTables}
 use Rattle.rr_store.specs.Faults.{migrate_fault, no_tables, unread_fault}
 use Rattle.rr_store.specs.Migrating.{IsOfOldRows, RefusesOldTables}
 use Rattle.rr_store.specs.Opening.{IsOfRows, RefusesTables, SaysNoOther}
 use Rattle.rr_store.specs.Versions.{form_of, version_number, version_text}
-use Rattle.rr_store.specs.declared.fault.OpenFault.{OpenFault}
-use Rattle.rr_store.specs.declared.fault.OpenFault.TheVariants as opened
-use Rattle.rr_store.specs.declared.fault.MigrateFault.TheVariants as migrated
-use Rattle.rr_store.specs.declared.fault.StoreFault.{StoreFault}
-use Rattle.rr_store.specs.declared.fault.StoreFault.TheVariants as store
+use Rattle.rr_store.specs.declared.store_fault.OpenFault.{OpenFault}
+use Rattle.rr_store.specs.declared.store_fault.OpenFault.TheVariants as opened
+use Rattle.rr_store.specs.declared.store_fault.MigrateFault.TheVariants as migrated
+use Rattle.rr_store.specs.declared.store_fault.StoreFault.{StoreFault}
+use Rattle.rr_store.specs.declared.store_fault.StoreFault.TheVariants as store
 use Rattle.rr_store.specs.declared.version.Version.{Version}
 use Rattle.rr_store.specs.declared.version.Version.TheVariants.{Current, Old}
 

@@ -12,12 +12,12 @@ use Rattle.sqlite.specs.Effect.{Database}
 use Rattle.rr_object.specs.declared.key.Key.{Key}
 use Rattle.rr_object.specs.KeyOrders.{key_cmp}
 use Rattle.rr_object.specs.Objects.{Obj, object_names}
-use Rattle.rr_rows.specs.Contents.{contents, pointed}
-use Rattle.rr_rows.specs.Maps.{AreApart, AreStored, IsKeyed, IsObjectOf, current_form}
-use Rattle.rr_rows.proofs.MapLists.{in_order_apart, put_all, stored_rows, values_in_order}
-use Rattle.rr_rows.proofs.MapLists.{values_put_all}
-use Rattle.rr_rows.proofs.MapNaming.{pointed_rows, row_of}
-use Rattle.rr_rows.proofs.MapRows.{each_value}
+use Rattle.rr_store.specs.Contents.{contents, pointed}
+use Rattle.rr_store.specs.Maps.{AreApart, AreStored, IsKeyed, IsObjectOf, current_form}
+use Rattle.rr_store.proofs.MapLists.{in_order_apart, put_all, stored_rows, values_in_order}
+use Rattle.rr_store.proofs.MapLists.{values_put_all}
+use Rattle.rr_store.proofs.MapNaming.{pointed_rows, row_of}
+use Rattle.rr_store.proofs.MapRows.{each_value}
 use Rattle.rr_store.specs.CheckParts.{AreRowsOfNone, HoldsObjects}
 use Rattle.rr_store.specs.ReadingParts.{AreRead}
 use Rattle.rr_store.proofs.ObjectLemmas.{one_list}

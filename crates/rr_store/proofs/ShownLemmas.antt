@@ -7,11 +7,11 @@ use Rattle.sqlite_trees.proofs.ListLemmas.{all_weaker, map-map}
 use Rattle.sqlite.specs.Effect.{Database}
 use Rattle.rr_object.specs.KeyOrders.{key_cmp}
 use Rattle.rr_object.specs.Objects.{Obj, object_names}
-use Rattle.rr_rows.specs.Contents.{contents, pointed}
-use Rattle.rr_rows.specs.Entries.{entry_of, object_row}
-use Rattle.rr_rows.specs.Maps.{AreInOrder, HasRows, current_form}
-use Rattle.rr_rows.proofs.MapLists.{of_any, same_objects, values_are_objects, values_in_order}
-use Rattle.rr_rows.proofs.MapNaming.{naming_told}
+use Rattle.rr_store.specs.Contents.{contents, pointed}
+use Rattle.rr_store.specs.Entries.{entry_of, object_row}
+use Rattle.rr_store.specs.Maps.{AreInOrder, HasRows, current_form}
+use Rattle.rr_store.proofs.MapLists.{of_any, same_objects, values_are_objects, values_in_order}
+use Rattle.rr_store.proofs.MapNaming.{naming_told}
 use Rattle.rr_store.specs.CheckParts.{HoldsObjects}
 use Rattle.rr_store.proofs.StoredLemmas.{read_objects, read_rows}
 

@@ -9,8 +9,8 @@ use Rattle.std.proofs.lemmas.Bool.Decides.{nat_tests}
 use Rattle.rr_number.specs.Names.{name_of}
 use Rattle.rr_text.specs.Fields.{Field, has_name}
 use Rattle.rr_text.specs.Meanings.{value_meaning}
-use Rattle.rr_object.specs.declared.fault.ObjectFault.{ObjectFault}
-use Rattle.rr_object.specs.declared.fault.ObjectFault.TheVariants.{BadCount, BadValue}
+use Rattle.rr_object.specs.declared.object_fault.ObjectFault.{ObjectFault}
+use Rattle.rr_object.specs.declared.object_fault.ObjectFault.TheVariants.{BadCount, BadValue}
 use Rattle.rr_object.specs.declared.kind.Kind.TheVariants.{Source}
 use Rattle.rr_object.specs.Items.{only}
 use Rattle.rr_object.specs.Keys.{class_of}
@@ -19,7 +19,7 @@ use Rattle.rr_object.specs.Objects.{Obj}
 use Rattle.rr_object.specs.Readings.{ReadsAs, has_bad_text, is_from, is_miscounted}
 use Rattle.rr_object.specs.Readings.{is_pseudo_attribute, obj_of, object_of, source_of}
 use Rattle.rr_object.proofs.Parsed.{bad_text, kept_its_key, miscounted}
-use Rattle.rr_rows.specs.Maps.{IsObject}
+use Rattle.rr_store.specs.Maps.{IsObject}
 use Rattle.rr_store.specs.ReadingParts.{first_source}
 
 same_text : (text : List ℕ) → bytes_eq text text ≡ true

@@ -9,7 +9,7 @@ use Rattle.sqlite.specs.Effect.{Database}
 use Rattle.sqlite.specs.State.{HasCleanDisk, Executes, ExecutesInside, State, Survives}
 use Rattle.sqlite.specs.Held.{Held, state}
 use Rattle.sqlite.proofs.StateLemmas.{survives_then}
-use Rattle.rr_rows.specs.Contents.{RunsOn}
+use Rattle.rr_store.specs.Contents.{RunsOn}
 use Rattle.rr_store.specs.StepParts.{Steps, StepsWhereOpen}
 use Rattle.rr_store.proofs.AddingLemmas.{keeps_then}
 use Rattle.rr_store.proofs.BodyLemmas.{then_ok}

@@ -11,23 +11,24 @@ use Rattle.sqlite_trees.proofs.ListLemmas.{all-permutation, map-map, pull_back}
 use Rattle.sqlite_trees.proofs.ListLemmas.{IsPermutation-flat_map}
 use Rattle.sqlite.specs.Effect.{Database}
 use Rattle.sqlite.specs.declared.error.Error.{Error}
-use Rattle.rr_rows.specs.Tables.{HasTables}
+use Rattle.rr_store.specs.Tables.{HasTables}
 use Rattle.rr_text.specs.CanonicalText.{canonical}
 use Rattle.rr_object.specs.Objects.{Obj}
 use Rattle.rr_object.specs.Classes.{class_number}
 use Rattle.rr_object.specs.Keys.{class_of}
-use Rattle.rr_rows.specs.Contents.{IsTidy, contents, meta_row, meta_rows, object_values}
-use Rattle.rr_rows.specs.Entries.{named_rows, object_row}
-use Rattle.rr_rows.specs.Maps.{AreApart, AreInOrder, AreStoredIn, HasVersion, IsObjectOf, KeyForm}
-use Rattle.rr_rows.specs.Maps.{entry_in}
-use Rattle.rr_rows.proofs.MapLists.{in_order_apart}
+use Rattle.rr_store.specs.Contents.{IsTidy, contents, meta_row, meta_rows, object_values}
+use Rattle.rr_store.specs.Entries.{named_rows, object_row}
+use Rattle.rr_store.specs.Maps.{AreApart, AreInOrder, AreStoredIn, HasVersion, IsObjectOf, KeyForm}
+use Rattle.rr_store.specs.Maps.{entry_in}
+use Rattle.rr_store.proofs.MapLists.{in_order_apart}
 use Rattle.rr_store.specs.CheckParts.{AreRowsOfNone, HoldsObjects, IsVersionFault}
 use Rattle.rr_store.specs.Faults.{no_tables}
 use Rattle.rr_store.specs.Opening.{HoldNone, RefusesTables, SaysNoOther, SaysOther}
 use Rattle.rr_store.specs.ReadingParts.{AreRead}
 use Rattle.rr_store.specs.Versions.{SaysVersion, version_number, version_text}
-use Rattle.rr_store.specs.declared.fault.OpenFault.{OpenFault}
-use Rattle.rr_store.specs.declared.fault.OpenFault.TheVariants.{WrongVersion, BadRow, Store, Memory}
+use Rattle.rr_store.specs.declared.store_fault.OpenFault.{OpenFault}
+use Rattle.rr_store.specs.declared.store_fault.OpenFault.TheVariants.{WrongVersion, BadRow, Store}
+use Rattle.rr_store.specs.declared.store_fault.OpenFault.TheVariants.{Memory}
 use Rattle.rr_store.specs.declared.version.Version.{Version}
 use Rattle.rr_store.specs.declared.version.Version.TheVariants.{Current, Old}
 use Rattle.rr_store.proofs.ObjectLemmas.{one_list}

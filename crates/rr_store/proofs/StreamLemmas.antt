@@ -21,8 +21,8 @@ use Rattle.sqlite.specs.State.{IsStatement, IsUnchanged, Shown, Survives}
 use Rattle.sqlite.proofs.Callers.{EndsIn, IsPlain, begins_shown, begun_plain, command_of}
 use Rattle.sqlite.proofs.Callers.{given_begin, unchanged_then}
 use Rattle.sqlite.proofs.StateLemmas.{survives_then}
-use Rattle.rr_rows.specs.Queries.{Means}
-use Rattle.rr_rows.specs.Tables.{HasTables, Layout}
+use Rattle.rr_store.specs.Queries.{Means}
+use Rattle.rr_store.specs.Tables.{HasTables, Layout}
 use Rattle.rr_store.specs.Calls.{Looks}
 use Rattle.rr_store.specs.StreamParts.{GivesMore, GivesRest, Streams}
 use Rattle.rr_store.proofs.AddingLemmas.{survives_itself}

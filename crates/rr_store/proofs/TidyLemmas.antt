@@ -7,7 +7,7 @@ use Rattle.std.proofs.lemmas.List.{length-map}
 use Rattle.std.proofs.lemmas.List.Sorted.{IsPermutation-map, IsPermutation-sym, length_permutation}
 use Rattle.sqlite_value.specs.Order.{Row}
 use Rattle.sqlite_trees.proofs.ListLemmas.{map-map}
-use Rattle.rr_rows.specs.Contents.{columns, contents, number, numbered}
+use Rattle.rr_store.specs.Contents.{columns, contents, number, numbered}
 use Rattle.rr_store.specs.VacancyParts.{SaysEmpty}
 
 pub none_of_length : {X : Type 0} (xs : List X) → length xs ≡ 0 → xs ≡ []

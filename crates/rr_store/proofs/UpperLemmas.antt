@@ -15,7 +15,7 @@ use Rattle.rr_number.specs.Names.{IsUpperName}
 use Rattle.rr_object.specs.Objects.{Obj}
 use Rattle.rr_object.specs.Readings.{object_of}
 use Rattle.rr_object.proofs.Parsed.{kept_paragraph, of_any_source}
-use Rattle.rr_rows.specs.Maps.{IsObjectOf}
+use Rattle.rr_store.specs.Maps.{IsObjectOf}
 use Rattle.rr_store.specs.Migrating.{upper_block}
 
 -- bytes of names are no blanks and no control bytes

@@ -5,7 +5,7 @@ use Rattle.sqlite.specs.Effect.{Database}
 use Rattle.rr_object.specs.declared.key.Key.{Key}
 use Rattle.rr_object.specs.KeyOrders.{key_cmp}
 use Rattle.rr_object.specs.Objects.{Obj}
-use Rattle.rr_rows.specs.Maps.{HasRows}
+use Rattle.rr_store.specs.Maps.{HasRows}
 
 -- where the tables hold a finite map of objects with none under this key, they hold it with the
 -- object under it after the change

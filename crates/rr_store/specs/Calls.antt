@@ -9,8 +9,8 @@ use Rattle.sqlite.specs.declared.error.ErrorCode.TheVariants.{OperationInterrupt
 use Rattle.sqlite.specs.Effect.{Database}
 use Rattle.sqlite.specs.Held.{Held, state}
 use Rattle.sqlite.specs.State.{HasCause, HasCleanDisk, IsUnchanged, State, Survives, store_error}
-use Rattle.rr_rows.specs.Contents.{IsTidy}
-use Rattle.rr_rows.specs.Entries.{TreesOf}
+use Rattle.rr_store.specs.Contents.{IsTidy}
+use Rattle.rr_store.specs.Entries.{TreesOf}
 
 -- the database's error names a cause outside the rows: memory ran out, of which nothing shows; the
 -- disk failed or refused, which is counted; the connection was shut; or its limit of steps was

@@ -6,16 +6,17 @@ use Rattle.std.specs.List.{flat_map}
 use Rattle.sqlite_value.specs.Order.{Row}
 use Rattle.rr_object.specs.Objects.{Obj}
 use Rattle.sqlite.specs.Effect.{Database}
-use Rattle.rr_rows.specs.Contents.{AreNumbered, IsInRank, by_one, contents, meta_row}
-use Rattle.rr_rows.specs.Contents.{numbered, pointed}
-use Rattle.rr_rows.specs.Entries.{named_rows}
-use Rattle.rr_rows.specs.Maps.{KeyForm, entry_in, current_form}
-use Rattle.rr_rows.specs.Tables.{HasTables, meta_tree, named_tree, object_tree}
+use Rattle.rr_store.specs.Contents.{AreNumbered, IsInRank, by_one, contents, meta_row}
+use Rattle.rr_store.specs.Contents.{numbered, pointed}
+use Rattle.rr_store.specs.Entries.{named_rows}
+use Rattle.rr_store.specs.Maps.{KeyForm, entry_in, current_form}
+use Rattle.rr_store.specs.Tables.{HasTables, meta_tree, named_tree, object_tree}
 use Rattle.rr_store.specs.ReadingParts.{AreNone, AreRead}
 use Rattle.rr_store.specs.Versions.{SaysVersion, form_of, version_number, version_text}
 use Rattle.rr_store.specs.declared.version.Version.{Version}
-use Rattle.rr_store.specs.declared.fault.OpenFault.{OpenFault}
-use Rattle.rr_store.specs.declared.fault.OpenFault.TheVariants.{WrongVersion, BadRow, Store, Memory}
+use Rattle.rr_store.specs.declared.store_fault.OpenFault.{OpenFault}
+use Rattle.rr_store.specs.declared.store_fault.OpenFault.TheVariants.{WrongVersion, BadRow, Store}
+use Rattle.rr_store.specs.declared.store_fault.OpenFault.TheVariants.{Memory}
 
 -- no row of `meta` says another version of 32 bits than that asked for, and the rows are not the
 -- one that says this

@@ -7,16 +7,16 @@ use Rattle.sqlite.specs.Effect.{Database}
 use Rattle.sqlite.specs.Held.{Held, state}
 use Rattle.sqlite.specs.State.{Survives}
 use Rattle.rr_object.specs.Objects.{Obj}
-use Rattle.rr_rows.specs.Entries.{TreesOf, entry_of}
-use Rattle.rr_rows.specs.Made.{HasItsTables, HasSomeRow, IsMadeWith, IsOccupied, IsVacant}
-use Rattle.rr_rows.specs.Made.{no_schema}
-use Rattle.rr_rows.specs.Maps.{IsFilled, IsObject}
-use Rattle.rr_rows.specs.Tables.{HasTables}
+use Rattle.rr_store.specs.Entries.{TreesOf, entry_of}
+use Rattle.rr_store.specs.Made.{HasItsTables, HasSomeRow, IsMadeWith, IsOccupied, IsVacant}
+use Rattle.rr_store.specs.Made.{no_schema}
+use Rattle.rr_store.specs.Maps.{IsFilled, IsObject}
+use Rattle.rr_store.specs.Tables.{HasTables}
 use Rattle.rr_store.specs.Calls.{FailsFor, IsOpen, IsSettled, OnCleanDisk, WhereOpen, WhileOpen}
 use Rattle.rr_store.specs.Calls.{database}
 use Rattle.rr_store.specs.Faults.{no_tables}
-use Rattle.rr_store.specs.declared.fault.CreateFault.{CreateFault}
-use Rattle.rr_store.specs.declared.fault.CreateFault.TheVariants.{Memory, NotEmpty, Store}
+use Rattle.rr_store.specs.declared.store_fault.CreateFault.{CreateFault}
+use Rattle.rr_store.specs.declared.store_fault.CreateFault.TheVariants.{Memory, NotEmpty, Store}
 
 -- the tables hold the rows of these objects, which are such as readers make, and no others, and are
 -- of version 2 (profile)

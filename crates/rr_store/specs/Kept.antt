@@ -2,7 +2,7 @@
 use Rattle.std.specs.Prelude.{◌≡◌, false}
 use Rattle.sqlite_trees.specs.declared.store.Store.{Ghosts}
 use Rattle.sqlite.specs.Held.{Held}
-use Rattle.rr_rows.specs.Maps.{AreOfObjects}
+use Rattle.rr_store.specs.Maps.{AreOfObjects}
 use Rattle.rr_store.specs.Calls.{WhileOpen, database}
 
 -- no transaction is under way, and the tables hold the rows of some objects and no others (profile)

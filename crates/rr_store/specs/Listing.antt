@@ -7,10 +7,10 @@ use Rattle.sqlite.specs.Effect.{Database}
 use Rattle.sqlite.specs.Held.{Held}
 use Rattle.rr_object.specs.KeyOrders.{key_cmp}
 use Rattle.rr_object.specs.Objects.{Obj, object_names}
-use Rattle.rr_rows.specs.Maps.{AreStored, HasRows}
+use Rattle.rr_store.specs.Maps.{AreStored, HasRows}
 use Rattle.rr_store.specs.Calls.{FailsFor, database}
-use Rattle.rr_store.specs.declared.fault.StoreFault.{StoreFault}
-use Rattle.rr_store.specs.declared.fault.StoreFault.TheVariants.{Store}
+use Rattle.rr_store.specs.declared.store_fault.StoreFault.{StoreFault}
+use Rattle.rr_store.specs.declared.store_fault.StoreFault.TheVariants.{Store}
 
 -- where the tables hold the rows of a finite map of objects, these are its objects, in order of
 -- class and key

@@ -11,18 +11,19 @@ use Rattle.rr_text.specs.Fields.{Field, one_line}
 pub use Rattle.rr_object.specs.Keys.{is_mntner_of}
 use Rattle.rr_object.specs.Objects.{Obj}
 use Rattle.rr_object.specs.Readings.{ReadsAs}
-use Rattle.rr_rows.specs.Contents.{IsTidy, KeepsOthers}
-use Rattle.rr_rows.specs.Entries.{TreesOf}
-use Rattle.rr_rows.specs.Maps.{AreOldStored, AreStored}
-use Rattle.rr_rows.specs.Tables.{HasTables}
+use Rattle.rr_store.specs.Contents.{IsTidy, KeepsOthers}
+use Rattle.rr_store.specs.Entries.{TreesOf}
+use Rattle.rr_store.specs.Maps.{AreOldStored, AreStored}
+use Rattle.rr_store.specs.Tables.{HasTables}
 use Rattle.rr_store.specs.Calls.{IsCaused, IsOpen, IsSettled, OnCleanDisk, WhereOpen, WhileOpen}
 use Rattle.rr_store.specs.Calls.{database}
 use Rattle.rr_store.specs.Faults.{no_tables}
 use Rattle.rr_store.specs.Opening.{HoldNone, SaysNoOther, SaysOther}
 use Rattle.rr_store.specs.declared.version.Version.TheVariants.{Old}
-use Rattle.rr_store.specs.declared.fault.MigrateFault.{MigrateFault}
-use Rattle.rr_store.specs.declared.fault.MigrateFault.TheVariants.{WrongVersion, BadRow, NoRoot}
-use Rattle.rr_store.specs.declared.fault.MigrateFault.TheVariants.{Store, Memory}
+use Rattle.rr_store.specs.declared.store_fault.MigrateFault.{MigrateFault}
+use Rattle.rr_store.specs.declared.store_fault.MigrateFault.TheVariants.{WrongVersion, BadRow}
+use Rattle.rr_store.specs.declared.store_fault.MigrateFault.TheVariants.{NoRoot}
+use Rattle.rr_store.specs.declared.store_fault.MigrateFault.TheVariants.{Store, Memory}
 
 -- the block of the AS numbers of more than 16 bits (RFC 6793), which the root maintains
 -- (profile)

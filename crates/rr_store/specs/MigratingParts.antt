@@ -3,9 +3,9 @@ use Rattle.std.specs.Prelude.{ℕ, List, [], ◌∷◌, ◌++◌, map}
 use Rattle.sqlite.specs.Effect.{Database}
 use Rattle.rr_object.specs.Objects.{Obj}
 use Rattle.rr_object.specs.Readings.{ReadsAs}
-use Rattle.rr_rows.specs.Contents.{KeepsOthers}
-use Rattle.rr_rows.specs.Entries.{Entry, entry_of}
-use Rattle.rr_rows.specs.Maps.{IsFilled, IsObjectOf}
+use Rattle.rr_store.specs.Contents.{KeepsOthers}
+use Rattle.rr_store.specs.Entries.{Entry, entry_of}
+use Rattle.rr_store.specs.Maps.{IsFilled, IsObjectOf}
 use Rattle.rr_store.specs.Migrating.{upper_block}
 
 -- the tables are of version 2 and hold the rows of these entries and no others, and all else stays

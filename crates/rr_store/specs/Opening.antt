@@ -7,14 +7,15 @@ use Rattle.sqlite.specs.Effect.{Database}
 use Rattle.sqlite.specs.Held.{Held, state}
 use Rattle.sqlite.specs.State.{Survives}
 use Rattle.rr_object.specs.Objects.{Obj}
-use Rattle.rr_rows.specs.Contents.{meta_rows}
-use Rattle.rr_rows.specs.Maps.{AreInOrder, AreStored, AreStoredIn, IsObjectOf}
-use Rattle.rr_rows.specs.Tables.{HasTables, meta_tree}
+use Rattle.rr_store.specs.Contents.{meta_rows}
+use Rattle.rr_store.specs.Maps.{AreInOrder, AreStored, AreStoredIn, IsObjectOf}
+use Rattle.rr_store.specs.Tables.{HasTables, meta_tree}
 use Rattle.rr_store.specs.Calls.{FailsOverTidy, IsOpen, IsSettled, OnCleanDisk, Rests, database}
 use Rattle.rr_store.specs.Faults.{no_tables}
 use Rattle.rr_store.specs.Versions.{SaysVersion, form_of, version_number, version_text}
-use Rattle.rr_store.specs.declared.fault.OpenFault.{OpenFault}
-use Rattle.rr_store.specs.declared.fault.OpenFault.TheVariants.{WrongVersion, BadRow, Store, Memory}
+use Rattle.rr_store.specs.declared.store_fault.OpenFault.{OpenFault}
+use Rattle.rr_store.specs.declared.store_fault.OpenFault.TheVariants.{WrongVersion, BadRow, Store}
+use Rattle.rr_store.specs.declared.store_fault.OpenFault.TheVariants.{Memory}
 use Rattle.rr_store.specs.declared.version.Version.{Version}
 use Rattle.rr_store.specs.declared.version.Version.TheVariants.{Current}
 

@@ -16,10 +16,10 @@ use Rattle.rr_object.specs.Kinds.{kind_name}
 use Rattle.rr_object.specs.KeyOrders.{key_cmp}
 use Rattle.rr_object.specs.Keys.{class_of}
 use Rattle.rr_object.specs.Objects.{Obj}
-use Rattle.rr_rows.specs.Contents.{object_values}
-use Rattle.rr_rows.specs.Maps.{IsObjectOf, KeyForm}
-use Rattle.rr_store.specs.declared.fault.OpenFault.{OpenFault}
-use Rattle.rr_store.specs.declared.fault.OpenFault.TheVariants.{WrongVersion}
+use Rattle.rr_store.specs.Contents.{object_values}
+use Rattle.rr_store.specs.Maps.{IsObjectOf, KeyForm}
+use Rattle.rr_store.specs.declared.store_fault.OpenFault.{OpenFault}
+use Rattle.rr_store.specs.declared.store_fault.OpenFault.TheVariants.{WrongVersion}
 
 -- the source that the first attribute `source` names, which in an object is the only one
 abbrev pub first_source : List Field → Option (List ℕ)

@@ -5,7 +5,7 @@ use Rattle.sqlite_trees.specs.declared.store.Store.{Ghosts}
 use Rattle.sqlite.specs.Effect.{Database}
 use Rattle.sqlite.specs.Held.{Held, state}
 use Rattle.sqlite.specs.State.{KeepsCommit, Survives}
-use Rattle.rr_rows.specs.Contents.{RunsOn}
+use Rattle.rr_store.specs.Contents.{RunsOn}
 use Rattle.rr_store.specs.Calls.{OnCleanDisk, database}
 
 module _ {S : Type 0} (g : Ghosts S) where

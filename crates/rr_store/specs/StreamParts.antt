@@ -11,7 +11,7 @@ use Rattle.sqlite.specs.declared.error.ErrorCode.TheVariants.{OutOfMemory}
 use Rattle.sqlite.specs.Given.{HasGiven}
 use Rattle.sqlite.specs.Held.{Held, state}
 use Rattle.sqlite.specs.State.{FailsToQuery, IsRolledBack, IsUnchanged, Shown, Survives}
-use Rattle.rr_rows.specs.Contents.{AreNumbered, IsPast, by_one}
+use Rattle.rr_store.specs.Contents.{AreNumbered, IsPast, by_one}
 use Rattle.rr_store.specs.Calls.{OnCleanDisk}
 
 -- memory ran out, or a row has no whole number that is above the last

@@ -4,9 +4,9 @@ use Rattle.rr_store.specs.declared.version.TheConstants.{OLD_VERSION, VERSION}
 use Rattle.rr_store.specs.declared.version.Version.{Version}
 use Rattle.rr_store.specs.declared.version.Version.TheVariants.{Current, Old}
 use Rattle.rr_object.specs.OldKeys.{old_key_bytes}
-use Rattle.rr_rows.specs.Maps.{KeyForm, old_version, current_form, current_version}
+use Rattle.rr_store.specs.Maps.{KeyForm, old_version, current_form, current_version}
 use Rattle.sqlite_value.specs.Order.{Row}
-use Rattle.rr_rows.specs.Contents.{meta_row}
+use Rattle.rr_store.specs.Contents.{meta_row}
 
 -- of two versions, the one that this is not (profile)
 abbrev pub other_of : Version → Version

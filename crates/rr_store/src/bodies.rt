@@ -1,18 +1,18 @@
 //! What a transaction does before its commit.
 
 ghost use Rattle.std.specs.Prelude.{◌≡◌, [], ◌∷◌, map};
-ghost use Rattle.rr_rows.specs.Contents.{Adds, Alters, IsTidy, Removes, is_name_among};
-ghost use Rattle.rr_rows.specs.Contents.{is_named_of, named_values};
-ghost use Rattle.rr_rows.specs.Entries.{IsAdded, IsPut, IsTakenOut};
-ghost use Rattle.rr_rows.specs.Maps.{AreOfObjects};
-ghost use Rattle.rr_rows.specs.Tables.{named_tree};
+ghost use Rattle.rr_store.specs.Contents.{Adds, Alters, IsTidy, Removes, is_name_among};
+ghost use Rattle.rr_store.specs.Contents.{is_named_of, named_values};
+ghost use Rattle.rr_store.specs.Entries.{IsAdded, IsPut, IsTakenOut};
+ghost use Rattle.rr_store.specs.Maps.{AreOfObjects};
+ghost use Rattle.rr_store.specs.Tables.{named_tree};
 ghost use Rattle.rr_store.specs.Calls.{WhileOpen, database};
 ghost use Rattle.rr_store.specs.StepParts.{Steps, StepsWhereOpen};
 
 use crate::entry::Entry;
-use crate::fault::StoreFault;
 use crate::leaving_names::names_of_rows;
 use crate::statements::{add_name, add_object, remove_name, remove_object, rows_of_key};
+use crate::store_fault::StoreFault;
 use rr_number::Name;
 use sqlite::{Alter, Error, Transaction};
 use std::alloc::Global;

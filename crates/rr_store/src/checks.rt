@@ -5,9 +5,9 @@ ghost use Rattle.std.specs.Prelude.{OnOk};
 ghost use Rattle.std.specs.Prelude.{IsSorted};
 ghost use Rattle.sqlite.specs.Held.{state};
 ghost use Rattle.sqlite.specs.State.{IsUnchanged};
-ghost use Rattle.rr_rows.specs.Contents.{AreNumbered, by_three, contents, meta_row, meta_rows};
-ghost use Rattle.rr_rows.specs.Maps.{AreInOrder, HasVersion, current_form};
-ghost use Rattle.rr_rows.specs.Tables.{HasTables, meta_tree, named_tree, object_tree};
+ghost use Rattle.rr_store.specs.Contents.{AreNumbered, by_three, contents, meta_row, meta_rows};
+ghost use Rattle.rr_store.specs.Maps.{AreInOrder, HasVersion, current_form};
+ghost use Rattle.rr_store.specs.Tables.{HasTables, meta_tree, named_tree, object_tree};
 ghost use Rattle.rr_store.specs.Calls.{FailsOverTidy, Looks, OnCleanDisk, database};
 ghost use Rattle.rr_store.specs.CheckParts.{AreNamingRows, HoldsObjects, IsVersionFault};
 ghost use Rattle.rr_store.specs.CheckParts.{NamedPointsTo, NamesAre, TableHolds};
@@ -15,21 +15,22 @@ ghost use Rattle.rr_store.specs.CheckParts.{TableHoldsInTurn, TableHoldsNone};
 ghost use Rattle.rr_store.specs.Opening.{AreObjectsOf, HoldNone, IfStore};
 ghost use Rattle.rr_store.specs.ReadingParts.{TellsNoVersion};
 ghost use Rattle.rr_store.specs.Versions.{version_text};
-ghost use Rattle.rr_store.specs.declared.fault.OpenFault.TheVariants.{BadRow, Memory, WrongVersion};
+ghost use Rattle.rr_store.specs.declared.store_fault.OpenFault.TheVariants.{BadRow, Memory};
+ghost use Rattle.rr_store.specs.declared.store_fault.OpenFault.TheVariants.{WrongVersion};
 ghost use Rattle.rr_store.specs.declared.version.Version.TheVariants.{Current};
 
-use crate::fault::{NO_TABLES, OpenFault};
 use crate::meta::{is_version_row_alone, other_version};
 use crate::namings::are_named;
 use crate::objects::in_order;
-use crate::reading::{
+use crate::row_reading::{
     count_named, count_object, meta_rows, names_in_turn, read_naming, read_objects,
     sorted_named_rows,
 };
+use crate::schema::has_tables;
+use crate::store_fault::{NO_TABLES, OpenFault};
 use crate::version::Version;
 use rr_number::Name;
 use rr_object::Object;
-use rr_rows::has_tables;
 use sqlite::{Alter, Connection, Row};
 use std::alloc::Global;
 

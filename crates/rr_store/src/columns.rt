@@ -3,7 +3,7 @@
 ghost use Rattle.std.specs.Prelude.{◌≡◌, pos, IfSome, IsTrue, None};
 ghost use Rattle.sqlite_value.specs.declared.value.Value.TheVariants.{Blob, Int, Text};
 ghost use Rattle.sqlite_value.specs.Order.{column};
-ghost use Rattle.rr_rows.specs.Contents.{columns, meta_row, named_values, object_values};
+ghost use Rattle.rr_store.specs.Contents.{columns, meta_row, named_values, object_values};
 
 use sqlite::Row;
 use sqlite_value::value::ValueRef;

@@ -2,20 +2,22 @@
 
 ghost use Rattle.std.specs.Prelude.{◌≡◌, ◌≢◌, false, IfErr};
 ghost use Rattle.sqlite.specs.declared.error.Error.{Error};
-ghost use Rattle.rr_rows.specs.Made.{HasSomeRow, IsBare, IsMadeWith, no_schema};
-ghost use Rattle.rr_rows.specs.Tables.{HasTables};
+ghost use Rattle.rr_store.specs.Made.{HasSomeRow, IsBare, IsMadeWith, no_schema};
+ghost use Rattle.rr_store.specs.Tables.{HasTables};
 ghost use Rattle.rr_store.specs.Calls.{OnCleanDisk, Transacts, database};
 ghost use Rattle.rr_store.specs.Creating.{FailsOverRow, IsStoreOf};
 ghost use Rattle.rr_store.specs.Faults.{no_tables};
 ghost use Rattle.rr_object.specs.Objects.{lent};
-ghost use Rattle.rr_store.specs.declared.fault.CreateFault.TheVariants.{Memory, NotEmpty, Store};
+ghost use Rattle.rr_store.specs.declared.store_fault.CreateFault.TheVariants.{Memory, NotEmpty};
+ghost use Rattle.rr_store.specs.declared.store_fault.CreateFault.TheVariants.{Store};
 
+use crate::committed::note_committed;
 use crate::ending::end;
-use crate::fault::{CreateFault, NO_TABLES, StoreFault};
 use crate::filling::{fill, make_filled};
+use crate::schema::has_tables;
+use crate::store_fault::{CreateFault, NO_TABLES, StoreFault};
 use crate::vacancy::{is_bare, is_blank};
 use rr_object::Object;
-use rr_rows::has_tables;
 use sqlite::{Alter, Connection};
 use std::alloc::Global;
 
@@ -30,8 +32,7 @@ fn create_in_blank<S: Alter>(
     ensures { Transacts S.Store (IsMadeWith (IsStoreOf (lent objects.now)))
         conn.old conn.new result }
 {
-    // Called for its contract: outside a transaction the rows are those last committed.
-    let _ = conn.is_autocommit();
+    note_committed(conn);
     let mut tx = conn.transaction();
     let work = make_filled(&mut tx, alloc, objects);
     end(tx, work)
@@ -48,8 +49,7 @@ fn create_in_bare<S: Alter>(
     ensures { Transacts S.Store (IsMadeWith (IsStoreOf (lent objects.now)))
         conn.old conn.new result }
 {
-    // Called for its contract: outside a transaction the rows are those last committed.
-    let _ = conn.is_autocommit();
+    note_committed(conn);
     let mut tx = conn.transaction();
     let work = fill(&mut tx, alloc, objects);
     end(tx, work)

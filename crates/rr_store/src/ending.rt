@@ -5,7 +5,7 @@ ghost use Rattle.sqlite.specs.Held.{state};
 ghost use Rattle.sqlite.specs.State.{Survives};
 ghost use Rattle.rr_store.specs.Calls.{OnCleanDisk, WhileOpen, database};
 
-use crate::fault::StoreFault;
+use crate::store_fault::StoreFault;
 use sqlite::{Alter, Transaction};
 
 /// Ends a transaction: commits it where its work was done, and else lets it go, which rolls it

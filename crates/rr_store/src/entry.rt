@@ -2,8 +2,8 @@
 
 ghost use Rattle.std.specs.Prelude.{◌≡◌, IfOk};
 ghost use Rattle.rr_object.specs.KeyOrders.{IsKeyValue};
-ghost use Rattle.rr_rows.specs.Entries.{entry_of};
-ghost use Rattle.rr_rows.specs.Maps.{IsObject};
+ghost use Rattle.rr_store.specs.Entries.{entry_of};
+ghost use Rattle.rr_store.specs.Maps.{IsObject};
 
 use crate::names::maintainers_of;
 use rr_number::Name;
@@ -22,7 +22,7 @@ pub(crate) struct Entry {
 }
 
 impl Model for Entry {
-    ghost use Rattle.rr_rows.specs.Entries.{Entry as Kept};
+    ghost use Rattle.rr_store.specs.Entries.{Entry as Kept};
 
     ghost Value = { Kept };
 

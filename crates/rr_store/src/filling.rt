@@ -2,10 +2,10 @@
 
 ghost use Rattle.std.specs.Prelude.{◌≡◌, map, OnOk};
 ghost use Rattle.std.specs.List.{AllByRecursion};
-ghost use Rattle.rr_rows.specs.Contents.{IsTidy, KeepsOthers};
-ghost use Rattle.rr_rows.specs.Entries.{IsAdded, entry_of};
-ghost use Rattle.rr_rows.specs.Made.{HasItsTables, IsBare, no_schema};
-ghost use Rattle.rr_rows.specs.Maps.{IsObject};
+ghost use Rattle.rr_store.specs.Contents.{IsTidy, KeepsOthers};
+ghost use Rattle.rr_store.specs.Entries.{IsAdded, entry_of};
+ghost use Rattle.rr_store.specs.Made.{HasItsTables, IsBare, no_schema};
+ghost use Rattle.rr_store.specs.Maps.{IsObject};
 ghost use Rattle.rr_store.specs.Calls.{WhileOpen, database};
 ghost use Rattle.rr_store.specs.Creating.{IsStoreOf};
 ghost use Rattle.rr_object.specs.Objects.{lent};
@@ -13,9 +13,9 @@ ghost use Rattle.rr_store.specs.StepParts.{Made, Steps, StepsWhereOpen};
 
 use crate::bodies::add_rows;
 use crate::entry::Entry;
-use crate::fault::StoreFault;
 use crate::making::make_tables;
 use crate::statements::add_meta_row;
+use crate::store_fault::StoreFault;
 use crate::version::Version;
 use rr_object::Object;
 use sqlite::{Alter, Transaction};

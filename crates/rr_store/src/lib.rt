@@ -1,13 +1,14 @@
-//! Objects kept in SQLite, and whom they name, in tables that always hold exactly their rows.
+//! Objects kept in SQLite, and whom they name, in three tables that always hold exactly their rows:
+//! their texts, the rows that a set of objects has in them, and what each statement on them does.
 #![tactic(auto)]
 
 mod bodies;
 mod checks;
 mod columns;
+mod committed;
 mod creating;
 mod ending;
 mod entry;
-mod fault;
 mod filling;
 mod leaving_names;
 mod making;
@@ -18,18 +19,21 @@ mod names;
 mod namings;
 mod objects;
 mod opening;
-mod reading;
+mod row_reading;
+mod row_streams;
+mod schema;
 mod statements;
 mod store;
-mod streams;
+mod store_fault;
 mod upper;
 mod vacancy;
 mod version;
 mod writes;
 
-pub use fault::{CreateFault, MigrateFault, OpenFault, StoreFault};
 pub use meta::is_version_row_alone;
 pub use objects::lent;
+pub use schema::{META_TREE, NAMED_TREE, OBJECT_TREE, has_tables};
 pub use store::Store;
+pub use store_fault::{CreateFault, MigrateFault, OpenFault, StoreFault};
 pub use upper::upper_object;
 pub use version::{OLD_VERSION, VERSION, Version, read_decimal};

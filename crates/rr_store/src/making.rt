@@ -1,8 +1,8 @@
 //! The tables of a new store.
 
 ghost use Rattle.std.specs.Prelude.{◌≡◌, []};
-ghost use Rattle.rr_rows.specs.Made.{Creates, IsBare, meta_table, named_table, no_schema};
-ghost use Rattle.rr_rows.specs.Made.{object_table, with_meta, with_named, with_object};
+ghost use Rattle.rr_store.specs.Made.{Creates, IsBare, meta_table, named_table, no_schema};
+ghost use Rattle.rr_store.specs.Made.{object_table, with_meta, with_named, with_object};
 ghost use Rattle.rr_store.specs.Calls.{WhileOpen, database};
 ghost use Rattle.rr_store.specs.StepParts.{Made, Steps};
 

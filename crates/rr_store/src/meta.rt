@@ -3,7 +3,7 @@
 ghost use Rattle.std.specs.Prelude.{◌≡◌, ◌≢◌, ◌<◌, ◌^◌, [], ◌∷◌};
 ghost use Rattle.std.specs.Prelude.{Contains, None, codes, decimal};
 ghost use Rattle.std.specs.Prelude.{IfSome, IsTrue};
-ghost use Rattle.rr_rows.specs.Contents.{meta_row};
+ghost use Rattle.rr_store.specs.Contents.{meta_row};
 ghost use Rattle.rr_store.specs.Versions.{version_number, version_text};
 
 use crate::columns::{is_bare_meta_row, second_text};

@@ -1,14 +1,14 @@
 //! Whether a database has the three tables, with numbers of their own for the rows of `meta`.
 
 ghost use Rattle.std.specs.Prelude.{◌≡◌, false, IfErr, OnOk};
-ghost use Rattle.rr_rows.specs.Tables.{HasTables};
+ghost use Rattle.rr_store.specs.Tables.{HasTables};
 ghost use Rattle.rr_store.specs.Calls.{FailsOverTidy, Looks, OnCleanDisk, database};
 ghost use Rattle.rr_store.specs.CheckParts.{HasNumberedMeta};
 ghost use Rattle.rr_store.specs.Faults.{no_tables};
 
-use crate::fault::NO_TABLES;
-use crate::reading::count_meta;
-use rr_rows::has_tables;
+use crate::row_reading::count_meta;
+use crate::schema::has_tables;
+use crate::store_fault::NO_TABLES;
 use sqlite::{Alter, Connection, Error};
 
 /// Checks that the three tables are there, and the rows of `meta` have numbers of their own.

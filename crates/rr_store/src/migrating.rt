@@ -1,23 +1,24 @@
 //! Tables of version 1, written anew in one transaction as those of version 2.
 
 ghost use Rattle.std.specs.Prelude.{◌≡◌, [], ◌∷◌, ◌++◌, false, map, IfErr, IfOk};
-ghost use Rattle.rr_rows.specs.Contents.{IsTidy, KeepsOthers};
-ghost use Rattle.rr_rows.specs.Entries.{entry_of};
-ghost use Rattle.rr_rows.specs.Made.{IsBare};
+ghost use Rattle.rr_store.specs.Contents.{IsTidy, KeepsOthers};
+ghost use Rattle.rr_store.specs.Entries.{entry_of};
+ghost use Rattle.rr_store.specs.Made.{IsBare};
 ghost use Rattle.rr_store.specs.Calls.{OnCleanDisk, Transacts, WhileOpen, database};
 ghost use Rattle.rr_object.specs.Objects.{lent};
 ghost use Rattle.rr_store.specs.Migrating.{FailsOverOldRows, IsMigrated, RefusesOldTables};
 ghost use Rattle.rr_store.specs.Migrating.{has_mntner};
 ghost use Rattle.rr_store.specs.MigratingParts.{IsReplaced, IsRewritten};
-ghost use Rattle.rr_store.specs.declared.fault.MigrateFault.TheVariants.{Store};
+ghost use Rattle.rr_store.specs.declared.store_fault.MigrateFault.TheVariants.{Store};
 ghost use Rattle.rr_store.specs.StepParts.{Made, Steps};
 
+use crate::committed::note_committed;
 use crate::ending::end;
-use crate::fault::{BAD_ROWS, MigrateFault, StoreFault};
 use crate::filling::fill;
 use crate::objects::lent;
 use crate::opening::stored_objects;
 use crate::statements::{clear_meta, clear_names, clear_objects};
+use crate::store_fault::{BAD_ROWS, MigrateFault, StoreFault};
 use crate::upper::upper_object;
 use crate::version::Version;
 use rr_number::Name;
@@ -65,8 +66,7 @@ fn replace<S: Alter>(
     ensures { Transacts S.Store (IsReplaced (map entry_of (lent objects.now)))
         conn.old conn.new result }
 {
-    // Called for its contract: outside a transaction the rows are those last committed.
-    let _ = conn.is_autocommit();
+    note_committed(conn);
     let mut tx = conn.transaction();
     let work = refill(&mut tx, alloc, objects);
     end(tx, work)

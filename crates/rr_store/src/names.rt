@@ -2,7 +2,7 @@
 
 ghost use Rattle.std.specs.Prelude.{◌≡◌, IfOk};
 ghost use Rattle.rr_object.specs.Objects.{names_of};
-ghost use Rattle.rr_rows.specs.Entries.{once};
+ghost use Rattle.rr_store.specs.Entries.{once};
 
 use rr_number::Name;
 use rr_object::Object;

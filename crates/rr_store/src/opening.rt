@@ -1,19 +1,19 @@
 //! The objects that the tables hold.
 
 ghost use Rattle.std.specs.Prelude.{◌≡◌, false, IfErr, IfOk};
-ghost use Rattle.rr_rows.specs.Maps.{AreInOrder, HasVersion};
+ghost use Rattle.rr_store.specs.Maps.{AreInOrder, HasVersion};
 ghost use Rattle.rr_store.specs.Calls.{FailsOverTidy, Looks, OnCleanDisk, database};
 ghost use Rattle.rr_store.specs.CheckParts.{HasNumberedMeta};
 ghost use Rattle.rr_store.specs.Opening.{AreObjectsOf, AreStoredAs, HoldNone, IfStore};
 ghost use Rattle.rr_store.specs.Opening.{RefusesTables};
 ghost use Rattle.rr_store.specs.ReadingParts.{TellsNoVersion};
 ghost use Rattle.rr_store.specs.Versions.{version_text};
-ghost use Rattle.rr_store.specs.declared.fault.OpenFault.TheVariants.{BadRow};
+ghost use Rattle.rr_store.specs.declared.store_fault.OpenFault.TheVariants.{BadRow};
 
 use crate::checks::{check_named_table, check_objects, check_version};
-use crate::fault::OpenFault;
 use crate::meta_check::check_meta;
 use crate::objects::in_order;
+use crate::store_fault::OpenFault;
 use crate::version::Version;
 use rr_number::Name;
 use rr_object::Object;

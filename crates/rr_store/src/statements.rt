@@ -2,10 +2,10 @@
 
 ghost use Rattle.std.specs.Prelude.{◌≡◌, [], ◌∷◌, filter, true, IfOk};
 ghost use Rattle.std.specs.Prelude.{IsPermutation};
-ghost use Rattle.rr_rows.specs.Contents.{Adds, Alters, IsTidy, Removes, contents};
-ghost use Rattle.rr_rows.specs.Contents.{is_name_of, is_object_of, meta_values, named_values};
-ghost use Rattle.rr_rows.specs.Contents.{object_values};
-ghost use Rattle.rr_rows.specs.Tables.{meta_tree, named_tree, object_tree};
+ghost use Rattle.rr_store.specs.Contents.{Adds, Alters, IsTidy, Removes, contents};
+ghost use Rattle.rr_store.specs.Contents.{is_name_of, is_object_of, meta_values, named_values};
+ghost use Rattle.rr_store.specs.Contents.{object_values};
+ghost use Rattle.rr_store.specs.Tables.{meta_tree, named_tree, object_tree};
 ghost use Rattle.rr_store.specs.Calls.{OnCleanDisk, WhileOpen, database};
 ghost use Rattle.rr_store.specs.StepParts.{Steps};
 

@@ -8,9 +8,9 @@ ghost use Rattle.rr_object.specs.Keys.{class_of};
 ghost use Rattle.rr_object.specs.KeyOrders.{HasKeyParts, IsKeyValue};
 ghost use Rattle.rr_object.specs.KeyTexts.{key_bytes};
 ghost use Rattle.rr_object.specs.Objects.{Obj, lent};
-ghost use Rattle.rr_rows.specs.Entries.{IsAdded, IsPut, IsTakenOut, entry_of};
-ghost use Rattle.rr_rows.specs.Maps.{AreInOrder, AreOldStored, IsObject};
-ghost use Rattle.rr_rows.specs.Maps.{Puts, TakesOut};
+ghost use Rattle.rr_store.specs.Entries.{IsAdded, IsPut, IsTakenOut, entry_of};
+ghost use Rattle.rr_store.specs.Maps.{AreInOrder, AreOldStored, IsObject};
+ghost use Rattle.rr_store.specs.Maps.{Puts, TakesOut};
 ghost use Rattle.rr_store.specs.Adding.{AddsTo};
 ghost use Rattle.rr_store.specs.Calls.{FailsOverTidy, IsSettled, Looks, OnCleanDisk, Transacts};
 ghost use Rattle.rr_store.specs.Calls.{database};
@@ -20,14 +20,15 @@ ghost use Rattle.rr_store.specs.Migrating.{FailsToMigrate, MigratesStore};
 ghost use Rattle.rr_store.specs.Opening.{AreObjectsOf, FailsToOpen, IfStore, OpensStore};
 ghost use Rattle.rr_store.specs.Opening.{RefusesTables};
 ghost use Rattle.rr_store.specs.declared.version.Version.TheVariants.{Old};
-ghost use Rattle.rr_store.specs.declared.fault.StoreFault.TheVariants.{Memory};
+ghost use Rattle.rr_store.specs.declared.store_fault.StoreFault.TheVariants.{Memory};
 
 use crate::checks::{all_objects, naming_objects};
+use crate::committed::note_committed;
 use crate::creating::create_where_vacant;
 use crate::entry::Entry;
-use crate::fault::{CreateFault, MigrateFault, OpenFault, StoreFault};
 use crate::migrating::migrate_rows;
 use crate::opening::stored_objects;
+use crate::store_fault::{CreateFault, MigrateFault, OpenFault, StoreFault};
 use crate::version::Version;
 use crate::writes::{insert_entry, put_entry, remove_entry};
 use rr_number::Name;
@@ -76,8 +77,7 @@ impl<S: Alter> Store<S> {
         ensures fails { IfErr result (λ e. FailsToMake S.Store (lent objects.now) conn e.1 e.0) }
     {
         let made = create_where_vacant(&mut conn, alloc, objects);
-        // Called for its contract: outside a transaction the rows are those last committed.
-        let _ = conn.is_autocommit();
+        note_committed(&conn);
         match made {
             Ok(()) => Ok(Store { conn }),
             Err(fault) => Err((fault, conn)),
@@ -99,8 +99,7 @@ impl<S: Alter> Store<S> {
         ensures fails { IfErr result (λ e. FailsToOpen S.Store source.now conn e.1 e.0) }
     {
         let stored = stored_objects(&mut conn, alloc, source, Version::Current);
-        // Called for its contract: outside a transaction the rows are those last committed.
-        let _ = conn.is_autocommit();
+        note_committed(&conn);
         match stored {
             Ok(objects) => Ok((Store { conn }, objects)),
             Err(fault) => Err((fault, conn)),
@@ -165,8 +164,7 @@ impl<S: Alter> Store<S> {
             FailsToMigrate S.Store root.now source.now conn e.1 e.0) }
     {
         let migrated = migrate_rows(&mut conn, alloc, root, source);
-        // Called for its contract: outside a transaction the rows are those last committed.
-        let _ = conn.is_autocommit();
+        note_committed(&conn);
         match migrated {
             Ok(()) => Ok(Store { conn }),
             Err(fault) => Err((fault, conn)),
@@ -183,8 +181,7 @@ impl<S: Alter> Store<S> {
         ensures settled { IsSettled S.Store self.new }
     {
         let written = self.put_rows_of(alloc, object);
-        // Called for its contract: outside a transaction the rows are those last committed.
-        let _ = self.conn.is_autocommit();
+        note_committed(&self.conn);
         written
     }
 
@@ -210,8 +207,7 @@ impl<S: Alter> Store<S> {
         ensures settled { IsSettled S.Store self.new }
     {
         let written = self.add_rows_of(alloc, object);
-        // Called for its contract: outside a transaction the rows are those last committed.
-        let _ = self.conn.is_autocommit();
+        note_committed(&self.conn);
         written
     }
 
@@ -236,8 +232,7 @@ impl<S: Alter> Store<S> {
         ensures settled { IsSettled S.Store self.new }
     {
         let written = self.remove_rows_of(alloc, key);
-        // Called for its contract: outside a transaction the rows are those last committed.
-        let _ = self.conn.is_autocommit();
+        note_committed(&self.conn);
         written
     }
 
@@ -267,8 +262,7 @@ impl<S: Alter> Store<S> {
         ensures settled { IsSettled S.Store self.new }
     {
         let objects = all_objects(&mut self.conn, alloc, source);
-        // Called for its contract: outside a transaction the rows are those last committed.
-        let _ = self.conn.is_autocommit();
+        note_committed(&self.conn);
         Ok(objects?)
     }
 
@@ -291,8 +285,7 @@ impl<S: Alter> Store<S> {
         ensures settled { IsSettled S.Store self.new }
     {
         let objects = naming_objects(&mut self.conn, alloc, source, name);
-        // Called for its contract: outside a transaction the rows are those last committed.
-        let _ = self.conn.is_autocommit();
+        note_committed(&self.conn);
         Ok(objects?)
     }
 

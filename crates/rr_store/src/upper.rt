@@ -4,7 +4,7 @@ ghost use Rattle.std.specs.Prelude.{◌≡◌, IfOk, IfSome, IsSome};
 ghost use Rattle.rr_text.specs.Fields.{AreFields};
 ghost use Rattle.rr_object.specs.Objects.{Obj};
 ghost use Rattle.rr_object.specs.Readings.{ReadsAs};
-ghost use Rattle.rr_rows.specs.Maps.{IsObjectOf};
+ghost use Rattle.rr_store.specs.Maps.{IsObjectOf};
 ghost use Rattle.rr_store.specs.Migrating.{upper_block};
 
 use crate::objects::read_paragraph;

@@ -1,12 +1,12 @@
 //! Whether a database has room for a new store.
 
 ghost use Rattle.std.specs.Prelude.{◌≡◌, false, IfErr, IfOk, IsTrue};
-ghost use Rattle.rr_rows.specs.Made.{HasSomeRow, IsBare, no_schema};
-ghost use Rattle.rr_rows.specs.Tables.{HasTables, meta_tree, named_tree, object_tree};
+ghost use Rattle.rr_store.specs.Made.{HasSomeRow, IsBare, no_schema};
+ghost use Rattle.rr_store.specs.Tables.{HasTables, meta_tree, named_tree, object_tree};
 ghost use Rattle.rr_store.specs.Calls.{FailsFor, Looks, OnCleanDisk, database};
 ghost use Rattle.rr_store.specs.VacancyParts.{SaysEmpty};
 
-use crate::reading::{meta_numbers, named_numbers, object_numbers};
+use crate::row_reading::{meta_numbers, named_numbers, object_numbers};
 use sqlite::{Alter, Connection, Error};
 use sqlite_schema::schema::Schema;
 

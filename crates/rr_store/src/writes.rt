@@ -1,15 +1,16 @@
 //! The writes of a store, each one transaction.
 
 ghost use Rattle.std.specs.Prelude.{◌≡◌, [], ◌∷◌, false};
-ghost use Rattle.rr_rows.specs.Contents.{IsTidy};
-ghost use Rattle.rr_rows.specs.Entries.{IsAdded, IsPut, IsTakenOut};
-ghost use Rattle.rr_rows.specs.Maps.{AreOfObjects};
+ghost use Rattle.rr_store.specs.Contents.{IsTidy};
+ghost use Rattle.rr_store.specs.Entries.{IsAdded, IsPut, IsTakenOut};
+ghost use Rattle.rr_store.specs.Maps.{AreOfObjects};
 ghost use Rattle.rr_store.specs.Calls.{Transacts, WhileOpen, database};
 
 use crate::bodies::{add_rows, put_rows, remove_rows};
+use crate::committed::note_committed;
 use crate::ending::end;
 use crate::entry::Entry;
-use crate::fault::StoreFault;
+use crate::store_fault::StoreFault;
 use sqlite::{Alter, Connection};
 use std::alloc::Global;
 
@@ -25,8 +26,7 @@ pub(crate) fn put_entry<S: Alter>(
     requires held { WhileOpen S.Store conn.old (AreOfObjects (database S.Store conn.old)) }
     ensures { Transacts S.Store (IsPut entry.now) conn.old conn.new result }
 {
-    // Called for its contract: outside a transaction the rows are those last committed.
-    let _ = conn.is_autocommit();
+    note_committed(conn);
     let mut tx = conn.transaction();
     let work = put_rows(&mut tx, alloc, entry);
     end(tx, work)
@@ -42,8 +42,7 @@ pub(crate) fn insert_entry<S: Alter>(
     requires tidy { WhileOpen S.Store conn.old (IsTidy (database S.Store conn.old)) }
     ensures { Transacts S.Store (IsAdded (entry.now ∷ [])) conn.old conn.new result }
 {
-    // Called for its contract: outside a transaction the rows are those last committed.
-    let _ = conn.is_autocommit();
+    note_committed(conn);
     let mut tx = conn.transaction();
     let work = add_rows(&mut tx, entry);
     end(tx, work)
@@ -62,8 +61,7 @@ pub(crate) fn remove_entry<S: Alter>(
     requires held { WhileOpen S.Store conn.old (AreOfObjects (database S.Store conn.old)) }
     ensures { Transacts S.Store (IsTakenOut class key.now) conn.old conn.new result }
 {
-    // Called for its contract: outside a transaction the rows are those last committed.
-    let _ = conn.is_autocommit();
+    note_committed(conn);
     let mut tx = conn.transaction();
     let work = remove_rows(&mut tx, alloc, class, key);
     end(tx, work)

@@ -2,7 +2,7 @@
 use Rattle.std.proofs.Common.{ℕ, List, []}
 use Rattle.std.specs.Prelude.{Result, map}
 use Rattle.rr_text.specs.Fields.{Field}
-use Rattle.rr_text.specs.declared.fault.TextFault.{TextFault}
+use Rattle.rr_text.specs.declared.text_fault.TextFault.{TextFault}
 use Rattle.rr_auth.specs.Registries.{Reg}
 use Rattle.rr_auth.specs.Sources.{IsRegistryOf}
 use Rattle.rr_registry.specs.Runs.{Run}

@@ -6,10 +6,10 @@ use Rattle.rr_io.specs.Told.{Told}
 use Rattle.rr_io.specs.declared.receiving.ReadEnd.{ReadEnd}
 use Rattle.rr_io.specs.declared.receiving.ReadEnd.TheVariants as end
 use Rattle.rr_text.specs.Fields.{Field}
-use Rattle.rr_text.specs.declared.fault.TextFault.{TextFault}
-use Rattle.rr_text.specs.declared.fault.TextFault.TheVariants.{TooLarge, BadByte, FirstContinues}
-use Rattle.rr_text.specs.declared.fault.TextFault.TheVariants.{NoColon, BadName, Memory, Read}
-use Rattle.rr_text.specs.declared.fault.TextFault.TheVariants.{Endless}
+use Rattle.rr_text.specs.declared.text_fault.TextFault.{TextFault}
+use Rattle.rr_text.specs.declared.text_fault.TextFault.TheVariants.{TooLarge, BadByte}
+use Rattle.rr_text.specs.declared.text_fault.TextFault.TheVariants.{FirstContinues, NoColon}
+use Rattle.rr_text.specs.declared.text_fault.TextFault.TheVariants.{BadName, Memory, Read, Endless}
 use Rattle.rr_text.specs.declared.paragraphs.Paragraphs.{Paragraphs}
 use Rattle.rr_text.specs.ParagraphReaders.{Entry, GivesNext, HasEnded, HasGiven}
 use Rattle.rr_object.specs.declared.code.Code.{Code}

@@ -4,13 +4,13 @@ use Rattle.std.specs.Prelude.{IfSome, ◌⊎◌}
 use Rattle.rr_io.specs.declared.receiving.ReadEnd.{ReadEnd}
 use Rattle.rr_io.specs.declared.receiving.ReadEnd.TheVariants as end
 use Rattle.rr_text.specs.Fields.{Field}
-use Rattle.rr_text.specs.declared.fault.TextFault.{TextFault}
-use Rattle.rr_text.specs.declared.fault.TextFault.TheVariants.{TooLarge, BadByte, FirstContinues}
-use Rattle.rr_text.specs.declared.fault.TextFault.TheVariants.{NoColon, BadName, Memory, Read}
-use Rattle.rr_text.specs.declared.fault.TextFault.TheVariants.{Endless}
+use Rattle.rr_text.specs.declared.text_fault.TextFault.{TextFault}
+use Rattle.rr_text.specs.declared.text_fault.TextFault.TheVariants.{TooLarge, BadByte}
+use Rattle.rr_text.specs.declared.text_fault.TextFault.TheVariants.{FirstContinues, NoColon}
+use Rattle.rr_text.specs.declared.text_fault.TextFault.TheVariants.{BadName, Memory, Read, Endless}
 use Rattle.rr_object.specs.declared.code.Code.{Code}
 use Rattle.rr_object.specs.declared.code.Code.TheVariants.{E01, E07, E90}
-use Rattle.rr_object.specs.declared.fault.ObjectFault.{ObjectFault}
+use Rattle.rr_object.specs.declared.object_fault.ObjectFault.{ObjectFault}
 use Rattle.rr_object.specs.declared.key.Key.{Key}
 use Rattle.rr_object.specs.Faults.{code_of}
 use Rattle.rr_object.specs.KeySpellings.{key_of}

@@ -2,7 +2,7 @@
 use Rattle.std.specs.Prelude.{◌≡◌, ℕ, true, false, List, [], ◌∷◌, ◌++◌, Result}
 use Rattle.std.specs.Prelude.{Ok, Err}
 use Rattle.rr_text.specs.Fields.{Field}
-use Rattle.rr_text.specs.declared.fault.TextFault.{TextFault}
+use Rattle.rr_text.specs.declared.text_fault.TextFault.{TextFault}
 use Rattle.rr_object.specs.declared.code.Code.{Code}
 use Rattle.rr_object.specs.declared.code.Code.TheVariants.{E90}
 use Rattle.rr_registry.specs.declared.run.Submitted.{Submitted}

@@ -1,7 +1,7 @@
 -- What submissions keep.
 use Rattle.std.specs.Prelude.{ℕ, List, [], ◌++◌, map, Result}
 use Rattle.rr_text.specs.Fields.{Field}
-use Rattle.rr_text.specs.declared.fault.TextFault.{TextFault}
+use Rattle.rr_text.specs.declared.text_fault.TextFault.{TextFault}
 use Rattle.rr_auth.specs.Registries.{Reg, Sound}
 use Rattle.rr_auth.specs.Sources.{IsRegistryOf}
 use Rattle.rr_registry.specs.Confined.{Confines}

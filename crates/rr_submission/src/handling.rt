@@ -17,7 +17,7 @@ use crate::ending::{Ending, write_last_line};
 use crate::handling_fault::HandlingFault;
 use crate::items::next_item;
 use crate::ledger::{Ledger, Stopped};
-use crate::line::write_item_line;
+use crate::report_line::write_item_line;
 use crate::request::Request;
 use crate::submission::{DeskFault, Done};
 use rr_auth::{Item, Secrets};

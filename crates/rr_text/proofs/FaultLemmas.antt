@@ -4,7 +4,7 @@ use Rattle.std.proofs.Common.{drop, Option, Some, None, is_some, refl, sym, ap, 
 use Rattle.std.proofs.lemmas.Bool.Decides.{nat_tests}
 use Rattle.std.specs.List.{position, position_or_len, list_any, before_first, after_first}
 use Rattle.std.specs.Option.{option_or}
-use Rattle.rr_text.specs.declared.fault.TextFault.{TextFault}
+use Rattle.rr_text.specs.declared.text_fault.TextFault.{TextFault}
 use Rattle.rr_text.specs.Lines.{text_lines}
 use Rattle.rr_text.specs.Faults.{line_fault, later_fault, block_fault}
 

@@ -22,10 +22,11 @@ use Rattle.rr_text.specs.PrivateParts.{added_lines, opens_attribute, opens_first
 use Rattle.rr_text.specs.KeptText.{kept_field, kept_by, kept_fields, fields_in, IsKept, printed_by}
 use Rattle.rr_text.specs.KeptText.{printed_lines, is_printed_by, is_printed}
 use Rattle.rr_text.proofs.EntryLemmas.{concat-text_lines, further, opened_kind}
-use Rattle.rr_text.proofs.RoundTrip.{IsOpeningOf, opening_of, canonical_lines, canonical_text_lines}
-use Rattle.rr_text.proofs.RoundTrip.{value_lines, further_lines, further_kind, opening_kind}
-use Rattle.rr_text.proofs.RoundTrip.{name_bytes, name_begins, further_continued, added_value_is}
-use Rattle.rr_text.proofs.RoundTrip.{canonical_again}
+use Rattle.rr_text.proofs.CanonicalLines.{IsOpeningOf, opening_of, canonical_lines}
+use Rattle.rr_text.proofs.CanonicalLines.{canonical_text_lines, value_lines, further_lines}
+use Rattle.rr_text.proofs.CanonicalLines.{further_kind, opening_kind, name_bytes, name_begins}
+use Rattle.rr_text.proofs.CanonicalLines.{added_value_is}
+use Rattle.rr_text.proofs.RoundTrip.{further_continued, canonical_again}
 use Rattle.rr_text.specs.FieldEquality.{fields_eq-Decides}
 use Rattle.rr_text.proofs.SoundLemmas.{and_left, and_right, or_left, or_right, sound}
 

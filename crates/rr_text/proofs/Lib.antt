@@ -8,10 +8,12 @@ pub mod FieldLemmas
 pub mod MeaningLemmas
 pub mod ComparingLemmas
 pub mod PrintLemmas
+pub mod CanonicalLines
 pub mod RoundTrip
 pub mod KeptLemmas
 pub mod LineSoFarLemmas
 pub mod ApartLemmas
+pub mod LineEnds
 pub mod DraftLemmas
 pub mod EntryFaults
 pub mod ReaderLemmas

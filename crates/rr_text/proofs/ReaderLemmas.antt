@@ -8,8 +8,8 @@ use Rattle.rr_io.specs.Told.{Told, Counts}
 use Rattle.rr_io.specs.Receiving.{Gives, CountsReads}
 use Rattle.rr_io.specs.declared.receiving.ReadEnd.TheVariants as end
 use Rattle.rr_io.proofs.Transfers.{Gives-none, Gives-then}
-use Rattle.rr_text.specs.declared.fault.TextFault.{TextFault}
-use Rattle.rr_text.specs.declared.fault.TextFault.TheVariants as fault
+use Rattle.rr_text.specs.declared.text_fault.TextFault.{TextFault}
+use Rattle.rr_text.specs.declared.text_fault.TextFault.TheVariants as fault
 use Rattle.rr_text.specs.declared.draft.Draft.{Draft}
 use Rattle.rr_text.specs.declared.paragraphs.ReaderState.{ReaderState}
 use Rattle.rr_text.specs.declared.paragraphs.ReaderState.TheVariants.{Open, Ended, Broken, Endless}

@@ -8,9 +8,9 @@ use Rattle.std.proofs.lemmas.Str.Ascii.{lowercase-lowercase}
 use Rattle.std.specs.List.{list_any, list_all, AllByRecursion, onto_first, after_first}
 use Rattle.std.specs.Option.{option_or}
 use Rattle.std.specs.Char.{to_ascii_lowercase, is_ascii_alphabetic}
-use Rattle.rr_text.specs.declared.fault.TextFault.{TextFault}
-use Rattle.rr_text.specs.declared.fault.TextFault.TheVariants.{BadByte, FirstContinues, NoColon}
-use Rattle.rr_text.specs.declared.fault.TextFault.TheVariants.{BadName}
+use Rattle.rr_text.specs.declared.text_fault.TextFault.{TextFault}
+use Rattle.rr_text.specs.declared.text_fault.TextFault.TheVariants.{BadByte, FirstContinues}
+use Rattle.rr_text.specs.declared.text_fault.TextFault.TheVariants.{NoColon, BadName}
 use Rattle.rr_text.specs.declared.line.LineKind.{LineKind}
 use Rattle.rr_text.specs.declared.line.LineKind.TheVariants.{Blank, Skipped, Continuation, Opening}
 use Rattle.rr_bytes.specs.Blanks.{is_blank_or_line_feed, is_line_feed}

@@ -3,10 +3,10 @@ use Rattle.std.specs.Prelude.{◌≡◌, ℕ, Bool, true, false, ◌+◌, ◌<�
 use Rattle.std.specs.Prelude.{[], ◌∷◌, ◌++◌, ◌⊎◌, length, take, Option, Some, None}
 use Rattle.std.specs.Prelude.{Result, Ok, Err, if◌then◌else◌}
 use Rattle.std.specs.List.{list_any}
-use Rattle.rr_text.specs.declared.fault.TextFault.{TextFault}
-use Rattle.rr_text.specs.declared.fault.TextFault.TheVariants.{TooLarge, BadByte, FirstContinues}
-use Rattle.rr_text.specs.declared.fault.TextFault.TheVariants.{NoColon, BadName, Memory, Read}
-use Rattle.rr_text.specs.declared.fault.TextFault.TheVariants.{Endless}
+use Rattle.rr_text.specs.declared.text_fault.TextFault.{TextFault}
+use Rattle.rr_text.specs.declared.text_fault.TextFault.TheVariants.{TooLarge, BadByte}
+use Rattle.rr_text.specs.declared.text_fault.TextFault.TheVariants.{FirstContinues, NoColon}
+use Rattle.rr_text.specs.declared.text_fault.TextFault.TheVariants.{BadName, Memory, Read, Endless}
 use Rattle.rr_text.specs.declared.draft.Draft.{Draft}
 use Rattle.rr_text.specs.declared.line_so_far.LineSoFar.TheVariants.{Nothing}
 use Rattle.rr_text.specs.declared.line_so_far.LineEnd.{LineEnd}

@@ -3,7 +3,7 @@ use Rattle.std.specs.Prelude.{◌≡◌, ◌≢◌, ℕ, ◌+◌, ◌*◌, ◌<�
 use Rattle.std.specs.Prelude.{[], ◌++◌, length, Option, Some, None, Result, Ok, Err}
 use Rattle.rr_io.specs.Told.{Told, Fails}
 use Rattle.rr_io.specs.Receiving.{Gives, IsSpent, CountsReads, BreaksOff, read_limit, read_size}
-use Rattle.rr_text.specs.declared.fault.TextFault.{TextFault}
+use Rattle.rr_text.specs.declared.text_fault.TextFault.{TextFault}
 use Rattle.rr_text.specs.declared.paragraphs.ReaderState.{ReaderState}
 use Rattle.rr_text.specs.declared.paragraphs.ReaderState.TheVariants.{Open, Ended, Broken, Endless}
 use Rattle.rr_text.specs.declared.paragraphs.Paragraphs.{Paragraphs}

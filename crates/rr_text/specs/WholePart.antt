@@ -1,7 +1,7 @@
 -- What counts of a text that broke off (profile).
 use Rattle.std.specs.Prelude.{ℕ, Bool, true, false, ◌&&◌, List, [], ◌∷◌, Result}
 use Rattle.std.specs.List.{list_any, concat}
-use Rattle.rr_text.specs.declared.fault.TextFault.{TextFault}
+use Rattle.rr_text.specs.declared.text_fault.TextFault.{TextFault}
 use Rattle.rr_bytes.specs.Blanks.{is_line_feed}
 use Rattle.rr_text.specs.Lines.{text_lines, is_blank_line}
 use Rattle.rr_text.specs.Fields.{Field}

@@ -4,10 +4,10 @@ ghost use Rattle.std.specs.Prelude.{◌≤◌, length, vec_capacity};
 ghost use Rattle.rr_text.specs.Entries.{size_limit};
 
 use crate::entry::{SIZE_LIMIT, read_entry};
-use crate::fault::TextFault;
 use crate::line::split_line;
 use crate::line_so_far::{LineEnd, LineSoFar, ends_line};
 use crate::paragraph::Paragraph;
+use crate::text_fault::TextFault;
 use std::alloc::{AllocError, Global};
 
 /// The paragraph that is being read: the bytes of its lines so far, and of the line that has begun.

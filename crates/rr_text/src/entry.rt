@@ -9,11 +9,11 @@ ghost use Rattle.rr_text.specs.Entries as entries;
 ghost use Rattle.rr_text.specs.KeptText.{printed_lines};
 ghost use Rattle.rr_text.specs.PrivateParts.{starts_block};
 
-use crate::fault::TextFault;
 use crate::inspect::block_fault;
 use crate::line::{LineKind, split_line};
 use crate::paragraph::Paragraph;
 use crate::printing::push_line;
+use crate::text_fault::TextFault;
 use std::alloc::{AllocError, Global};
 
 /// The most bytes that a paragraph has.

@@ -4,8 +4,8 @@ ghost use Rattle.std.specs.Prelude.{◌≡◌, Some, None};
 ghost use Rattle.rr_text.specs.Lines.{text_lines};
 ghost use Rattle.rr_text.specs.Faults as faults;
 
-use crate::fault::TextFault;
 use crate::line::{LineKind, has_refused_byte, split_line};
+use crate::text_fault::TextFault;
 use rr_bytes::{ByteSet, is_attribute_name, place_of, trim_end};
 
 /// The fault of a line that opens an attribute and has no refused byte.

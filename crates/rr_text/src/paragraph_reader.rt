@@ -6,9 +6,9 @@ ghost use Rattle.rr_text.specs.Fields.{AreFields};
 ghost use Rattle.rr_text.specs.ParagraphReaders.{Entry, GivesNext, HasGiven, Nearer, Stays};
 ghost use Rattle.rr_text.specs.ParagraphReaders.{left_of, paragraphs_of, reader_of, state_of};
 
-use crate::fault::TextFault;
 use crate::paragraph::Paragraph;
 use crate::paragraphs::Paragraphs;
+use crate::text_fault::TextFault;
 use rr_io::Source;
 use std::alloc::{AllocError, Global};
 

@@ -4,8 +4,8 @@ ghost use Rattle.std.specs.Prelude.{◌≡◌, ◌≤◌, length, take, drop};
 ghost use Rattle.rr_io.specs.Receiving.{read_limit, read_size};
 
 use crate::draft::Draft;
-use crate::fault::TextFault;
 use crate::paragraph::Paragraph;
+use crate::text_fault::TextFault;
 use rr_io::{READ_LIMIT, READ_SIZE, Source};
 use std::alloc::{AllocError, Global};
 

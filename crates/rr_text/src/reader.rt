@@ -8,8 +8,8 @@ ghost use Rattle.rr_text.specs.Entries.{entries};
 
 use crate::block::take_block;
 use crate::entry::read_entry;
-use crate::fault::TextFault;
 use crate::paragraph::Paragraph;
+use crate::text_fault::TextFault;
 use std::alloc::Global;
 
 /// The first paragraph of the text from a place on, with the place after it; `None` where there

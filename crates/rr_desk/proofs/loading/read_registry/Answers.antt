@@ -1,5 +1,5 @@
 use Rattle.std.proofs.lemmas.Result.{err_from_is_err_and}
-use Rattle.rr_load.proofs.Sources.{dumps_of_source}
+use Rattle.rr_desk.proofs.DumpSources.{dumps_of_source}
 use Rattle.rr_desk.proofs.Loads.{reading_fails, reading_not_of_store, registry_fails}
 use Rattle.rr_desk.proofs.Loads.{registry_not_of_store, taken_loads}
 use Rattle.rr_desk.proofs.loading.read_registry.Goals as goal

@@ -1,5 +1,5 @@
 use Rattle.std.proofs.Common.{subst}
-use Rattle.rr_rows.specs.Maps.{HasRows}
+use Rattle.rr_store.specs.Maps.{HasRows}
 use Rattle.rr_store.proofs.OtherVersions.{stored_says_it}
 use Rattle.rr_desk.proofs.ListRows.{opened_rows}
 use Rattle.rr_desk.proofs.Listed.{bad_objects, no_error, no_version, unreadable_rows}

@@ -4,7 +4,7 @@ use Rattle.std.proofs.Math.Seq.{take-length}
 use Rattle.std.proofs.lemmas.List.{take_more, map-append}
 use Rattle.sqlite_value.specs.Order.{Row}
 use Rattle.sqlite.specs.Held.{state}
-use Rattle.rr_rows.specs.Contents.{Adds, Alters, named_values}
+use Rattle.rr_store.specs.Contents.{Adds, Alters, named_values}
 use Rattle.rr_store.proofs.AddingLemmas.{HasAltered, added_more, none_added}
 use Rattle.rr_store.proofs.bodies.add_names.Goals as goal
 

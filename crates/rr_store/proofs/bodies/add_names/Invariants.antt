@@ -1,5 +1,5 @@
 use Rattle.std.proofs.Common.{◌≡◌, map, take}
-use Rattle.rr_rows.specs.Contents.{Adds, named_values}
+use Rattle.rr_store.specs.Contents.{Adds, named_values}
 use Rattle.rr_store.proofs.AddingLemmas.{HasAltered}
 use Rattle.rr_store.proofs.bodies.add_names.Given as goal
 

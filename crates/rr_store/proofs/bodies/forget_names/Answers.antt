@@ -2,8 +2,8 @@ use Rattle.std.proofs.Common.{arith, refl, sym, subst}
 use Rattle.std.specs.List.{AllByRecursion}
 use Rattle.sqlite.specs.Held.{state}
 use Rattle.sqlite.specs.State.{HasCleanDisk}
-use Rattle.rr_rows.specs.Contents.{Alters, IsTidy, Removes, is_name_among}
-use Rattle.rr_rows.specs.Maps.{AreNamesOf}
+use Rattle.rr_store.specs.Contents.{Alters, IsTidy, Removes, is_name_among}
+use Rattle.rr_store.specs.Maps.{AreNamesOf}
 use Rattle.rr_store.proofs.BodyLemmas.{forgotten}
 use Rattle.rr_store.proofs.StepLemmas.{steps_more, steps_ok}
 use Rattle.rr_store.proofs.bodies.forget_names.Goals as goal

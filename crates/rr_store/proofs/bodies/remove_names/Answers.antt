@@ -3,7 +3,7 @@ use Rattle.std.proofs.Common.{arith}
 use Rattle.std.proofs.Math.Seq.{take-length}
 use Rattle.std.proofs.lemmas.List.{take_more}
 use Rattle.sqlite.specs.Held.{state}
-use Rattle.rr_rows.specs.Contents.{Alters, Removes, is_name_among}
+use Rattle.rr_store.specs.Contents.{Alters, Removes, is_name_among}
 use Rattle.rr_store.proofs.AddingLemmas.{HasAltered, none_removed, removed_more}
 use Rattle.rr_store.proofs.bodies.remove_names.Goals as goal
 

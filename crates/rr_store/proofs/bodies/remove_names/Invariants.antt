@@ -1,5 +1,5 @@
 use Rattle.std.proofs.Common.{◌≡◌, take}
-use Rattle.rr_rows.specs.Contents.{Removes, is_name_among}
+use Rattle.rr_store.specs.Contents.{Removes, is_name_among}
 use Rattle.rr_store.proofs.AddingLemmas.{HasAltered}
 use Rattle.rr_store.proofs.bodies.remove_names.Given as goal
 

@@ -1,10 +1,10 @@
 use Rattle.std.proofs.Common.{◌≡◌, IfErr, OnOk, IsPermutation, flat_map, map, subst, arith}
 use Rattle.sqlite.specs.Effect.{Database}
-use Rattle.rr_rows.specs.Contents.{contents}
-use Rattle.rr_rows.specs.Entries.{named_rows}
-use Rattle.rr_rows.specs.Maps.{entry_in}
+use Rattle.rr_store.specs.Contents.{contents}
+use Rattle.rr_store.specs.Entries.{named_rows}
+use Rattle.rr_store.specs.Maps.{entry_in}
 use Rattle.rr_store.specs.Versions.{form_of}
-use Rattle.rr_store.specs.declared.fault.OpenFault.TheVariants.{BadRow}
+use Rattle.rr_store.specs.declared.store_fault.OpenFault.TheVariants.{BadRow}
 use Rattle.sqlite.specs.Held.{state}
 use Rattle.sqlite.specs.State.{HasCleanDisk}
 use Rattle.rr_store.proofs.LookLemmas.{looks_failed, looks_then, tables_then}

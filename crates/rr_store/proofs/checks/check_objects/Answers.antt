@@ -1,9 +1,9 @@
 use Rattle.std.proofs.Common.{◌≡◌, IfErr, IfOk, subst, arith}
 use Rattle.sqlite.specs.Effect.{Database}
-use Rattle.rr_rows.specs.Contents.{contents}
+use Rattle.rr_store.specs.Contents.{contents}
 use Rattle.rr_store.specs.CheckParts.{AreRowsOfNone, HoldsInTurn, HoldsObjects}
 use Rattle.rr_store.specs.Versions.{form_of}
-use Rattle.rr_store.specs.declared.fault.OpenFault.TheVariants.{BadRow}
+use Rattle.rr_store.specs.declared.store_fault.OpenFault.TheVariants.{BadRow}
 use Rattle.rr_store.proofs.StreamLemmas.{on_any}
 use Rattle.sqlite.specs.Held.{state}
 use Rattle.sqlite.specs.State.{HasCleanDisk}

@@ -1,8 +1,8 @@
 use Rattle.std.proofs.lemmas.Result.{IfOk-weaker, err_from_is_err_and}
 use Rattle.sqlite_trees.proofs.ListLemmas.{all-permutation}
 use Rattle.sqlite.specs.Held.{state}
-use Rattle.rr_rows.specs.Contents.{contents, pointed}
-use Rattle.rr_rows.specs.Maps.{IsObjectOf, current_form}
+use Rattle.rr_store.specs.Contents.{contents, pointed}
+use Rattle.rr_store.specs.Maps.{IsObjectOf, current_form}
 use Rattle.rr_store.proofs.CheckLemmas.{each_err}
 use Rattle.rr_store.proofs.PointedLemmas.{pointed_apart, pointed_read}
 use Rattle.rr_store.proofs.StoredLemmas.{reordered}

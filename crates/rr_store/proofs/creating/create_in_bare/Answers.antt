@@ -2,11 +2,11 @@ use Rattle.std.proofs.Common.{◌≡◌, IsTrue, ap, arith, inr, not, sym, subst
 use Rattle.sqlite.specs.Held.{state}
 use Rattle.sqlite.specs.State.{HasCleanDisk}
 use Rattle.rr_store.specs.Calls.{Transacts, database}
-use Rattle.rr_rows.specs.Entries.{entry_of}
-use Rattle.rr_rows.specs.Made.{IsBare, IsMadeWith}
+use Rattle.rr_store.specs.Entries.{entry_of}
+use Rattle.rr_store.specs.Made.{IsBare, IsMadeWith}
 use Rattle.rr_store.specs.Creating.{IsStoreOf}
 use Rattle.rr_object.specs.Objects.{lent}
-use Rattle.rr_rows.proofs.OtherLemmas.{tables_stand}
+use Rattle.rr_store.proofs.OtherLemmas.{tables_stand}
 use Rattle.rr_store.proofs.BodyLemmas.{both_ok}
 use Rattle.rr_store.proofs.CommitLemmas.{ended_writes}
 use Rattle.rr_store.proofs.creating.create_in_bare.Goals as goal
@@ -16,8 +16,7 @@ returns g c =
     let old = c.args.conn.now in
     let work = c.fill-work in
     let settled : IsTrue (state g.S.Store old).is_open → (state g.S.Store old).now
-    ≡ (state g.S.Store old).committed = c.is_autocommit.ensures.settled
-    (c.is_autocommit.ensures.value ∙ ap not c.requires.autocommit) in
+    ≡ (state g.S.Store old).committed = c.note_committed.ensures c.requires.autocommit in
     let bare : HasCleanDisk (state g.S.Store c.transaction-tx.result.conn.now) →
     IsBare (database g.S.Store c.transaction-tx.result.conn.now) =
     subst (λ h. HasCleanDisk (state g.S.Store h) → IsBare (database g.S.Store h))

@@ -1,7 +1,7 @@
 use Rattle.std.proofs.Common.{◌≡◌, IsTrue, ap, inl, not, ◌∙◌, rules}
 use Rattle.sqlite.specs.Held.{state}
 use Rattle.rr_store.specs.Calls.{Transacts}
-use Rattle.rr_rows.specs.Made.{IsMadeWith}
+use Rattle.rr_store.specs.Made.{IsMadeWith}
 use Rattle.rr_store.specs.Creating.{IsStoreOf}
 use Rattle.rr_object.specs.Objects.{lent}
 use Rattle.rr_store.proofs.BodyLemmas.{both_ok}
@@ -13,8 +13,7 @@ returns g c =
     let old = c.args.conn.now in
     let work = c.make_filled-work in
     let settled : IsTrue (state g.S.Store old).is_open → (state g.S.Store old).now
-    ≡ (state g.S.Store old).committed = c.is_autocommit.ensures.settled
-    (c.is_autocommit.ensures.value ∙ ap not c.requires.autocommit) in
+    ≡ (state g.S.Store old).committed = c.note_committed.ensures c.requires.autocommit in
     let made : Transacts g.S.Store (IsMadeWith (IsStoreOf (lent c.args.objects.now))) old
     c.end.new.tx.0 c.end.result =
     ended_writes g.S.Store old c.transaction-tx.result.conn.now work.new.tx.conn.now c.end.new.tx.0

@@ -4,8 +4,8 @@ use Rattle.std.proofs.Math.Seq.{take-length}
 use Rattle.std.proofs.lemmas.List.{take_more, map-append}
 use Rattle.std.specs.List.{AllByRecursion}
 use Rattle.sqlite.specs.Held.{state}
-use Rattle.rr_rows.specs.Entries.{IsAdded, entry_of}
-use Rattle.rr_rows.specs.Maps.{IsObject}
+use Rattle.rr_store.specs.Entries.{IsAdded, entry_of}
+use Rattle.rr_store.specs.Maps.{IsObject}
 use Rattle.rr_object.specs.Objects.{lent}
 use Rattle.rr_store.proofs.FillLemmas.{AreFilled, none_filled, object_filled}
 use Rattle.rr_store.proofs.filling.add_objects.Goals as goal

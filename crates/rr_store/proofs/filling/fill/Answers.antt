@@ -1,7 +1,7 @@
 use Rattle.std.proofs.Common.{arith, map, refl}
 use Rattle.sqlite.specs.Held.{state}
-use Rattle.rr_rows.specs.Entries.{entry_of}
-use Rattle.rr_rows.proofs.OtherLemmas.{others_then}
+use Rattle.rr_store.specs.Entries.{entry_of}
+use Rattle.rr_store.proofs.OtherLemmas.{others_then}
 use Rattle.rr_object.specs.Objects.{lent}
 use Rattle.rr_store.proofs.BodyLemmas.{both_ok, then_ok, filled_so}
 use Rattle.rr_store.proofs.StepLemmas.{steps_more}

@@ -1,6 +1,6 @@
 use Rattle.std.proofs.Common.{◌∙◌, arith, refl}
 use Rattle.sqlite.specs.Held.{state}
-use Rattle.rr_rows.proofs.OtherLemmas.{tables_made}
+use Rattle.rr_store.proofs.OtherLemmas.{tables_made}
 use Rattle.rr_store.proofs.BodyLemmas.{then_ok}
 use Rattle.rr_store.proofs.StepLemmas.{steps_then}
 use Rattle.rr_store.proofs.filling.make_filled.Goals as goal

@@ -1,7 +1,7 @@
 use Rattle.std.proofs.Common.{arith, []}
 use Rattle.sqlite.specs.Held.{state}
-use Rattle.rr_rows.specs.Texts.{create_named}
-use Rattle.rr_rows.proofs.CreateLemmas.{creates_named}
+use Rattle.rr_store.specs.Texts.{create_named}
+use Rattle.rr_store.proofs.CreateLemmas.{creates_named}
 use Rattle.rr_store.proofs.StepLemmas.{statement_steps}
 use Rattle.rr_store.proofs.making.create_named.Goals as goal
 

@@ -1,6 +1,6 @@
 use Rattle.std.proofs.Common.{refl}
 use Rattle.sqlite.specs.Held.{state}
-use Rattle.rr_rows.proofs.CreateLemmas.{bare}
+use Rattle.rr_store.proofs.CreateLemmas.{bare}
 use Rattle.rr_store.proofs.StepLemmas.{steps_both, steps_ok, steps_then}
 use Rattle.rr_store.proofs.making.make_tables.Goals as goal
 

@@ -1,7 +1,7 @@
 use Rattle.std.proofs.Common.{◌≡◌, ◌≢◌, ℕ, ◌<◌, ◌^◌, get_or, codes}
 use Rattle.std.specs.Prelude.{decimal}
 use Rattle.sqlite_value.specs.Order.{Row}
-use Rattle.rr_rows.specs.Contents.{meta_row}
+use Rattle.rr_store.specs.Contents.{meta_row}
 use Rattle.rr_store.specs.Versions.{version_number}
 use Rattle.rr_store.proofs.meta.other_version.Given as goal
 

@@ -1,7 +1,7 @@
 use Rattle.std.proofs.Common.{◌≡◌, IsTrue, ap, not, ◌∙◌, rules, map}
 use Rattle.sqlite.specs.Held.{state}
 use Rattle.rr_store.specs.Calls.{Transacts}
-use Rattle.rr_rows.specs.Entries.{entry_of}
+use Rattle.rr_store.specs.Entries.{entry_of}
 use Rattle.rr_object.specs.Objects.{lent}
 use Rattle.rr_store.specs.MigratingParts.{IsReplaced}
 use Rattle.rr_store.proofs.CommitLemmas.{ended_writes}
@@ -11,8 +11,7 @@ pub returns : goal.returns
 returns g c =
     let old = c.args.conn.now in
     let settled : IsTrue (state g.S.Store old).is_open → (state g.S.Store old).now
-    ≡ (state g.S.Store old).committed = c.is_autocommit.ensures.settled
-    (c.is_autocommit.ensures.value ∙ ap not c.requires.autocommit) in
+    ≡ (state g.S.Store old).committed = c.note_committed.ensures c.requires.autocommit in
     let made : Transacts g.S.Store (IsReplaced (map entry_of (lent c.args.objects.now))) old
     c.end.new.tx.0 c.end.result =
     ended_writes g.S.Store old c.transaction-tx.result.conn.now c.refill-work.new.tx.conn.now

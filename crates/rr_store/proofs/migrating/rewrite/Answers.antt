@@ -1,6 +1,6 @@
 use Rattle.std.proofs.Common.{◌≡◌, ◌++◌, [], ◌∷◌, map, ap, subst, ◌∙◌}
-use Rattle.rr_rows.specs.Entries.{entry_of}
-use Rattle.rr_rows.specs.Maps.{IsFilled}
+use Rattle.rr_store.specs.Entries.{entry_of}
+use Rattle.rr_store.specs.Maps.{IsFilled}
 use Rattle.rr_object.specs.Objects.{lent}
 use Rattle.rr_store.specs.MigratingParts.{IsReplaced, IsRewritten}
 use Rattle.rr_store.proofs.CommitLemmas.{writes_as}

@@ -2,7 +2,7 @@ use Rattle.std.proofs.Common.{◌≡◌, [], ◌∷◌, ◌++◌, subst, subst�
 use Rattle.std.proofs.lemmas.List.{reverse-reverse}
 use Rattle.std.proofs.lemmas.Iterator.Adapters.{YieldsList-from_rev_slice}
 use Rattle.std.proofs.lemmas.Iterator.Consumers.{YieldsList-end}
-use Rattle.rr_rows.specs.Entries.{once}
+use Rattle.rr_store.specs.Entries.{once}
 use Rattle.rr_store.proofs.OnceLemmas.{IsOnce, kept_more, none_yet, passed_over, turned}
 use Rattle.rr_store.proofs.names.each_once.Goals as goal
 

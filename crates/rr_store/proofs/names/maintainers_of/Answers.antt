@@ -1,5 +1,5 @@
 use Rattle.std.proofs.Common.{sym, ap, ◌∙◌, arith}
-use Rattle.rr_rows.specs.Entries.{once}
+use Rattle.rr_store.specs.Entries.{once}
 use Rattle.rr_store.proofs.OnceLemmas.{once_few}
 use Rattle.rr_store.proofs.names.maintainers_of.Goals as goal
 

@@ -1,6 +1,6 @@
 use Rattle.std.proofs.Common.{◌≡◌, map, flat_map, take}
-use Rattle.rr_rows.specs.Entries.{named_rows}
-use Rattle.rr_rows.specs.Maps.{entry_in}
+use Rattle.rr_store.specs.Entries.{named_rows}
+use Rattle.rr_store.specs.Maps.{entry_in}
 use Rattle.rr_store.specs.NamingParts.{naming_row}
 use Rattle.rr_store.specs.Versions.{form_of}
 use Rattle.rr_store.proofs.namings.namings.Given as goal

@@ -1,5 +1,5 @@
 use Rattle.std.proofs.Common.{◌≡◌, ◌++◌, map, take}
-use Rattle.rr_rows.specs.Contents.{named_values}
+use Rattle.rr_store.specs.Contents.{named_values}
 use Rattle.rr_store.specs.NamingParts.{naming_row}
 use Rattle.rr_store.proofs.namings.push_namings.Given as goal
 

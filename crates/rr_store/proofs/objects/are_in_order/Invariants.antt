@@ -1,5 +1,5 @@
 use Rattle.std.proofs.Common.{length}
-use Rattle.rr_rows.specs.Maps.{AreInOrder}
+use Rattle.rr_store.specs.Maps.{AreInOrder}
 use Rattle.rr_store.proofs.OrderLemmas.{AreChained}
 use Rattle.rr_store.proofs.objects.are_in_order.Given as goal
 

@@ -1,6 +1,6 @@
 use Rattle.std.proofs.Common.{sym, subst}
 use Rattle.std.proofs.lemmas.Bool.{both_ways}
-use Rattle.rr_rows.specs.Maps.{AreInOrder}
+use Rattle.rr_store.specs.Maps.{AreInOrder}
 use Rattle.rr_store.proofs.OrderLemmas.{apart_permutes, sorted_in_order}
 use Rattle.rr_store.proofs.objects.in_order.Goals as goal
 

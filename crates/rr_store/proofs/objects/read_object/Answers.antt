@@ -1,7 +1,7 @@
 use Rattle.std.proofs.Common.{◌≡◌, Some, sym, ap, subst, ◌∙◌}
 use Rattle.rr_object.specs.Classes.{class_number}
 use Rattle.rr_object.specs.Keys.{class_of}
-use Rattle.rr_rows.specs.Contents.{columns, object_values}
+use Rattle.rr_store.specs.Contents.{columns, object_values}
 use Rattle.rr_store.specs.Versions.{form_of}
 use Rattle.rr_store.proofs.ObjectLemmas.{same_object, text_of_row}
 use Rattle.rr_store.proofs.objects.read_object.Goals as goal

@@ -4,9 +4,9 @@ use Rattle.std.proofs.lemmas.Result.{IfOk-weaker, err_from_is_err_and}
 use Rattle.sqlite_trees.proofs.ListLemmas.{all-permutation}
 use Rattle.sqlite.specs.Held.{state}
 use Rattle.sqlite.specs.State.{HasCleanDisk}
-use Rattle.rr_rows.specs.Contents.{AreNumbered, IsTidy, contents}
-use Rattle.rr_rows.specs.Entries.{named_rows}
-use Rattle.rr_rows.specs.Maps.{IsObjectOf, entry_in}
+use Rattle.rr_store.specs.Contents.{AreNumbered, IsTidy, contents}
+use Rattle.rr_store.specs.Entries.{named_rows}
+use Rattle.rr_store.specs.Maps.{IsObjectOf, entry_in}
 use Rattle.rr_store.specs.Versions.{form_of, version_text}
 use Rattle.rr_store.proofs.CheckLemmas.{both_ok, each_err}
 use Rattle.rr_store.proofs.StoredLemmas.{none_apart, none_named, none_read, stored}

@@ -3,11 +3,11 @@ use Rattle.std.proofs.lemmas.Result.{IfOk-weaker, err_from_is_err_and}
 use Rattle.sqlite.specs.Effect.{Database}
 use Rattle.sqlite.specs.Held.{state}
 use Rattle.sqlite.specs.State.{HasCleanDisk}
-use Rattle.rr_rows.specs.Maps.{HasVersion}
+use Rattle.rr_store.specs.Maps.{HasVersion}
 use Rattle.rr_store.specs.CheckParts.{HasNumberedMeta}
 use Rattle.rr_store.specs.Opening.{AreStoredAs, HoldNone}
 use Rattle.rr_store.specs.Versions.{version_text}
-use Rattle.rr_store.specs.declared.fault.OpenFault.TheVariants.{BadRow}
+use Rattle.rr_store.specs.declared.store_fault.OpenFault.TheVariants.{BadRow}
 use Rattle.rr_store.proofs.CheckLemmas.{both_err}
 use Rattle.rr_store.proofs.LookLemmas.{looks_failed, looks_then}
 use Rattle.rr_store.proofs.StoredLemmas.{rows_refuse, version_refuses}

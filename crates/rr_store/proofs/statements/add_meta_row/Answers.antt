@@ -1,8 +1,8 @@
 use Rattle.std.proofs.Common.{arith, [], ◌∷◌}
 use Rattle.sqlite_value.specs.declared.value.Value.TheVariants.{Text}
 use Rattle.sqlite.specs.Held.{state}
-use Rattle.rr_rows.specs.Texts.{insert_meta}
-use Rattle.rr_rows.proofs.StatementLemmas.{inserts_meta}
+use Rattle.rr_store.specs.Texts.{insert_meta}
+use Rattle.rr_store.proofs.StatementLemmas.{inserts_meta}
 use Rattle.rr_store.proofs.StepLemmas.{statement_steps}
 use Rattle.rr_store.proofs.statements.add_meta_row.Goals as goal
 

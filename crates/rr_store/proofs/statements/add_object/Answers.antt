@@ -1,10 +1,10 @@
 use Rattle.std.proofs.Common.{rules, ◌≡◌, w64, pos, arith}
-use Rattle.rr_rows.specs.Contents.{object_values}
+use Rattle.rr_store.specs.Contents.{object_values}
 use Rattle.std.proofs.lemmas.Int.{to_z-of_z}
 use mir.Val.{to_z, of_z}
 use Rattle.sqlite.specs.Held.{state}
-use Rattle.rr_rows.specs.Texts.{insert_object}
-use Rattle.rr_rows.proofs.StatementLemmas.{inserts_object}
+use Rattle.rr_store.specs.Texts.{insert_object}
+use Rattle.rr_store.proofs.StatementLemmas.{inserts_object}
 use Rattle.rr_store.proofs.StepLemmas.{statement_steps}
 use Rattle.rr_store.proofs.statements.add_object.Goals as goal
 

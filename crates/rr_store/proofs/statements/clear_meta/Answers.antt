@@ -1,7 +1,7 @@
 use Rattle.std.proofs.Common.{arith, []}
 use Rattle.sqlite.specs.Held.{state}
-use Rattle.rr_rows.specs.Texts.{clear_meta}
-use Rattle.rr_rows.proofs.StatementLemmas.{clears_meta}
+use Rattle.rr_store.specs.Texts.{clear_meta}
+use Rattle.rr_store.proofs.StatementLemmas.{clears_meta}
 use Rattle.rr_store.proofs.StepLemmas.{statement_steps}
 use Rattle.rr_store.proofs.statements.clear_meta.Goals as goal
 

@@ -1,10 +1,10 @@
 use Rattle.std.proofs.Common.{rules, ◌≡◌, w64, pos, arith}
-use Rattle.rr_rows.specs.Contents.{named_values}
+use Rattle.rr_store.specs.Contents.{named_values}
 use Rattle.std.proofs.lemmas.Int.{to_z-of_z}
 use mir.Val.{to_z, of_z}
 use Rattle.sqlite.specs.Held.{state}
-use Rattle.rr_rows.specs.Texts.{delete_name}
-use Rattle.rr_rows.proofs.StatementLemmas.{deletes_name}
+use Rattle.rr_store.specs.Texts.{delete_name}
+use Rattle.rr_store.proofs.StatementLemmas.{deletes_name}
 use Rattle.rr_store.proofs.StepLemmas.{statement_steps}
 use Rattle.rr_store.proofs.statements.remove_name.Goals as goal
 

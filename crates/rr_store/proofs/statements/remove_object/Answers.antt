@@ -3,8 +3,8 @@ use Rattle.sqlite_value.specs.declared.value.Value.TheVariants.{Int, Text}
 use Rattle.std.proofs.lemmas.Int.{to_z-of_z}
 use mir.Val.{to_z, of_z}
 use Rattle.sqlite.specs.Held.{state}
-use Rattle.rr_rows.specs.Texts.{delete_object}
-use Rattle.rr_rows.proofs.StatementLemmas.{deletes_object}
+use Rattle.rr_store.specs.Texts.{delete_object}
+use Rattle.rr_store.proofs.StatementLemmas.{deletes_object}
 use Rattle.rr_store.proofs.StepLemmas.{statement_steps}
 use Rattle.rr_store.proofs.statements.remove_object.Goals as goal
 

@@ -5,9 +5,9 @@ use Rattle.sqlite.specs.Given.{IsPlain}
 use Rattle.sqlite.specs.Held.{state}
 use Rattle.sqlite.specs.Listing.{understood}
 use Rattle.sqlite.specs.State.{HasCleanDisk}
-use Rattle.rr_rows.specs.Texts.{select_of_key}
-use Rattle.rr_rows.proofs.TextLemmas.{select_of_key_is}
-use Rattle.rr_rows.proofs.StatementLemmas.{selects_of_key}
+use Rattle.rr_store.specs.Texts.{select_of_key}
+use Rattle.rr_store.proofs.TextLemmas.{select_of_key_is}
+use Rattle.rr_store.proofs.StatementLemmas.{selects_of_key}
 use Rattle.rr_store.proofs.BodyLemmas.{then_ok}
 use Rattle.rr_store.proofs.LookLemmas.{asked_keeps, asked_same, asked_step, each_shown, on_each}
 use Rattle.rr_store.proofs.LookLemmas.{plain_of, shown_open}

@@ -1,7 +1,7 @@
 use Rattle.std.proofs.Common.{◌≡◌, IsTrue, ap, not, ◌∙◌, rules}
 use Rattle.sqlite.specs.Held.{state}
 use Rattle.rr_store.specs.Calls.{Transacts}
-use Rattle.rr_rows.specs.Entries.{IsPut}
+use Rattle.rr_store.specs.Entries.{IsPut}
 use Rattle.rr_store.proofs.CommitLemmas.{ended_writes}
 use Rattle.rr_store.proofs.writes.put_entry.Goals as goal
 
@@ -9,8 +9,7 @@ pub returns : goal.returns
 returns g c =
     let old = c.args.conn.now in
     let settled : IsTrue (state g.S.Store old).is_open → (state g.S.Store old).now
-    ≡ (state g.S.Store old).committed = c.is_autocommit.ensures.settled
-    (c.is_autocommit.ensures.value ∙ ap not c.requires.autocommit) in
+    ≡ (state g.S.Store old).committed = c.note_committed.ensures c.requires.autocommit in
     let made : Transacts g.S.Store (IsPut c.args.entry.now) old c.end.new.tx.0 c.end.result =
     ended_writes g.S.Store old c.transaction-tx.result.conn.now c.put_rows-work.new.tx.conn.now
     c.end.new.tx.0 c.put_rows-work.result c.end.result (IsPut c.args.entry.now)

@@ -2,10 +2,10 @@ use Rattle.std.proofs.Common.{List, ℕ, Result}
 use Rattle.sqlite_trees.specs.declared.store.Store.{Ghosts}
 use Rattle.rr_io.specs.Sending.{Writes}
 use Rattle.rr_io.specs.Told.{Told}
-use Rattle.rr_answer.specs.declared.fault.QueryFault.{QueryFault}
+use Rattle.rr_answer.specs.declared.query_fault.QueryFault.{QueryFault}
 use Rattle.rr_answer.specs.Answers.{answer_bytes}
-use Rattle.rr_desk.specs.declared.answering.Answered.{Answered}
-use Rattle.rr_desk.specs.declared.answering.WriteFault.{WriteFault}
+use Rattle.rr_desk.specs.declared.desk_answering.Answered.{Answered}
+use Rattle.rr_desk.specs.declared.desk_answering.WriteFault.{WriteFault}
 use Rattle.rr_desk.specs.declared.desk.Desk.{Desk}
 use Rattle.rr_desk.specs.Desks.{GivesAnswer}
 use Rattle.rr_desk.specs.Histories.{AsksEvent}

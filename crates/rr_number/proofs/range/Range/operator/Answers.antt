@@ -2,9 +2,6 @@
 use Rattle.std.proofs.Common.{arith}
 use Rattle.rr_number.proofs.RangeLemmas.{for_plain, for_plus, for_minus, for_lengths}
 use Rattle.rr_number.proofs.range.Range.operator.Goals as goal
-use Rattle.rr_number.proofs.range.Range.operator.Goals.{in_default-via-in-0-default+else-high-length+in_default}
-use Rattle.rr_number.proofs.range.Range.operator.Goals.{in_default-via-in-1+in_default}
-use Rattle.rr_number.proofs.range.Range.operator.Goals.{in_default-via-in_default}
 
 pub returns-in-0-default : goal.returns-in-0-default
 returns-in-0-default c =
@@ -32,17 +29,17 @@ pub returns-in_default : goal.returns-in_default
 returns-in_default c =
     let length = c.length-length.ensures.value in
     rw (c.between.ensures, ← c.self.view_is) (elim c.in_default.branch [
-      | in_default-via-in-0-default+else-high-length+in_default w ↦
+      | goal.in_default-via-in-0-default+else-high-length+in_default w ↦
           for_lengths _ c.self.invariant
           (λ start end. omega (arith, w.if-high-length.false, length))
           (λ start end. w.in_default.is-1.1 end)
           (λ start end. omega (arith, w.in-0-default.is-0, length))
-      | in_default-via-in-1+in_default w ↦
+      | goal.in_default-via-in-1+in_default w ↦
           for_lengths _ c.self.invariant
           (λ start end. omega (arith, w.in_default.is-0, length))
           (λ start end. omega (arith, w.in_default.is-0, length))
           (λ start end. w.in_default.is-1.1 end)
-      | in_default-via-in_default w ↦
+      | goal.in_default-via-in_default w ↦
           for_lengths _ c.self.invariant
           (λ start end. omega (arith, w.in_default.is-0.0.1, length))
           (λ start end. omega (arith, w.in_default.is-0.0.1, length))

@@ -1,5 +1,5 @@
 use Rattle.std.proofs.Common.{not, ap, subst, ◌∙◌, [], ◌∷◌}
-use Rattle.rr_rows.specs.Entries.{IsAdded, entry_of}
+use Rattle.rr_store.specs.Entries.{IsAdded, entry_of}
 use Rattle.rr_store.specs.Adding.{AddsTo}
 use Rattle.rr_store.proofs.AddLemmas.{adds}
 use Rattle.rr_store.proofs.CommitLemmas.{writes_as}
@@ -18,5 +18,4 @@ pub returns-clause-settled : goal.returns-clause-settled
 returns-clause-settled g c =
     subst (IsSettled g.S.Store) c.self.view_is
     (settles g.S.Store g.met.S.Store.settled c.self.inside.conn
-    (c.is_autocommit.ensures.settled (c.is_autocommit.ensures.value
-    ∙ ap not c.self.invariant.autocommit)))
+    (c.note_committed.ensures c.self.invariant.autocommit))

@@ -1,5 +1,5 @@
 use Rattle.std.proofs.Common.{[], ◌∷◌}
-use Rattle.rr_rows.specs.Entries.{IsAdded}
+use Rattle.rr_store.specs.Entries.{IsAdded}
 use Rattle.rr_store.proofs.KeptLemmas.{added_told, kept_by}
 use Rattle.rr_store.proofs.store.Store.add_rows_of.Goals as goal
 

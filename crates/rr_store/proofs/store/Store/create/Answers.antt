@@ -1,6 +1,6 @@
 use Rattle.std.proofs.Common.{not, ap, ◌∙◌}
 use Rattle.sqlite.specs.Held.{state}
-use Rattle.rr_rows.proofs.ObjectRows.{filled_held}
+use Rattle.rr_store.proofs.ObjectRows.{filled_held}
 use Rattle.rr_object.specs.Objects.{lent}
 use Rattle.rr_store.proofs.SettledLemmas.{settles}
 use Rattle.rr_store.proofs.store.Store.create.Goals as goal
@@ -22,8 +22,7 @@ returns-in-Ok-clause-makes g c =
       was_open = λ clean. made.opened clean (made.is_open clean);
       is_open = made.is_open;
       settled = settles g.S.Store g.met.S.Store.settled c.create_where_vacant-made.new.conn
-          (c.is_autocommit.ensures.settled (c.is_autocommit.ensures.value
-          ∙ ap not (made.autocommit c.requires.autocommit)));
+          (c.note_committed.ensures (made.autocommit c.requires.autocommit));
       vacant = λ clean. (made.done clean).vacant;
       crash = made.crash;
     }
@@ -35,8 +34,7 @@ returns-in-Err-clause-fails g c =
       was_open = made.opened;
       kept = made.kept;
       settled = settles g.S.Store g.met.S.Store.settled c.create_where_vacant-made.new.conn
-          (c.is_autocommit.ensures.settled (c.is_autocommit.ensures.value
-          ∙ ap not (made.autocommit c.requires.autocommit)));
+          (c.note_committed.ensures (made.autocommit c.requires.autocommit));
       not_empty = λ is clean. c.in-Err.ensures.filled clean is;
       crash = made.crash;
       store = c.in-Err.ensures.cause;

@@ -1,6 +1,6 @@
 use Rattle.std.proofs.Common.{[], ◌∷◌, ◌++◌, not, ap, ◌∙◌}
 use Rattle.sqlite.specs.Held.{state}
-use Rattle.rr_rows.proofs.ObjectRows.{stored_held}
+use Rattle.rr_store.proofs.ObjectRows.{stored_held}
 use Rattle.rr_store.proofs.SettledLemmas.{settles}
 use Rattle.rr_store.proofs.store.Store.migrate.Goals as goal
 
@@ -20,8 +20,7 @@ returns-in-Ok-clause-migrates g c =
       was_open = λ clean. migrated.opened clean (migrated.is_open clean);
       is_open = migrated.is_open;
       settled = settles g.S.Store g.met.S.Store.settled c.migrate_rows-migrated.new.conn
-          (c.is_autocommit.ensures.settled (c.is_autocommit.ensures.value
-          ∙ ap not (migrated.autocommit c.requires.autocommit)));
+          (c.note_committed.ensures (migrated.autocommit c.requires.autocommit));
       crash = migrated.crash;
     }
 
@@ -32,8 +31,7 @@ returns-in-Err-clause-fails g c =
       was_open = migrated.opened;
       kept = migrated.kept;
       settled = settles g.S.Store g.met.S.Store.settled c.migrate_rows-migrated.new.conn
-          (c.is_autocommit.ensures.settled (c.is_autocommit.ensures.value
-          ∙ ap not (migrated.autocommit c.requires.autocommit)));
+          (c.note_committed.ensures (migrated.autocommit c.requires.autocommit));
       why = c.in-Err.ensures.why;
       crash = migrated.crash;
       store = c.in-Err.ensures.cause;

@@ -13,14 +13,12 @@ returns-clause-naming g c clean objects has =
 pub returns-clause-settled : goal.returns-clause-settled
 returns-clause-settled g c =
     settles g.S.Store g.met.S.Store.settled c.naming_objects-objects.new.conn
-    (c.is_autocommit.ensures.settled (c.is_autocommit.ensures.value
-    ∙ ap not c.naming_objects-objects.ensures.looks.rests.autocommit))
+    (c.note_committed.ensures c.naming_objects-objects.ensures.looks.rests.autocommit)
 
 pub returns-in_err-objects-clause-settled : goal.returns-in_err-objects-clause-settled
 returns-in_err-objects-clause-settled g c =
     settles g.S.Store g.met.S.Store.settled c.naming_objects-objects.new.conn
-    (c.is_autocommit.ensures.settled (c.is_autocommit.ensures.value
-    ∙ ap not c.naming_objects-objects.ensures.looks.rests.autocommit))
+    (c.note_committed.ensures c.naming_objects-objects.ensures.looks.rests.autocommit)
 
 pub returns-in_err-objects-clause-cause : goal.returns-in_err-objects-clause-cause
 returns-in_err-objects-clause-cause g c =

@@ -1,7 +1,7 @@
 use Rattle.std.proofs.Common.{not, sym, ap, subst, ◌∙◌, rules}
 use Rattle.sqlite.specs.Held.{state}
-use Rattle.rr_rows.specs.Maps.{AreOfObjects}
-use Rattle.rr_rows.proofs.ObjectRows.{stored_held}
+use Rattle.rr_store.specs.Maps.{AreOfObjects}
+use Rattle.rr_store.proofs.ObjectRows.{stored_held}
 use Rattle.rr_store.proofs.SettledLemmas.{settles}
 use Rattle.rr_store.proofs.store.Store.open_all.Goals as goal
 
@@ -22,8 +22,7 @@ returns-in-Ok-clause-opens g c = record {
   was_open = λ clean. (c.in-Ok.ensures.looks.same clean).0.was_open;
   is_open = search rules;
   settled = settles g.S.Store g.met.S.Store.settled c.stored_objects-stored.new.conn
-      (c.is_autocommit.ensures.settled (c.is_autocommit.ensures.value
-      ∙ ap not c.in-Ok.ensures.looks.rests.autocommit));
+      (c.note_committed.ensures c.in-Ok.ensures.looks.rests.autocommit);
   crash = c.in-Ok.ensures.looks.rests.crash;
 }
 
@@ -31,8 +30,7 @@ pub returns-in-Err-clause-fails : goal.returns-in-Err-clause-fails
 returns-in-Err-clause-fails g c = record {
   rests = c.in-Err.ensures.looks.rests;
   settled = settles g.S.Store g.met.S.Store.settled c.stored_objects-stored.new.conn
-      (c.is_autocommit.ensures.settled (c.is_autocommit.ensures.value
-      ∙ ap not c.in-Err.ensures.looks.rests.autocommit));
+      (c.note_committed.ensures c.in-Err.ensures.looks.rests.autocommit);
   why = c.in-Err.ensures.why;
   store = c.in-Err.ensures.cause;
 }

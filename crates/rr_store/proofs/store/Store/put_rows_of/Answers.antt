@@ -1,4 +1,4 @@
-use Rattle.rr_rows.specs.Entries.{IsPut}
+use Rattle.rr_store.specs.Entries.{IsPut}
 use Rattle.rr_store.proofs.KeptLemmas.{kept_by, put_told}
 use Rattle.rr_store.proofs.store.Store.put_rows_of.Goals as goal
 

@@ -2,9 +2,9 @@ use Rattle.std.proofs.Common.{not, ap, subst, ◌∙◌}
 use Rattle.rr_object.specs.Classes.{class_number}
 use Rattle.rr_object.specs.Keys.{class_of}
 use Rattle.rr_object.specs.KeyTexts.{key_bytes}
-use Rattle.rr_rows.specs.Entries.{IsTakenOut}
-use Rattle.rr_rows.specs.Maps.{TakesOut}
-use Rattle.rr_rows.proofs.MapRows.{takes}
+use Rattle.rr_store.specs.Entries.{IsTakenOut}
+use Rattle.rr_store.specs.Maps.{TakesOut}
+use Rattle.rr_store.proofs.MapRows.{takes}
 use Rattle.rr_store.proofs.CommitLemmas.{writes_as}
 use Rattle.rr_store.specs.Calls.{IsSettled}
 use Rattle.rr_store.proofs.SettledLemmas.{settles}
@@ -21,5 +21,4 @@ pub returns-clause-settled : goal.returns-clause-settled
 returns-clause-settled g c =
     subst (IsSettled g.S.Store) c.self.view_is
     (settles g.S.Store g.met.S.Store.settled c.self.inside.conn
-    (c.is_autocommit.ensures.settled (c.is_autocommit.ensures.value
-    ∙ ap not c.self.invariant.autocommit)))
+    (c.note_committed.ensures c.self.invariant.autocommit))

@@ -1,5 +1,5 @@
-use Rattle.rr_rows.specs.Entries.{IsTakenOut}
-use Rattle.rr_rows.proofs.ObjectRows.{taken_held}
+use Rattle.rr_store.specs.Entries.{IsTakenOut}
+use Rattle.rr_store.proofs.ObjectRows.{taken_held}
 use Rattle.rr_store.proofs.KeptLemmas.{kept_by}
 use Rattle.rr_store.proofs.store.Store.remove_rows_of.Goals as goal
 

@@ -1,0 +1,285 @@
+//! Reading the arguments of the command line.
+
+ghost use Rattle.std.specs.Prelude.{◌≡◌, ◌&&◌, codes, map, string_bytes, IfOk, MatchResult};
+ghost use Rattle.std.specs.Prelude.{length, nat_lt, true};
+ghost use Rattle.std.specs.Str.{bytes_eq};
+ghost use Rattle.clap.specs.Values.{kind_of};
+ghost use Rattle.clap.specs.Walk.{Text, one_of, rows_of};
+ghost use Rattle.clap.specs.Matches.{found_of};
+ghost use Rattle.rr_arguments.specs.CommandLine.{FailsToInvoke, GivesInvoked, GivesPart};
+ghost use Rattle.rr_arguments.specs.CommandLine.{Invocation, IsFlag, IsToldAs, given, helped};
+ghost use Rattle.rr_arguments.specs.CommandLine.{asks_help, asks_query, invoked, invoked_by};
+ghost use Rattle.rr_arguments.specs.CommandLine.{invoked_count, invoked_port, joined, parsed};
+ghost use Rattle.rr_arguments.specs.CommandLine.{parsed_or_helped, query};
+
+use crate::arguments_fault::ArgumentsFault;
+use crate::command::Command;
+use crate::grammar::program;
+use crate::numbers::read_number;
+use clap::ArgMatches;
+use clap::error::ErrorKind;
+use std::alloc::{AllocError, Global};
+use std::convert::AsStr;
+
+/// The greatest port.
+const GREATEST_PORT: usize = 65_535;
+
+/// The greatest number of connections that are served in one run (profile).
+const GREATEST_COUNT: usize = 1_000_000;
+
+/// What stands before the usage in a refusal.
+const USAGE: &str = "usage: ";
+
+/// The command that the arguments ask for, of which the first is the program's own name. The fault
+/// is that they ask for none, or that memory ran out.
+pub fn read_command<'a>(
+    alloc: Global,
+    arguments: &'a [String],
+) -> Result<Command<'a>, ArgumentsFault<'a>>
+    ensures { GivesInvoked (invoked (map string_bytes arguments.now)) result }
+{
+    if arguments.len() < 2 {
+        return Ok(Command::Plain);
+    }
+    match arguments {
+        [_, name, settings, query @ ..] if is_query(name.as_str(), settings.as_str(), query) => {
+            read_query(alloc, settings.as_str(), query)
+        }
+        _ => read_arguments(alloc, arguments),
+    }
+}
+
+/// Whether these are the arguments of a query after its settings: each of them is a word of the
+/// query, also one that begins with a dash and would be an option elsewhere (profile).
+fn is_query(name: &str, settings: &str, query: &[String]) -> bool
+    ensures { result ≡ (asks_query name.now settings.now && nat_lt 0 (length query.now)) }
+{
+    name == "query" && !settings.starts_with('-') && !query.is_empty()
+}
+
+/// The query of these words, with one blank between each two.
+fn read_query<'a, S: AsStr>(
+    alloc: Global,
+    settings: &'a str,
+    words: &[S],
+) -> Result<Command<'a>, ArgumentsFault<'a>>
+    ensures { GivesInvoked (query settings.now (joined (map S.text words.now))) result }
+{
+    let query = words.join(alloc, " ")?;
+    Ok(Command::Query { settings, query })
+}
+
+/// The command that the arguments ask for by the rules of command lines.
+fn read_arguments<'a>(
+    alloc: Global,
+    arguments: &'a [String],
+) -> Result<Command<'a>, ArgumentsFault<'a>>
+    ensures { GivesInvoked (parsed_or_helped (map string_bytes arguments.now)) result }
+{
+    match arguments {
+        [first, help, name] if is_help(help.as_str(), name.as_str()) => {
+            read_help(alloc, first.as_str(), name.as_str())
+        }
+        _ => parse(alloc, arguments),
+    }
+}
+
+/// Whether these ask for the help on a command.
+fn is_help(help: &str, name: &str) -> bool
+    ensures { result ≡ asks_help help.now name.now }
+{
+    help == "help" && name != "help"
+}
+
+/// The command that a parse of the arguments finds.
+fn parse<'a>(alloc: Global, arguments: &'a [String]) -> Result<Command<'a>, ArgumentsFault<'a>>
+    ensures { GivesInvoked (parsed (map string_bytes arguments.now)) result }
+{
+    match program(alloc)?.try_get_matches_from(arguments) {
+        Ok(matches) => match matches.subcommand() {
+            Some((name, found)) => read_found(alloc, name, found),
+            None => Err(ArgumentsFault::Unexplained),
+        },
+        Err(error) => read_refusal(alloc, arguments, &error),
+    }
+}
+
+/// The help on a command: what the command says with `--help`, which suggests another for one that
+/// is unknown.
+fn read_help<'a>(alloc: Global, first: &str, name: &str) -> Result<Command<'a>, ArgumentsFault<'a>>
+    ensures { GivesInvoked (helped first.now name.now) result }
+{
+    let words = words_of(alloc, &[first, name, "--help"])?;
+    match program(alloc)?.try_get_matches_from(words.as_slice()) {
+        Ok(_) => Err(ArgumentsFault::Unexplained),
+        Err(error) => read_refusal(alloc, words.as_slice(), &error),
+    }
+}
+
+fn words_of(alloc: Global, texts: &[&str]) -> Result<Vec<String>, AllocError>
+    ensures { IfOk result
+        (λ words. map string_bytes words.items ≡ map (λ text. text.now) texts.now) }
+{
+    let mut words = Vec::new(alloc);
+    for text in texts {
+        words.push(String::from_str(alloc, text)?)?;
+    }
+    Ok(words)
+}
+
+/// The command of this name, with what was found after it.
+fn read_found<'a>(
+    alloc: Global,
+    name: &'a str,
+    found: &ArgMatches<'a>,
+) -> Result<Command<'a>, ArgumentsFault<'a>>
+    ensures { (bytes_eq name.now (codes "dump") ≡ true
+        → IsFlag (one_of (codes "full") (rows_of (found_of found.now))))
+        → GivesInvoked (invoked_by name.now (rows_of (found_of found.now))) result }
+{
+    let settings = read_argument(found, "SETTINGS")?;
+    match name {
+        "init" => Ok(Command::Init { settings }),
+        "submit" => Ok(Command::Submit {
+            settings,
+            file: read_argument(found, "FILE")?,
+        }),
+        "query" => read_query(alloc, settings, found.get_strs("WORD").unwrap_or(&[])),
+        "dump" => Ok(Command::Dump {
+            settings,
+            full: found.get_flag("full"),
+        }),
+        "load" => Ok(Command::Load {
+            settings,
+            file: read_argument(found, "FILE")?,
+        }),
+        "migrate" => Ok(Command::Migrate { settings }),
+        "serve" => Ok(Command::Serve {
+            settings,
+            port: read_port(found)?,
+            count: read_count(found)?,
+        }),
+        "probe" => Ok(Command::Probe { settings }),
+        _ => Err(ArgumentsFault::Unexplained),
+    }
+}
+
+/// The argument of a command that has this place.
+fn read_argument<'a>(found: &ArgMatches<'a>, place: &str) -> Result<&'a str, ArgumentsFault<'a>>
+    ensures { (made : Text → Invocation) → MatchResult result
+        (λ text. given place.now made (rows_of (found_of found.now)) ≡ made text.now)
+        (λ fault. FailsToInvoke fault (given place.now made (rows_of (found_of found.now)))) }
+{
+    match found.get_str(place) {
+        Some(argument) => Ok(argument),
+        None => Err(ArgumentsFault::Unexplained),
+    }
+}
+
+/// The port that the arguments name.
+fn read_port<'a>(found: &ArgMatches<'a>) -> Result<u16, ArgumentsFault<'a>>
+    ensures { GivesPart (λ made. invoked_port made (rows_of (found_of found.now))) result }
+{
+    let argument = read_argument(found, "PORT")?;
+    match read_number(argument, GREATEST_PORT) {
+        Some(port) => Ok(port as u16),
+        None => Err(ArgumentsFault::Port(argument)),
+    }
+}
+
+/// The number of connections that the arguments name.
+fn read_count<'a>(found: &ArgMatches<'a>) -> Result<u64, ArgumentsFault<'a>>
+    ensures { GivesPart (λ made. invoked_count made (rows_of (found_of found.now))) result }
+{
+    let argument = read_argument(found, "N")?;
+    match read_number(argument, GREATEST_COUNT) {
+        Some(count) => Ok(count as u64),
+        None => Err(ArgumentsFault::Count(argument)),
+    }
+}
+
+/// What is to be done where the arguments are refused: the help and the version are refusals too.
+fn read_refusal<'a>(
+    alloc: Global,
+    arguments: &[String],
+    error: &clap::Error,
+) -> Result<Command<'a>, ArgumentsFault<'a>>
+    ensures { IsToldAs (kind_of error.now) result }
+{
+    let text = error.to_string(alloc)?;
+    match error.kind() {
+        ErrorKind::DisplayHelp | ErrorKind::DisplayVersion => Ok(Command::Print(text)),
+        ErrorKind::OutOfMemory => Err(ArgumentsFault::Memory),
+        _ => {
+            let mut line = one_line(alloc, text.as_str())?;
+            push_usage(alloc, arguments, &mut line)?;
+            Err(ArgumentsFault::Refused(line))
+        }
+    }
+}
+
+/// Adds the usage of the command that the arguments name to a refusal without one, as that of an
+/// option without its value is. A command that gets no further word is refused with its usage.
+fn push_usage(alloc: Global, arguments: &[String], line: &mut String) -> Result<(), AllocError> {
+    if line.contains(USAGE) {
+        return Ok(());
+    }
+    let Some(named) = arguments.get(..2) else {
+        return Ok(());
+    };
+    match program(alloc)?.try_get_matches_from(named) {
+        Ok(_) => Ok(()),
+        Err(error) => {
+            let text = error.to_string(alloc)?;
+            let refusal = one_line(alloc, text.as_str())?;
+            match refusal.split_once(USAGE) {
+                Some((_, usage)) => {
+                    line.push_str("; ")?;
+                    line.push_str(USAGE)?;
+                    line.push_str(usage)
+                }
+                None => Ok(()),
+            }
+        }
+    }
+}
+
+/// A refusal as one line: what is wrong, a suggestion if there is one, and the usage, with `;`
+/// between them. It is without the word `error` and without the last paragraph, which points to
+/// `--help`.
+fn one_line(alloc: Global, text: &str) -> Result<String, AllocError> {
+    let told = text.strip_prefix("error: ").unwrap_or(text);
+    let told = match told.split_once("\n\nFor more information") {
+        Some((told, _)) => told,
+        None => told,
+    };
+    let mut line = String::new(alloc);
+    let mut is_apart = false;
+    for part in told.lines() {
+        let part = part.trim();
+        // To pass an option as a value helps no command but one of a file whose name begins with a
+        // dash, and that can be written after `./`.
+        if part.is_empty() || part.starts_with("tip: to pass '") {
+            is_apart = true;
+        } else {
+            push_part(&mut line, part, is_apart)?;
+            is_apart = false;
+        }
+    }
+    Ok(line)
+}
+
+/// Adds a line of a refusal, which an empty line may part from those before it. The usage gets a
+/// small letter first.
+fn push_part(line: &mut String, part: &str, is_apart: bool) -> Result<(), AllocError> {
+    if !line.is_empty() {
+        line.push_str(if is_apart { "; " } else { " " })?;
+    }
+    match part.strip_prefix("Usage: ") {
+        Some(usage) => {
+            line.push_str(USAGE)?;
+            line.push_str(usage)
+        }
+        None => line.push_str(part),
+    }
+}

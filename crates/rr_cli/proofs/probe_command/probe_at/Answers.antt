@@ -1,0 +1,12 @@
+use Rattle.std.proofs.Common.{inr}
+use Rattle.rr_cli.proofs.probe_command.probe_at.Goals as goal
+
+pub returns : goal.returns
+returns g c = inr (record {
+  before = c.in_ok-desk.desk;
+  after = c.probe_desk-end.new.desk;
+  between = _;
+  opens = c.in_ok-desk.ensures.opens;
+  did = c.probe_desk-end.ensures;
+  closed = rw c.close-conn.ensures.same at c.close.ensures;
+})

@@ -1,0 +1,195 @@
+//! A run of the program, over its arguments and its three streams.
+
+ghost use Rattle.rr_http.specs.DeskRegistrars.{serves_desk};
+ghost use Rattle.std.specs.Prelude.{IfErr, map, string_bytes};
+ghost use Rattle.rr_arguments.specs.CommandLine.{invoked};
+ghost use Rattle.rr_cli.specs.Running.{CarriesOut};
+ghost use Rattle.rr_cli.specs.Runs.{DoesAsInvoked, EndsRun, EndsUnread, IsOfArguments, IsUnread};
+ghost use Rattle.rr_cli.specs.Runs.{Runs};
+
+use crate::network::Network;
+use crate::probe_command::probe;
+use crate::serve_command::serve;
+use rr_arguments::{ArgumentsFault, Command, read_command};
+use rr_commands::{
+    Databases, Files, Input, Output, ProgramFault, Trouble, dump, init, load, migrate, plain,
+    print, query, shown_name, submit,
+};
+use rr_io::Sink;
+use std::alloc::Global;
+use std::env::Args;
+use std::io;
+use std::io::{ErrorKind, IsTerminal, Write};
+
+/// What a terminal shows before objects are typed on it.
+const HINT: &[u8] =
+    b"irrdesk: objects are read from this terminal: `irrdesk help` lists the commands\n";
+
+/// Does what the arguments ask for, the first of which is the program's own name, and gives the
+/// status: 0 if it is done, 1 if an item was refused or an answer was an error, and at a fault,
+/// which has its line on `errors`, 2 at wrong arguments, 3 at wrong settings, 4 at trouble with the
+/// database or if the desk is stopped, and else 5, also if memory ran out (profile).
+pub fn run<D: Databases, F: Files, N: Network, R: Input, W: Output, E: Sink>(
+    rt: &HostRuntime,
+    databases: &mut D,
+    files: &F,
+    network: &N,
+    arguments: &[String],
+    input: &mut R,
+    output: &mut W,
+    errors: &mut E,
+) -> u8
+    ensures { Runs D.Disk.Store D.calls (F.calls files.now) (N.calls network.now) serves_desk
+        (map string_bytes arguments.now)
+        databases.old databases.new (R.told input.old) (R.told input.new)
+        (W.told output.old) (W.told output.new) (E.told errors.old) (E.told errors.new) result }
+{
+    let end = run_arguments(rt, databases, files, network, arguments, input, output);
+    ended_with(rt.alloc(), end, errors)
+}
+
+/// The status of how a run ended, and at a fault its line on `errors`.
+fn ended_with<'a, E: Sink>(alloc: Global, end: Result<u8, ProgramFault<'a>>, errors: &mut E) -> u8
+    ensures { EndsRun end.entry (E.told errors.old) (E.told errors.new) result }
+{
+    match end {
+        Ok(status) => status,
+        Err(fault) => fault.legible(alloc).tell(errors),
+    }
+}
+
+/// Tells on `errors` that the arguments could not be read, and gives the status of that.
+pub fn tell_unread<E: Sink>(trouble: Trouble, errors: &mut E) -> u8
+    ensures { EndsUnread trouble (E.told errors.old) (E.told errors.new) result }
+{
+    ProgramFault::unnamed(trouble).tell(errors)
+}
+
+/// The arguments as a list.
+pub fn collect(rt: &HostRuntime, arguments: io::Result<Args>) -> Result<Vec<String>, Trouble>
+    ensures { IfErr result IsUnread }
+{
+    match arguments {
+        Ok(arguments) => match arguments.collect(rt.alloc()) {
+            Ok(arguments) => Ok(arguments),
+            Err(_) => Err(Trouble::Memory),
+        },
+        Err(error) => match error.kind() {
+            ErrorKind::OutOfMemory => Err(Trouble::Memory),
+            _ => Err(Trouble::ArgumentsNotText),
+        },
+    }
+}
+
+/// The fault of these arguments, which ask for nothing.
+fn fault_of<'a>(alloc: Global, arguments: &[String], fault: ArgumentsFault<'a>) -> ProgramFault<'a>
+    ensures { IsOfArguments fault.entry result }
+{
+    match fault {
+        ArgumentsFault::Refused(line) => {
+            // Without memory the arguments stay in it as they were given.
+            let told = shown_refusal(alloc, arguments).unwrap_or(line);
+            ProgramFault::named(told, Trouble::BadArguments)
+        }
+        ArgumentsFault::Unexplained => ProgramFault::unnamed(Trouble::BadArguments),
+        ArgumentsFault::Port(word) => ProgramFault::of(word, Trouble::BadPort),
+        ArgumentsFault::Count(word) => ProgramFault::of(word, Trouble::BadCount),
+        ArgumentsFault::Memory => ProgramFault::unnamed(Trouble::Memory),
+    }
+}
+
+/// Why arguments are refused, in which they stand as a line shows them.
+fn shown_refusal(alloc: Global, arguments: &[String]) -> Option<String> {
+    let shown = shown_arguments(alloc, arguments)?;
+    refusal_of(alloc, shown.as_slice())
+}
+
+/// These arguments as a line shows them, if there is memory.
+fn shown_arguments(alloc: Global, arguments: &[String]) -> Option<Vec<String>> {
+    let mut shown = Vec::new(alloc);
+    for argument in arguments {
+        shown.push(shown_name(alloc, argument.as_str()).ok()?).ok()?;
+    }
+    Some(shown)
+}
+
+/// The line that says why these arguments are refused, if one does.
+fn refusal_of(alloc: Global, arguments: &[String]) -> Option<String> {
+    match read_command(alloc, arguments) {
+        Ok(_command) => None,
+        Err(fault) => match fault {
+            ArgumentsFault::Refused(line) => Some(line),
+            ArgumentsFault::Unexplained
+            | ArgumentsFault::Port(_)
+            | ArgumentsFault::Count(_)
+            | ArgumentsFault::Memory => None,
+        },
+    }
+}
+
+/// Does what the arguments ask for.
+fn run_arguments<'a, D: Databases, F: Files, N: Network, R: Input, W: Output>(
+    rt: &HostRuntime,
+    databases: &mut D,
+    files: &F,
+    network: &N,
+    arguments: &'a [String],
+    input: &mut R,
+    output: &mut W,
+) -> Result<u8, ProgramFault<'a>>
+    ensures { DoesAsInvoked D.Disk.Store D.calls (F.calls files.now) (N.calls network.now)
+        serves_desk (invoked (map string_bytes arguments.now))
+        databases.old databases.new (R.told input.old) (R.told input.new)
+        (W.told output.old) (W.told output.new) result }
+{
+    match read_command(rt.alloc(), arguments) {
+        Ok(command) => carry_out(rt, databases, files, network, command, input, output),
+        Err(fault) => Err(fault_of(rt.alloc(), arguments, fault)),
+    }
+}
+
+/// Carries out a command.
+fn carry_out<'a, D: Databases, F: Files, N: Network, R: Input, W: Output>(
+    rt: &HostRuntime,
+    databases: &mut D,
+    files: &F,
+    network: &N,
+    command: Command<'a>,
+    input: &mut R,
+    output: &mut W,
+) -> Result<u8, ProgramFault<'a>>
+    ensures { CarriesOut D.Disk.Store D.calls (F.calls files.now) (N.calls network.now)
+        serves_desk command.entry databases.old databases.new
+        (R.told input.old) (R.told input.new) (W.told output.old) (W.told output.new) result }
+{
+    match command {
+        Command::Plain => {
+            hint(rt);
+            plain(rt.alloc(), input, output)
+        }
+        Command::Init { settings } => init(rt, databases, files, settings, output),
+        Command::Submit { settings, file } => submit(rt, databases, files, settings, file, output),
+        Command::Query {
+            settings,
+            query: words,
+        } => query(rt, databases, files, settings, words.as_str(), output),
+        Command::Dump { settings, full } => dump(rt, databases, files, settings, full, output),
+        Command::Load { settings, file } => load(rt, databases, files, settings, file, output),
+        Command::Migrate { settings } => migrate(rt, databases, files, settings, output),
+        Command::Serve {
+            settings,
+            port,
+            count,
+        } => serve(rt, databases, files, network, settings, port, count, output),
+        Command::Probe { settings } => probe(rt, databases, files, network, settings, output),
+        Command::Print(text) => print(output, text.as_bytes()),
+    }
+}
+
+/// Says on a terminal that objects are read from it.
+fn hint(rt: &HostRuntime) {
+    if rt.stdin().is_terminal() && rt.stderr().is_terminal() {
+        // Without the hint the program does the same.
+        let _ = rt.stderr().write_all(HINT);
+    }
+}

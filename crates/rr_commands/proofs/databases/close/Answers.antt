@@ -1,5 +1,0 @@
-use Rattle.std.proofs.Common.{refl}
-use Rattle.rr_commands.proofs.databases.close.Goals as goal
-
-pub returns : goal.returns
-returns g c = c.close.ensures _ refl

@@ -1,0 +1,20 @@
+use Rattle.std.proofs.Common.{inl, inr, refl}
+use Rattle.rr_commands.proofs.load_command.load_to.Goals as goal
+
+pub returns-in-Ok-clause-loads : goal.returns-in-Ok-clause-loads
+returns-in-Ok-clause-loads g c = inr (record {
+  desk = c.in-Ok.desk;
+  runs = c.in-Ok.ensures.runs;
+  loaded = c.in-Ok.ensures.loaded;
+  makes = c.in-Ok.ensures.makes;
+  given_back = c.close.ensures.same;
+  tells = rw (← c.registry.ensures) c.tell_loaded-told.ensures.tells;
+})
+
+pub returns-in-Err-clause-loads : goal.returns-in-Err-clause-loads
+returns-in-Err-clause-loads g c = inl (record {
+  fault = c.in-Err.fault;
+  told = refl;
+  fails = c.in-Err.ensures.fails;
+  silent = refl;
+})

@@ -1,0 +1,252 @@
+//! Why the program fails, and the line on standard error that says so.
+
+ghost use Rattle.std.specs.Prelude.{◌≡◌, ◌++◌, [], IfSome, codes, map, string_bytes};
+ghost use Rattle.rr_io.specs.Sending.{TakesSome, Writes};
+ghost use Rattle.rr_commands.specs.Faults.{IsLegible, byte_on_line, fault_line, name_on_line};
+ghost use Rattle.rr_commands.specs.Faults.{number_text, place_on_line, trouble_text};
+ghost use Rattle.rr_commands.specs.Troubles.{place_of, trouble_status};
+ghost use Rattle.rr_commands.specs.declared.command_fault.About.TheVariants as abouts;
+ghost use Rattle.rr_commands.specs.declared.trouble.Place.TheVariants as place;
+
+use crate::cause::Cause;
+use crate::output::STANDARD_OUTPUT;
+use crate::shown::shown_name;
+use crate::trouble::{Place, Trouble};
+use crate::words::{after_number, before_cause, before_number};
+use itoa::Buffer;
+use rr_io::{Sink, write_all, write_pieces};
+use std::alloc::Global;
+use std::io;
+
+/// What a fault is about.
+#[derive(Drop)]
+pub enum About<'a> {
+    /// Nothing that has a name.
+    Nothing,
+    /// A word, or a file that a word names, as it was given.
+    Word(&'a str),
+    /// A word, a database and what was found in it, a place in a file, an address, or why arguments
+    /// are refused, as a line shows it.
+    Named(String),
+}
+
+/// Why the program fails: what it is about, what went wrong with it, and why reading or printing
+/// failed, if it is that.
+#[derive(Drop)]
+pub struct ProgramFault<'a> {
+    about: About<'a>,
+    trouble: Trouble,
+    stream: Cause,
+}
+
+impl<'a> ProgramFault<'a> {
+    /// A fault that is about nothing that has a name.
+    pub fn unnamed(trouble: Trouble) -> ProgramFault<'a>
+        ensures about { result.about ≡ abouts.Nothing }
+        ensures trouble { result.trouble ≡ trouble }
+    {
+        ProgramFault {
+            about: About::Nothing,
+            trouble,
+            stream: Cause::Unnumbered,
+        }
+    }
+
+    /// A fault that is about a word, or about a file that it names.
+    pub fn of(word: &'a str, trouble: Trouble) -> ProgramFault<'a>
+        ensures about { result.about ≡ abouts.Word word.entry }
+        ensures trouble { result.trouble ≡ trouble }
+    {
+        ProgramFault {
+            about: About::Word(word),
+            trouble,
+            stream: Cause::Unnumbered,
+        }
+    }
+
+    /// A fault of a file that a word names, which gave no more for this cause.
+    pub fn of_file(word: &'a str, trouble: Trouble, stream: Cause) -> ProgramFault<'a>
+        ensures about { result.about ≡ abouts.Word word.entry }
+        ensures trouble { result.trouble ≡ trouble }
+        ensures stream { result.stream ≡ stream }
+    {
+        ProgramFault {
+            about: About::Word(word),
+            trouble,
+            stream,
+        }
+    }
+
+    /// A fault that is about what has this name.
+    pub fn named(name: String, trouble: Trouble) -> ProgramFault<'a>
+        ensures about { result.about ≡ abouts.Named name }
+        ensures trouble { result.trouble ≡ trouble }
+    {
+        ProgramFault {
+            about: About::Named(name),
+            trouble,
+            stream: Cause::Unnumbered,
+        }
+    }
+
+    /// A fault of standard output, which took no more for this cause.
+    pub fn of_output(trouble: Trouble, stream: Cause) -> ProgramFault<'a>
+        ensures about { name_on_line result.about ≡ place_on_line place.Output [] [] }
+        ensures trouble { result.trouble ≡ trouble }
+        ensures stream { result.stream ≡ stream }
+    {
+        ProgramFault {
+            about: About::Word(STANDARD_OUTPUT),
+            trouble,
+            stream,
+        }
+    }
+
+    /// The fault of a command that reads this file and uses this database, by what its trouble is
+    /// about: `stream` is why reading or printing failed.
+    pub fn placed(
+        trouble: Trouble,
+        file: &'a str,
+        database: String,
+        stream: Cause,
+    ) -> ProgramFault<'a>
+        ensures trouble { result.trouble ≡ trouble }
+        ensures about { name_on_line result.about
+            ≡ place_on_line (place_of trouble) file.now (string_bytes database) }
+    {
+        match trouble.end().place {
+            Place::Nothing => ProgramFault::unnamed(trouble),
+            Place::Database => ProgramFault::named(database, trouble),
+            Place::File => ProgramFault::of_file(file, trouble, stream),
+            Place::Output => ProgramFault::of_output(trouble, stream),
+        }
+    }
+
+    /// The same fault, about the same as a line shows it. Without memory a word stays as it was
+    /// given, and its control characters alone are not written.
+    pub fn legible(self, alloc: Global) -> ProgramFault<'a>
+        ensures about { IsLegible self.entry.about result.about }
+        ensures trouble { result.trouble ≡ self.entry.trouble }
+        ensures stream { result.stream ≡ self.entry.stream }
+    {
+        match self.shown_word(alloc) {
+            Some(name) => ProgramFault {
+                about: About::Named(name),
+                trouble: self.trouble,
+                stream: self.stream,
+            },
+            None => self,
+        }
+    }
+
+    /// The word that it is about, as a line shows it, if it is about one and there is memory.
+    fn shown_word(&self, alloc: Global) -> Option<String>
+        ensures { IfSome result (λ name. IsLegible self.now.about (abouts.Named name)) }
+    {
+        match &self.about {
+            About::Word(word) => shown_name(alloc, *word).ok(),
+            About::Nothing | About::Named(_) => None,
+        }
+    }
+
+    /// Says the fault in one line on standard error, and gives the program's status, which a failed
+    /// write does not change.
+    pub fn tell<E: Sink>(self, errors: &mut E) -> u8
+        ensures says { TakesSome (E.told errors.old) (E.told errors.new)
+            (fault_line self.entry.about self.entry.trouble self.entry.stream) }
+        ensures status { result ≡ trouble_status self.entry.trouble }
+        ensures aside { E.aside errors.new ≡ E.aside errors.old }
+    {
+        // A failed write cannot be said anywhere else, and the status says that there is a fault.
+        let _ = self.write_line(errors);
+        self.trouble.end().status
+    }
+
+    /// Writes the line.
+    #[tactic(auto, unfolding(crate::specs::Faults::fault_line))]
+    fn write_line<E: Sink>(&self, errors: &mut E) -> io::Result<()>
+        ensures writes { Writes (E.told errors.old) (E.told errors.new)
+            (fault_line self.now.about self.now.trouble self.now.stream) result }
+        ensures aside { E.aside errors.new ≡ E.aside errors.old }
+    {
+        write_all(errors, b"irrdesk: ")?;
+        write_about(errors, &self.about)?;
+        write_trouble(errors, self.trouble, self.stream)
+    }
+}
+
+/// Writes the name of what a fault is about, and a colon.
+fn write_about<E: Sink>(errors: &mut E, about: &About<'_>) -> io::Result<()>
+    ensures writes { Writes (E.told errors.old) (E.told errors.new)
+        (name_on_line about.now) result }
+    ensures aside { E.aside errors.new ≡ E.aside errors.old }
+{
+    match about {
+        About::Nothing => Ok(()),
+        About::Word(word) => write_name(errors, word.as_bytes()),
+        About::Named(name) => write_name(errors, name.as_bytes()),
+    }
+}
+
+/// Writes a name, and a colon.
+fn write_name<E: Sink>(errors: &mut E, name: &[u8]) -> io::Result<()>
+    ensures writes { Writes (E.told errors.old) (E.told errors.new)
+        (map byte_on_line name.now ++ codes ": ") result }
+    ensures aside { E.aside errors.new ≡ E.aside errors.old }
+{
+    write_on_line(errors, name)?;
+    write_all(errors, b": ")
+}
+
+/// Writes a text, with `?` for each control character, so that it stays on its line.
+fn write_on_line<E: Sink>(errors: &mut E, text: &[u8]) -> io::Result<()>
+    ensures writes { Writes (E.told errors.old) (E.told errors.new)
+        (map byte_on_line text.now) result }
+    ensures aside { E.aside errors.new ≡ E.aside errors.old }
+{
+    'bytes: for byte in text {
+        write_all(errors, &[byte_on_line(*byte)])?;
+    }
+    Ok(())
+}
+
+/// The byte as it is written on the line: `?` for a control character.
+fn byte_on_line(byte: u8) -> u8
+    ensures { result ≡ byte_on_line byte }
+{
+    if byte.is_ascii_control() { b'?' } else { byte }
+}
+
+/// Writes what went wrong, to the end of the line.
+#[tactic(auto, unfolding(crate::specs::Faults::trouble_text))]
+fn write_trouble<E: Sink>(errors: &mut E, trouble: Trouble, stream: Cause) -> io::Result<()>
+    ensures writes { Writes (E.told errors.old) (E.told errors.new)
+        (trouble_text trouble stream) result }
+    ensures aside { E.aside errors.new ≡ E.aside errors.old }
+{
+    let cause = trouble.cause(stream);
+    let mut code_digits = Buffer::new();
+    let mut digits = Buffer::new();
+    write_pieces(
+        errors,
+        &[
+            before_cause(trouble).as_bytes(),
+            trouble.cause_words(cause).as_bytes(),
+            number_text(&mut code_digits, cause.and_then(Cause::number)),
+            before_number(trouble).as_bytes(),
+            number_text(&mut digits, trouble.number()),
+            after_number(trouble).as_bytes(),
+            b"\n",
+        ],
+    )
+}
+
+/// A number in decimal digits, or nothing.
+fn number_text(digits: &mut Buffer, number: Option<u64>) -> &[u8]
+    ensures { result.now ≡ number_text number }
+{
+    match number {
+        Some(number) => digits.format(number).as_bytes(),
+        None => b"",
+    }
+}

@@ -1,0 +1,176 @@
+//! Loads of dumps, into a new database.
+
+ghost use Rattle.std.specs.Prelude.{◌≡◌, [], IfErr, IfOk, false, length, string_bytes};
+ghost use Rattle.std.specs.FinMap.{values};
+ghost use Rattle.rr_commands.specs.Commands.{EndsAs, InDatabase};
+ghost use Rattle.rr_commands.specs.Faults.{IsAboutDump};
+ghost use Rattle.rr_commands.specs.Loaded.{Loads, LoadsBy, LoadsIn, TellsLoaded, loaded_line};
+ghost use Rattle.rr_commands.specs.Printed.{Tells};
+
+use crate::command_fault::ProgramFault;
+use crate::files::{Files, open_file};
+use crate::output::{Output, cause_of, ended, tell};
+use crate::places::about_paragraph;
+use crate::progress::{Reading, Shown};
+use crate::registry_databases::{Absent, Databases, close};
+use crate::settings_reading::read_settings_file;
+use crate::trouble::Trouble;
+use itoa::Buffer;
+use rr_desk::{Desk, Settings};
+use rr_index::IndexedBook;
+use rr_io::{Counted, Sink, Source, write_pieces};
+use rr_registry::Registry;
+use sqlite::{Alter, Connection};
+use std::alloc::{AllocError, Global};
+
+/// Makes the registry of a dump in the database that the settings name, which is to be new or
+/// without rows, and says how many objects it has.
+pub fn load<'a, D: Databases, F: Files, W: Output>(
+    rt: &HostRuntime,
+    databases: &mut D,
+    files: &F,
+    settings: &'a str,
+    file: &'a str,
+    output: &mut W,
+) -> Result<u8, ProgramFault<'a>>
+    ensures { LoadsBy D.Disk.Store D.calls (F.calls files.now) settings.now file.now
+        databases.old databases.new (W.told output.old) (W.told output.new) result }
+{
+    let (read, path) = read_settings_file(rt.alloc(), files, settings)?;
+    let end = load_at(rt, databases, files, read, path.as_str(), file, output);
+    ended_in_dump(rt, end, file, path, output)
+}
+
+/// How a load ended; trouble with a paragraph of the dump is about its line and its key.
+fn ended_in_dump<'a, W: Output>(
+    rt: &HostRuntime,
+    end: Result<u8, Trouble>,
+    file: &'a str,
+    path: String,
+    output: &W,
+) -> Result<u8, ProgramFault<'a>>
+    ensures ends { EndsAs end result }
+    ensures about { IfErr result (IsAboutDump file.now (string_bytes path) []) }
+{
+    match end {
+        Ok(status) => Ok(status),
+        Err(trouble) => match trouble.paragraph() {
+            Some(number) => Err(about_paragraph(rt, file, number, trouble)),
+            None => ended(rt.alloc(), end, file, path, "", output),
+        },
+    }
+}
+
+/// Makes the registry of a dump in the database at a path, and says how many objects it has.
+fn load_at<D: Databases, F: Files, W: Output>(
+    rt: &HostRuntime,
+    databases: &mut D,
+    files: &F,
+    settings: Settings,
+    path: &str,
+    file: &str,
+    output: &mut W,
+) -> Result<u8, Trouble>
+    ensures { InDatabase D.calls Absent.Made
+        (LoadsIn D.Disk.Store settings (F.calls files.now) file.now
+        (W.told output.old) (W.told output.new))
+        databases.old databases.new (W.told output.old) (W.told output.new) path.now result }
+{
+    match databases.open(path, Absent::Made) {
+        Ok(conn) => {
+            let (conn, end) = load_file(rt, conn, files, settings, file, output);
+            close(databases, conn);
+            end
+        }
+        Err(cause) => Err(Trouble::Database(cause)),
+    }
+}
+
+/// Loads the file of a dump into a database, and shows on a terminal how many bytes were read. The
+/// connection is given back.
+fn load_file<S: Alter, F: Files, W: Output>(
+    rt: &HostRuntime,
+    conn: Connection<S>,
+    files: &F,
+    settings: Settings,
+    file: &str,
+    output: &mut W,
+) -> (Connection<S>, Result<u8, Trouble>)
+    requires { conn.in_transaction ≡ false }
+    ensures { LoadsIn S.Store settings (F.calls files.now) file.now
+        (W.told output.old) (W.told output.new) conn result.0 result.1 }
+{
+    let file = match open_file(files, file) {
+        Ok(file) => file,
+        Err(trouble) => return (conn, Err(trouble)),
+    };
+    let mut reading = Reading::new(rt, Counted::new(file));
+    output.show(Shown::Others);
+    let (conn, end) = load_to(rt.alloc(), conn, settings, &mut reading, output);
+    reading.end();
+    let cause = cause_of(end, &reading, output);
+    output.keep(cause);
+    (conn, end)
+}
+
+/// Makes the registry of the dump that a reader gives in a database, and writes how many objects it
+/// has. The connection is given back.
+pub fn load_to<S: Alter, R: Source, W: Sink>(
+    alloc: Global,
+    conn: Connection<S>,
+    settings: Settings,
+    reader: &mut R,
+    writer: &mut W,
+) -> (Connection<S>, Result<u8, Trouble>)
+    requires { conn.in_transaction ≡ false }
+    ensures loads { Loads S.Store settings (R.told reader.old) (R.told reader.new)
+        (W.told writer.old) (W.told writer.new) conn result.0 result.1 }
+    ensures autocommit { result.0.in_transaction ≡ false }
+    ensures reader_aside { R.aside reader.new ≡ R.aside reader.old }
+    ensures writer_aside { W.aside writer.new ≡ W.aside writer.old }
+{
+    match Desk::load(alloc, conn, settings, reader) {
+        Ok(desk) => {
+            let told = tell_loaded(alloc, desk.registry(), writer);
+            (desk.close(), told)
+        }
+        Err((fault, conn)) => (conn, Err(Trouble::Loading(fault))),
+    }
+}
+
+/// Writes how many objects were loaded; if memory runs out as they are counted, that they were.
+fn tell_loaded<W: Sink>(
+    alloc: Global,
+    registry: &Registry<IndexedBook>,
+    writer: &mut W,
+) -> Result<u8, Trouble>
+    ensures tells { TellsLoaded (length (values registry.now))
+        (W.told writer.old) (W.told writer.new) result }
+    ensures aside { W.aside writer.new ≡ W.aside writer.old }
+{
+    match object_count(alloc, registry) {
+        Ok(count) => tell_count(writer, count),
+        Err(_) => tell(writer, b"loaded the dump\n"),
+    }
+}
+
+/// How many objects a registry has; the error is that memory ran out.
+fn object_count(alloc: Global, registry: &Registry<IndexedBook>) -> Result<u64, AllocError>
+    ensures { IfOk result (λ count. count ≡ length (values registry.now)) }
+{
+    let objects = registry.objects(alloc)?;
+    Ok(objects.as_slice().len() as u64)
+}
+
+/// Writes that so many objects were loaded.
+fn tell_count<W: Sink>(writer: &mut W, count: u64) -> Result<u8, Trouble>
+    ensures tells { Tells (loaded_line count) (W.told writer.old) (W.told writer.new) result }
+    ensures aside { W.aside writer.new ≡ W.aside writer.old }
+{
+    let mut buffer = Buffer::new();
+    let number = buffer.format(count).as_bytes();
+    match write_pieces(writer, &[b"loaded ", number, b" objects\n"]) {
+        Ok(()) => Ok(0),
+        Err(_) => Err(Trouble::Unwritten),
+    }
+}

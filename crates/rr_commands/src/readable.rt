@@ -1,0 +1,42 @@
+//! Counted readers, for calls of std that read to an end.
+
+ghost use Rattle.std.specs.Prelude.{◌≡◌};
+ghost use Rattle.rr_io.specs.Counted.{counted_inner};
+
+use rr_io::{Counted, Source};
+use std::io;
+use std::io::Read;
+
+/// A reader of std whose failed reads are counted, as a reader of std.
+#[derive(Drop)]
+pub struct Readable<R> {
+    counted: Counted<R>,
+}
+
+impl<R: Read> Readable<R> {
+    /// The reader, of which no read failed so far.
+    pub fn new(reader: R) -> Readable<R>
+        ensures { counted_inner result.counted ≡ reader }
+    {
+        Readable {
+            counted: Counted::new(reader),
+        }
+    }
+
+    /// The reader, with the count.
+    pub fn into_counted(self) -> Counted<R>
+        ensures { result ≡ self.counted }
+    {
+        self.counted
+    }
+}
+
+impl<R: Read> Read for Readable<R> {
+    ghost use Rattle.rr_io.specs.Counted.{counted_inner};
+
+    ghost remaining = { λ r. R.remaining (counted_inner r.counted) };
+
+    fn read(&mut self, buf: &mut [u8]) -> io::Result<usize> {
+        self.counted.read(buf)
+    }
+}

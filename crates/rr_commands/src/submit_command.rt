@@ -1,0 +1,225 @@
+//! Submissions, of standard input to a registry in memory, or of a file to one in a database.
+
+ghost use Rattle.std.specs.Prelude.{◌≡◌, IfErr, IfOk, false};
+ghost use Rattle.sqlite.specs.Steps.{over_memory};
+ghost use Rattle.rr_desk.specs.Opening.{IsOpeningRegistry};
+ghost use Rattle.rr_desk.specs.Settings.{built_in};
+ghost use Rattle.rr_commands.specs.Commands.{AtDesk};
+ghost use Rattle.rr_commands.specs.Submitted.{EndsPlain, HasSubmitted, RunsPlain, SubmitsBy};
+ghost use Rattle.rr_commands.specs.Submitted.{SubmitsDesk};
+ghost use Rattle.rr_commands.specs.Submitted.{done_status, plain_end, plain_trouble};
+
+use crate::cause::DatabaseCause;
+use crate::command_fault::ProgramFault;
+use crate::files::{Files, open_file};
+use crate::output::{Input, Output, cause_of, ended};
+use crate::progress::{Reading, Shown};
+use crate::registry_databases::{Databases, close, open_desk};
+use crate::settings_reading::read_settings_file;
+use crate::trouble::Trouble;
+use rr_desk::{Desk, DeskFault, Done, Settings};
+use rr_io::{Counted, Sink, Source};
+use sqlite::{Alter, Connection};
+use std::alloc::Global;
+
+/// The status if an item was refused.
+const REFUSED: u8 = 1;
+
+/// Submits `input` to a registry in memory, which opens with the built-in settings, and prints the
+/// report: the status is 0, or 1 if an item was refused.
+pub fn plain<'a, R: Input, W: Output>(
+    alloc: Global,
+    input: &mut R,
+    output: &mut W,
+) -> Result<u8, ProgramFault<'a>>
+    ensures { EndsPlain over_memory (R.told input.old) (R.told input.new)
+        (W.told output.old) (W.told output.new) result }
+{
+    let end = submit_plain(alloc, input, output);
+    let cause = cause_of(end, input, output);
+    output.keep(cause);
+    ended(
+        alloc,
+        plain_end(end),
+        "standard input",
+        String::new(alloc),
+        "",
+        output,
+    )
+}
+
+/// How a run without arguments ends.
+fn plain_end(end: Result<u8, Trouble>) -> Result<u8, Trouble>
+    ensures { result ≡ plain_end end }
+{
+    match end {
+        Ok(status) => Ok(status),
+        Err(trouble) => Err(plain_trouble(trouble)),
+    }
+}
+
+/// What went wrong without arguments: a database in memory fails only because memory ran out.
+fn plain_trouble(trouble: Trouble) -> Trouble
+    ensures { result ≡ plain_trouble trouble }
+{
+    match trouble {
+        Trouble::Creating(_)
+        | Trouble::Submission(DeskFault::StoreFault { .. } | DeskFault::Stopped, _) => {
+            Trouble::Memory
+        }
+        _ => trouble,
+    }
+}
+
+/// Submits a file to the registry that the settings name, and prints the report: the status is 0,
+/// or 1 if an item was refused.
+pub fn submit<'a, D: Databases, F: Files, W: Output>(
+    rt: &HostRuntime,
+    databases: &mut D,
+    files: &F,
+    settings: &'a str,
+    file: &'a str,
+    output: &mut W,
+) -> Result<u8, ProgramFault<'a>>
+    ensures { SubmitsBy D.Disk.Store D.calls (F.calls files.now) settings.now file.now
+        databases.old databases.new (W.told output.old) (W.told output.new) result }
+{
+    let (read, path) = read_settings_file(rt.alloc(), files, settings)?;
+    let mut found = String::new(rt.alloc());
+    let end = submit_at(
+        rt,
+        databases,
+        files,
+        read,
+        path.as_str(),
+        &mut found,
+        file,
+        output,
+    );
+    ended(rt.alloc(), end, file, path, found.as_str(), output)
+}
+
+/// Submits a file to the registry in the database at a path, and prints the report.
+fn submit_at<D: Databases, F: Files, W: Output>(
+    rt: &HostRuntime,
+    databases: &mut D,
+    files: &F,
+    settings: Settings,
+    path: &str,
+    found: &mut String,
+    file: &str,
+    output: &mut W,
+) -> Result<u8, Trouble>
+    ensures { AtDesk D.Disk.Store D.calls
+        (SubmitsDesk D.Disk.Store (F.calls files.now) file.now
+        (W.told output.old) (W.told output.new))
+        databases.old databases.new (W.told output.old) (W.told output.new)
+        settings path.now result }
+{
+    let mut desk = open_desk(rt, databases, settings, path, found)?;
+    let end = submit_file(rt, &mut desk, files, file, output);
+    let conn = desk.close();
+    close(databases, conn);
+    end
+}
+
+/// Submits a file to a desk, and prints the report.
+fn submit_file<S: Alter, F: Files, W: Output>(
+    rt: &HostRuntime,
+    desk: &mut Desk<S>,
+    files: &F,
+    file: &str,
+    output: &mut W,
+) -> Result<u8, Trouble>
+    requires { desk.old.stored.stopped ≡ false }
+    ensures { SubmitsDesk S.Store (F.calls files.now) file.now
+        (W.told output.old) (W.told output.new) desk.old desk.new result }
+{
+    let mut reader = Reading::silent(rt, Counted::new(open_file(files, file)?));
+    output.show(Shown::Items);
+    let end = submit_to(rt.alloc(), desk, &mut reader, output);
+    output.show(Shown::Nothing);
+    let cause = cause_of(end, &reader, output);
+    output.keep(cause);
+    end
+}
+
+/// Submits `input` to a new desk over a database in memory, and prints the report: the status is 0,
+/// or 1 if an item was refused; the fault is why there is no desk, or how the submission was cut
+/// short.
+pub fn submit_plain<R: Source, W: Sink>(
+    alloc: Global,
+    input: &mut R,
+    output: &mut W,
+) -> Result<u8, Trouble>
+    ensures { RunsPlain over_memory (R.told input.old) (R.told input.new)
+        (W.told output.old) (W.told output.new) result }
+{
+    match Connection::open_in_memory(alloc) {
+        Ok(conn) => submit_new(alloc, conn, input, output),
+        Err(_) => Err(Trouble::Memory),
+    }
+}
+
+/// Submits `input` to a new desk over a database with nothing in it, which is let go then.
+fn submit_new<S: Alter + Drop, R: Source, W: Sink>(
+    alloc: Global,
+    conn: Connection<S>,
+    input: &mut R,
+    output: &mut W,
+) -> Result<u8, Trouble>
+    requires { conn.in_transaction ≡ false }
+    ensures { RunsPlain S.Store (R.told input.old) (R.told input.new)
+        (W.told output.old) (W.told output.new) result }
+{
+    let mut desk = plain_desk(alloc, conn)?;
+    submit_to(alloc, &mut desk, input, output)
+}
+
+/// A new desk with the built-in settings over a database with nothing in it. An error stands for
+/// lack of memory, as `plain_trouble` tells it.
+fn plain_desk<S: Alter + Drop>(alloc: Global, conn: Connection<S>) -> Result<Desk<S>, Trouble>
+    requires { conn.in_transaction ≡ false }
+    ensures running { IfOk result (λ desk. desk.stored.stopped ≡ false) }
+    ensures settings { IfOk result (λ desk. desk.settings ≡ built_in) }
+    ensures opened { IfOk result (λ desk. IsOpeningRegistry built_in desk.stored.registry) }
+    ensures fails { IfErr result (λ trouble. plain_trouble trouble ≡ Trouble.Memory) }
+{
+    let Ok(settings) = Settings::built_in(alloc) else {
+        return Err(Trouble::Memory);
+    };
+    match Desk::create(alloc, conn, settings) {
+        Ok(desk) => Ok(desk),
+        Err((fault, _conn)) => Err(Trouble::Creating(fault)),
+    }
+}
+
+/// Submits what the reader gives to a desk that runs, and writes the report: the status is 0, or 1
+/// if an item was refused; the fault is how the submission was cut short.
+pub fn submit_to<S: Alter, R: Source, W: Sink>(
+    alloc: Global,
+    desk: &mut Desk<S>,
+    reader: &mut R,
+    writer: &mut W,
+) -> Result<u8, Trouble>
+    requires { desk.old.stored.stopped ≡ false }
+    ensures submits { HasSubmitted S.Store desk.old desk.new
+        (R.told reader.old) (R.told reader.new) (W.told writer.old) (W.told writer.new) result }
+    ensures reader_aside { R.aside reader.new ≡ R.aside reader.old }
+    ensures writer_aside { W.aside writer.new ≡ W.aside writer.old }
+{
+    match desk.submit(alloc, reader, writer) {
+        Ok(done) => Ok(done_status(done)),
+        Err(fault) => {
+            let cause = DatabaseCause::of_stop(desk.cause());
+            Err(Trouble::Submission(fault, cause))
+        }
+    }
+}
+
+/// 0 if no item was refused, and else 1.
+fn done_status(done: Done) -> u8
+    ensures { result ≡ done_status done }
+{
+    if done.refused == 0 { 0 } else { REFUSED }
+}

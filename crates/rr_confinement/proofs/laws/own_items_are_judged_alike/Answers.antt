@@ -1,5 +1,0 @@
-use Rattle.rr_confinement.proofs.Own.{own_items_are_alike}
-use Rattle.rr_confinement.proofs.laws.own_items_are_judged_alike.Goals as goal
-
-pub returns : goal.returns
-returns c = own_items_are_alike

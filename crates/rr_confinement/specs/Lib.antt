@@ -1,3 +1,0 @@
-pub mod Example
-pub mod Holdings
-pub mod Laws

@@ -1,0 +1,121 @@
+//! What a desk answers to queries.
+
+ghost use Rattle.std.specs.Prelude.{◌≡◌, ◌≢◌, Err, IfErr, IfOk, Ok, false};
+ghost use Rattle.rr_io.specs.Sending.{Writes};
+ghost use Rattle.rr_answer.specs.declared.query_fault.QueryFault.TheVariants.{Memory};
+ghost use Rattle.rr_answer.specs.Answers.{IsAnswerTo, answer_bytes};
+ghost use Rattle.rr_answer.specs.Founds.{found_text};
+ghost use Rattle.rr_desk.specs.Answering.{made_answer, told_number};
+ghost use Rattle.rr_desk.specs.Desks.{GivesAnswer, WritesAnswer, desk_state};
+ghost use Rattle.rr_desk.specs.Histories.{AsksEvent};
+ghost use Rattle.rr_desk.specs.Rows.{KeepsRows};
+ghost use Rattle.rr_desk.specs.Stocks.{StoresUntilStopped};
+
+use crate::desk::Desk;
+use rr_answer::{Found, QueryFault, find_for, is_too_long};
+use rr_io::{Sink, write_all};
+use sqlite::Alter;
+use std::alloc::Global;
+use thiserror::Error;
+
+/// What was answered to a query.
+#[derive(Clone, Copy, Debug, PartialEq, Eq)]
+pub struct Answered {
+    /// The number of the error that was written, or 0 where the answer is no error.
+    pub error: u8,
+}
+
+/// A write of an answer failed.
+#[derive(Clone, Copy, Debug, PartialEq, Eq, Error)]
+#[error("write failed")]
+pub struct WriteFault;
+
+impl<S: Alter> Desk<S> {
+    /// Answers the text of a query, without the LF that ended it. What the registry has is found
+    /// first, under the limit of the settings, and then written part by part; or one line
+    /// `% error n` is. Its number is 1 if the text is not a query, 2 if it has more than 1,024
+    /// bytes, 3 for an expansion over the limit, 4 if memory ran out, and 6 if the desk is stopped;
+    /// of several the order is 2, 6, 1 and then the others (profile). The store is not asked. After
+    /// a write fault the writer has taken the beginning of the answer, and the rest is not made.
+    #[tactic(auto, using(crate::proofs::AnswerLemmas::written))]
+    pub fn answer<W: Sink>(
+        &self,
+        alloc: Global,
+        query: &[u8],
+        writer: &mut W,
+    ) -> Result<Answered, WriteFault>
+        ensures answers { WritesAnswer self.now query.now
+            (W.told writer.old) (W.told writer.new) result }
+        ensures rows { StoresUntilStopped S.Store self.now.stored }
+        ensures keeps { self.now.stored.stopped ≡ false
+            → KeepsRows self.now.stored.registry (desk_state S.Store self.now) }
+        ensures event { AsksEvent S.Store self.now query.now
+            (W.told writer.old) (W.told writer.new) result }
+        ensures aside { W.aside writer.new ≡ W.aside writer.old }
+    {
+        // Called for its contract: the rows are those of the registry.
+        let _ = self.stored.stopped();
+        let found = self.found(alloc, query);
+        write_found(alloc, &found, writer)
+    }
+
+    /// What the text of a query finds, or the error.
+    #[tactic(auto, using(crate::proofs::AnswerLemmas::running))]
+    fn found(&self, alloc: Global, text: &[u8]) -> Result<Found<'_>, QueryFault>
+        ensures { GivesAnswer self.now text.now (made_answer result) }
+    {
+        if is_too_long(text) {
+            return Err(QueryFault::TooLong);
+        }
+        if self.stored.stopped() {
+            return Err(QueryFault::Stopped);
+        }
+        self.found_running(alloc, text)
+    }
+
+    /// What the text of a query finds in the registry, or the error.
+    fn found_running(&self, alloc: Global, text: &[u8]) -> Result<Found<'_>, QueryFault>
+        ensures ok { IfOk result (λ found. IsAnswerTo self.now.stored.registry
+            self.now.settings.limit text.now (Ok (found_text found))) }
+        ensures fault { IfErr result (λ fault. fault ≢ Memory → IsAnswerTo
+            self.now.stored.registry self.now.settings.limit text.now (Err fault)) }
+    {
+        let limit = self.settings.limit() as usize;
+        find_for(alloc, self.stored.registry(), limit, text)
+    }
+}
+
+/// Writes what was found part by part, or the line of the error.
+fn write_found<W: Sink>(
+    alloc: Global,
+    found: &Result<Found<'_>, QueryFault>,
+    writer: &mut W,
+) -> Result<Answered, WriteFault>
+    ensures writes { Writes (W.told writer.old) (W.told writer.new)
+        (answer_bytes (made_answer found.now)) result }
+    ensures told { IfOk result (λ done. done.error ≡ told_number (made_answer found.now)) }
+    ensures aside { W.aside writer.new ≡ W.aside writer.old }
+{
+    match found {
+        Ok(found) => match found.write(alloc, writer) {
+            Ok(()) => Ok(Answered { error: 0 }),
+            Err(_) => Err(WriteFault),
+        },
+        Err(fault) => write_fault(*fault, writer),
+    }
+}
+
+/// Writes the line of an error.
+fn write_fault<W: Sink>(fault: QueryFault, writer: &mut W) -> Result<Answered, WriteFault>
+    ensures writes { Writes (W.told writer.old) (W.told writer.new)
+        (answer_bytes (Err fault)) result }
+    ensures told { IfOk result (λ done. done.error ≡ told_number (Err fault)) }
+    ensures aside { W.aside writer.new ≡ W.aside writer.old }
+{
+    match write_all(writer, fault.line()) {
+        Ok(()) => Ok(Answered {
+            error: fault.number(),
+        }),
+        Err(_) => Err(WriteFault),
+    }
+}

@@ -1,0 +1,184 @@
+//! A desk over tables of version 1, which it migrates.
+
+ghost use Rattle.std.specs.Prelude.{◌≡◌, ◌⊎◌, false, IfErr, IfOk, OnOk};
+ghost use Rattle.rr_auth.specs.Registries.{Sound};
+ghost use Rattle.rr_auth.specs.Sources.{IsRegistryOf};
+ghost use Rattle.rr_store.specs.Calls.{Looks, OnCleanDisk, database};
+ghost use Rattle.rr_store.specs.declared.store_fault.MigrateFault.TheVariants.{BadRow, Memory};
+ghost use Rattle.rr_store.specs.declared.store_fault.MigrateFault.TheVariants.{NoRoot};
+ghost use Rattle.rr_desk.specs.Histories.{MigratesEvent};
+ghost use Rattle.rr_desk.specs.Migrating.{AreRegistry, FailsMigrating, FailsToMigrateTables};
+ghost use Rattle.rr_desk.specs.Migrating.{HasUpper, IsGrown, MigratesTables, RefusesOldRegistry};
+ghost use Rattle.rr_desk.specs.MigratingParts.{HasLoadFault, HasUpperFault, IsGrowthFault, told_as};
+ghost use Rattle.rr_desk.specs.Opened.{IsRunning};
+ghost use Rattle.rr_desk.specs.Stocks.{StoresRows};
+
+use crate::desk::Desk;
+use crate::opening::{upper_object, with_object};
+use crate::settings::Settings;
+use crate::stored::Stored;
+use rr_index::IndexedBook;
+use rr_object::Object;
+use rr_registry::{LoadFault, Registry};
+use rr_store::{MigrateFault, Store};
+use sqlite::{Alter, Connection};
+use std::alloc::{AllocError, Global};
+
+impl<S: Alter> Desk<S> {
+    /// The desk of the registry whose rows tables of version 1 hold, written anew as those of
+    /// version 2, and of the block of the AS numbers of more than 16 bits, which the root
+    /// maintains (RFC 6793). The settings say the source and the root. The caller gives a
+    /// connection that is in no transaction. After a fault it is given back, with the rows as they
+    /// were; a stop of the process leaves these, or the new ones whole. That the tables are of
+    /// another version comes first, then that their rows are those of no registry, then that the
+    /// root is not registered. Of a file without the three tables, that and nothing else is told.
+    pub fn migrate(
+        alloc: Global,
+        conn: Connection<S>,
+        settings: Settings,
+    ) -> Result<Desk<S>, (MigrateFault, Connection<S>)>
+        requires autocommit { conn.in_transaction ≡ false }
+        ensures runs { IfOk result (IsRunning S.Store settings) }
+        ensures migrates { IfOk result (λ desk. MigratesTables S.Store settings conn desk.stored) }
+        ensures fails { IfErr result (λ e. FailsToMigrateTables S.Store settings conn e.1 e.0) }
+        ensures event { MigratesEvent S.Store settings conn result }
+    {
+        match migrate_stored(alloc, conn, &settings) {
+            Ok(stored) => Ok(Desk { settings, stored }),
+            Err(unmigrated) => Err(unmigrated),
+        }
+    }
+}
+
+/// The registry that migration makes of the tables, with the store of its rows.
+fn migrate_stored<S: Alter>(
+    alloc: Global,
+    mut conn: Connection<S>,
+    settings: &Settings,
+) -> Result<Stored<S>, (MigrateFault, Connection<S>)>
+    requires autocommit { conn.in_transaction ≡ false }
+    ensures running { IfOk result (λ stored. stored.stopped ≡ false) }
+    ensures of_source { IfOk result (λ stored. IsRegistryOf settings.now.source stored.registry) }
+    ensures holds { IfOk result (StoresRows S.Store) }
+    ensures migrates { IfOk result (MigratesTables S.Store settings.now conn) }
+    ensures fails { IfErr result (λ e. FailsToMigrateTables S.Store settings.now conn e.1 e.0) }
+{
+    match migrated_registry(alloc, &mut conn, settings) {
+        Ok(registry) => migrate_tables(alloc, conn, settings, registry),
+        Err(fault) => Err((fault, conn)),
+    }
+}
+
+/// Migrates the tables. The registry that they are to hold then was made before, so that memory
+/// can't run out for it once the rows are changed.
+fn migrate_tables<S: Alter>(
+    alloc: Global,
+    conn: Connection<S>,
+    settings: &Settings,
+    registry: Registry<IndexedBook>,
+) -> Result<Stored<S>, (MigrateFault, Connection<S>)>
+    requires autocommit { conn.in_transaction ≡ false }
+    requires grown { OnCleanDisk S.Store conn
+        (IsGrown settings.now (database S.Store conn) registry) }
+    ensures running { IfOk result (λ stored. stored.stopped ≡ false) }
+    ensures registry { IfOk result (λ stored. stored.registry ≡ registry) }
+    ensures holds { IfOk result (StoresRows S.Store) }
+    ensures migrates { IfOk result (MigratesTables S.Store settings.now conn) }
+    ensures fails { IfErr result (λ e. FailsToMigrateTables S.Store settings.now conn e.1 e.0) }
+{
+    match Store::migrate(alloc, conn, settings.root(), settings.source()) {
+        Ok(store) => Ok(Stored::of(registry, store)),
+        Err(unmade) => Err(unmade),
+    }
+}
+
+/// The registry that the tables are to hold once they are migrated; nothing changes.
+fn migrated_registry<S: Alter>(
+    alloc: Global,
+    conn: &mut Connection<S>,
+    settings: &Settings,
+) -> Result<Registry<IndexedBook>, MigrateFault>
+    requires autocommit { conn.old.in_transaction ≡ false }
+    ensures looks { Looks S.Store conn.old conn.new result }
+    ensures grown { OnCleanDisk S.Store conn.new
+        (IfOk result (IsGrown settings.now (database S.Store conn.old))) }
+    ensures of_source { IfOk result (IsRegistryOf settings.now.source) }
+    ensures why { OnCleanDisk S.Store conn.new
+        (IfErr result (RefusesOldRegistry settings.now (database S.Store conn.old))) }
+    ensures store { IfErr result (FailsMigrating S.Store settings.now conn.old conn.new) }
+{
+    let objects = Store::old_objects(alloc, conn, settings.source())?;
+    grow(alloc, objects, settings)
+}
+
+/// The registry of the objects, which are to be one, and of the block of the AS numbers of more
+/// than 16 bits.
+fn grow(
+    alloc: Global,
+    objects: Vec<Object>,
+    settings: &Settings,
+) -> Result<Registry<IndexedBook>, MigrateFault>
+    ensures ok { OnOk result (AreRegistry objects.items) }
+    ensures grown { IfOk result (HasUpper settings.now objects.items) }
+    ensures sound { IfOk result Sound }
+    ensures fault { IfErr result (IsGrowthFault settings.now objects.items) }
+{
+    check_registry(alloc, &objects)?;
+    with_upper(alloc, objects, settings)
+}
+
+/// Checks that the objects are a registry. The fault is that they are not, or that memory ran out.
+fn check_registry(alloc: Global, objects: &[Object]) -> Result<(), MigrateFault>
+    ensures ok { OnOk result (AreRegistry objects.now) }
+    ensures fault { IfErr result (λ fault.
+        (fault ≡ Memory) ⊎ ((fault ≡ BadRow) × HasLoadFault objects.now)) }
+{
+    let copies = copies(alloc, objects)?;
+    let made: Result<Registry<IndexedBook>, LoadFault> = Registry::from_objects(alloc, copies);
+    match made {
+        Ok(_registry) => Ok(()),
+        Err(fault) => Err(told_as(fault, MigrateFault::BadRow)),
+    }
+}
+
+/// A copy of each of the objects; the error is that memory ran out.
+fn copies(alloc: Global, objects: &[Object]) -> Result<Vec<Object>, AllocError>
+    ensures { IfOk result (λ copies. copies.items ≡ objects.now) }
+{
+    let mut copies = Vec::with_capacity(alloc, objects.len())?;
+    for object in objects {
+        copies.push(object.copy(alloc)?)?;
+    }
+    Ok(copies)
+}
+
+/// The registry of the objects of a registry of version 1 and of the block, which has a key that
+/// none of them has, and crosses none: so what can be the matter is that its maintainer, the root,
+/// is not among them.
+fn with_upper(
+    alloc: Global,
+    objects: Vec<Object>,
+    settings: &Settings,
+) -> Result<Registry<IndexedBook>, MigrateFault>
+    ensures ok { IfOk result (HasUpper settings.now objects.items) }
+    ensures sound { IfOk result Sound }
+    ensures fault { IfErr result (λ fault.
+        (fault ≡ Memory) ⊎ ((fault ≡ NoRoot) × HasUpperFault settings.now objects.items)) }
+{
+    let upper = upper_object(alloc, settings)?;
+    let objects = with_object(objects, upper)?;
+    match Registry::from_objects(alloc, objects) {
+        Ok(registry) => Ok(registry),
+        Err(fault) => Err(told_as(fault, MigrateFault::NoRoot)),
+    }
+}
+
+/// That memory ran out as such, and what else is the matter with objects as this fault.
+fn told_as(fault: LoadFault, told: MigrateFault) -> MigrateFault
+    ensures { result ≡ told_as fault told }
+{
+    match fault {
+        LoadFault::Duplicate(_) | LoadFault::Overlap(_) | LoadFault::Unnamed(_) => told,
+        LoadFault::Memory => MigrateFault::Memory,
+    }
+}

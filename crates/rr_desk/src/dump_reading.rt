@@ -1,0 +1,150 @@
+//! The objects of a dump, read entry by entry.
+
+ghost use Rattle.std.specs.Prelude.{◌≡◌, ◌⊎◌, ◌+◌, ◌<◌, ◌++◌, List, []};
+ghost use Rattle.std.specs.Prelude.{◌∷◌, Ok, Err, IfOk, MatchResult, OnSome, length};
+ghost use Rattle.rr_io.specs.Told.{Told};
+ghost use Rattle.rr_text.specs.ParagraphReaders.{Entry, HasGiven, left_of};
+ghost use Rattle.rr_object.specs.Readings.{object_of};
+ghost use Rattle.rr_desk.specs.Dumps.{entry_object, object_result, objects_from};
+ghost use Rattle.rr_desk.specs.DumpParts.{FindsEntry, IsEntryOf, IsFaultSoFar};
+ghost use Rattle.rr_desk.specs.DumpReadings.{ReadsDump};
+ghost use Rattle.rr_desk.specs.declared.dump_read_fault.DumpReadFault.TheVariants.{Memory};
+
+use crate::dump_read_fault::DumpReadFault;
+use rr_io::Source;
+use rr_number::Name;
+use rr_object::{Object, ObjectFault};
+use rr_text::{Paragraph, Paragraphs, TextFault};
+use std::alloc::Global;
+
+/// The objects of the dump that this reader gives, in its order, as those of a registry of this
+/// source. The dump is any RPSL text, read one paragraph at a time, and to its end even after an
+/// entry that is not an object: so a failed read, and too many reads, are told in place of such an
+/// entry. If memory runs out, that may be told in place of an entry's fault, after the whole dump
+/// was read or before any of it was; no clause says when.
+pub fn read_dump<R: Source>(
+    alloc: Global,
+    reader: &mut R,
+    source: &Name,
+) -> Result<Vec<Object>, DumpReadFault>
+    ensures reads { ReadsDump result (λ objects. objects.items) source.now (R.told reader.old)
+        (R.told reader.new) }
+    ensures aside { R.aside reader.new ≡ R.aside reader.old }
+{
+    match Paragraphs::new(alloc) {
+        Ok(mut paragraphs) => read_entries(alloc, &mut paragraphs, reader, source),
+        Err(_) => Err(DumpReadFault::Memory),
+    }
+}
+
+/// The objects of a dump of which nothing was read.
+fn read_entries<R: Source>(
+    alloc: Global,
+    paragraphs: &mut Paragraphs,
+    reader: &mut R,
+    source: &Name,
+) -> Result<Vec<Object>, DumpReadFault>
+    requires { HasGiven (R.told reader.old) (R.told reader.old) paragraphs.old [] }
+    ensures reads { ReadsDump result (λ objects. objects.items) source.now (R.told reader.old)
+        (R.told reader.new) }
+    ensures aside { R.aside reader.new ≡ R.aside reader.old }
+{
+    let mut read = Ok(Vec::new(alloc));
+    let mut count = 0;
+    'entries: loop {
+        match next_entry(alloc, paragraphs, reader)? {
+            Some(entry) => {
+                count += 1;
+                read = with_entry(alloc, read, count, entry, source);
+            }
+            None => return read,
+        }
+    }
+}
+
+/// The next entry of the text that this reader gives, a paragraph or its fault; `None` at its end.
+/// The error is a failed read, or too many reads.
+fn next_entry<R: Source>(
+    alloc: Global,
+    paragraphs: &mut Paragraphs,
+    reader: &mut R,
+) -> Result<Option<Result<Paragraph, TextFault>>, DumpReadFault>
+    ensures finds { (start : Told) (given : List Entry)
+        → HasGiven start (R.told reader.old) paragraphs.old given
+        → FindsEntry start (R.told reader.new) paragraphs.new given result }
+    ensures nearer { IfOk result
+        (λ next. OnSome next (left_of paragraphs.new < left_of paragraphs.old)) }
+    ensures aside { R.aside reader.new ≡ R.aside reader.old }
+{
+    match paragraphs.next(alloc, reader) {
+        Ok(None) => Ok(None),
+        Ok(Some(paragraph)) => Ok(Some(Ok(paragraph))),
+        Err(fault) => match fault {
+            TextFault::Read => Err(DumpReadFault::Read),
+            TextFault::Endless => Err(DumpReadFault::Endless),
+            _ => Ok(Some(Err(fault))),
+        },
+    }
+}
+
+/// What was read of a dump, with its n-th entry.
+fn with_entry(
+    alloc: Global,
+    read: Result<Vec<Object>, DumpReadFault>,
+    n: u64,
+    entry: Result<Paragraph, TextFault>,
+    source: &Name,
+) -> Result<Vec<Object>, DumpReadFault>
+    ensures { (given : List Entry) (next : Entry) → n ≡ length given + 1
+        → IsEntryOf entry next
+        → MatchResult read (λ objects. objects_from source.now 1 given ≡ Ok objects.items)
+        (IsFaultSoFar source.now given)
+        → MatchResult result (λ objects. objects_from source.now 1 (given ++ next ∷ [])
+        ≡ Ok objects.items) (IsFaultSoFar source.now (given ++ next ∷ [])) }
+{
+    let mut objects = read?;
+    let object = entry_object(alloc, n, entry, source)?;
+    objects.push(object)?;
+    Ok(objects)
+}
+
+/// The object that the n-th entry of a dump is.
+fn entry_object(
+    alloc: Global,
+    n: u64,
+    entry: Result<Paragraph, TextFault>,
+    source: &Name,
+) -> Result<Object, DumpReadFault>
+    ensures { (next : Entry) → IsEntryOf entry next → MatchResult result
+        (λ object. entry_object source.now n next ≡ Ok object)
+        (λ fault. (fault ≡ Memory) ⊎ (entry_object source.now n next ≡ Err fault)) }
+{
+    match entry {
+        Ok(paragraph) => read_object(alloc, n, paragraph, source),
+        Err(fault) => match fault {
+            TextFault::Memory => Err(DumpReadFault::Memory),
+            _ => Err(DumpReadFault::Text(n)),
+        },
+    }
+}
+
+/// The object that the paragraph of the n-th entry is.
+fn read_object(
+    alloc: Global,
+    n: u64,
+    paragraph: Paragraph,
+    source: &Name,
+) -> Result<Object, DumpReadFault>
+    ensures { MatchResult result
+        (λ object. object_result n (object_of paragraph source.now) ≡ Ok object)
+        (λ fault. (fault ≡ Memory)
+        ⊎ (object_result n (object_of paragraph source.now) ≡ Err fault)) }
+{
+    match Object::read(alloc, paragraph, source) {
+        Ok(object) => Ok(object),
+        Err(fault) => match fault {
+            ObjectFault::Memory => Err(DumpReadFault::Memory),
+            _ => Err(DumpReadFault::Object(n, fault.code())),
+        },
+    }
+}

@@ -1,6 +1,0 @@
-pub mod EntryLists
-pub mod Found
-pub mod DumpTexts
-pub mod SoundLists
-pub mod Sources
-pub mod ReadAgain

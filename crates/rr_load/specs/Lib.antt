@@ -1,4 +1,0 @@
-pub mod Dumps
-pub mod Readings
-pub mod Laws
-pub mod Private

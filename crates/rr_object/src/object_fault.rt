@@ -1,0 +1,57 @@
+//! Why a paragraph is not an object.
+
+ghost use Rattle.std.specs.Prelude.{◌≡◌};
+ghost use Rattle.rr_object.specs.Faults.{code_of};
+ghost use Rattle.rr_object.specs.declared.object_fault.ObjectFault.TheVariants.{Memory};
+
+use crate::code::Code;
+use std::alloc::AllocError;
+use thiserror::Error;
+
+/// Why a paragraph is not an object of the registry. But for `Memory` these stand in the order in
+/// which they are found.
+#[derive(Clone, Copy, Debug, PartialEq, Eq, Error)]
+pub enum ObjectFault {
+    /// It has no attribute, or the first one names no class.
+    #[error("the class is unknown")]
+    UnknownClass,
+    /// The key is bad; for a route also an origin that is missing, repeated or bad.
+    #[error("the key is bad")]
+    BadKey,
+    /// A needed attribute is missing or has no item, or one that stands once is repeated.
+    #[error("an attribute is missing or repeated")]
+    BadCount,
+    /// An interpreted attribute has a bad value.
+    #[error("a value is bad")]
+    BadValue,
+    /// The source is not the registry's own.
+    #[error("the source is another one")]
+    OtherSource,
+    /// Memory ran out.
+    #[error("out of memory")]
+    Memory,
+}
+
+impl ObjectFault {
+    /// The code of an item that is refused for this fault.
+    pub fn code(self) -> Code
+        ensures { result ≡ code_of self }
+    {
+        match self {
+            ObjectFault::UnknownClass => Code::E02,
+            ObjectFault::BadKey => Code::E03,
+            ObjectFault::BadCount => Code::E04,
+            ObjectFault::BadValue => Code::E05,
+            ObjectFault::OtherSource => Code::E06,
+            ObjectFault::Memory => Code::E90,
+        }
+    }
+}
+
+impl From<AllocError> for ObjectFault {
+    ghost from_gives = { λ _ fault. fault ≡ Memory };
+
+    fn from(_error: AllocError) -> ObjectFault {
+        ObjectFault::Memory
+    }
+}

@@ -1,0 +1,248 @@
+//! Queries on the three tables.
+
+ghost use Rattle.std.specs.Prelude.{◌≡◌, [], false, length, map, IfErr, IfOk};
+ghost use Rattle.std.specs.Prelude.{IsTrue};
+ghost use Rattle.std.specs.Prelude.{OnOk};
+ghost use Rattle.sqlite.specs.Given.{IsPlain};
+ghost use Rattle.sqlite.specs.Held.{state};
+ghost use Rattle.sqlite.specs.Listing.{understood};
+ghost use Rattle.sqlite.specs.State.{FailsToQuery, IsUnchanged, Shown};
+ghost use Rattle.sqlite.specs.Values.{bound};
+ghost use Rattle.rr_store.specs.Contents.{AreNumbered, IsInRank, by_three, by_two, contents};
+ghost use Rattle.rr_store.specs.Contents.{number};
+ghost use Rattle.rr_store.specs.Contents.{by_one, meta_rows};
+ghost use Rattle.rr_store.specs.Tables.{HasTables, meta_tree, named_tree, object_tree};
+ghost use Rattle.rr_store.specs.Calls.{FailsFor, FailsOverTidy, Looks, OnCleanDisk, database};
+ghost use Rattle.rr_store.specs.CheckParts.{NamedPointsTo, NamedPointsToNone, NamesAre};
+ghost use Rattle.rr_store.specs.CheckParts.{TableHolds, TableHoldsInTurn, TableHoldsNone};
+ghost use Rattle.rr_store.specs.Opening.{AreObjectsOf, IfStore};
+ghost use Rattle.rr_store.specs.ReadingParts.{TellsNoVersion};
+ghost use Rattle.rr_store.specs.declared.store_fault.OpenFault.TheVariants.{BadRow, Memory};
+
+use crate::committed::note_committed;
+use crate::row_streams::{count_numbered, take_all_names, take_objects};
+use crate::store_fault::OpenFault;
+use crate::version::Version;
+use rr_number::Name;
+use rr_object::Object;
+use sqlite::{Alter, Connection, Error, Row};
+use sqlite_value::value::ValueRef;
+use std::alloc::Global;
+
+/// The answer of a query, which changes nothing and commits nothing.
+fn look<S: Alter>(
+    conn: &mut Connection<S>,
+    sql: &str,
+    params: &[ValueRef<'_>],
+) -> Result<Vec<Row>, Error>
+    requires autocommit { conn.old.in_transaction ≡ false }
+    requires plain { OnCleanDisk S.Store conn.old (IsPlain (understood conn.old.schema sql.now)) }
+    ensures looks { Looks S.Store conn.old conn.new result }
+    ensures shown { OnCleanDisk S.Store conn.new (IfOk result (λ rows. Shown sql.now
+        (bound params.now) (state S.Store conn.old) (state S.Store conn.new) rows.items)) }
+    ensures refused { OnCleanDisk S.Store conn.new (IfErr result (FailsToQuery sql.now
+        (bound params.now) (state S.Store conn.old) (state S.Store conn.new))) }
+{
+    note_committed(conn);
+    conn.query_all(sql, params)
+}
+
+/// The names and values of the rows of `meta`, in order of the names.
+pub(crate) fn meta_rows<S: Alter>(conn: &mut Connection<S>) -> Result<Vec<Row>, Error>
+    requires autocommit { conn.old.in_transaction ≡ false }
+    requires tables { OnCleanDisk S.Store conn.old (HasTables conn.old.schema) }
+    ensures looks { Looks S.Store conn.old conn.new result }
+    ensures rows { OnCleanDisk S.Store conn.new (IfOk result (λ rows. IsInRank by_two
+        (meta_rows ((database S.Store conn.old).trees meta_tree)) rows.items)) }
+    ensures cause { IfErr result (FailsFor S.Store conn.old conn.new) }
+{
+    look(
+        conn,
+        "SELECT name, value FROM meta ORDER BY name, value",
+        &[],
+    )
+}
+
+/// The rows of `named` without their numbers, by maintainer, class and key.
+pub(crate) fn sorted_named_rows<S: Alter>(conn: &mut Connection<S>) -> Result<Vec<Row>, Error>
+    requires autocommit { conn.old.in_transaction ≡ false }
+    requires tables { OnCleanDisk S.Store conn.old (HasTables conn.old.schema) }
+    ensures looks { Looks S.Store conn.old conn.new result }
+    ensures rows { OnCleanDisk S.Store conn.new (IfOk result (λ rows. IsInRank by_three
+        (contents ((database S.Store conn.old).trees named_tree)) rows.items)) }
+    ensures cause { IfErr result (FailsFor S.Store conn.old conn.new) }
+{
+    look(
+        conn,
+        "SELECT maintainer, class, okey FROM named ORDER BY maintainer, class, okey",
+        &[],
+    )
+}
+
+/// The numbers of the rows of `meta`, in order.
+pub(crate) fn meta_numbers<S: Alter>(conn: &mut Connection<S>) -> Result<Vec<Row>, Error>
+    requires autocommit { conn.old.in_transaction ≡ false }
+    requires tables { OnCleanDisk S.Store conn.old (HasTables conn.old.schema) }
+    ensures looks { Looks S.Store conn.old conn.new result }
+    ensures rows { OnCleanDisk S.Store conn.new (IfOk result (λ rows. IsInRank by_one
+        (map number ((database S.Store conn.old).trees meta_tree)) rows.items)) }
+    ensures cause { IfErr result (FailsFor S.Store conn.old conn.new) }
+{
+    look(conn, "SELECT rowid FROM meta ORDER BY rowid", &[])
+}
+
+/// The numbers of the rows of `object`, in order.
+pub(crate) fn object_numbers<S: Alter>(conn: &mut Connection<S>) -> Result<Vec<Row>, Error>
+    requires autocommit { conn.old.in_transaction ≡ false }
+    requires tables { OnCleanDisk S.Store conn.old (HasTables conn.old.schema) }
+    ensures looks { Looks S.Store conn.old conn.new result }
+    ensures rows { OnCleanDisk S.Store conn.new (IfOk result (λ rows. IsInRank by_one
+        (map number ((database S.Store conn.old).trees object_tree)) rows.items)) }
+    ensures cause { IfErr result (FailsFor S.Store conn.old conn.new) }
+{
+    look(conn, "SELECT rowid FROM object ORDER BY rowid", &[])
+}
+
+/// The numbers of the rows of `named`, in order.
+pub(crate) fn named_numbers<S: Alter>(conn: &mut Connection<S>) -> Result<Vec<Row>, Error>
+    requires autocommit { conn.old.in_transaction ≡ false }
+    requires tables { OnCleanDisk S.Store conn.old (HasTables conn.old.schema) }
+    ensures looks { Looks S.Store conn.old conn.new result }
+    ensures rows { OnCleanDisk S.Store conn.new (IfOk result (λ rows. IsInRank by_one
+        (map number ((database S.Store conn.old).trees named_tree)) rows.items)) }
+    ensures cause { IfErr result (FailsFor S.Store conn.old conn.new) }
+{
+    look(conn, "SELECT rowid FROM named ORDER BY rowid", &[])
+}
+
+/// How many rows `meta` has, which have to have numbers of their own.
+pub(crate) fn count_meta<S: Alter>(conn: &mut Connection<S>) -> Result<usize, Error>
+    requires autocommit { conn.old.in_transaction ≡ false }
+    requires tables { OnCleanDisk S.Store conn.old (HasTables conn.old.schema) }
+    ensures looks { Looks S.Store conn.old conn.new result }
+    ensures numbered { OnCleanDisk S.Store conn.new (OnOk result
+        (AreNumbered ((database S.Store conn.old).trees meta_tree))) }
+    ensures count { OnCleanDisk S.Store conn.new (IfOk result (λ count.
+        count ≡ length ((database S.Store conn.old).trees meta_tree))) }
+    ensures cause { IfErr result (FailsOverTidy S.Store conn.old conn.new) }
+{
+    note_committed(conn);
+    let mut rows = conn.query("SELECT rowid FROM meta ORDER BY rowid", &[])?;
+    count_numbered(&mut rows)
+}
+
+/// How many rows `object` has, which have to have numbers of their own.
+pub(crate) fn count_object<S: Alter>(conn: &mut Connection<S>) -> Result<usize, Error>
+    requires autocommit { conn.old.in_transaction ≡ false }
+    requires tables { OnCleanDisk S.Store conn.old (HasTables conn.old.schema) }
+    ensures looks { Looks S.Store conn.old conn.new result }
+    ensures numbered { OnCleanDisk S.Store conn.new (OnOk result
+        (AreNumbered ((database S.Store conn.old).trees object_tree))) }
+    ensures count { OnCleanDisk S.Store conn.new (IfOk result (λ count.
+        count ≡ length ((database S.Store conn.old).trees object_tree))) }
+    ensures cause { IfErr result (FailsOverTidy S.Store conn.old conn.new) }
+{
+    note_committed(conn);
+    let mut rows = conn.query("SELECT rowid FROM object ORDER BY rowid", &[])?;
+    count_numbered(&mut rows)
+}
+
+/// How many rows `named` has, which have to have numbers of their own.
+pub(crate) fn count_named<S: Alter>(conn: &mut Connection<S>) -> Result<usize, Error>
+    requires autocommit { conn.old.in_transaction ≡ false }
+    requires tables { OnCleanDisk S.Store conn.old (HasTables conn.old.schema) }
+    ensures looks { Looks S.Store conn.old conn.new result }
+    ensures numbered { OnCleanDisk S.Store conn.new (OnOk result
+        (AreNumbered ((database S.Store conn.old).trees named_tree))) }
+    ensures count { OnCleanDisk S.Store conn.new (IfOk result (λ count.
+        count ≡ length ((database S.Store conn.old).trees named_tree))) }
+    ensures cause { IfErr result (FailsOverTidy S.Store conn.old conn.new) }
+{
+    note_committed(conn);
+    let mut rows = conn.query("SELECT rowid FROM named ORDER BY rowid", &[])?;
+    count_numbered(&mut rows)
+}
+
+/// The objects that `object` holds, in the order of the numbers of its rows: one walk over the
+/// table, with room made for so many at first.
+pub(crate) fn read_objects<S: Alter>(
+    conn: &mut Connection<S>,
+    alloc: Global,
+    count: usize,
+    source: &Name,
+    version: Version,
+) -> Result<Vec<Object>, OpenFault>
+    requires autocommit { conn.old.in_transaction ≡ false }
+    requires tables { OnCleanDisk S.Store conn.old (HasTables conn.old.schema) }
+    ensures looks { Looks S.Store conn.old conn.new result }
+    ensures read { OnCleanDisk S.Store conn.new (IfOk result (λ objects.
+        TableHolds version source.now objects.items (database S.Store conn.old))) }
+    ensures in_turn { OnCleanDisk S.Store conn.new (IfOk result (λ objects.
+        TableHoldsInTurn version source.now objects.items (database S.Store conn.old))) }
+    ensures of_source { IfOk result (λ objects. AreObjectsOf source.now objects.items) }
+    ensures bad_row { OnCleanDisk S.Store conn.new (IfErr result (λ fault. fault ≡ BadRow →
+        TableHoldsNone version source.now (database S.Store conn.old))) }
+    ensures no_other { IfErr result TellsNoVersion }
+    ensures cause { IfErr result (IfStore (FailsOverTidy S.Store conn.old conn.new)) }
+{
+    note_committed(conn);
+    let mut rows = conn.query(
+        "SELECT rowid, class, okey, body FROM object ORDER BY rowid",
+        &[],
+    )?;
+    take_objects(&mut rows, alloc, count, source, version)
+}
+
+/// Whether the rows of `named`, in their order, are those of the maintainers that the objects name.
+pub(crate) fn names_in_turn<S: Alter>(
+    conn: &mut Connection<S>,
+    alloc: Global,
+    objects: &[Object],
+    version: Version,
+) -> Result<bool, OpenFault>
+    requires autocommit { conn.old.in_transaction ≡ false }
+    requires tables { OnCleanDisk S.Store conn.old (HasTables conn.old.schema) }
+    ensures looks { Looks S.Store conn.old conn.new result }
+    ensures are { OnCleanDisk S.Store conn.new (IfOk result (λ are. IsTrue are →
+        NamesAre version objects.now (database S.Store conn.old))) }
+    ensures no_bad_row { IfErr result (λ fault. fault ≡ BadRow → ⊥) }
+    ensures no_other { IfErr result TellsNoVersion }
+    ensures cause { IfErr result (IfStore (FailsOverTidy S.Store conn.old conn.new)) }
+{
+    note_committed(conn);
+    let mut rows = conn.query(
+        "SELECT rowid, maintainer, class, okey FROM named ORDER BY rowid",
+        &[],
+    )?;
+    take_all_names(&mut rows, alloc, objects, version)
+}
+
+/// The objects that name a maintainer.
+pub(crate) fn read_naming<S: Alter>(
+    conn: &mut Connection<S>,
+    alloc: Global,
+    source: &Name,
+    name: &[u8],
+) -> Result<Vec<Object>, OpenFault>
+    requires autocommit { conn.old.in_transaction ≡ false }
+    requires tables { OnCleanDisk S.Store conn.old (HasTables conn.old.schema) }
+    ensures looks { Looks S.Store conn.old conn.new result }
+    ensures read { OnCleanDisk S.Store conn.new (IfOk result (λ objects.
+        NamedPointsTo source.now name.now objects.items (database S.Store conn.old))) }
+    ensures of_source { IfOk result (λ objects. AreObjectsOf source.now objects.items) }
+    ensures bad_row { OnCleanDisk S.Store conn.new (IfErr result (λ fault. fault ≡ BadRow →
+        NamedPointsToNone source.now name.now (database S.Store conn.old))) }
+    ensures no_other { IfErr result TellsNoVersion }
+    ensures cause { IfErr result (IfStore (FailsOverTidy S.Store conn.old conn.new)) }
+    ensures memory { OnCleanDisk S.Store conn.new (IfErr result (λ fault. fault ≡ Memory →
+        IsUnchanged (state S.Store conn.old) (state S.Store conn.new))) }
+{
+    note_committed(conn);
+    let mut rows = conn.query(
+        "SELECT o.rowid, o.class, o.okey, o.body FROM named n JOIN object o \
+         ON o.class = n.class AND o.okey = n.okey WHERE n.maintainer = ?1 \
+         ORDER BY o.class, o.okey",
+        &[ValueRef::Text(name)],
+    )?;
+    take_objects(&mut rows, alloc, 0, source, Version::Current)
+}

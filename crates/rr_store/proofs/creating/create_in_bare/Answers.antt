@@ -1,4 +1,4 @@
-use Rattle.std.proofs.Common.{◌≡◌, IsTrue, ap, arith, inr, not, sym, subst, ◌∙◌, rules, map}
+use Rattle.std.proofs.Common.{◌≡◌, IsTrue, arith, inr, sym, subst, rules, map}
 use Rattle.sqlite.specs.Held.{state}
 use Rattle.sqlite.specs.State.{HasCleanDisk}
 use Rattle.rr_store.specs.Calls.{Transacts, database}

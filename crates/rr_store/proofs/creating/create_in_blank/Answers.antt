@@ -1,4 +1,4 @@
-use Rattle.std.proofs.Common.{◌≡◌, IsTrue, ap, inl, not, ◌∙◌, rules}
+use Rattle.std.proofs.Common.{◌≡◌, IsTrue, ap, inl, ◌∙◌, rules}
 use Rattle.sqlite.specs.Held.{state}
 use Rattle.rr_store.specs.Calls.{Transacts}
 use Rattle.rr_store.specs.Made.{IsMadeWith}

@@ -1,4 +1,4 @@
-use Rattle.std.proofs.Common.{◌≡◌, ◌∙◌, ap, not, rules, arith, IsTrue, [], IfErr, IfOk, OnOk}
+use Rattle.std.proofs.Common.{◌≡◌, ◌∙◌, rules, arith, IsTrue, [], IfErr, IfOk, OnOk}
 use Rattle.std.proofs.Common.{length, map, refl}
 use Rattle.rr_store.specs.Contents.{AreNumbered, IsInRank, by_one, number}
 use Rattle.rr_store.proofs.NumberLemmas.{keyed_by}

@@ -1,4 +1,4 @@
-use Rattle.std.proofs.Common.{◌≡◌, not, IsTrue, ap, ◌∙◌, arith}
+use Rattle.std.proofs.Common.{◌≡◌, IsTrue, arith}
 use Rattle.sqlite.specs.Held.{state}
 use Rattle.sqlite.specs.Values.{bound}
 use Rattle.rr_store.proofs.LookLemmas.{shown_open, shown_same, failed_open, failed_same, of_both}

@@ -1,4 +1,4 @@
-use Rattle.std.proofs.Common.{◌≡◌, ◌∙◌, ap, not, rules, arith, IsTrue, [], IfErr, IfOk, map}
+use Rattle.std.proofs.Common.{◌≡◌, rules, arith, IsTrue, [], IfErr, IfOk, map}
 use Rattle.std.proofs.Common.{flat_map, IsPermutation}
 use Rattle.std.proofs.lemmas.Result.{IfOk-weaker}
 use Rattle.rr_store.specs.Contents.{IsInRank, by_one, contents, numbered}

@@ -1,4 +1,4 @@
-use Rattle.std.proofs.Common.{◌≡◌, ◌∙◌, ap, not, rules, arith, IsTrue, [], ◌∷◌, ◌++◌, IfOk, IfErr}
+use Rattle.std.proofs.Common.{◌≡◌, rules, arith, IsTrue, [], ◌∷◌, ◌++◌, IfOk, IfErr}
 use Rattle.std.proofs.Common.{IsPermutation, refl}
 use Rattle.std.proofs.lemmas.Result.{IfOk-weaker, err_from_is_err_and}
 use Rattle.sqlite_value.specs.declared.value.Value.TheVariants.{Text}

@@ -1,4 +1,4 @@
-use Rattle.std.proofs.Common.{◌≡◌, ◌∙◌, ap, not, rules, arith, IsTrue, [], ◌++◌, IfOk, IfErr, map}
+use Rattle.std.proofs.Common.{◌≡◌, rules, arith, IsTrue, [], ◌++◌, IfOk, IfErr, map}
 use Rattle.std.proofs.Common.{refl}
 use Rattle.std.proofs.lemmas.Result.{IfOk-weaker}
 use Rattle.rr_store.specs.Contents.{IsInRank, by_one, contents, numbered}

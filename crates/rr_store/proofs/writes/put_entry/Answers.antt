@@ -1,4 +1,4 @@
-use Rattle.std.proofs.Common.{◌≡◌, IsTrue, ap, not, ◌∙◌, rules}
+use Rattle.std.proofs.Common.{◌≡◌, IsTrue, rules}
 use Rattle.sqlite.specs.Held.{state}
 use Rattle.rr_store.specs.Calls.{Transacts}
 use Rattle.rr_store.specs.Entries.{IsPut}

@@ -1,4 +1,4 @@
-use Rattle.std.proofs.Common.{not, ap, subst, ◌∙◌, [], ◌∷◌}
+use Rattle.std.proofs.Common.{subst, [], ◌∷◌}
 use Rattle.rr_store.specs.Entries.{IsAdded, entry_of}
 use Rattle.rr_store.specs.Adding.{AddsTo}
 use Rattle.rr_store.proofs.AddLemmas.{adds}

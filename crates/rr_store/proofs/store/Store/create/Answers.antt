@@ -1,4 +1,3 @@
-use Rattle.std.proofs.Common.{not, ap, ◌∙◌}
 use Rattle.sqlite.specs.Held.{state}
 use Rattle.rr_store.proofs.ObjectRows.{filled_held}
 use Rattle.rr_object.specs.Objects.{lent}

@@ -1,4 +1,4 @@
-use Rattle.std.proofs.Common.{[], ◌∷◌, ◌++◌, not, ap, ◌∙◌}
+use Rattle.std.proofs.Common.{[], ◌∷◌, ◌++◌}
 use Rattle.sqlite.specs.Held.{state}
 use Rattle.rr_store.proofs.ObjectRows.{stored_held}
 use Rattle.rr_store.proofs.SettledLemmas.{settles}

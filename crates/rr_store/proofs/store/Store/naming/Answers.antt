@@ -1,4 +1,3 @@
-use Rattle.std.proofs.Common.{not, ap, ◌∙◌}
 use Rattle.std.proofs.lemmas.Result.{err_from_is_err_and}
 use Rattle.rr_store.proofs.ShownLemmas.{those_told}
 use Rattle.rr_store.proofs.SettledLemmas.{settles}

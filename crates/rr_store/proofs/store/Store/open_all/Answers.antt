@@ -1,4 +1,4 @@
-use Rattle.std.proofs.Common.{not, sym, ap, subst, ◌∙◌, rules}
+use Rattle.std.proofs.Common.{sym, subst, rules}
 use Rattle.sqlite.specs.Held.{state}
 use Rattle.rr_store.specs.Maps.{AreOfObjects}
 use Rattle.rr_store.proofs.ObjectRows.{stored_held}

@@ -1,4 +1,4 @@
-use Rattle.std.proofs.Common.{not, ap, subst, ◌∙◌}
+use Rattle.std.proofs.Common.{subst}
 use Rattle.rr_store.specs.Entries.{IsPut, entry_of}
 use Rattle.rr_store.specs.Maps.{Puts}
 use Rattle.rr_store.proofs.MapRows.{puts}

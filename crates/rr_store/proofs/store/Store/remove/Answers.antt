@@ -1,4 +1,4 @@
-use Rattle.std.proofs.Common.{not, ap, subst, ◌∙◌}
+use Rattle.std.proofs.Common.{subst}
 use Rattle.rr_object.specs.Classes.{class_number}
 use Rattle.rr_object.specs.Keys.{class_of}
 use Rattle.rr_object.specs.KeyTexts.{key_bytes}

@@ -311,7 +311,7 @@ def test_the_help_says_what_an_object_is(capsys: pytest.CaptureFixture[str]) -> 
     assert main.main(["import", "--help"]) == 0
     words = " ".join(capsys.readouterr().out.split())
     for rule in (
-        "A paragraph is not an object if the name of a class comes again after its first",
+        "A paragraph with a second class line, or a second `source`, is not a single object.",
         "An object is left out too if one of its lists can't be read, if two of its lines were"
         " joined, or if its file ends within it.",
     ):

@@ -68,8 +68,8 @@ def overview() -> str:
             ]
     lines += [
         "",
-        "irr COMMAND --help    its words, and examples",
-        "IRR_SERVER            the registry's address; http://127.0.0.1:4343 if it is not set",
+        "irr COMMAND --help    its arguments, and examples",
+        "IRR_SERVER            the registry's address, by default http://127.0.0.1:4343",
         "",
     ]
     return "\n".join(lines)

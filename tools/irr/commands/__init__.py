@@ -33,16 +33,18 @@ TABLE = (
     Command("query", ASK, "query", "ask a registry"),
     Command("dump", ASK, "dump", "print the public dump"),
     Command("tree", ASK, "tree", "print who holds what below a prefix"),
-    Command("held", ASK, "held", "report whether anybody else can change a prefix, and mend that"),
-    Command("submit", REGISTER, "submit", "send a submission, or look what would be answered"),
+    Command(
+        "held", ASK, "held", "say whether anybody else can change a prefix, and how to mend it"
+    ),
+    Command("submit", REGISTER, "submit", "send a submission, or show which report it would get"),
     Command("diff", REGISTER, "diff", "compare a submission with what is registered"),
     Command("auth", REGISTER, "auth", "make a password and its auth line"),
     Command(
-        "delegate", REGISTER, "delegate", "write the text that hands space and AS numbers over"
+        "delegate", REGISTER, "delegate", "print the text that hands over prefixes and AS numbers"
     ),
     Command("explain", REGISTER, "explain", "print what a code of a report means, and what to do"),
     Command("filter", FILTER, "filter", "make a filter for BIRD or FRR"),
-    Command("why", FILTER, "why", "print by which references a prefix is in a set"),
+    Command("why", FILTER, "why", "say by which references a prefix is in a set"),
     Command("rov", FILTER, "rov", "compare the registered routes with ROAs"),
     Command("setup", KEEP, "setup", "make a first registry, by questions or by options"),
     Command("check", KEEP, "check", "report what is wrong with the registry of this machine"),
@@ -51,19 +53,25 @@ TABLE = (
     ),
     Command("log", KEEP, "log", "print who submitted what through the door"),
     Command("backup", KEEP, "backup", "make a verified backup of a registry, served or not"),
-    Command("restore", KEEP, "restore", "put a backup in the place of a registry"),
-    Command("reset", KEEP, "reset", "give a maintainer of a stopped registry another password"),
-    Command("history", KEEP, "history", "keep each public state of a registry, and print what was"),
-    Command("notify", KEEP, "notify", "mail what changed and was refused to those concerned"),
-    Command("import", COPY, "import_", "make a registry of another one's dump"),
-    Command("export", COPY, "export", "write the public dump in files of one class each"),
+    Command("restore", KEEP, "restore", "replace a registry with a backup"),
+    Command(
+        "reset", KEEP, "reset", "give a maintainer a new password, while the server is stopped"
+    ),
+    Command(
+        "history", KEEP, "history", "keep each public state of a registry, and print earlier ones"
+    ),
+    Command("notify", KEEP, "notify", "mail changes and refusals to those concerned"),
+    Command(
+        "import", COPY, "import_", "convert dumps of other registries into one that irrdesk loads"
+    ),
+    Command("export", COPY, "export", "write the public dump into a file for each class"),
     Command(
         "mirror", COPY, "mirror", "serve replicas: copies of a registry that answer its queries"
     ),
     Command("view", COPY, "view", "serve several registries as one"),
-    Command("nrtm4", COPY, "nrtm4", "print and change the keys that sign what mirrors take"),
+    Command("nrtm4", COPY, "nrtm4", "print and change the keys that sign files for mirrors"),
     Command(
-        "completion", ABOUT, "completion", "print what a shell needs to complete the words of irr"
+        "completion", ABOUT, "completion", "print what a shell needs to complete commands of irr"
     ),
 )
 BY_NAME = {command.name: command for command in TABLE}

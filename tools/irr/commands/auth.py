@@ -14,13 +14,13 @@ from irr.terminal import prompts, texts
 
 EXAMPLES = """
 irr auth                              an `auth` line of a new password, which the terminal shows
-irr auth --ask                        of a password that you type
+irr auth --ask                        one of a password that you type
 irr auth --save my.password EXAMPLE-MNT > mntner.rpsl
-irr submit my.password mntner.rpsl    a new maintainer, and its registration
+irr submit my.password mntner.rpsl    make a new maintainer, and register it
 irr auth ROOT-MNT                     beside the settings of a registry that is not served yet
 
-The registry keeps one SHA-256 of the salt and the password. Who gets that tries billions of
-passwords a second: a random one of 96 bits withstands that, a short one does not.
+The registry keeps one SHA-256 hash of the salt and the password. Anybody who obtains it can try
+billions of passwords a second. A random password of 96 bits withstands that; a short one does not.
 """
 
 
@@ -30,7 +30,7 @@ def arguments(parser: argparse.ArgumentParser) -> None:
     how.add_argument(
         "--ask",
         action="store_true",
-        help="ask for the password, twice; otherwise one of 96 random bits is made",
+        help="ask for the password, twice; by default, one of 96 random bits is generated",
     )
     how.add_argument(
         "--save",
@@ -41,7 +41,7 @@ def arguments(parser: argparse.ArgumentParser) -> None:
     parser.add_argument(
         "--source",
         metavar="NAME",
-        help="write this name of a registry into the mntner; otherwise the server is asked",
+        help="write this registry name into the mntner; by default, the server is asked",
     )
     parser.add_argument(
         "name", nargs="?", metavar="NAME", help="print the mntner of this name with the line"

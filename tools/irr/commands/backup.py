@@ -14,11 +14,11 @@ from irr.system import files
 from irr.terminal import texts
 
 EXAMPLES = """
-irr backup /var/backups/irrdesk                       of /etc/irrdesk/irr.toml, which may be served
+irr backup /var/backups/irrdesk                       the registry of /etc/irrdesk/irr.toml
 irr backup --settings irr.toml --keep 30 backups
-irr backup --copy /snapshot/irr.db backups            of a snapshot of the file system
+irr backup --copy /snapshot/irr.db backups            from a snapshot of the file system
 
-To restore one: irr restore FOLDER. Or load its dump.rpsl as a new registry.
+To restore a backup, run irr restore FOLDER, or load its dump.rpsl as a new registry.
 """
 NAME = re.compile("[0-9]{8}T[0-9]{6}Z")
 # What the name of a folder begins with that is no backup yet, or no longer.
@@ -32,19 +32,19 @@ def arguments(parser: argparse.ArgumentParser) -> None:
         metavar="COUNT",
         type=keys.number,
         default=7,
-        help="keep this many backups, 7 otherwise",
+        help="keep this many backups, by default 7",
     )
     parser.add_argument(
         "--hold",
         metavar="SECONDS",
         type=keys.decimal,
         default=30,
-        help="hold a server still for this long at most while its database is copied, 30 otherwise",
+        help="suspend a server for at most this long while its database is copied, by default 30",
     )
     parser.add_argument(
         "--copy",
         metavar="FILE",
-        help="take this database and the write-ahead log beside it, of a snapshot",
+        help="copy this database and the write-ahead log beside it, both from a snapshot",
     )
     parser.add_argument(
         "folder",

@@ -12,60 +12,63 @@ from irr.system import files
 from irr.terminal import texts
 
 EXAMPLES = """
-irr check                                     a line a fault, with its remedy
+irr check                                     one line for each fault, with its remedy
 irr check --json
 irr check --certificate irr.example.net --disk 2048
 irr check --url http://127.0.0.1:4400/query/ROOT-MNT --door 127.0.0.1:4381
 
-irrdesk-check.timer runs it each minute. It looks at what is enabled on this machine; bounds are
-also keys of the table `check` in irr.toml. Some of it root and the user irrdesk alone may see.
+irrdesk-check.timer runs it each minute. It checks only what is enabled on this machine. The limits
+can also be set in the table `check` of irr.toml. Only root and the user irrdesk may see everything.
 """
 # What --restarts has: a start of the registry, of the door, or of both mends what is wrong.
 REGISTRY, DOOR, BOTH = 10, 11, 12
 
 
 def arguments(parser: argparse.ArgumentParser) -> None:
-    parser.add_argument("--json", action="store_true", help="print it as JSON")
+    parser.add_argument("--json", action="store_true", help="print the faults as JSON")
     parser.add_argument(
-        "--metrics", metavar="FILE", help="also write it into a file for Prometheus's node exporter"
+        "--metrics",
+        metavar="FILE",
+        help="also write how many faults of each word there are into a file for Prometheus's"
+        " node exporter",
     )
     for name, what in (
-        ("url", "a query of the registry"),
-        ("door", "the door's port for its status, as ADDRESS:PORT"),
-        ("agent", "the agent of irr mirror, as ADDRESS:PORT"),
-        ("settings", "the settings of the registry; door.toml is beside them"),
-        ("backups", "the folder of backups"),
-        ("history", "the folder of the history"),
+        ("url", "send this query to the registry"),
+        ("door", "ask the door for its status here, as ADDRESS:PORT"),
+        ("agent", "ask the agent of irr mirror here, as ADDRESS:PORT"),
+        ("settings", "read these settings of the registry, and door.toml beside them"),
+        ("backups", "check this folder of backups"),
+        ("history", "check this folder of the history"),
     ):
         default = getattr(Places, name) or "that of its enabled unit"
-        parser.add_argument(f"--{name}", metavar=name.upper(), help=f"{what}; {default} otherwise")
+        parser.add_argument(f"--{name}", metavar=name.upper(), help=f"{what}; by default {default}")
     for name, metavar, what in (
-        ("seconds", "SECONDS", "for which an answer may take"),
-        ("replica-age", "SECONDS", "that a replica's state may be old"),
-        ("backup-age", "HOURS", "that the newest backup may be old"),
-        ("history-age", "HOURS", "that the history may be old"),
-        ("behind", "SERIALS", "that a mirror may be behind"),
-        ("certificate-days", "DAYS", "for which a certificate has to be good"),
-        ("disk", "MEBIBYTES", "that have to be free where the database is"),
-        ("clock", "SECONDS", "by which something may be dated later than the clock says"),
-        ("memory", "PERCENT", "of its memory that a unit may hold"),
+        ("seconds", "SECONDS", "allow an answer to take this long"),
+        ("replica-age", "SECONDS", "allow a replica's state to be this old"),
+        ("backup-age", "HOURS", "allow the newest backup to be this old"),
+        ("history-age", "HOURS", "allow the last fetch of the history to be this old"),
+        ("behind", "SERIALS", "allow a mirror to be this far behind"),
+        ("certificate-days", "DAYS", "require certificates to remain valid this long"),
+        ("disk", "MEBIBYTES", "require this much free space where the database is"),
+        ("clock", "SECONDS", "allow a date this far in the future"),
+        ("memory", "PERCENT", "allow a unit to use this much of its memory"),
     ):
         default = f"{getattr(Bounds, name.replace('-', '_')):g}"
         parser.add_argument(
-            f"--{name}", metavar=metavar, type=keys.decimal, help=f"{what}; {default} otherwise"
+            f"--{name}", metavar=metavar, type=keys.decimal, help=f"{what}; by default {default}"
         )
     parser.add_argument(
         "--certificate",
         metavar="HOST",
         action="append",
-        help="a name, or NAME:PORT, for which the proxy of this machine shows a certificate; may be"
-        " given several times",
+        help="check the certificate that the proxy of this machine has for this name, or NAME:PORT;"
+        " may be given several times",
     )
     parser.add_argument(
         "--restarts",
         action="store_true",
-        help=f"let the status say what a start mends: {REGISTRY} the registry's, {DOOR} the door's,"
-        f" {BOTH} both",
+        help="report by the exit status what a restart would repair:"
+        f" {REGISTRY} the registry, {DOOR} the door, {BOTH} both",
     )
 
 

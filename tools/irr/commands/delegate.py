@@ -14,10 +14,10 @@ from irr.terminal import texts
 
 EXAMPLES = """
 irr delegate EXAMPLE-MNT 192.0.2.0/24 AS64496
-                              a word that the holder of EXAMPLE-MNT has to register first
+                              propose a word that the holder of EXAMPLE-MNT has to register first
 irr delegate --word irr-4f0c --as ROOT-MNT EXAMPLE-MNT 192.0.2.0/24 AS64496 > handover.rpsl
 irr submit --as ROOT-MNT handover.rpsl
-                              hands the prefix and the AS over, with the route of exactly the prefix
+                              hand over the prefix, the AS and the route of exactly the prefix
 """
 
 
@@ -27,7 +27,7 @@ def arguments(parser: argparse.ArgumentParser) -> None:
         "--as",
         dest="holder",
         metavar="MNT",
-        help="hand over in this maintainer's name; otherwise in that of one who may add the object",
+        help="hand over in this maintainer's name, by default that of one who may add the object",
     )
     proof = parser.add_mutually_exclusive_group()
     proof.add_argument(
@@ -38,9 +38,9 @@ def arguments(parser: argparse.ArgumentParser) -> None:
     proof.add_argument(
         "--known",
         action="store_true",
-        help="ask for no word, because you know that the mntner is that of the right party",
+        help="require no word, because you know who registered the mntner",
     )
-    parser.add_argument("name", metavar="MNT", help="the maintainer that gets it")
+    parser.add_argument("name", metavar="MNT", help="the maintainer that gets them")
     parser.add_argument(
         "objects",
         nargs="+",

@@ -14,7 +14,7 @@ from irr.rpsl.syntax import Paragraph
 from irr.terminal import texts
 
 EXAMPLES = """
-irr diff network.rpsl            what of this file is new, unchanged, changed or deleted
+irr diff network.rpsl            what in this file is new, unchanged, changed or deleted
 """
 COLOURS = {"+": texts.GREEN, "-": texts.RED, "@": texts.CYAN}
 NOT_SENT = "`irr submit` does not send it; correct the text, or add --anyway there and here"

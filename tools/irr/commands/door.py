@@ -11,55 +11,57 @@ irr door                          whois at port 43, HTTP at 127.0.0.1:4380, stat
 irr door /etc/irrdesk/door.toml
 irr door --whois 127.0.0.1:4300 --replica http://127.0.0.1:4345
 
-It answers whois in three dialects, told apart by the line: the registry's own, IRRd's for bgpq4 and
-its kin, and RIPE's flags. A proxy in front gives HTTP its TLS: see examples/nginx.conf. The
-settings of CONFIG have the options' names, and more.
+It answers whois in three dialects, which it recognises by the client's line: the registry's own,
+IRRd's (for bgpq4 and others), and RIPE's with flags. HTTP needs a proxy in front for TLS: see
+examples/nginx.conf. The keys of CONFIG are the names of these options, and others (man irr-door).
 """
 
 
 def arguments(parser: argparse.ArgumentParser) -> None:
     parser.add_argument("config", metavar="CONFIG", nargs="?", help="settings, such as door.toml")
     for name, what in (
-        ("whois", "answer whois here, at [::]:43 otherwise; may be given several times"),
-        ("http", "answer HTTP here, at 127.0.0.1:4380 otherwise; may be given several times"),
+        ("whois", "answer whois here, by default at [::]:43; may be given several times"),
+        ("http", "answer HTTP here, by default at 127.0.0.1:4380; may be given several times"),
     ):
         parser.add_argument(f"--{name}", metavar="ADDRESS:PORT", action="append", help=what)
     parser.add_argument(
         "--status",
         metavar="ADDRESS:PORT",
-        help="answer /status and /metrics here, at 127.0.0.1:4381 otherwise",
+        help="answer /status and /metrics here, by default at 127.0.0.1:4381",
     )
     parser.add_argument(
         "--registry",
         metavar="URL",
-        help="stand before this registry, http://127.0.0.1:4343 otherwise",
+        help="protect this registry, by default http://127.0.0.1:4343",
     )
     parser.add_argument(
         "--replica",
         metavar="URL",
         action="append",
-        help="ask this replica; otherwise those that the agent of `irr mirror` tells of",
+        help="query this replica; may be given several times; by default, those of the agent",
     )
     parser.add_argument(
-        "--agent", metavar="ADDRESS:PORT", help="ask that agent here, at 127.0.0.1:4340 otherwise"
+        "--agent",
+        metavar="ADDRESS:PORT",
+        help="ask this agent of `irr mirror`, by default that at 127.0.0.1:4340",
     )
     parser.add_argument(
         "--log",
         metavar="FILE",
-        help="write who did what, a line an item, here; to `-`, standard output, otherwise",
+        help="log submissions here, a line for each item; by default `-`, standard output",
     )
     parser.add_argument(
         "--strict",
         action="store_true",
         default=None,
-        help="let no question of IRRd's skip sets that are not registered",
+        help="never skip unregistered sets in answers to IRRd's queries",
     )
     for name, what in (
         (
             "refill",
-            "seconds of the registry's time that a client may use each second, 0.5 otherwise",
+            "let a client use this much of the registry's time each second, by default 0.5",
         ),
-        ("burst", "seconds of it that a client may use at once, 3 otherwise"),
+        ("burst", "let a client use this much of it at once, by default 3"),
     ):
         parser.add_argument(f"--{name}", metavar="SECONDS", type=keys.decimal, help=what)
 

@@ -7,7 +7,7 @@ from irr.system import files
 from irr.terminal import texts
 
 EXAMPLES = """
-irr dump -o registry.rpsl            the dump as a file, whole or not at all
+irr dump -o registry.rpsl            the dump as a file, completely or not at all
 irr dump | tail -n 1                 how many objects there are
 irr dump --json | jq -r .key         the keys of all objects
 """
@@ -18,13 +18,13 @@ def arguments(parser: argparse.ArgumentParser) -> None:
     form = parser.add_mutually_exclusive_group()
     form.add_argument("--json", action="store_true", help="print each object as a line of JSON")
     form.add_argument(
-        "--raw", action="store_true", help="print what comes, which is what is printed anyway"
+        "--raw", action="store_true", help="print the dump unchanged, which is the default"
     )
     parser.add_argument(
         "-o",
         "--output",
         metavar="FILE",
-        help="put the dump into a file, in one step once it is whole; - is standard output",
+        help="put the dump into a file, in one step once it is complete; - is standard output",
     )
 
 

@@ -13,7 +13,7 @@ irr explain                all codes
 
 def arguments(parser: argparse.ArgumentParser) -> None:
     parser.add_argument(
-        "codes", nargs="*", metavar="CODE", help="as E13; without one all are explained"
+        "codes", nargs="*", metavar="CODE", help="a code, such as E13; by default all codes"
     )
 
 

@@ -33,19 +33,19 @@ def arguments(parser: argparse.ArgumentParser) -> None:
     parser.add_argument(
         "--history",
         metavar="FOLDER",
-        help="take the last state that `irr history` gave serials, and not the registry's; write it"
-        " in one file too, SOURCE.db.gz, and its serial into SOURCE.CURRENTSERIAL",
+        help="write the last state that `irr history` gave serials in this folder; also write it"
+        " into one file, SOURCE.db.gz, and its serial into SOURCE.CURRENTSERIAL",
     )
     parser.add_argument(
         "--nrtm4",
         metavar="KEYS",
-        help="write the files of NRTM, version 4, in place of these, signed by the key in this"
-        f" folder, into {BELOW}/; see `irr nrtm4`",
+        help=f"write the files of NRTM, version 4, into {BELOW}/ in place of these; sign them with"
+        " the key in this folder (see `irr nrtm4`)",
     )
     parser.add_argument(
         "folder",
         metavar="FOLDER",
-        help="where the files go: SOURCE.db.CLASS.gz, SOURCE in small letters",
+        help="where to put the files SOURCE.db.CLASS.gz, with SOURCE in small letters",
     )
 
 

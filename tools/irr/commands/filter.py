@@ -18,7 +18,7 @@ irr filter bird CUSTOMERS AS64496:RS-CUSTOMERS /etc/bird/customers.conf
 irr filter frr CUSTOMERS AS64496 -                        the routes of an AS, printed
 irr filter -m bird CUSTOMERS AS64496:AS-CUSTOMERS -       without the sets that are not registered
 irr filter --settings /etc/irrdesk/filters.toml           all filters of a file
-irr filter --settings filters.toml --accept               also those that lost much
+irr filter --settings filters.toml --accept               also those that shrank too much
 """
 # No network has a range above this length, unless the user says so.
 WIDEST = 8
@@ -31,14 +31,14 @@ def arguments(parser: argparse.ArgumentParser) -> None:
         "-m",
         "--missing",
         action="store_true",
-        help="make the filter also if sets are missing, and say which",
+        help="make the filter even if sets are not registered, and say which",
     )
     parser.add_argument(
         "--widest",
         metavar="LENGTH",
         default=str(WIDEST),
-        help="take prefixes, and prefixes of ranges, of this length at least, "
-        f"otherwise {WIDEST}; 0 allows 0.0.0.0/0",
+        help="accept prefixes, and prefixes of ranges, of at least this length, "
+        f"by default {WIDEST}; 0 allows 0.0.0.0/0",
     )
     parser.add_argument(
         "--settings", metavar="FILE", help="make the filters of these settings, and nothing else"
@@ -46,8 +46,8 @@ def arguments(parser: argparse.ArgumentParser) -> None:
     parser.add_argument(
         "--accept",
         action="store_true",
-        help="with --settings, take also a list that lost more of its entries than `shrink` allows,"
-        " or whose old one can't be read",
+        help="with --settings, also accept a list that lacks more of the old one than `shrink`"
+        " allows, or whose old one can't be read",
     )
     parser.add_argument("format", metavar="FORMAT", nargs="?", help="bird or frr")
     parser.add_argument(
@@ -63,7 +63,7 @@ def arguments(parser: argparse.ArgumentParser) -> None:
         "file",
         metavar="FILE",
         nargs="?",
-        help="is replaced by the filter if that could be made; - prints it",
+        help="the file to replace, only if the filter could be made; - prints it",
     )
     # Options may stand between these, which are not there with --settings.
     setattr(parser, "parse_args", parser.parse_intermixed_args)

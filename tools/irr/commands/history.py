@@ -20,31 +20,30 @@ DEFAULT = "/var/lib/irrdesk-history"
 EXAMPLES = """
 irr history /var/lib/irrdesk-history                   fetch the public dump, commit what changed
 irr history show route 192.0.2.0/24 AS64496            the versions of an object, with their times
-irr history at 2026-11-26T12:00Z closest 192.0.2.1     what was answered then
-git -C /var/lib/irrdesk-history log --stat             what git has: a file for each object
+irr history at 2026-11-26T12:00Z closest 192.0.2.1     what the registry answered then
+git -C /var/lib/irrdesk-history log --stat             the commits, with a file for each object
 
 `show` and `at` read the folder of --folder, or of IRR_HISTORY, or /var/lib/irrdesk-history. A
-change is dated by the fetch that saw it; of two between two fetches the second alone is seen.
-Passwords are not public, so a new one is not seen. Nor is who changed what: the log of the proxy
-in front of /submissions has that.
+change has the time of the fetch that saw it. Of several changes between two fetches only the last
+is seen. New passwords are not seen, because hashes are not public. `irr log` says who changed what.
 """
 
 
 def arguments(parser: argparse.ArgumentParser) -> None:
     server.add_options(parser)
-    parser.add_argument("--folder", metavar="FOLDER", help="take this folder for `show` and `at`")
+    parser.add_argument("--folder", metavar="FOLDER", help="read this folder for `show` and `at`")
     parser.add_argument(
         "--limit",
         metavar="COUNT",
         type=keys.number,
         default=10_000,
-        help="take this `limit` of the registry's settings for `at`, 10000 otherwise",
+        help="use this `limit` of the registry's settings for `at`, by default 10000",
     )
     parser.add_argument(
         "words",
         nargs="+",
         metavar="WORD",
-        help="FOLDER, `show` and a key, or `at`, a time and a query",
+        help="a folder; or `show` and a key; or `at`, a time and a query",
     )
 
 

@@ -21,7 +21,7 @@ from irr.terminal import texts
 GIVEN = re.compile(r"([^ \t=]+)=(.*)", re.S)
 EXAMPLES = """
 irr import ripe.db.*.gz --source EXAMPLE --root ROOT-MNT --auth 'SHA256-PW salt:..' > full.rpsl
-irrdesk load irr.toml full.rpsl             the registry of it
+irrdesk load irr.toml full.rpsl             make a registry of the result
 irr import radb.db --source EXAMPLE --root ROOT-MNT --auth @holders.auth --check -o full.rpsl
                                             holders.auth has the root's line and lines
                                             A-MNT=SHA256-PW ...
@@ -29,13 +29,13 @@ irr import old.db --source EXAMPLE --root ROOT-MNT --auth @root.auth --passwords
                                             a new password for each other maintainer, in the folder
                                             sent
 """
-RULE = """What is written is, object by object, the paragraph that was read, but for what is mended
-and reported. A paragraph is not an object if the name of a class comes again after its
-first line, or `source` comes twice. It is parted where a class line follows directly on
-`source`, and a part without a `source` is left out; otherwise all of it is. An object is
-left out too if one of its lists can't be read, if two of its lines were joined, or if its
-file ends within it. An item that can't be read is dropped alone only if it is a word:
-letters, digits and _ . : / - ^ inside, and no word of expressions, such as EXCEPT."""
+RULE = """Each object is written as it was read, except for corrections, which are reported. A
+paragraph with a second class line, or a second `source`, is not a single object. It is split
+where a class line directly follows `source`, and a part without a `source` is left out.
+Without such a place the whole paragraph is left out. An object is left out too if one of
+its lists can't be read, if two of its lines were joined, or if its file ends within it. An
+item that can't be read is dropped from its list if it is a word: letters, digits and
+_ . : / - ^ between a letter or a digit at both ends, but no word of expressions (EXCEPT)."""
 
 
 def arguments(parser: argparse.ArgumentParser) -> None:
@@ -51,20 +51,20 @@ def arguments(parser: argparse.ArgumentParser) -> None:
         action="append",
         default=[],
         metavar="[MNT=]LINE",
-        help="give the root this `auth`, as `irr auth` makes it; with MNT= another maintainer; "
-        "@FILE for a file of such lines; may be given several times",
+        help="give the root this `auth`, as `irr auth` makes it, or with MNT= another maintainer; "
+        "@FILE is a file of such lines; may be given several times",
     )
     parser.add_argument(
         "--passwords",
         metavar="FOLDER",
-        help="give each maintainer that nobody has a password of a new one, in a file NAME.password"
-        " of its own there; one that is there already stays",
+        help="give each maintainer without a usable password a new one, in a file NAME.password in"
+        " this folder; an existing file keeps its password",
     )
     parser.add_argument(
         "-o",
         "--output",
         metavar="FILE",
-        help="put the result into a file, in one step once it is whole",
+        help="put the result into a file, in one step once it is complete",
     )
     parser.add_argument(
         "--check",
@@ -75,8 +75,8 @@ def arguments(parser: argparse.ArgumentParser) -> None:
     parser.add_argument(
         "--left-out",
         metavar="FILE",
-        help="list all that is left out, dropped from lists, or odd about what is taken: which of "
-        "these, cause, place and first line, of an item also attribute and item, with tabs between",
+        help="list all that is left out, dropped from a list, or odd about an object that is taken,"
+        " with its cause, place and text, and with tabs between the fields",
     )
     parser.add_argument(
         "--renamed",
@@ -86,11 +86,12 @@ def arguments(parser: argparse.ArgumentParser) -> None:
     parser.add_argument(
         "--keep-scoped",
         action="store_true",
-        help="turn `RIPE::AS-X` into `AS-X` also if that set is not imported from RIPE",
+        help="turn each `RIPE::AS-X` into `AS-X`, even if no objects of RIPE are imported",
     )
     parser.add_argument_group("what is an object", RULE)
     mended = parser.add_argument_group(
-        "what is mended", "Each option turns one off; what needs it is left out then."
+        "what is corrected",
+        "Each option turns one correction off; objects that need it are then left out.",
     )
     for kind in KINDS.values():
         mended.add_argument(

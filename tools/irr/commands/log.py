@@ -11,9 +11,9 @@ from irr.rpsl import keys
 from irr.terminal import texts
 
 EXAMPLES = """
-irr log                                  all that the service's door wrote down, as root
+irr log                                  the whole log of the service's door, as root
 irr log --key 192.0.2.0/24
-irr log --file items.log                 of another door
+irr log --file items.log                 the log of another door
 irr log --maintainer A-MNT --since 2026-11-01
 irr log --client 192.0.2.7 --json
 """
@@ -23,27 +23,27 @@ def arguments(parser: argparse.ArgumentParser) -> None:
     parser.add_argument(
         "--file",
         metavar="FILE",
-        help="read this file of a door's setting `log`, and rotated ones; otherwise that of "
+        help="read this log file of a door, with its rotated files; by default that of "
         f"{logs.SETTINGS}, or the journal of {logs.UNIT}",
     )
     parser.add_argument(
-        "--key", metavar="KEY", help="print the lines of objects whose key is, or begins with, this"
+        "--key", metavar="KEY", help="print only lines of objects whose key begins with this"
     )
     parser.add_argument(
         "--maintainer",
         metavar="NAME",
         type=keys.need_maintainer,
-        help="print those of a mntner, or by its name in mnt-by",
+        help="print only lines of this mntner, and of objects that name it in `mnt-by`",
     )
     parser.add_argument(
-        "--client", metavar="NAME", help="print those from an address, or by a user"
+        "--client", metavar="NAME", help="print only lines from this address, or by this user"
     )
     parser.add_argument(
         "--since",
         metavar="TIME",
-        help="print those from this time on, as 2026-11-28 or 2026-11-28T10:00, of UTC",
+        help="print only lines from this time on, such as 2026-11-28 or 2026-11-28T10:00 in UTC",
     )
-    parser.add_argument("--until", metavar="TIME", help="print those before this time")
+    parser.add_argument("--until", metavar="TIME", help="print only lines before this time")
     parser.add_argument("--json", action="store_true", help="print the lines as they were written")
 
 

@@ -12,10 +12,10 @@ EXAMPLES = """
 irr mirror replicas                    one replica of the registry of IRR_SERVER, at port 4345
 irr mirror -s https://irr.example.net --port 4345 --port 4346 --agent 4340 /var/lib/irrdesk-mirror
 
-A replica answers each query as the registry does that it is made of, and goes on while that is
-stopped. It has no password hashes, so it authorises no holder; new maintainers can register at it,
-so the door sends submissions to the registry. Give two ports at least: one replica after the other
-is started again on new objects, so that one always answers. The door learns of them from the agent.
+A replica gives the same answers as the registry, even while that is stopped. It has no password
+hashes, so nobody can change objects there. New maintainers can still register at it: let the door
+send submissions to the registry. Give at least two ports: each replica in turn is restarted on new
+objects, so that one always answers. The door learns of them from the agent.
 """
 
 
@@ -26,36 +26,36 @@ def arguments(parser: argparse.ArgumentParser) -> None:
         metavar="PORT",
         type=keys.number,
         action="append",
-        help="serve a replica at this port of 127.0.0.1, 4345 "
-        "otherwise; several of these options are several replicas",
+        help="serve a replica at this port of 127.0.0.1, by default 4345; "
+        "may be given several times, once for each replica",
     )
     parser.add_argument(
         "--every",
         metavar="SECONDS",
         type=keys.decimal,
         default=60,
-        help="fetch the dump again after this time, 60 otherwise",
+        help="fetch the dump this often, by default every 60 seconds",
     )
     parser.add_argument(
         "--limit",
         metavar="COUNT",
         type=keys.number,
         default=10_000,
-        help="take this `limit` of the registry's settings, 10000 otherwise",
+        help="use this `limit` of the registry's settings, by default 10000",
     )
     parser.add_argument(
         "--pause",
         metavar="SECONDS",
         type=keys.decimal,
         default=12,
-        help="wait so long after one replica answers again before the next one is ended, "
-        "12 otherwise: until a proxy has seen it",
+        help="wait this long after one replica answers again before the next one is stopped, by "
+        "default 12: a proxy has to notice the first one within this time",
     )
     parser.add_argument(
         "--agent",
         metavar="PORT",
         type=keys.number,
-        help="tell HAProxy at this port of 127.0.0.1 which replicas end soon",
+        help="tell the door and HAProxy, at this port of 127.0.0.1, which replicas stop soon",
     )
     parser.add_argument("folder", metavar="FOLDER", help="where the replicas' databases are kept")
 

@@ -23,9 +23,9 @@ irr notify /var/lib/irrdesk-notify --from irr@example.net
 irr notify /var/lib/irrdesk-notify --from irr@example.net --log /var/log/irrdesk-door/items.log
 irr notify /var/lib/irrdesk-notify --from irr@example.net --dry-run
 
-Each state that `irr history` saw goes out once: to `notify` of an object before and after it, and
-to `mnt-nfy` of its maintainers, one mail an address. The first run begins with what changes after
-it. With --log or --journal what the door was refused goes to `upd-to` of the maintainers it names.
+Each state that `irr history` saw is mailed once, one mail per address: to `notify` of each object
+before and after the change, and to `mnt-nfy` of its maintainers. The first run sends nothing. With
+--log or --journal, what was refused through the door is mailed to `upd-to` of the maintainers.
 """
 HOUR = 3_600
 FOOT = (
@@ -40,41 +40,41 @@ def arguments(parser: argparse.ArgumentParser) -> None:
         dest="sender",
         metavar="ADDRESS",
         default=os.environ.get("IRR_MAIL_FROM") or "",
-        help="send from this address; IRR_MAIL_FROM otherwise",
+        help="send from this address, by default that of IRR_MAIL_FROM",
     )
     parser.add_argument(
         "--history",
         metavar="FOLDER",
         default=os.environ.get("IRR_HISTORY") or DEFAULT,
-        help=f"read this folder of `irr history`; IRR_HISTORY, or {DEFAULT}, otherwise",
+        help=f"read this folder of `irr history`, by default that of IRR_HISTORY, or {DEFAULT}",
     )
     parser.add_argument(
         "--log",
         metavar="FILE",
-        help="mail refusals, too, from the file of the door's setting `log`, if there is one",
+        help="also mail what was refused, from the file of the door's setting `log`",
     )
     parser.add_argument(
         "--journal",
         action="store_true",
-        help="mail refusals, too, from the journal of irrdesk-door.service",
+        help="also mail what was refused, from the journal of irrdesk-door.service",
     )
     parser.add_argument(
         "--most",
         metavar="COUNT",
         type=keys.number,
         default=100,
-        help="send so many mails an hour at most; what is more goes with later runs; 100 otherwise",
+        help="send at most this many mails an hour, by default 100; later runs send the rest",
     )
     parser.add_argument(
         "--sendmail",
         metavar="FILE",
         default=mail.SENDMAIL,
-        help=f"hand mail to this program; {mail.SENDMAIL} otherwise",
+        help=f"hand mail to this program, by default {mail.SENDMAIL}",
     )
     parser.add_argument(
         "--dry-run", action="store_true", help="print the mails, send none, and note nothing"
     )
-    parser.add_argument("folder", metavar="FOLDER", help="where it is noted what was sent")
+    parser.add_argument("folder", metavar="FOLDER", help="where to note what was sent")
 
 
 def run(options: argparse.Namespace) -> int:

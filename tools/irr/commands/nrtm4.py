@@ -10,10 +10,10 @@ from irr.terminal import texts
 EXAMPLES = """
 irr nrtm4 /var/lib/irrdesk-nrtm4          print the public key, and the next one
 irr nrtm4 --new /var/lib/irrdesk-nrtm4    make the next key, and announce it to mirrors
-irr nrtm4 --roll /var/lib/irrdesk-nrtm4   let it sign from now on
+irr nrtm4 --roll /var/lib/irrdesk-nrtm4   sign with it from now on
 
-`irr export --nrtm4` makes the first key. Tell mirrors the public one over another way, such as a
-page with TLS. Run what changes keys as the user of the unit: runuser -u irrdesk-public -- irr ...
+`irr export --nrtm4` makes the first key. Give mirrors the public key over another channel than the
+files. Run --new and --roll as the user of the unit: runuser -u irrdesk-public -- irr nrtm4 ...
 """
 # Seconds for which a next key is announced before it signs.
 ANNOUNCED = 7 * 86_400
@@ -21,17 +21,15 @@ ANNOUNCED = 7 * 86_400
 
 def arguments(parser: argparse.ArgumentParser) -> None:
     does = parser.add_mutually_exclusive_group()
-    does.add_argument(
-        "--new", action="store_true", help="make a key: the first one, or the next one"
-    )
-    does.add_argument("--roll", action="store_true", help="let the next key sign from now on")
+    does.add_argument("--new", action="store_true", help="make the first key, or the next one")
+    does.add_argument("--roll", action="store_true", help="sign with the next key from now on")
     parser.add_argument(
         "--algorithm",
         choices=list(signing.MAKES),
-        help="make a key of Ed25519 (EdDSA, which is taken otherwise) or P-256 (ES256)",
+        help="make a key of Ed25519 (EdDSA, the default) or of P-256 (ES256)",
     )
     parser.add_argument(
-        "--now", action="store_true", help="let a key sign that was announced for less than a week"
+        "--now", action="store_true", help="with --roll: even within a week after the key was made"
     )
     parser.add_argument("keys", metavar="KEYS", help="the folder of the keys")
 

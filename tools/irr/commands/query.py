@@ -8,12 +8,12 @@ from irr.terminal import texts
 EXAMPLES = """
 irr query 192.0.2.1                          whose address is this?
 irr query AS64496                            an AS number, a maintainer, or a set
-irr query less 192.0.2.0/24                  what lies around a prefix
-irr query more 192.0.2.0/24                  what lies inside it
-irr query inverse mnt EXAMPLE-MNT            all that names a maintainer
+irr query less 192.0.2.0/24                  what covers a prefix
+irr query more 192.0.2.0/24                  what is inside it
+irr query inverse mnt EXAMPLE-MNT            the objects that name a maintainer
 irr query inverse origin AS64496             the routes of an AS
 irr query expand AS64496:AS-CUSTOMERS        the members of a set
-irr query --json AS64496                     one object a line, for other programs
+irr query --json AS64496                     one object per line, for other programs
 """
 
 
@@ -28,11 +28,9 @@ def arguments(parser: argparse.ArgumentParser) -> None:
     form.add_argument(
         "--raw",
         action="store_true",
-        help="print what came and nothing else; an error without its words",
+        help="print an error unchanged, without an explanation",
     )
-    parser.add_argument(
-        "words", nargs="+", metavar="WORD", help="the query; irrdesk(1) has all of them"
-    )
+    parser.add_argument("words", nargs="+", metavar="WORD", help="the query; irrdesk(1) lists them")
 
 
 def run(options: argparse.Namespace) -> int:

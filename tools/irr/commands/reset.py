@@ -20,11 +20,11 @@ EXAMPLES = """
 irr reset EXAMPLE-MNT --auth 'SHA256-PW k3:ccda..'     the line that its holder made by `irr auth`
 irr reset EXAMPLE-MNT --save new.password              a new password, in a file for you alone
 irr reset EXAMPLE-MNT --settings irr.toml              a new password, which the terminal shows
-irr reset EXAMPLE-MNT --service                        that of the service, as root
+irr reset EXAMPLE-MNT --service                        stop the service for that, as root
 
 The server has to be stopped, which --service does. All `auth` lines of the maintainer are replaced
-by the new one. Make sure that you speak to the holder: the new password gives all that the
-maintainer holds.
+by the new one. Make sure that you deal with the holder: anybody who has the new password controls
+everything that the maintainer holds.
 """
 
 
@@ -39,12 +39,12 @@ def arguments(parser: argparse.ArgumentParser) -> None:
     how.add_argument(
         "--auth",
         metavar="VALUE",
-        help="take this value of the new `auth` line, as `irr auth` prints it",
+        help="use this value for the new `auth` line, as `irr auth` prints it",
     )
     how.add_argument(
         "--ask",
         action="store_true",
-        help="ask for the new password, twice; otherwise one of 96 random bits is made",
+        help="ask for the new password, twice; by default, one of 96 random bits is generated",
     )
     how.add_argument(
         "--save",

@@ -20,8 +20,8 @@ EXAMPLES = """
 irr restore /var/lib/irrdesk-backup/20261128T031502Z       the service's registry, as root
 irr restore --settings irr.toml backups/20261128T031502Z   one whose server you have stopped
 
-The backup is tried first: its database is opened, and its dump compared. What stood there is kept
-in a folder beside the database. Where there are no settings, those of the backup are put in place.
+The backup is tested first: a copy of it is opened, and its dump compared. The replaced database is
+kept in a folder beside the new one. If there are no settings, those of the backup are restored.
 """
 # Where the package has the database, for a backup whose settings have a path without a folder.
 STORE = "/var/lib/irrdesk/irr.db"
@@ -32,13 +32,13 @@ def arguments(parser: argparse.ArgumentParser) -> None:
     parser.add_argument(
         "--settings",
         metavar="FILE",
-        help="restore a registry of yours with these settings, whose server is stopped; "
-        f"otherwise that of the service, {databases.DEFAULT}",
+        help="restore the registry with these settings, whose server is stopped; "
+        f"by default the service's, {databases.DEFAULT}",
     )
     parser.add_argument(
         "--over",
         action="store_true",
-        help="restore also over a registry that has other objects than the backup",
+        help="replace even a registry that has other objects than the backup",
     )
     parser.add_argument("folder", metavar="FOLDER", help="a backup that `irr backup` made")
 

@@ -23,7 +23,7 @@ def arguments(parser: argparse.ArgumentParser) -> None:
     parser.add_argument(
         "--invalid",
         action="store_true",
-        help="print the invalid routes, and not those without a ROA",
+        help="print only the invalid routes, not those without a ROA",
     )
     parser.add_argument(
         "file", metavar="FILE", help="JSON or CSV of rpki-client or Routinator; - is standard input"

@@ -20,10 +20,10 @@ EXAMPLES = """
 irr setup                                          the service's registry, by questions, as root
 irr setup --yes --source EXAMPLE --save root.password --maintainer OPS-MNT \\
     --maintainer-save ops.password                 the same by options
-irr setup --folder registry                        one of your own, in a folder
+irr setup --folder registry                        a registry in a folder of your own
 
-It writes the settings, makes the registry, enables the units, and says what is next. A run that was
-stopped is gone on with by the next one. Where a registry is it changes nothing.
+It writes the settings, makes the registry, enables the units, and prints the next steps. If a run
+was interrupted, the next one continues from there. An existing registry is left as it is.
 """
 Answer = TypeVar("Answer")
 WHO = ("nobody", "users", "anybody")
@@ -32,33 +32,37 @@ EXAMPLE_FILES = "share/doc/irrdesk/examples"
 
 def arguments(parser: argparse.ArgumentParser) -> None:
     parser.add_argument(
-        "--folder", metavar="FOLDER", help="make one of your own there, without units"
+        "--folder", metavar="FOLDER", help="make a registry in a folder of yours, without units"
     )
     parser.add_argument(
         "--settings",
         metavar="FILE",
-        help=f"those of the service, {databases.DEFAULT} otherwise; door.toml is beside them",
+        help=f"write these settings, by default {databases.DEFAULT}, and door.toml beside them",
     )
     parser.add_argument(
-        "--yes", action="store_true", help="ask nothing: what no option says is as proposed"
+        "--yes",
+        action="store_true",
+        help="ask nothing, and use the proposed answers where no option gives another",
     )
-    parser.add_argument("--source", metavar="NAME", help="the registry's name")
-    parser.add_argument("--root", metavar="NAME", help="its root maintainer, ROOT-MNT otherwise")
+    parser.add_argument("--source", metavar="NAME", help="give the registry this name")
+    parser.add_argument(
+        "--root", metavar="NAME", help="give it this root maintainer, by default ROOT-MNT"
+    )
     parser.add_argument(
         "--save",
         metavar="FILE",
-        help="write the root's new password into a new file that only you can read; otherwise the"
+        help="write the root's new password into a new file that only you can read; by default, the"
         " terminal shows it once",
     )
     parser.add_argument(
         "--limit",
         metavar="COUNT",
         type=keys.number,
-        help="`limit` of the settings, 10000 otherwise",
+        help="set `limit` to this number, by default 10000",
     )
     parser.add_argument("--maintainer", metavar="NAME", help="register a first maintainer")
     parser.add_argument(
-        "--maintainer-save", metavar="FILE", help="as --save, for that one's new password"
+        "--maintainer-save", metavar="FILE", help="as --save, for the password of that maintainer"
     )
     for name, what in (
         ("door", "answer the world by irrdesk-door.service"),
@@ -71,17 +75,17 @@ def arguments(parser: argparse.ArgumentParser) -> None:
         "--submit",
         metavar="WHO",
         action="append",
-        help="who may submit through nginx: nobody, which holds otherwise, users, anybody, or an"
-        " address or prefix; may be given several times",
+        help="let these submit through nginx: nobody (the default), users, anybody, or an address"
+        " or prefix; may be given several times",
     )
     parser.add_argument(
         "--mirror",
         metavar="ADDRESS",
         action="append",
-        help="who may mirror the registry by NRTM; may be given several times",
+        help="let this address or prefix mirror the registry by NRTM; may be given several times",
     )
     parser.add_argument(
-        "--replace", action="store_true", help="with --yes: also replace what somebody has set"
+        "--replace", action="store_true", help="with --yes: replace settings that somebody changed"
     )
 
 

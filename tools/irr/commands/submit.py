@@ -24,11 +24,11 @@ COLOURS = {
 }
 EXAMPLES = """
 irr submit network.rpsl                          send a file
-irr submit --as EXAMPLE-MNT network.rpsl         the same, asked for the password
-irr submit my.password network.rpsl              the same, with the password from a file of its own
+irr submit --as EXAMPLE-MNT network.rpsl         the same, after asking for the password
+irr submit my.password network.rpsl              the same, with the password in a separate file
 irr submit --dry-run --as EXAMPLE-MNT network.rpsl
-                                                 what would be answered; nothing is changed
-irr delegate ... | irr submit --as ROOT-MNT -     from another command
+                                                 print the report; nothing is changed
+irr delegate ... | irr submit --as ROOT-MNT -     send the output of another command
 """
 
 
@@ -47,7 +47,7 @@ def arguments(parser: argparse.ArgumentParser) -> None:
         "-n",
         "--dry-run",
         action="store_true",
-        help="print what would be answered, from a copy of the registry; no password leaves this "
+        help="try it on a copy of the registry, and print the report; no password leaves this "
         "machine",
     )
     parser.add_argument(
@@ -55,12 +55,12 @@ def arguments(parser: argparse.ArgumentParser) -> None:
         action="append",
         default=[],
         metavar="MNT[,MNT]",
-        help="name whose the first `password:` is, for --dry-run; given again, the next "
-        "one; `-` for nobody's; without it, that of each `mnt-by` in the files",
+        help="with --dry-run: name the maintainers that use the first `password:`; repeat it for "
+        "the next one; `-` means nobody; by default, each maintainer in a `mnt-by` of the files",
     )
     parser.add_argument("--anyway", action="store_true", help=cautions.HELP)
     parser.add_argument(
-        "--raw", action="store_true", help="print the report alone, without words about refusals"
+        "--raw", action="store_true", help="print only the report, without explaining refusals"
     )
     parser.add_argument(
         "files",

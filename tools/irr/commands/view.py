@@ -12,11 +12,11 @@ from irr.views import settings
 from irr.views.view import View
 
 EXAMPLES = """
-irr view /etc/irrdesk/views/routes.toml            at the ports of the settings, until it is ended
-irr view --every 60 routes.toml                    look for what is new each minute
+irr view /etc/irrdesk/views/routes.toml            serve it at the ports of the settings
+irr view --every 60 routes.toml                    check the sources each minute
 
-A view has the objects of several registries. Of two with one key that of the first source stays.
-Each says on its `source` line where it is from: `source: ROUTES # RIPE`. A source that can't be
+A view has the objects of several registries. If two have the same key, that of the first source is
+used. Each names its origin on its `source` line: `source: ROUTES # RIPE`. A source that can't be
 read, or lost too much at once, stays as it was; `irr view` says which, and since when.
 """
 
@@ -26,9 +26,9 @@ def arguments(parser: argparse.ArgumentParser) -> None:
         "--every",
         metavar="SECONDS",
         type=keys.decimal,
-        help="look at the sources again after this time, in place of `every` of the settings",
+        help="check the sources this often, in place of `every` of the settings",
     )
-    parser.add_argument("settings", metavar="VIEW.toml", help="the sources and the ports")
+    parser.add_argument("settings", metavar="VIEW.toml", help="the settings: sources and ports")
 
 
 def run(options: argparse.Namespace) -> int:

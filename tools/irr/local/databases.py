@@ -53,7 +53,7 @@ def add_option(parser: argparse.ArgumentParser) -> None:
         "--settings",
         metavar="FILE",
         default=DEFAULT,
-        help=f"read the registry's settings here, otherwise from {DEFAULT}",
+        help=f"read the registry's settings from this file, by default {DEFAULT}",
     )
 
 

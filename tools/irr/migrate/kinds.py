@@ -12,7 +12,7 @@ class Kind(NamedTuple):
 KINDS = {
     kind.name: kind
     for kind in (
-        Kind("part", "a paragraph is parted where a class follows directly on `source`"),
+        Kind("part", "a paragraph is split where a class line directly follows `source`"),
         Kind("source", "`source` is set to the registry's name, also where there is none"),
         Kind("mp-members", "`mp-members` of a route-set becomes `members`, without IPv6"),
         Kind("member-of", "names of as-sets are dropped from `member-of` of routes"),

@@ -23,8 +23,8 @@ SECRET_LINE = re.compile(
 GOES_ON = re.compile(rb"^[ \t\r+][ \t\r]*" + SECRET_LINE.pattern, re.I | re.M)
 PREFIX = re.compile(rb"[0-9]{1,3}(?:\.[0-9]{1,3}){3}/[0-9]{1,2}")
 HELP = (
-    "send it even if a maintainer would be left without a password that fits, or what reads as a "
-    "password, such as `passwd:`, would be shown to all"
+    "accept the text even if a maintainer would be locked out, or a mistyped `password:` line "
+    "published"
 )
 ANYWAY = "nothing was sent; correct the text, or add --anyway if it is meant so"
 

@@ -85,10 +85,10 @@ def add_options(parser: argparse.ArgumentParser) -> None:
         "-s",
         "--server",
         metavar="URL",
-        help=f"ask the registry at this address, otherwise that of IRR_SERVER, otherwise {DEFAULT}",
+        help=f"ask the registry at this address, by default that of IRR_SERVER, or {DEFAULT}",
     )
     parser.add_argument(
-        "--plain", action="store_true", help="allow http to another machine, which encrypts nothing"
+        "--plain", action="store_true", help="allow http to another machine, which is not encrypted"
     )
 
 

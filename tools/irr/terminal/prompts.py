@@ -11,7 +11,9 @@ LEAST = 15
 
 def add_short(parser: argparse.ArgumentParser) -> None:
     parser.add_argument(
-        "--short", action="store_true", help=f"take one of fewer than {LEAST} characters by --ask"
+        "--short",
+        action="store_true",
+        help=f"accept one of fewer than {LEAST} characters with --ask",
     )
 
 

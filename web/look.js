@@ -109,7 +109,7 @@ function expansion(query, text) {
         ? `, without sets that are not registered: ${missing.join(' ')}` : ''}`;
     const doubts =
         [...missing.length
-        ? [el('p', {}, 'These sets are not registered, so what they would bring is missing: ',
+        ? [el('p', {}, 'These sets are not registered, so their members are missing: ',
         ...missing.flatMap(name => [link(name), ' ']))] : [],
         ...wide.length
             ? [el('p', {},
@@ -126,7 +126,7 @@ function expansion(query, text) {
             el('input', {type: 'checkbox', change: () =>
             buttons.forEach(button => { button.disabled = !allow.checked; })});
         parts.push(el('div', {class: 'warn'}, ...doubts, ...members.length
-            ? [el('label', {class: 'check'}, allow, ' Let me copy it all the same')] : []));
+            ? [el('label', {class: 'check'}, allow, ' Let me copy it nevertheless')] : []));
     }
     if (members.length)
         parts.push(el('div', {class: 'buttons'}, ...buttons),

@@ -10,8 +10,8 @@ const SECTIONS = {
 };
 const COMING = 'This part of the page is still loading.';
 const LACKING =
-    'This part of the page did not load. Load the page again; if it stays so, the server\'s ' +
-    'operator has to serve all of its files.';
+    'This part of the page did not load. Load the page again; if that does not help, the ' +
+    'server\'s operator has to serve all of its files.';
 // The views that are there: a file that did not load has added none, and none waits for another.
 const views = {};
 let search = location.search;     // by which what is shown was asked

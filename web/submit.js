@@ -12,7 +12,8 @@ import {addView} from './page.js';
 
 const BODY = 1 << 20;            // bytes of a submission that the registry takes in
 const MOST_LINES = 5, MOST_DECIDED = 20;
-const NOT_SENT = 'Nothing was sent: see above the button, and allow it there if it is meant so.';
+const NOT_SENT = 'Nothing was sent: read the warnings above the button, and allow it there if ' +
+    'you mean it.';
 let source;                      // the registry's name
 
 // What the fields of the form take.
@@ -28,12 +29,12 @@ const isBound = item => !item.includes('^')
     || isRange(`0.0.0.0/0^${item.split('^').slice(1).join('^')}`);
 const each = check => text => text.split(/[\s,]+/).filter(Boolean).every(check);
 const ATTRIBUTES = {
-    'auth': ['a password\'s hash, one a line: SHA256-PW, a salt, a colon, 64 digits', text =>
+    'auth': ['a password\'s hash, one per line: SHA256-PW, a salt, a colon, 64 digits', text =>
         text.split('\n').every(line => isUsable(line.trim()))],
-    'origin': ['the AS that announces it, as AS64496', isAs],
+    'origin': ['the AS that announces it, such as AS64496', isAs],
     'mbrs-by-ref': [
-        'maintainers whose objects join by member-of, or ANY: whoever names one of these in ' +
-        'mnt-by gets in', each(item => isMaintainer(item) || /^any$/i.test(item))],
+        'maintainers whose objects join by member-of, or ANY: anybody can name one of these in ' +
+        'mnt-by, and so join', each(item => isMaintainer(item) || /^any$/i.test(item))],
     'member-of': ['sets that it wants to be in', each(item => isSet(item))],
     'mnt-lower': ['maintainers who may add below it, in place of those in mnt-by',
         each(isMaintainer)],
@@ -47,25 +48,26 @@ const asMember = item => isAs(item) || setKind(item) === 'as' || /^as-any$/i.tes
 const isGroup = name => isAs(name) || isSet(name) || /^[ar]s-any$/i.test(name);
 const rangeMember = item => isRange(item) || (isGroup(item.split('^')[0]) && isBound(item));
 const PARENT =
-    'what its name says without the last part, as the aut-num AS64496; nothing if the name has ' +
-    'one part, and then whoever comes first has it';
+    'the parent: its name without the last component, such as the aut-num AS64496; a name of ' +
+    'one component needs none, and the first to register it has it';
 // Of each class: a key, what is one, and whose word a new object needs; of sets what members are,
 // in words and as a check.
 const FORMS = {
     'mntner': ['A-MNT', isMaintainer, ''],
     'as-block': ['AS64496 - AS64511', text => /^\s*as\d+\s*-\s*as\d+\s*$/i.test(text)
         && text.split('-').every(part => isAs(part.trim())),
-        'the closest block around it; it crosses no other block'],
+        'the closest block around it; it may overlap no other block'],
     'aut-num': ['AS64496', isAs, 'the closest as-block around it'],
     'inetnum': ['192.0.2.0 - 192.0.2.255, or 192.0.2.0/24', text =>
-        Boolean(spanOf(text)), 'the closest inetnum around it; it crosses no other inetnum'],
+        Boolean(spanOf(text)), 'the closest inetnum around it; it may overlap no other inetnum'],
     'route': ['192.0.2.0/24', isPrefix,
-        'the origin\'s aut-num, and the closest route around it or else the closest inetnum'],
+        'the origin\'s aut-num, and one for the closest route around it, or for the closest ' +
+        'inetnum if there is no such route'],
     'as-set': ['AS64496:AS-CUSTOMERS', text =>
         setKind(text) === 'as', PARENT, 'AS numbers, as-sets, AS-ANY', each(asMember)],
     'route-set': ['AS64496:RS-OUT', text =>
         setKind(text) === 'rs', PARENT,
-    'ranges as 192.0.2.0/24^24-26, AS numbers, sets, each of these with one operator at most',
+    'ranges such as 192.0.2.0/24^24-26, AS numbers, sets, each with at most one operator',
     each(rangeMember)],
 };
 
@@ -130,12 +132,12 @@ function showClass() {
         field(name, need, ...ATTRIBUTES[name] ?? members, name === 'auth' || name === 'members'));
     const other =
         field('other', '0+',
-        'Any other attributes, one a line, as "descr: Example Networks". They are kept as text, ' +
-        'and shown to all.',
+        'Any other attributes, one per line, such as "descr: Example Networks". They are kept as ' +
+        'text and published.',
         text => text.split('\n').every(line => /^(?:[a-z][\w-]{0,63}\s*:|[ \t+])/i.test(line)
             && !/^(?:password|delete)\s*:/i.test(line)), true);
     $('class-needs').textContent =
-        `A new one needs a password of its own mnt-by${needs && `, and the word of ${needs}`}.`;
+        `A new one needs a password for its own mnt-by${needs && `, and one for ${needs}`}.`;
     $('attributes').replaceChildren(field(kind, '1', `as ${example}`, check), ...kind === 'mntner'
         ? [digestMaker()] : [], other, ...rows);
     // What was written for another class stays where this one has the same attribute.
@@ -169,11 +171,11 @@ function digestMaker() {
     return el('fieldset', {}, el('legend', {}, 'A new password for it'),
         el('div', {class: 'field tall'}, el('label', {for: 'new-password'}, 'New password'), input,
         el('p', {id: 'about-new', class: 'hint'},
-            'Its hash is made on this page. Take a long one, made by chance: others may try to ' +
-            'guess it.'), faultLine('new-password')),
+            'Its hash is made on this page. Use a long random password: others may try to guess ' +
+            'it.'), faultLine('new-password')),
         el('button', {type: 'button', click: () => {
-            const fault = !isSafe ? 'Without TLS no password is taken.' : faultOf(input.value)
-                || (input.value ? '' : 'Write the new password first.');
+            const fault = !isSafe ? 'Without TLS no password is accepted.' : faultOf(input.value)
+                || (input.value ? '' : 'Enter the new password first.');
             if (!mark(input, fault)) return make();
             send.say(fault, true);
             input.focus();
@@ -182,8 +184,8 @@ function digestMaker() {
 
 const coded = text => text.split('`').map((part, place) => place % 2 ? el('code', {}, part) : part);
 const faultOf = password => password !== password.trim()
-    ? 'A password has no blank at its ends: the registry takes these away.' :
-    /[\x00-\x1f\x7f]/.test(password) ? 'A password has no control characters.' : '';
+    ? 'A password must not begin or end with a space or tab: the registry removes these.' :
+    /[\x00-\x1f\x7f]/.test(password) ? 'A password must not have control characters.' : '';
 const attributeLine = (name, value) => `${`${name}:`.padEnd(15)} ${value}`;
 
 function composed() {
@@ -209,7 +211,7 @@ function faultyField() {
             isAsked = !isDeletion || name === kind || name === 'origin';
         return mark(input, !isAsked ? '' : !value ? needs.startsWith('1') ? `${name} is needed.`
             : '' : check(value) ? ''
-            : `This is not what ${name === 'other' ? 'these attributes' : name} may have.`);
+            : `This is not a valid value of ${name === 'other' ? 'these attributes' : name}.`);
     });
     return wrong[0]?.[1].input;
 }
@@ -238,7 +240,7 @@ function change(object) {
     $('text').value = '';
     addText(object.text.split('\n').filter(line => !/^auth:/.test(line)).join('\n') + '\n');
     send.say(hides
-        ? 'Answers hide the auth lines: write all of them anew, or the registry refuses the mntner.'
+        ? 'Answers hide the auth lines: enter all of them, or the registry refuses the mntner.'
         : 'Change the text, and give the password of its mnt-by.');
 }
 
@@ -253,7 +255,7 @@ const ITEM =
 const ENDS =
     [[/^% items (\d+)$/, ''],
     [/^% read fault after (\d+) items$/,
-    'The rest of the text did not arrive. Send what stands after this item again.'],
+    'The rest of the text did not arrive. Send what follows this item again.'],
     [/^% stopped after (\d+) items$/,
         'The registry\'s database failed, and the rest was not read. Report it to the operator, ' +
         'and send that item and the rest again later.'],
@@ -285,7 +287,7 @@ function showCautions(found, text) {
     box.hidden = !found.length;
     box.replaceChildren(
         el('ul', {}, ...found.map(one => el('li', {}, ...coded(shown(lineWords(one)))))),
-        ...isGrave ? [el('label', {class: 'check'}, allow, ' Send it all the same')] : []);
+        ...isGrave ? [el('label', {class: 'check'}, allow, ' Send it nevertheless')] : []);
     return isGrave && meant !== text;
 }
 
@@ -369,7 +371,7 @@ function itemBox([, number, none, kind, key, word, code], block) {
     const lines = code && block
         ? faultsOf(block, source).filter(one => one.code === code).slice(0, MOST_LINES) : [];
     const [sentence, remedy] = CODES[code]
-        ?? ['A refusal that this page does not know.', 'Ask the operator.'],
+        ?? ['This page does not know this code.', 'Ask the operator.'],
         queries = hints(code, kind, key);
     return el('li', {class: word ?? 'refused'},
         `${number}. `, ...none ? []
@@ -388,7 +390,7 @@ function report(signal, text, blocks) {
         end = ENDS.find(([form]) => form.test(last)),
         items = lines.slice(0, end ? -1 : undefined).map(line => ITEM.exec(line));
     if (items.some(item => !item))
-        throw new Trouble(`What answers is not a registry of this kind.${UNKNOWN}`);
+        throw new Trouble(`The answer is not that of a registry of this kind.${UNKNOWN}`);
     const isWhole = end && text.endsWith('\n')
         && Number(end[0].exec(last)[1]) + (/stopped/.test(last) ? 1 : 0) === items.length
         && items.every((item, at) => Number(item[1]) === at + 1);
@@ -419,7 +421,7 @@ function submit() {
     if (isText() ? lookAtText().length : false)
         return stop($('fault-text').textContent, $('move-passwords'));
     const wrong = isText() ? null : faultyField();
-    if (wrong) return stop('A field is not as it has to be: see there.', wrong);
+    if (wrong) return stop('A field has a fault: see the line below it.', wrong);
     const text = isText() ? $('text').value.replaceAll('\r\n', '\n') : composed(),
         blocks = blocksOf(text);
     if (!blocks.length) return stop('There is nothing to submit.', $('text'));
@@ -429,8 +431,8 @@ function submit() {
         passwords.map(password => `password: ${password}\n`).join('')
         + (passwords.length ? '\n' : '') + text;
     if (new TextEncoder().encode(body).length > BODY)
-        return stop('The text is over 1,048,576 bytes, which is more than the registry takes at ' +
-        'once: send it in parts.', $('text'));
+        return stop('The text is over 1,048,576 bytes, which is more than the registry accepts ' +
+        'at once: send it in parts.', $('text'));
     $('report').replaceChildren();
     send.say('');
     $('send').disabled = true;
@@ -451,7 +453,7 @@ async function showSubmit() {
     warning.hidden = isSafe;
     if (!isSafe)
         warning.textContent =
-        'This page came without TLS from another machine, so anyone on the way could read your ' +
+        'This page came without TLS from another machine, so anybody on the path could read your ' +
         'passwords, and could have changed this page. Nothing can be submitted from here: use ' +
         'the address with https.';
     $('send').disabled = !isSafe;

@@ -101,7 +101,7 @@ function byReference(object, name) {
     const takers = [...new Set(object.items('mbrs-by-ref').map(one => one.toUpperCase()))];
     if (!takers.length) return [];
     if (takers.includes('ANY'))
-        return [el('li', {}, 'By reference: whatever names it in member-of. ',
+        return [el('li', {}, 'By reference: each object that names it in member-of. ',
             link(`expand ${name}`, 'All that it comes to'))];
     const words = [`By reference, of ${takers.map(one => shown(one)).join(', ')}`];
     return [el('li', {}, opened(words, async (place, signal) => {

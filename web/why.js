@@ -25,7 +25,7 @@ function chainsOf(found) {
         [el('h2', {}, `Chain ${at + 1} of ${many}`), chainList(chain)]);
     if (more || !all)
         parts.push(el('p', {}, all ? `And ${counted(more, 'more chain')}.`
-        : 'There are more, which are not looked for.'));
+        : 'There are more, which were not searched for.'));
     return [words, parts];
 }
 
@@ -41,8 +41,8 @@ function nearOf(found) {
         ...near.map(one => el('li', {}, one['mnt-by'] ? nameOf(one.object) : shown(one.object),
             el('p', {class: 'hint'}, shown(`${byWords(one['mnt-by'])}; ${one.why}`))))));
     if (!parts.length)
-        parts.push(el('p', {}, 'No route is around it, and no set that is reached lists a range ' +
-        'around it.'));
+        parts.push(el('p', {}, 'No route covers it, and no set that is reached lists a range ' +
+        'that covers it.'));
     return [`${prefix} is not in ${set}.`, parts];
 }
 

@@ -109,7 +109,7 @@ def test_what_is_near(capsys: pytest.CaptureFixture[str]) -> None:
         "  as-set AS-GONE         not registered  as-set AS1:AS-D lists it\n"
     )
     assert run("192.0.2.0/24", "AS1:AS-A") == REFUSED
-    assert "No route is around it" in capsys.readouterr().out
+    assert "No route covers it" in capsys.readouterr().out
 
 
 def test_member_by_reference_that_is_not_taken() -> None:

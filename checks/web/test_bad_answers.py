@@ -61,7 +61,7 @@ def test_bad_answers_end_in_words_and_none_looks_whole(stage: Stage, tell: Tell)
         ("post-503", "is not known", False),
         ("post-closed", "is not known", False),
         ("post-strange", "not a registry", False),
-        ("post-413", "longer than the server takes", False),
+        ("post-413", "longer than the server accepts", False),
     ]:
         said = stage.send_text(f"mntner: A-MNT\ndescr: {name}\n", [], "bad")
         expect_in(wanted, said, name)

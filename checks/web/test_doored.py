@@ -126,7 +126,7 @@ def test_a_set_is_a_tree_that_is_opened_step_by_step(stage: Stage, tell: Tell) -
     browser.until(f"({said('tree')}).includes('by reference')", "members by reference")
     expect_in("aut-num AS64496", browser.text("branches"), "the member")
     browser = shown(stage, f"{VIEW}#set=AS64496:AS-OPEN", said("tree"))
-    expect_in("whatever names it in member-of", browser.text("branches"), "one of anybody")
+    expect_in("each object that names it in member-of", browser.text("branches"), "one of anybody")
     for name, words in [
         ("AS-NONE", "Nothing is registered there."),
         ("10.0.0.0/8", "This is not a set"),

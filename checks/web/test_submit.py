@@ -43,7 +43,7 @@ def test_forms_add_each_class_and_send_no_bad_value(stage: Stage, tell: Tell) ->
             },
             [],
         )
-        expect_in("A field is not as it has to be", stage.sent(), f"{name} of {kind}: {text!r}")
+        expect_in("A field has a fault", stage.sent(), f"{name} of {kind}: {text!r}")
         expect(
             browser.js(
                 "return [document.activeElement.id,"

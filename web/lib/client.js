@@ -5,35 +5,35 @@ import {base} from './served.js';
 
 const MOST = 32 << 20;           // bytes of an answer that this page takes in
 const PATIENCE = 200;            // seconds without a byte of an answer
-export const STRANGE = 'The server answers what no registry of this kind answers.';
+export const STRANGE = 'The server sent an answer that no registry of this kind gives.';
 const ERRORS = {
     1: 'This is not a query: see what can be asked, above.',
-    2: 'The query is too long: it has 1,024 bytes at most.',
+    2: 'The query is too long: it may have at most 1,024 bytes.',
     3: 'The set has more members than this registry expands. Ask for the sets in it one by one.',
     4: 'The registry ran out of memory. Ask again later.',
     5: 'The registry\'s database failed. Report it to the operator.',
-    6: 'The registry is stopped, because its database failed before. Report it to the operator.',
+    6: 'The registry is stopped, because its database failed earlier. Report it to the operator.',
 };
 const STATUSES = {
     400: 'The server did not understand the request.',
-    401: 'The server asks for a name and a password, and was given none that it knows.',
+    401: 'The server requires a user name and a password, and accepted none.',
     403: 'The server does not let you do this: ask its operator.',
-    404: 'The server has no such page: its operator has to hand it on to the registry.',
+    404: 'The server has no such page: its operator has to forward it to the registry.',
     405: 'The server does not let you do this: ask its operator.',
-    413: 'The text is longer than the server takes: send it in parts.',
-    414: 'The query is too long: it has 1,024 bytes at most.',
-    421: 'The server is not of this name: correct the address.',
-    422: 'The answer is longer than the server makes it: ask for less.',
+    413: 'The text is longer than the server accepts: send it in parts.',
+    414: 'The query is too long: it may have at most 1,024 bytes.',
+    421: 'The server does not have this name: correct the address.',
+    422: 'The answer is longer than the server allows: ask for less.',
     429: 'Too many requests came from you, or from all together: wait a minute, and ask again.',
-    431: 'The query is too long: it has 1,024 bytes at most.',
+    431: 'The query is too long: it may have at most 1,024 bytes.',
     502: 'The registry does not answer: it is down, or being started. Ask again in a minute.',
-    503: 'The registry is stopped, or does not answer. Ask again in a minute; if it stays so, ' +
-        'report it to the operator.',
+    503: 'The registry is stopped, or does not answer. Ask again in a minute; if that does not ' +
+        'help, report it to the operator.',
     504: 'The registry did not answer in time: it is busy. Ask again in a minute.',
 };
 export const UNKNOWN =
-    ' Whether any item was carried out is not known. Look the objects up, or send the same text ' +
-    'again: what is there already is answered "unchanged".';
+    ' It is not known whether any item was carried out. Look the objects up, or send the same ' +
+    'text again: what is registered already is reported as "unchanged".';
 
 // A Trouble is what goes to people in place of an answer.
 export class Trouble extends Error {}
@@ -92,7 +92,7 @@ export class Client {
             else if (now - told > 2500 && signal === this.current?.signal) {
                 told = now + 5000;
                 this.say(size ? `${(size / 1e6).toFixed(1)} MB have come so far.`
-                    : 'Waiting for the registry, which answers one after the other.');
+                    : 'Waiting for the registry, which answers one request at a time.');
             }
         }, 500);
         try {
@@ -122,7 +122,7 @@ export class Client {
             for (;;) {
                 const next = await reader.read().catch(() => {
                     const words = `The answer was cut off after ${counted(size, 'byte')}. ` +
-                        `Nothing of it is shown, since the rest is missing. Ask again.${doubt}`;
+                        `None of it is shown, because the rest is missing. Ask again.${doubt}`;
                     throw new Trouble(this.why(signal, cut, words, doubt));
                 });
                 if (next.done) break;
@@ -130,9 +130,9 @@ export class Client {
                 parts.push(next.value);
                 size += next.value.length;
                 if (size > MOST) {
-                    throw new Trouble(`The answer has more than ${MOST >> 20} MB, which this ` +
-                        'page does not take in, and nothing of it is shown. Ask for less, or ' +
-                        'fetch it by curl or irr.');
+                    throw new Trouble(`The answer has more than ${MOST >> 20} MB, which is too ` +
+                        'much for this page, so none of it is shown. Ask for less, or fetch it ' +
+                        'by curl or irr.');
                 }
             }
             return {text: decoded(parts, size), isSized: reply.headers.has('Content-Length')};
@@ -144,7 +144,7 @@ export class Client {
     }
 
     why(signal, cut, otherwise, doubt) {
-        if (signal.aborted) return `Stopped: nothing more is waited for.${doubt}`;
+        if (signal.aborted) return `Stopped waiting.${doubt}`;
         return cut.signal.aborted ? `Nothing came for ${PATIENCE} seconds. Ask again later.${doubt}`
             : otherwise;
     }

@@ -73,7 +73,7 @@ def lines(
             yield f"The nearest is {last}, of which the operators on the way leave nothing:"
         yield from table([nearest])
     elif not near:
-        yield "No route is around it, and no set that is reached lists a range around it."
+        yield "No route covers it, and no set that is reached lists a range that covers it."
     if near:
         yield "What is not in the set:"
         rows = [[f"  {one.name}", by(one.maintainers), one.why] for one in near[:MOST_NEAR]]

@@ -46,7 +46,7 @@ TABLE = (
     Command("filter", FILTER, "filter", "make a filter for BIRD or FRR"),
     Command("why", FILTER, "why", "say by which references a prefix is in a set"),
     Command("rov", FILTER, "rov", "compare the registered routes with ROAs"),
-    Command("setup", KEEP, "setup", "make a first registry, by questions or by options"),
+    Command("setup", KEEP, "setup", "make a first registry, with questions or options"),
     Command("check", KEEP, "check", "report what is wrong with the registry of this machine"),
     Command(
         "door", KEEP, "door", "answer the world: whois in three dialects, HTTP, and submissions"

@@ -17,9 +17,9 @@ from irr.system import files, tomls
 from irr.terminal import questions, texts
 
 EXAMPLES = """
-irr setup                                          the service's registry, by questions, as root
+irr setup                                          the service's registry, with questions, as root
 irr setup --yes --source EXAMPLE --save root.password --maintainer OPS-MNT \\
-    --maintainer-save ops.password                 the same by options
+    --maintainer-save ops.password                 the same with options
 irr setup --folder registry                        a registry in a folder of your own
 
 It writes the settings, makes the registry, enables the units, and prints the next steps. If a run

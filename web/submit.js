@@ -390,7 +390,7 @@ function report(signal, text, blocks) {
         end = ENDS.find(([form]) => form.test(last)),
         items = lines.slice(0, end ? -1 : undefined).map(line => ITEM.exec(line));
     if (items.some(item => !item))
-        throw new Trouble(`The answer is not that of a registry of this kind.${UNKNOWN}`);
+        throw new Trouble(`The server is not a registry of this kind.${UNKNOWN}`);
     const isWhole = end && text.endsWith('\n')
         && Number(end[0].exec(last)[1]) + (/stopped/.test(last) ? 1 : 0) === items.length
         && items.every((item, at) => Number(item[1]) === at + 1);

@@ -58,6 +58,14 @@ def test_mp_members_of_ipv6_alone_are_gone() -> None:
     ]
 
 
+def test_an_address_that_looks_like_a_registry_and_a_prefix() -> None:
+    text = rest("route-set: RS-MP", "members: fd00::192.0.2.1/24, c::10.0.0.1/8^+, 10.0.0.0/8")
+    for keeps_scoped in False, True:
+        lines = left_out(text, keeps_scoped=keeps_scoped)
+        assert [line.split("\t")[0] for line in lines] == ["IPv6", "IPv6"]
+        assert b"members:        10.0.0.0/8\n" in made(text, keeps_scoped=keeps_scoped)[0]
+
+
 def test_mp_members_elsewhere_are_text() -> None:
     for lines in (
         ["as-set: AS-X", "mp-members: 2001:db8::/32, AS1"],

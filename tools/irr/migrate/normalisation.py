@@ -365,7 +365,7 @@ class Mender:
         if is_good(item):
             return item
         found = SCOPED.fullmatch(item)
-        if found and is_good(found[2]):
+        if found and is_good(found[2]) and not is_ipv6(item):
             self.use("scope")
             return item
         self.drop_unread(item)

@@ -118,6 +118,11 @@ BESIDE += [(f"CLASS{line}", SOURCE) for line in (" NAME descr: x", ": (NAME)", '
 INSIDE = ("CLASS; NAME", "\xa0KIND", "CLASS\xa0NAME descr: x")
 BESIDE += [("aut-num: AS1", SOURCE, line, "mnt-by: A-MNT", SOURCE) for line in INSIDE]
 BESIDE += [("CLASS; NAME\rmnt-by: A-MNT\rsource: RIPE",), ("CLASS\xa0: # x", " NAME", SOURCE)]
+# In a comment whose parts end in a CR, and where a blank line became a blank.
+BESIDE += [("% x\r\rKIND\rmnt-by: A-MNT\rsource: RIPE\r",)]
+BESIDE += [
+    ("aut-num: AS1", *lines, SOURCE) for lines in ((SOURCE, " KIND"), (SOURCE, "x: y", "+\tKIND"))
+]
 
 
 @pytest.mark.parametrize("kind", ["mntner: A-MNT", "as-set: AS-X", "route-set: RS-X"])
@@ -207,7 +212,7 @@ def test_a_name_in_a_joined_auth_is_of_no_other_registry() -> None:
 )
 def test_a_name_that_an_object_only_tells_of_is_free(line: str) -> None:
     """A class after a blank joins no lines, and a longer word is no class."""
-    first = obj(line, "remarks: our as-set: AS-X", SOURCE)
+    first = obj(line, "remarks: our as-set: AS-X,", " as-set: AS-X", SOURCE)
     assert b"B-MNT" in made(first, obj("as-set: AS-X", "mnt-by: B-MNT", "source: RADB"))[0]
 
 

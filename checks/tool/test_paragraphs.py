@@ -225,6 +225,26 @@ def test_lists_of_one_side_of_a_source() -> None:
         assert made(obj(*lines))[1].taken == 1, lines
 
 
+@pytest.mark.parametrize("comment", ["% c", "#\r", "\xef\xbb\xbf# c\n% d\r "])
+def test_an_object_after_a_cr_in_a_comment_is_reported(comment: str) -> None:
+    """A file whose lines end in CR alone may begin with a comment, and be joined to another one."""
+    cause = "a class after a CR in a comment"
+    own = f"{comment}\ras-set: AS-Y\rmembers: AS1\rsource: RIPE\r"
+    place = own.count("\n") + 1
+    for text, line in (
+        (obj(own) + obj(*B), place),
+        (obj(own, *B), place),
+        (obj(*B) + obj(own, "# e"), place + 5),
+        (obj(*B) + own.encode("latin-1"), place + 5),
+    ):
+        found = [one.split("\t") for one in listed(text)]
+        assert [one[:2] for one in found] == [["left out", cause], ["left out with it", cause]]
+        assert [one[2].rpartition(":")[2] for one in found] == [str(line)] * 2
+        assert found[1][3] == "as-set: AS-Y"
+        assert texts_of(made(text)[0], "route-set") == texts_of(made(obj(*B))[0], "route-set")
+    assert left_out(obj("% c\rdescr: x\ras-sets: y", *B)) == []
+
+
 @pytest.mark.parametrize("cut", ["descr: Ex", "descr: a text ", "descr:"])
 @pytest.mark.parametrize("kind", ["person", "role"])
 def test_an_object_that_is_joined_with_a_person(cut: str, kind: str) -> None:
@@ -301,6 +321,7 @@ LINES = [
     "# c",
     "+",
     "\xef\xbb\xbf# d",
+    "% e\ras-set: AS-B",
     "source: " + "Y" * 90,
 ]
 LINES += ["", " \t"]

@@ -142,7 +142,8 @@ class Import:
                 waiting = part
                 count += 1
                 with_source += part.has_source
-            after = block.line + block.text.count(b"\n")
+            if not paragraphs.is_comment(block):
+                after = block.line + block.text.count(b"\n")
         if not count:
             self.tally.empty.append(path)
         if waiting:

@@ -8,7 +8,7 @@ from typing import Iterator, NamedTuple
 
 from irr.migrate.dumps import MARK
 from irr.rpsl import keys
-from irr.rpsl.syntax import BLANKS, Block
+from irr.rpsl.syntax import BLANKS, PASSED_OVER, Block
 
 # Other classes of RPSL (RFC 2622, 2725, 2726, 4012), of the RIPE Database, of IRRd and of RIPE-181.
 FOREIGN = frozenset(
@@ -32,6 +32,8 @@ BEGINNING = re.compile(rb"[\n\r]" + CLASS_LINE)
 # In what is no object: the colon may be missing, or blanks of another kind be before the class.
 HEADING = re.compile(rb"[\n\r][\x80-\xff]*(?:%s)(?![a-z0-9_-])" % b"|".join(CLASSES))
 LATER = re.compile(BEGINNING.pattern + rb"|" + SOURCE_LINE)
+# What a line begins with that goes on with the one before, and has a class.
+GOES_ON_WITH = re.compile(rb"(?<=\n)[ \t+]+(?=%s)" % CLASS_LINE, re.I)
 LINE_END = re.compile(rb"[\n\r]")
 # A `source` after the first line, with the lines that continue it and those that are skipped,
 # directly before a class, or before a file that begins with comments and one.
@@ -39,8 +41,9 @@ SEAM = re.compile(
     rb"%s[^\n]*\n(?:[ \t\r+#%%][^\n]*\n)*(?=(?:%s(?:[#%%][^\n]*\n)+)?%s)"
     % (SOURCE_LINE, MARK, CLASS_LINE)
 )
-# The beginning of a file that was joined to another one, before its first object.
-HEAD = re.compile(rb"%s(?:[ \t\r]*\n)?(?:[#%%][^\n]*\n)*" % MARK)
+# The beginning of a file that was joined to another one, before its first object; not a comment in
+# which a class is after a CR.
+HEAD = re.compile(rb"%s(?:[ \t\r]*\n)?(?:[#%%](?:[^\n\r]|\r(?!%s))*\n)*" % (MARK, CLASS_LINE), re.I)
 # An item with the first word of another line: a class, or any name, before a colon.
 JOINED_ITEM = re.compile(rb".*(?:%s):(?!:).*|:(?!:).*|.*(?<!:):" % b"|".join(CLASSES), re.I)
 # A class with such a key as it has, directly after a letter, a digit, a dot or a comma: what a line
@@ -62,6 +65,7 @@ CR_INSIDE = re.compile(rb"\r(?=[ \t]*[^ \t\r\n])")
 CLASS_WORD = re.compile(rb"[^!-~\n]*([A-Za-z0-9_-]+)[^A-Za-z0-9#\n]*")
 NOT_SHOWN = re.compile(rb"[^!-~]")
 CUT_OFF = "cut off at the end of the file"
+IN_COMMENT = "a class after a CR in a comment"
 CLASS_AGAIN = "a class again after the first line"
 SOURCE_AGAIN = "`source` twice"
 INSIDE = "no `source`, and no blank line before it"
@@ -90,6 +94,7 @@ class Part(NamedTuple):
         if block.size > len(text):
             # Its last line is not whole, and told of as the others that are not kept.
             text = text[: text.rfind(b"\n") + 1]
+        text = restored(text)
         end = LINE_END.search(text)
         after, line = (text[end.end() :], block.line + (end[0] == b"\n")) if end else (b"", 0)
         found = [*later(after, line), *block.beyond]
@@ -102,6 +107,7 @@ class Part(NamedTuple):
         as of one that was joined."""
         text = self.block.text
         text = text[: max(text.rfind(b"\n"), text.rfind(b"\r")) + 1]
+        text = text if is_taken else restored(text)
         small = text.lower()
         found = (BEGINNING if is_taken else HEADING).finditer(small)
         within = () if is_taken else joined_at(small, joined_line.lower())
@@ -133,6 +139,8 @@ def parts(block: Block) -> list[Part]:
     block = unmarked(block)
     if not block.text:
         return []
+    if is_comment(block):
+        return [Part(block, IN_COMMENT, False)]
     small = block.text.lower()
     if not LATER_CLASS.search(small):
         has_more = any(not is_source(line) for _, line in block.beyond)
@@ -150,6 +158,19 @@ def parts(block: Block) -> list[Part]:
         line += small.count(b"\n", start, end)
         start = end
     return found
+
+
+def is_comment(block: Block) -> bool:
+    """Whether it is a line that is skipped, which is a block where a class is after a CR there."""
+    return block.text[:1] in PASSED_OVER
+
+
+def restored(text: bytes) -> bytes:
+    """The lines of what is no object, in which a class begins its line even if that goes on with
+    one from `source` on: a blank line before it may have become a blank."""
+    source = LATER_SOURCE.search(text.lower())
+    end = source.end() if source else len(text)
+    return text[:end] + GOES_ON_WITH.sub(b"", text[end:])
 
 
 def unmarked(block: Block) -> Block:

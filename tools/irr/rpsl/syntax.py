@@ -17,8 +17,8 @@ ITEM = re.compile(rb"[^, \t\r\n]+")
 BAD_BYTE = re.compile(rb"[\x00-\x08\x0b\x0c\x0e-\x1f\x7f]")
 # The end of a line with the lines of blanks after it.
 BETWEEN = re.compile(rb"\n[ \t\r]*\n(?:[ \t\r]*\n)*")
-# Whole lines that are skipped.
-SKIPPED = re.compile(rb"(?:[#%][^\n]*\n)+")
+# Whole lines that are skipped, and any line.
+SKIPPED, LINE = re.compile(rb"(?:[#%][^\n]*\n)+"), re.compile(rb"[^\n]*\n|[^\n]+")
 CHUNK = 1 << 20
 # What a line begins with that is skipped, and that goes on with the attribute before it.
 PASSED_OVER, CONTINUED = frozenset((b"#", b"%")), frozenset((b" ", b"\t", b"\r", b"+"))
@@ -193,10 +193,11 @@ def blocks(
     memory that grows with one block.
 
     Lines that are skipped (`#` or `%` first) stay in the block that they stand in, but for those
-    before its first other line. A block of more than `most` bytes is cut in two where `seam` has a
-    place for that in its first `most` + CHUNK bytes; otherwise the first `most` are kept, and of
-    the lines that are not kept whole the block has what `marked` finds. The blocks of a text are
-    the same whatever its pieces."""
+    before its first other line. Of these each is a block by itself in which `marked` finds
+    anything. A block of more than `most` bytes is cut in two where `seam` has a place for that in
+    its first `most` + CHUNK bytes; otherwise the first `most` are kept, and of the lines that are
+    not kept whole the block has what `marked` finds. The blocks of a text are the same whatever
+    its pieces."""
     # What is held begins with the LF before its first line, of which `line` were before it.
     held, line, lost = bytearray(b"\n"), 0, Lost()
     for chunk in source:
@@ -212,6 +213,8 @@ def blocks(
         while most is not None and len(held) > most + CHUNK + 1:
             skipped = SKIPPED.match(held, 1)
             end = skipped.end() - 1 if skipped else 0
+            if skipped:
+                yield from passed(bytes(skipped[0]), line + 1, marked)
             if not skipped and not lost.size:
                 end = seam(bytes(held[1 : most + CHUNK + 1]))
                 if end:
@@ -254,6 +257,7 @@ def block_of(
     """The block of these lines, if any of them is not skipped; or two of them."""
     skipped = SKIPPED.match(text)
     if skipped:
+        yield from passed(skipped[0], line, marked)
         line += text.count(b"\n", 0, skipped.end())
         text = text[skipped.end() :]
     if most is not None and not lost.size:
@@ -261,10 +265,20 @@ def block_of(
             yield Block(line, end, text[:end])
             line += text.count(b"\n", 0, end)
             text = text[end:]
-    if text and text[:1] not in (b"#", b"%"):
+    if text[:1] in PASSED_OVER:
+        yield from passed(text, line, marked)
+    elif text:
         if most is not None and len(text) > most:
             lost.note(text, line, most, marked)
         yield Block(line, len(text) + lost.size, text[:most], tuple(lost.noted))
+
+
+def passed(text: bytes, line: int, marked: Marked) -> Iterator[Block]:
+    """The lines of a text that are skipped of which anything is noted, each by itself."""
+    if marked(text, line):
+        for number, own in enumerate(LINE.findall(text), line):
+            if marked(own, number):
+                yield Block(number, len(own), own)
 
 
 def one_block(lines: Iterable[bytes]) -> bytes:

@@ -20,7 +20,7 @@ from irr.migrate.normalisation import (
     source_place,
     unscoped,
 )
-from irr.migrate.paragraphs import CLASS_AGAIN, Part, part_of
+from irr.migrate.paragraphs import CLASS_AGAIN, Part, is_comment, part_of
 from irr.migrate.report import Listed, Place, Tally
 from irr.rpsl import keys, syntax
 from irr.rpsl.holders import VIEW_ROOT
@@ -226,9 +226,10 @@ class Merge(conversion.Import):
         return 0 if self.own.is_apart else super().seam(text)
 
     def parts(self, block: syntax.Block) -> list[Part]:
+        if not self.own.is_apart:
+            return super().parts(block)
         # What is told by itself is one object, whose text may have any names.
-        whole = [part_of(block, block.text.lower(), "")]
-        return whole if self.own.is_apart else super().parts(block)
+        return [] if is_comment(block) else [part_of(block, block.text.lower(), "")]
 
     def read_state(self, name: str, state: State) -> None:
         self.own.begin(name, name in self.irrdesks, name in self.sources_apart)

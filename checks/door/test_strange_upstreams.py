@@ -266,6 +266,34 @@ def test_a_replica_that_the_agent_no_longer_names_is_forgotten(
     expect(inside.run(ask()), ([], ANSWER), "what is wrong, and the answer")
 
 
+@pytest.mark.parametrize(
+    "said, why",
+    [
+        (b"% error 6\n", "its database has failed"),
+        (b"% error 1\n", "its answer is none of a registry"),
+    ],
+)
+def test_a_registry_whose_database_has_failed_is_told_from_what_is_none(
+    said: bytes, why: str
+) -> None:
+    """By the status, to who has to mend it."""
+
+    replies = [worlds.ALL + b"\n"]
+
+    async def fails(line: bytes, writer: asyncio.StreamWriter) -> None:
+        writer.write(replies[-1])
+
+    async def ask() -> list[str]:
+        async with answering(fails) as registry:
+            async with inside.opened(lambda line: ANSWER, registry=registry) as (door, _):
+                replies.append(said)
+                async with asyncio.timeout(SOON):
+                    await inside.until(lambda: door.pool.registry.why != "")
+                return door.status.faults()
+
+    expect([fault.rpartition(": ")[2] for fault in inside.run(ask())], [why], "what is wrong")
+
+
 ROUTES = b"".join(b"aut-num: AS%d\nremarks: %s\n\n" % (n, b"x" * 2_000) for n in range(1_000))
 REPLY = b"HTTP/1.1 200 OK\r\n\r\n" + ROUTES + b"% end 1000\n"
 GET = b"GET /dump HTTP/1.1\r\nConnection: close\r\n\r\n"

@@ -13,6 +13,8 @@ from irr.rpsl import keys, syntax
 
 # The query that each is asked to see that it answers: one object, and the registry's name in it.
 PROBE, NOTHING = b"less 0.0.0.0/0\r\n", b"% no entries\n"
+# What a registry answers from then on whose database has failed.
+STOPPED = b"% error 6\n"
 # What has an object where that inetnum is not registered: the beginning of the dump.
 DUMP = b"GET /dump HTTP/1.1\r\nHost: 127.0.0.1\r\nConnection: close\r\n\r\n"
 # Seconds between two such looks at one that answers, and at one that does not; and for the answer
@@ -95,7 +97,7 @@ class Upstream:
                 self.is_named = True
                 found(text)
             else:
-                self.fall(why_of(fault), time.monotonic())
+                self.fall(why_of(fault, text), time.monotonic())
             done()
 
         def begun(text: bytes, _: Optional[str]) -> None:
@@ -137,10 +139,12 @@ def first_of_dump(answer: bytes) -> bytes:
     return first + end if end else b""
 
 
-def why_of(fault: Optional[str]) -> str:
+def why_of(fault: Optional[str], text: bytes = b"") -> str:
     """Why one is left out, in words."""
     if fault == "ECONNREFUSED":
         return "nobody listens there"
+    if text == STOPPED:
+        return "its database has failed"
     return f"it does not answer ({fault})" if fault else "its answer is none of a registry"
 
 

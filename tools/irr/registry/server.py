@@ -50,7 +50,8 @@ REMEDIES = {
     429: "the server was asked too often; ask again later",
     500: "the proxy in front of the registry has failed; tell its operator",
     502: "the proxy does not reach the registry; ask again later, or tell its operator",
-    503: "the registry's database has failed, its memory ran out, or its proxy is busy; "
+    503: "the registry is stopped, its database has failed, its memory ran out, or its proxy is "
+    "busy; "
     "ask again later, or tell its operator",
     504: "the proxy gave up waiting for the registry; ask again later",
 }

@@ -239,6 +239,8 @@ def test_a_service_is_made_of_the_files_of_the_package(trial: Trial, tool: Tool)
     words = ["--submit", "users", "--submit", "198.51.100.0/24", "--mirror", "192.0.2.10"]
     ran = service.full(*words)
     expect((ran.status, ran.reported), (0, b""), f"its end: {ran.printed!r}")
+    for word in b"apache2-utils", b"MIRRORING.md":
+        expect(word in ran.printed, True, f"what is next: {ran.printed!r}")
     wanted = [f"enable --now {unit}" for unit in [*UNITS, "irrdesk-export.timer"]]
     expect(service.asked(), wanted, "the units")
     service.made(trial)

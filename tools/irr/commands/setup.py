@@ -389,8 +389,11 @@ def next_steps(plan: Plan) -> list[str]:
             f"    include {plan.submitters};",
             "    in its `location = /submissions`, in place of the lines from `satisfy` to",
             "    `auth_basic_user_file`",
-            *[f"    htpasswd -B -c {setups.USERS} USER"] * ("users" in plan.submit),
+            *[f"    htpasswd -B -c {setups.USERS} USER        of Debian's apache2-utils"]
+            * ("users" in plan.submit),
         ]
+    if plan.mirrors:
+        lines.append("  MIRRORING.md: the dump that a mirror begins with, by the same nginx")
     if plan.replicas and plan.limit != setups.PACKAGED["limit"]:
         lines.append(f"  systemctl edit irrdesk-mirror: --limit {plan.limit} in ExecStart")
     return [*lines, "  OPERATING.md: delegating space to holders, monitoring"]

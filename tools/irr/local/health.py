@@ -38,7 +38,8 @@ REMEDIES = {
     "history-old": "`journalctl --unit irrdesk-history` says why",
     "mirror-behind": "tell its operator: it may need a new dump; if it has left, restart the door",
     "certificate-ends": "renew it, and reload the proxy",
-    "certificate-bad": "correct the proxy's certificate, or the name",
+    "certificate-bad": "correct the proxy's certificate, or the name; make an authority of your"
+    " own known by `update-ca-certificates`",
     "disk-full": "make room: a full disk stops the registry",
     "clock-ahead": "correct the clock, and remove or rename what is of the future",
     "memory-full": "remove junk, or give it more: see OPEN.md",

@@ -1,7 +1,7 @@
 -- What calls do with the network (profile).
 use Rattle.std.specs.Prelude.{ℕ, List, Option, Result}
 use Rattle.std.specs.declared.io.Error.{Error}
-use Rattle.rr_desk.specs.Turns.{Tally}
+use Rattle.rr_desk.specs.Turns.{Serving, Tally}
 use Rattle.rr_commands.specs.declared.cause.Cause.{Cause}
 
 -- a port is listened on, by what tells this, or is refused for a cause; a peer that asks this is to
@@ -11,3 +11,12 @@ pub record NetworkCalls : Type 1 where
   pub listens : ℕ → Result Tally Cause → Type 0
   pub asks : List ℕ → Result (Option (List ℕ)) Error → Type 0
   pub closes : ℕ → Type 0
+
+-- what calls do with the network, and what serving a connection does (profile)
+pub record Means : Type 1 where
+  pub network : NetworkCalls
+  pub serves : Serving
+
+-- these
+abbrev pub means : NetworkCalls → Serving → Means
+means network serves = record { network = network; serves = serves }

@@ -12,16 +12,16 @@ use Rattle.rr_desk.specs.Desks.{desk_state}
 use Rattle.rr_desk.specs.Stocks.{DatabaseLasts, StoresUntilStopped}
 use Rattle.rr_desk.specs.Turns.{Serving, TakesTurns, Tally}
 use Rattle.rr_desk.specs.declared.desk.Desk.{Desk}
-use Rattle.rr_commands.specs.Commands.{ActsBySettings, AtDesk, CommandEnd, DatabaseCalls}
-use Rattle.rr_commands.specs.Commands.{DeskAction, FailsSilently, ProgramEnd, cause_of}
+use Rattle.rr_commands.specs.Commands.{Act, ActsBySettings, AtDesk, CommandEnd}
+use Rattle.rr_commands.specs.Commands.{FailsSilently, ProgramEnd, cause_of}
 use Rattle.rr_commands.specs.Faults.{IsAbout}
-use Rattle.rr_commands.specs.Files.{FileCalls}
+use Rattle.rr_commands.specs.Worlds.{Deed, Ports}
 use Rattle.rr_commands.specs.declared.cause.Cause.{Cause}
 use Rattle.rr_commands.specs.declared.cause.Cause.TheVariants as cause
 use Rattle.rr_commands.specs.declared.trouble.Trouble.{Trouble}
 use Rattle.rr_commands.specs.declared.trouble.Trouble.TheVariants.{ListenerUnopened, Memory}
 use Rattle.rr_commands.specs.declared.trouble.Trouble.TheVariants.{ProbeFailed, Unwritten}
-use Rattle.rr_cli.specs.Networks.{NetworkCalls}
+use Rattle.rr_cli.specs.Networks.{Means, NetworkCalls}
 
 -- the status of a probe: 1 if the reply is an error, and else 0 (profile)
 abbrev pub reply_status : List ℕ → ℕ
@@ -44,12 +44,12 @@ pub record IsReplyTo (network : NetworkCalls) (query reply : List ℕ) : Type 0 
   pub asked : network.asks query (Ok given)
   pub whole : IsWhole given reply
 
--- the reply to this was printed (profile)
-pub record HasReply (network : NetworkCalls) (query : List ℕ) (old new : Told)
-    (ended : CommandEnd) : Type 0 where
+-- the reply to the name of a desk's root maintainer was printed (profile)
+pub record HasReply {S : Type 0} (network : NetworkCalls) (done : Deed (Desk S) CommandEnd)
+    : Type 0 where
   pub reply : List ℕ
-  pub is_reply : IsReplyTo network query reply
-  pub prints : PrintsReply reply old new ended
+  pub is_reply : IsReplyTo network done.before.has.settings.root reply
+  pub prints : PrintsReply reply done.before.output done.after.output done.ended
 
 -- of a listener that told `tally_before` one turn was taken, and `failed` says how many failed, 0
 -- or 1; the settings stay, the connection lasts, and until the desk is stopped its rows are those
@@ -153,17 +153,14 @@ AsksInVain g network serves before after trouble =
 
 -- what `irrdesk probe` does at a desk: it asks in vain, and prints nothing; or it asks for the root
 -- maintainer of the settings, one turn is taken and served, and the reply is printed (profile)
-abbrev pub ProbesDesk : {S : Type 0} → Ghosts S → NetworkCalls → Serving → Told → Told
-    → DeskAction S
-ProbesDesk g network serves old new before after ended =
-    FailsSilently (AsksInVain g network serves before after) old new ended
-    ⊎ (HasReply network before.settings.root old new ended
-    × ListensOnce g network serves before after)
+abbrev pub ProbesDesk : {S : Type 0} → Ghosts S → Means → Act (Desk S)
+ProbesDesk g means done =
+    FailsSilently
+    (AsksInVain g means.network means.serves done.before.has done.after.has) done
+    ⊎ (HasReply means.network done
+    × ListensOnce g means.network means.serves done.before.has done.after.has)
 
 -- what `irrdesk probe` does, by its settings file (profile)
-abbrev pub ProbesBy : {D S : Type 0} → Ghosts S → DatabaseCalls D S → FileCalls → List ℕ
-    → NetworkCalls → Serving → D → D → Told → Told → ProgramEnd → Type 0
-ProbesBy g calls files file network serves start end old new =
-    ActsBySettings files file (IsAbout file)
-    (AtDesk g calls (ProbesDesk g network serves old new) start end old new)
-    start end old new
+abbrev pub ProbesBy : {D S : Type 0} → Ports D S → Means → List ℕ → Deed D ProgramEnd → Type 0
+ProbesBy by means file = ActsBySettings by.files file (IsAbout file)
+    (AtDesk by.stores (ProbesDesk by.stores.store means))

@@ -1,66 +1,63 @@
 -- What each command does, by its arguments (profile).
 use Rattle.std.specs.Prelude.{◌≡◌, string_bytes}
 use Rattle.sqlite.specs.Steps.{over_memory}
-use Rattle.sqlite_trees.specs.declared.store.Store.{Ghosts}
 use Rattle.rr_io.specs.Told.{Told}
-use Rattle.rr_desk.specs.Turns.{Serving}
 use Rattle.rr_arguments.specs.declared.command.Command.{Command}
 use Rattle.rr_arguments.specs.declared.command.Command.TheVariants as command
 use Rattle.rr_commands.specs.Asked.{AsksBy}
-use Rattle.rr_commands.specs.Commands.{DatabaseCalls, ProgramEnd}
+use Rattle.rr_commands.specs.Commands.{ProgramEnd}
 use Rattle.rr_commands.specs.Created.{CreatesBy}
 use Rattle.rr_commands.specs.Dumped.{DumpsBy}
-use Rattle.rr_commands.specs.Files.{FileCalls}
 use Rattle.rr_commands.specs.Loaded.{LoadsBy}
 use Rattle.rr_commands.specs.Migrated.{MigratesBy}
 use Rattle.rr_commands.specs.Printed.{Prints}
 use Rattle.rr_commands.specs.Submitted.{EndsPlain, SubmitsBy}
-use Rattle.rr_cli.specs.Networks.{NetworkCalls}
+use Rattle.rr_commands.specs.Worlds.{Deed, Ports, within}
+use Rattle.rr_cli.specs.Networks.{Means}
 use Rattle.rr_cli.specs.Probing.{ProbesBy}
-use Rattle.rr_cli.specs.Serving.{ServesBy}
+use Rattle.rr_cli.specs.Serving.{ServesBy, listening}
 
--- a command was carried out, by what keeps databases, and by what standard input and standard
--- output told, before and after; one without settings uses no database, and the plain command alone
+-- what a program has: what keeps databases, and what its standard input told (profile)
+pub record Resources (D : Type 0) : Type 0 where
+  pub databases : D
+  pub input : Told
+
+-- these
+abbrev pub resources : {D : Type 0} → D → Told → Resources D
+resources databases input = record { databases = databases; input = input }
+
+-- what was done to the databases alone, of which standard input was not read (profile)
+abbrev pub LeavesInput : {D : Type 0} → (Deed D ProgramEnd → Type 0) → Deed (Resources D) ProgramEnd
+    → Type 0
+LeavesInput does done =
+    (done.after.has.input ≡ done.before.has.input)
+    × does (within done.before.has.databases done.after.has.databases done)
+
+-- what was done without databases (profile)
+abbrev pub LeavesDatabases : {D : Type 0} → Deed (Resources D) ProgramEnd → Type 0
+LeavesDatabases done = done.after.has.databases ≡ done.before.has.databases
+
+-- a command was carried out; one without settings uses no database, and the plain command alone
 -- reads standard input (profile)
-abbrev pub CarriesOut : {D S : Type 0} → Ghosts S → DatabaseCalls D S → FileCalls → NetworkCalls
-    → Serving → Command → D → D → Told → Told → Told → Told → ProgramEnd → Type 0
-CarriesOut g calls files network serves command.Plain start end reader_old reader_new
-    writer_old writer_new result =
-    (end ≡ start) × EndsPlain over_memory reader_old reader_new writer_old writer_new result
-CarriesOut g calls files network serves (command.Init settings) start end
-    reader_old reader_new writer_old writer_new result =
-    (reader_new ≡ reader_old)
-    × CreatesBy g calls files settings.now start end writer_old writer_new result
-CarriesOut g calls files network serves (command.Submit settings file) start end
-    reader_old reader_new writer_old writer_new result =
-    (reader_new ≡ reader_old)
-    × SubmitsBy g calls files settings.now file.now start end writer_old writer_new result
-CarriesOut g calls files network serves (command.Query settings query) start end
-    reader_old reader_new writer_old writer_new result =
-    (reader_new ≡ reader_old)
-    × AsksBy g calls files settings.now (string_bytes query) start end writer_old writer_new result
-CarriesOut g calls files network serves (command.Dump settings full) start end
-    reader_old reader_new writer_old writer_new result =
-    (reader_new ≡ reader_old)
-    × DumpsBy g calls files settings.now full start end writer_old writer_new result
-CarriesOut g calls files network serves (command.Load settings file) start end
-    reader_old reader_new writer_old writer_new result =
-    (reader_new ≡ reader_old)
-    × LoadsBy g calls files settings.now file.now start end writer_old writer_new result
-CarriesOut g calls files network serves (command.Migrate settings) start end
-    reader_old reader_new writer_old writer_new result =
-    (reader_new ≡ reader_old)
-    × MigratesBy g calls files settings.now start end writer_old writer_new result
-CarriesOut g calls files network serves (command.Serve settings port count) start end
-    reader_old reader_new writer_old writer_new result =
-    (reader_new ≡ reader_old)
-    × ServesBy g calls files settings.now network serves port count start end writer_old writer_new
-    result
-CarriesOut g calls files network serves (command.Probe settings) start end
-    reader_old reader_new writer_old writer_new result =
-    (reader_new ≡ reader_old)
-    × ProbesBy g calls files settings.now network serves start end writer_old writer_new result
-CarriesOut g calls files network serves (command.Print text) start end
-    reader_old reader_new writer_old writer_new result =
-    (end ≡ start) × (reader_new ≡ reader_old)
-    × Prints (string_bytes text) writer_old writer_new result
+abbrev pub CarriesOut : {D S : Type 0} → Ports D S → Means → Command → Deed (Resources D) ProgramEnd
+    → Type 0
+CarriesOut by means command.Plain done =
+    LeavesDatabases done
+    × EndsPlain over_memory (within done.before.has.input done.after.has.input done)
+CarriesOut by means (command.Init settings) done = LeavesInput (CreatesBy by settings.now) done
+CarriesOut by means (command.Submit settings file) done =
+    LeavesInput (SubmitsBy by settings.now file.now) done
+CarriesOut by means (command.Query settings query) done =
+    LeavesInput (AsksBy by settings.now (string_bytes query)) done
+CarriesOut by means (command.Dump settings full) done =
+    LeavesInput (DumpsBy by settings.now full) done
+CarriesOut by means (command.Load settings file) done =
+    LeavesInput (LoadsBy by settings.now file.now) done
+CarriesOut by means (command.Migrate settings) done = LeavesInput (MigratesBy by settings.now) done
+CarriesOut by means (command.Serve settings port count) done =
+    LeavesInput (ServesBy by means settings.now (listening port count)) done
+CarriesOut by means (command.Probe settings) done =
+    LeavesInput (ProbesBy by means settings.now) done
+CarriesOut by means (command.Print text) done =
+    LeavesDatabases done × (done.after.has.input ≡ done.before.has.input)
+    × Prints (string_bytes text) done.before.output done.after.output done.ended

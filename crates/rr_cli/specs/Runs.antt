@@ -1,25 +1,23 @@
 -- What a run of the program does, by its words (profile).
 use Rattle.std.specs.Prelude.{◌≡◌, ◌⊎◌, ℕ, List, Ok, Err}
-use Rattle.sqlite_trees.specs.declared.store.Store.{Ghosts}
 use Rattle.rr_io.specs.Sending.{TakesSome}
 use Rattle.rr_io.specs.Told.{Told}
-use Rattle.rr_desk.specs.Turns.{Serving}
 use Rattle.rr_arguments.specs.CommandLine.{Invocation, IsInvoked, FailsToInvoke, invoked}
 use Rattle.rr_arguments.specs.declared.command.Command.{Command}
 use Rattle.rr_arguments.specs.declared.arguments_fault.ArgumentsFault.{ArgumentsFault}
 use Rattle.rr_arguments.specs.declared.arguments_fault.ArgumentsFault.TheVariants as fault
-use Rattle.rr_commands.specs.Commands.{DatabaseCalls, ProgramEnd}
+use Rattle.rr_commands.specs.Commands.{ProgramEnd}
 use Rattle.rr_commands.specs.Faults.{IsLegible, fault_line}
-use Rattle.rr_commands.specs.Files.{FileCalls}
 use Rattle.rr_commands.specs.Troubles.{trouble_status}
+use Rattle.rr_commands.specs.Worlds.{Deed, Ports, ended_by, within}
 use Rattle.rr_commands.specs.declared.cause.Cause.{Cause}
 use Rattle.rr_commands.specs.declared.command_fault.About.{About}
 use Rattle.rr_commands.specs.declared.command_fault.About.TheVariants as about
 use Rattle.rr_commands.specs.declared.command_fault.ProgramFault.{ProgramFault}
 use Rattle.rr_commands.specs.declared.trouble.Trouble.{Trouble}
 use Rattle.rr_commands.specs.declared.trouble.Trouble.TheVariants as trouble
-use Rattle.rr_cli.specs.Networks.{NetworkCalls}
-use Rattle.rr_cli.specs.Running.{CarriesOut}
+use Rattle.rr_cli.specs.Networks.{Means}
+use Rattle.rr_cli.specs.Running.{CarriesOut, Resources}
 
 -- what goes wrong where a line asks for nothing (profile)
 abbrev pub arguments_trouble : ArgumentsFault → Trouble
@@ -44,35 +42,27 @@ pub record IsOfArguments (fault : ArgumentsFault) (ended : ProgramFault) : Type 
   pub about : IsAboutArguments fault ended.about
 
 -- nothing was asked for, which is the fault, and nothing was used (profile)
-pub record InvokesNothing {D : Type 0} (invocation : Invocation) (start end : D)
-    (reader_old reader_new writer_old writer_new : Told) (result : ProgramEnd) : Type 0 where
+pub record InvokesNothing {D : Type 0} (invocation : Invocation)
+    (done : Deed (Resources D) ProgramEnd) : Type 0 where
   pub fault : ArgumentsFault
   pub refused : FailsToInvoke fault invocation
   pub ended : ProgramFault
-  pub told : result ≡ Err ended
+  pub told : done.ended ≡ Err ended
   pub of_arguments : IsOfArguments fault ended
-  pub unused : end ≡ start
-  pub unread : reader_new ≡ reader_old
-  pub unwritten : writer_new ≡ writer_old
+  pub unused : done.after ≡ done.before
 
 -- a command that was asked for was carried out (profile)
-pub record InvokesCommand {D S : Type 0} (g : Ghosts S) (calls : DatabaseCalls D S)
-    (files : FileCalls) (network : NetworkCalls) (serves : Serving) (invocation : Invocation)
-    (start end : D)
-    (reader_old reader_new writer_old writer_new : Told) (result : ProgramEnd) : Type 0 where
+pub record InvokesCommand {D S : Type 0} (by : Ports D S) (means : Means)
+    (invocation : Invocation) (done : Deed (Resources D) ProgramEnd) : Type 0 where
   pub command : Command
   pub is_invoked : IsInvoked command invocation
-  pub carried_out : CarriesOut g calls files network serves command start end
-      reader_old reader_new writer_old writer_new result
+  pub carried_out : CarriesOut by means command done
 
 -- what was asked for was done, or nothing was (profile)
-abbrev pub DoesAsInvoked : {D S : Type 0} → Ghosts S → DatabaseCalls D S → FileCalls → NetworkCalls
-    → Serving → Invocation → D → D → Told → Told → Told → Told → ProgramEnd → Type 0
-DoesAsInvoked g calls files network serves invocation start end reader_old reader_new
-    writer_old writer_new result =
-    InvokesCommand g calls files network serves invocation start end reader_old reader_new
-    writer_old writer_new result
-    ⊎ InvokesNothing invocation start end reader_old reader_new writer_old writer_new result
+abbrev pub DoesAsInvoked : {D S : Type 0} → Ports D S → Means → Invocation
+    → Deed (Resources D) ProgramEnd → Type 0
+DoesAsInvoked by means invocation done =
+    InvokesCommand by means invocation done ⊎ InvokesNothing invocation done
 
 -- the status of such an end: a fault has its status, and its one line on standard error, of which
 -- a failed write may leave the end out (profile)
@@ -91,12 +81,19 @@ abbrev pub EndsUnread : Trouble → Told → Told → ℕ → Type 0
 EndsUnread cause errors_old errors_new status = (status ≡ trouble_status cause)
     × ((stream : Cause) × TakesSome errors_old errors_new (fault_line about.Nothing cause stream))
 
--- a run over these words (profile)
-pub record Runs {D S : Type 0} (g : Ghosts S) (calls : DatabaseCalls D S) (files : FileCalls)
-    (network : NetworkCalls) (serves : Serving) (words : List (List ℕ)) (start end : D)
-    (reader_old reader_new writer_old writer_new errors_old errors_new : Told) (status : ℕ)
-    : Type 0 where
-  pub result : ProgramEnd
-  pub does : DoesAsInvoked g calls files network serves (invoked words) start end
-      reader_old reader_new writer_old writer_new result
-  pub ends : EndsRun result errors_old errors_new status
+-- what a run changes: what a program has, and what standard error told (profile)
+pub record Running (D : Type 0) : Type 0 where
+  pub resources : Resources D
+  pub errors : Told
+
+-- these
+abbrev pub running : {D : Type 0} → Resources D → Told → Running D
+running resources errors = record { resources = resources; errors = errors }
+
+-- a run over these words, by its status (profile)
+pub record Runs {D S : Type 0} (by : Ports D S) (means : Means) (words : List (List ℕ))
+    (done : Deed (Running D) ℕ) : Type 0 where
+  pub ended : ProgramEnd
+  pub does : DoesAsInvoked by means (invoked words)
+      (within done.before.has.resources done.after.has.resources (ended_by ended done))
+  pub ends : EndsRun ended done.before.has.errors done.after.has.errors done.ended

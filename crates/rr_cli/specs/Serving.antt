@@ -12,12 +12,12 @@ use Rattle.rr_commands.specs.declared.cause.Cause.{Cause}
 use Rattle.rr_commands.specs.declared.trouble.Trouble.{Trouble}
 use Rattle.rr_commands.specs.declared.trouble.Trouble.TheVariants.{ListenerUnopened, Unaccepted}
 use Rattle.rr_commands.specs.declared.trouble.Trouble.TheVariants.{Unwritten}
-use Rattle.rr_commands.specs.Commands.{ActsBySettings, AtDesk, CommandEnd, DatabaseCalls}
-use Rattle.rr_commands.specs.Commands.{DeskAction, ProgramEnd}
+use Rattle.rr_commands.specs.Commands.{Act, ActsBySettings, AtDesk, CommandEnd, ProgramEnd}
 use Rattle.rr_commands.specs.Faults.{IsAbout, byte_on_line, name_on_line}
-use Rattle.rr_commands.specs.Files.{FileCalls}
+use Rattle.rr_commands.specs.Worlds.{Deed, Ports, deed}
 use Rattle.rr_commands.specs.declared.command_fault.ProgramFault.{ProgramFault}
-use Rattle.rr_cli.specs.Networks.{NetworkCalls}
+use Rattle.rr_cli.specs.Networks.{Means, NetworkCalls}
+use Rattle.rr_cli.specs.declared.serve_command.Listening.{Listening}
 
 -- the line that says how many turns were served, and how many failed (profile)
 unfoldable pub served_line : ℕ → ℕ → List ℕ
@@ -61,15 +61,15 @@ EndsServed tally served failed old new ended =
 -- serving ended so; the settings stay, the connection lasts, and until the desk is stopped its rows
 -- are those of its registry (profile)
 pub record HasServed {S : Type 0} (g : Ghosts S) (serves : Serving) (count : ℕ)
-    (before after : Desk S) (tally_before tally_after : Tally) (old new : Told)
-    (ended : CommandEnd) : Type 0 where
+    (tally_before tally_after : Tally) (done : Deed (Desk S) CommandEnd) : Type 0 where
   pub served : ℕ
   pub failed : ℕ
-  pub turns : TakesTurns g serves count before after tally_before tally_after served failed
-  pub settings : after.settings ≡ before.settings
-  pub lasts : DatabaseLasts (desk_state g before) (desk_state g after)
-  pub rows : StoresUntilStopped g after.stored
-  pub ends : EndsServed tally_after served failed old new ended
+  pub turns : TakesTurns g serves count done.before.has done.after.has tally_before tally_after
+      served failed
+  pub settings : done.after.has.settings ≡ done.before.has.settings
+  pub lasts : DatabaseLasts (desk_state g done.before.has) (desk_state g done.after.has)
+  pub rows : StoresUntilStopped g done.after.has.stored
+  pub ends : EndsServed tally_after served failed done.before.output done.after.output done.ended
 
 -- what the line begins with that says where the program listens (profile)
 unfoldable pub listening_head : List ℕ
@@ -88,30 +88,35 @@ FailsToListen network port Unwritten old new =
     ((tally : Tally) × network.listens port (Ok tally)) × TakesPrefix old new (listening_line port)
 FailsToListen network port _ old new = ⊥
 
+-- these
+abbrev pub listening : ℕ → ℕ → Listening
+listening port count = record { port = port; count = count }
+
 -- the port is not listened on, or that could not be said: nothing was served (profile)
-pub record HasNotListened (network : NetworkCalls) (port : ℕ) (old new : Told) (ended : CommandEnd)
-    : Type 0 where
+pub record HasNotListened {S : Type 0} (network : NetworkCalls) (port : ℕ)
+    (done : Deed (Desk S) CommandEnd) : Type 0 where
   pub trouble : Trouble
-  pub told : ended ≡ Err trouble
-  pub said : FailsToListen network port trouble old new
+  pub told : done.ended ≡ Err trouble
+  pub said : FailsToListen network port trouble done.before.output done.after.output
+  pub same : done.after.has ≡ done.before.has
 
 -- the port was listened on, that was said, and then turns of what listens on it were served
 -- (profile)
 pub record HasListened {S : Type 0} (g : Ghosts S) (network : NetworkCalls) (serves : Serving)
-    (port count : ℕ) (old new : Told) (before after : Desk S) (ended : CommandEnd) : Type 0 where
+    (asked : Listening) (done : Deed (Desk S) CommandEnd) : Type 0 where
   pub between : Told
-  pub said : Takes old between (listening_line port)
+  pub said : Takes done.before.output between (listening_line asked.port)
   pub tally_before : Tally
   pub tally_after : Tally
-  pub listened : network.listens port (Ok tally_before)
-  pub served : HasServed g serves count before after tally_before tally_after between new ended
+  pub listened : network.listens asked.port (Ok tally_before)
+  pub served : HasServed g serves asked.count tally_before tally_after
+      (deed done.before.has done.after.has between done.after.output done.ended)
 
 -- what `irrdesk serve` does at a desk (profile)
-abbrev pub ServesDesk : {S : Type 0} →
-    Ghosts S → NetworkCalls → Serving → ℕ → ℕ → Told → Told → DeskAction S
-ServesDesk g network serves port count old new before after ended =
-    (HasNotListened network port old new ended × (after ≡ before))
-    ⊎ HasListened g network serves port count old new before after ended
+abbrev pub ServesDesk : {S : Type 0} → Ghosts S → Means → Listening → Act (Desk S)
+ServesDesk g means asked done =
+    HasNotListened means.network asked.port done
+    ⊎ HasListened g means.network means.serves asked done
 
 -- where a port is listened on (profile)
 abbrev pub address : ℕ → List ℕ
@@ -139,9 +144,8 @@ IsAboutServing port file path found fault =
     IsAbout file path found fault ⊎ IsAboutPort port fault
 
 -- what `irrdesk serve` does, by its settings file (profile)
-abbrev pub ServesBy : {D S : Type 0} → Ghosts S → DatabaseCalls D S → FileCalls → List ℕ
-    → NetworkCalls → Serving → ℕ → ℕ → D → D → Told → Told → ProgramEnd → Type 0
-ServesBy g calls files file network serves port count start end old new =
-    ActsBySettings files file (IsAboutServing port file)
-    (AtDesk g calls (ServesDesk g network serves port count old new) start end old new)
-    start end old new
+abbrev pub ServesBy : {D S : Type 0} → Ports D S → Means → List ℕ → Listening
+    → Deed D ProgramEnd → Type 0
+ServesBy by means file asked =
+    ActsBySettings by.files file (IsAboutServing asked.port file)
+    (AtDesk by.stores (ServesDesk by.stores.store means asked))

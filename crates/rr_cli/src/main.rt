@@ -10,7 +10,7 @@ mod standard_streams;
 
 use crate::network::Sockets;
 use crate::standard_streams::{StandardInput, fill_closed};
-use rr_commands::{DatabaseFiles, Progress, Reading, SystemFiles};
+use rr_commands::{DatabaseFiles, ErrorStream, Host, Progress, Reading, SystemFiles, Tools};
 use rr_io::Counted;
 use std::env;
 use std::process::ExitCode;
@@ -19,21 +19,25 @@ fn main(rt: HostRuntime) -> ExitCode {
     // Kept to the end of the run.
     let filled = fill_closed(&rt);
     let stdin = StandardInput::new(&rt, filled[0].is_some());
-    let mut input = Reading::silent(&rt, Counted::new(stdin));
-    let mut output = Progress::new(&rt, Counted::new(rt.stdout()));
-    let mut errors = Counted::new(rt.stderr());
-    let mut databases = DatabaseFiles::new(&rt);
-    let files = SystemFiles::new(&rt);
+    let tools = Tools {
+        alloc: rt.alloc(),
+        errors: ErrorStream::new(&rt),
+    };
+    let mut input = Reading::silent(tools.errors, Counted::new(stdin));
+    let mut errors = tools.errors.counted();
     let network = Sockets::new(&rt);
-    ExitCode::from(match program_run::collect(&rt, env::args(&rt)) {
+    let mut host = Host {
+        tools,
+        databases: DatabaseFiles::new(&rt),
+        files: SystemFiles::new(&rt),
+        output: Progress::new(tools.errors, Counted::new(rt.stdout())),
+    };
+    ExitCode::from(match program_run::collect(tools.alloc, env::args(&rt)) {
         Ok(arguments) => program_run::run(
-            &rt,
-            &mut databases,
-            &files,
+            &mut host,
             &network,
             arguments.as_slice(),
             &mut input,
-            &mut output,
             &mut errors,
         ),
         Err(trouble) => program_run::tell_unread(trouble, &mut errors),

@@ -3,6 +3,8 @@
 ghost use Rattle.std.specs.Prelude.{◌≡◌, ◌+◌, ◌<◌, ◌^◌, IfErr, IfOk, OnOk};
 ghost use Rattle.rr_http.specs.DeskRegistrars.{serves_desk};
 ghost use Rattle.rr_commands.specs.Commands.{AtDesk};
+ghost use Rattle.rr_commands.specs.Worlds.{at, deed, done_by, named, ports};
+ghost use Rattle.rr_cli.specs.Networks.{means};
 ghost use Rattle.rr_cli.specs.Probing.{AsksInVain, GivesNoReply, HearsNothing, IsReplyTo};
 ghost use Rattle.rr_cli.specs.Probing.{IsWhole, ListensOnce, PrintsReply, ProbesBy, ProbesDesk};
 ghost use Rattle.rr_cli.specs.Probing.{TakesOneTurn, question_trouble, reply_status};
@@ -10,8 +12,8 @@ ghost use Rattle.rr_cli.specs.Probing.{TakesOneTurn, question_trouble, reply_sta
 use crate::network::Network;
 use crate::peers_with_cause::PeersWithCause;
 use rr_commands::{
-    Cause, Databases, Files, Output, ProgramFault, Readable, Trouble, close, ended, open_desk,
-    read_settings_file,
+    Cause, Databases, Files, Host, Output, ProgramFault, Readable, Trouble, close, ended,
+    open_desk, read_settings_file,
 };
 use rr_desk::{Desk, Peers, Settings, serve_all};
 use rr_http::Both;
@@ -29,53 +31,38 @@ const ERROR: u8 = 1;
 /// if the reply is an error. If the turn fails, or the reply cannot be read or is empty, nothing is
 /// printed.
 pub fn probe<'a, D: Databases, F: Files, N: Network, W: Output>(
-    rt: &HostRuntime,
-    databases: &mut D,
-    files: &F,
+    host: &mut Host<'_, D, F, W>,
     network: &N,
-    settings: &'a str,
-    output: &mut W,
+    file: &'a str,
 ) -> Result<u8, ProgramFault<'a>>
-    ensures { ProbesBy D.Disk.Store D.calls (F.calls files.now) settings.now
-        (N.calls network.now) serves_desk
-        databases.old databases.new (W.told output.old) (W.told output.new) result }
+    ensures done { ProbesBy (ports D.Disk.Store D.calls (F.calls host.old.files))
+        (means (N.calls network.now) serves_desk) file.now
+        (done_by W.told host.old host.new result) }
+    ensures kept { host.new.files ≡ host.old.files }
 {
-    let (read, path) = read_settings_file(rt.alloc(), files, settings)?;
-    let mut found = String::new(rt.alloc());
-    let end = probe_at(
-        rt,
-        databases,
-        network,
-        read,
-        path.as_str(),
-        &mut found,
-        output,
-    );
-    ended(rt.alloc(), end, settings, path, found.as_str(), output)
+    let (settings, mut store) = read_settings_file(host, file)?;
+    let path = store.path.as_str();
+    let end = probe_at(host, network, settings, path, &mut store.found);
+    ended(host, end, file, store)
 }
 
-/// Asks the registry in the database at a path for its root maintainer, and prints the reply. If
-/// the database is refused, `found` gets what is at fault, for the message: a row, a table, or what
-/// was added to one.
-fn probe_at<D: Databases, N: Network, W: Sink>(
-    rt: &HostRuntime,
-    databases: &mut D,
+/// Asks the registry in the database at a path for its root maintainer, and prints the reply.
+fn probe_at<D: Databases, F: Files, N: Network, W: Output>(
+    host: &mut Host<'_, D, F, W>,
     network: &N,
     settings: Settings,
     path: &str,
     found: &mut String,
-    output: &mut W,
 ) -> Result<u8, Trouble>
-    ensures { AtDesk D.Disk.Store D.calls
-        (ProbesDesk D.Disk.Store (N.calls network.now) serves_desk
-        (W.told output.old) (W.told output.new))
-        databases.old databases.new (W.told output.old) (W.told output.new)
-        settings path.now result }
+    ensures done { AtDesk (at D.Disk.Store D.calls)
+        (ProbesDesk D.Disk.Store (means (N.calls network.now) serves_desk))
+        (named settings path.now) (done_by W.told host.old host.new result) }
+    ensures kept { host.new.files ≡ host.old.files }
 {
-    let mut desk = open_desk(rt, databases, settings, path, found)?;
-    let end = probe_desk(rt.alloc(), &mut desk, network, output);
+    let mut desk = open_desk(host.tools, &mut host.databases, settings, path, found)?;
+    let end = probe_desk(host.tools.alloc, &mut desk, network, &mut host.output);
     let conn = desk.close();
-    close(databases, conn);
+    close(&mut host.databases, conn);
     end
 }
 
@@ -86,8 +73,8 @@ fn probe_desk<S: Alter, N: Network, W: Sink>(
     network: &N,
     output: &mut W,
 ) -> Result<u8, Trouble>
-    ensures { ProbesDesk S.Store (N.calls network.now) serves_desk
-        (W.told output.old) (W.told output.new) desk.old desk.new result }
+    ensures { ProbesDesk S.Store (means (N.calls network.now) serves_desk)
+        (deed desk.old desk.new (W.told output.old) (W.told output.new) result) }
 {
     match ask_for_root(alloc, desk, network) {
         Ok(reply) => print_reply(reply.as_slice(), output),

@@ -1,25 +1,27 @@
 //! A run of the program, over its arguments and its three streams.
 
 ghost use Rattle.rr_http.specs.DeskRegistrars.{serves_desk};
-ghost use Rattle.std.specs.Prelude.{IfErr, map, string_bytes};
+ghost use Rattle.std.specs.Prelude.{◌≡◌, IfErr, map, string_bytes};
 ghost use Rattle.rr_arguments.specs.CommandLine.{invoked};
-ghost use Rattle.rr_cli.specs.Running.{CarriesOut};
+ghost use Rattle.rr_commands.specs.Worlds.{deed, ports};
+ghost use Rattle.rr_cli.specs.Networks.{means};
+ghost use Rattle.rr_cli.specs.Running.{CarriesOut, resources};
 ghost use Rattle.rr_cli.specs.Runs.{DoesAsInvoked, EndsRun, EndsUnread, IsOfArguments, IsUnread};
-ghost use Rattle.rr_cli.specs.Runs.{Runs};
+ghost use Rattle.rr_cli.specs.Runs.{Runs, running};
 
 use crate::network::Network;
 use crate::probe_command::probe;
-use crate::serve_command::serve;
+use crate::serve_command::{Listening, serve};
 use rr_arguments::{ArgumentsFault, Command, read_command};
 use rr_commands::{
-    Databases, Files, Input, Output, ProgramFault, Trouble, dump, init, load, migrate, plain,
-    print, query, shown_name, submit,
+    Databases, ErrorStream, Files, Host, Input, Output, ProgramFault, Trouble, dump, init, load,
+    migrate, plain, print, query, shown_name, submit,
 };
 use rr_io::Sink;
 use std::alloc::Global;
 use std::env::Args;
 use std::io;
-use std::io::{ErrorKind, IsTerminal, Write};
+use std::io::ErrorKind;
 
 /// What a terminal shows before objects are typed on it.
 const HINT: &[u8] =
@@ -30,22 +32,21 @@ const HINT: &[u8] =
 /// which has its line on `errors`, 2 at wrong arguments, 3 at wrong settings, 4 at trouble with the
 /// database or if the desk is stopped, and else 5, also if memory ran out (profile).
 pub fn run<D: Databases, F: Files, N: Network, R: Input, W: Output, E: Sink>(
-    rt: &HostRuntime,
-    databases: &mut D,
-    files: &F,
+    host: &mut Host<'_, D, F, W>,
     network: &N,
     arguments: &[String],
     input: &mut R,
-    output: &mut W,
     errors: &mut E,
 ) -> u8
-    ensures { Runs D.Disk.Store D.calls (F.calls files.now) (N.calls network.now) serves_desk
-        (map string_bytes arguments.now)
-        databases.old databases.new (R.told input.old) (R.told input.new)
-        (W.told output.old) (W.told output.new) (E.told errors.old) (E.told errors.new) result }
+    ensures runs { Runs (ports D.Disk.Store D.calls (F.calls host.old.files))
+        (means (N.calls network.now) serves_desk) (map string_bytes arguments.now)
+        (deed (running (resources host.old.databases (R.told input.old)) (E.told errors.old))
+        (running (resources host.new.databases (R.told input.new)) (E.told errors.new))
+        (W.told host.old.output) (W.told host.new.output) result) }
+    ensures kept { host.new.files ≡ host.old.files }
 {
-    let end = run_arguments(rt, databases, files, network, arguments, input, output);
-    ended_with(rt.alloc(), end, errors)
+    let end = run_arguments(host, network, arguments, input);
+    ended_with(host.tools.alloc, end, errors)
 }
 
 /// The status of how a run ended, and at a fault its line on `errors`.
@@ -66,11 +67,11 @@ pub fn tell_unread<E: Sink>(trouble: Trouble, errors: &mut E) -> u8
 }
 
 /// The arguments as a list.
-pub fn collect(rt: &HostRuntime, arguments: io::Result<Args>) -> Result<Vec<String>, Trouble>
+pub fn collect(alloc: Global, arguments: io::Result<Args>) -> Result<Vec<String>, Trouble>
     ensures { IfErr result IsUnread }
 {
     match arguments {
-        Ok(arguments) => match arguments.collect(rt.alloc()) {
+        Ok(arguments) => match arguments.collect(alloc) {
             Ok(arguments) => Ok(arguments),
             Err(_) => Err(Trouble::Memory),
         },
@@ -129,67 +130,65 @@ fn refusal_of(alloc: Global, arguments: &[String]) -> Option<String> {
 
 /// Does what the arguments ask for.
 fn run_arguments<'a, D: Databases, F: Files, N: Network, R: Input, W: Output>(
-    rt: &HostRuntime,
-    databases: &mut D,
-    files: &F,
+    host: &mut Host<'_, D, F, W>,
     network: &N,
     arguments: &'a [String],
     input: &mut R,
-    output: &mut W,
 ) -> Result<u8, ProgramFault<'a>>
-    ensures { DoesAsInvoked D.Disk.Store D.calls (F.calls files.now) (N.calls network.now)
-        serves_desk (invoked (map string_bytes arguments.now))
-        databases.old databases.new (R.told input.old) (R.told input.new)
-        (W.told output.old) (W.told output.new) result }
+    ensures does { DoesAsInvoked (ports D.Disk.Store D.calls (F.calls host.old.files))
+        (means (N.calls network.now) serves_desk) (invoked (map string_bytes arguments.now))
+        (deed (resources host.old.databases (R.told input.old))
+        (resources host.new.databases (R.told input.new))
+        (W.told host.old.output) (W.told host.new.output) result) }
+    ensures kept { host.new.files ≡ host.old.files }
 {
-    match read_command(rt.alloc(), arguments) {
-        Ok(command) => carry_out(rt, databases, files, network, command, input, output),
-        Err(fault) => Err(fault_of(rt.alloc(), arguments, fault)),
+    match read_command(host.tools.alloc, arguments) {
+        Ok(command) => carry_out(host, network, command, input),
+        Err(fault) => Err(fault_of(host.tools.alloc, arguments, fault)),
     }
 }
 
 /// Carries out a command.
 fn carry_out<'a, D: Databases, F: Files, N: Network, R: Input, W: Output>(
-    rt: &HostRuntime,
-    databases: &mut D,
-    files: &F,
+    host: &mut Host<'_, D, F, W>,
     network: &N,
     command: Command<'a>,
     input: &mut R,
-    output: &mut W,
 ) -> Result<u8, ProgramFault<'a>>
-    ensures { CarriesOut D.Disk.Store D.calls (F.calls files.now) (N.calls network.now)
-        serves_desk command.entry databases.old databases.new
-        (R.told input.old) (R.told input.new) (W.told output.old) (W.told output.new) result }
+    ensures carries { CarriesOut (ports D.Disk.Store D.calls (F.calls host.old.files))
+        (means (N.calls network.now) serves_desk) command.entry
+        (deed (resources host.old.databases (R.told input.old))
+        (resources host.new.databases (R.told input.new))
+        (W.told host.old.output) (W.told host.new.output) result) }
+    ensures kept { host.new.files ≡ host.old.files }
 {
     match command {
         Command::Plain => {
-            hint(rt);
-            plain(rt.alloc(), input, output)
+            hint(host.tools.errors);
+            plain(host.tools.alloc, input, &mut host.output)
         }
-        Command::Init { settings } => init(rt, databases, files, settings, output),
-        Command::Submit { settings, file } => submit(rt, databases, files, settings, file, output),
+        Command::Init { settings } => init(host, settings),
+        Command::Submit { settings, file } => submit(host, settings, file),
         Command::Query {
             settings,
             query: words,
-        } => query(rt, databases, files, settings, words.as_str(), output),
-        Command::Dump { settings, full } => dump(rt, databases, files, settings, full, output),
-        Command::Load { settings, file } => load(rt, databases, files, settings, file, output),
-        Command::Migrate { settings } => migrate(rt, databases, files, settings, output),
+        } => query(host, settings, words.as_str()),
+        Command::Dump { settings, full } => dump(host, settings, full),
+        Command::Load { settings, file } => load(host, settings, file),
+        Command::Migrate { settings } => migrate(host, settings),
         Command::Serve {
             settings,
             port,
             count,
-        } => serve(rt, databases, files, network, settings, port, count, output),
-        Command::Probe { settings } => probe(rt, databases, files, network, settings, output),
-        Command::Print(text) => print(output, text.as_bytes()),
+        } => serve(host, network, settings, Listening { port, count }),
+        Command::Probe { settings } => probe(host, network, settings),
+        Command::Print(text) => print(&mut host.output, text.as_bytes()),
     }
 }
 
 /// Says on a terminal that objects are read from it.
-fn hint(rt: &HostRuntime) {
-    if rt.stdin().is_terminal() && rt.stderr().is_terminal() {
-        // Without the hint the program does the same.
-        let _ = rt.stderr().write_all(HINT);
+fn hint(errors: ErrorStream<'_>) {
+    if errors.is_typed() && errors.is_terminal() {
+        errors.show(HINT);
     }
 }

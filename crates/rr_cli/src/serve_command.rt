@@ -4,6 +4,8 @@ ghost use Rattle.std.specs.Prelude.{◌≡◌, ◌+◌, ◌<◌, ◌^◌, IfErr,
 ghost use Rattle.rr_io.specs.Sending.{Writes};
 ghost use Rattle.rr_http.specs.DeskRegistrars.{serves_desk};
 ghost use Rattle.rr_commands.specs.Commands.{AtDesk, EndsAs};
+ghost use Rattle.rr_commands.specs.Worlds.{at, deed, done_by, named, ports};
+ghost use Rattle.rr_cli.specs.Networks.{means};
 ghost use Rattle.rr_cli.specs.Serving.{HasServed, IsAboutServing, IsServedEnd, ServesBy};
 ghost use Rattle.rr_cli.specs.Serving.{ServesDesk, ShowsPort, address, listening_head};
 ghost use Rattle.rr_cli.specs.Serving.{listening_line, served_line};
@@ -12,72 +14,63 @@ use crate::network::Network;
 use crate::peers_with_cause::PeersWithCause;
 use itoa::Buffer;
 use rr_commands::{
-    DatabaseCause, Databases, Files, Output, ProgramFault, Trouble, close, ended, open_desk,
-    read_settings_file,
+    DatabaseCause, Databases, Files, Host, Output, ProgramFault, Store, Tools, Trouble, close,
+    ended, open_desk, read_settings_file,
 };
 use rr_desk::{ConnFault, Desk, Served, Service, Settings, serve_all};
 use rr_http::Both;
-use rr_io::{Connection, Counted, Sink, write_pieces};
+use rr_io::{Connection, Sink, write_pieces};
 use sqlite::{Alter, Error};
 use std::alloc::{AllocError, Global};
 use std::io;
+
+/// What is served: a port of 127.0.0.1, and so many connections to it.
+#[derive(Clone, Copy)]
+pub struct Listening {
+    /// The port.
+    pub port: u16,
+    /// How many connections.
+    pub count: u64,
+}
 
 /// Serves so many connections to this port of 127.0.0.1, by whois and HTTP, from the registry that
 /// the settings name. Prints where it listens, and at the end how many turns were served and how
 /// many failed: the status is 0, unless no turn was served and in the last one no connection could
 /// be accepted. If the database fails meanwhile, that is said once on standard error.
 pub fn serve<'a, D: Databases, F: Files, N: Network, W: Output>(
-    rt: &HostRuntime,
-    databases: &mut D,
-    files: &F,
+    host: &mut Host<'_, D, F, W>,
     network: &N,
-    settings: &'a str,
-    port: u16,
-    count: u64,
-    output: &mut W,
+    file: &'a str,
+    listening: Listening,
 ) -> Result<u8, ProgramFault<'a>>
-    ensures { ServesBy D.Disk.Store D.calls (F.calls files.now) settings.now
-        (N.calls network.now) serves_desk port count
-        databases.old databases.new (W.told output.old) (W.told output.new) result }
+    ensures done { ServesBy (ports D.Disk.Store D.calls (F.calls host.old.files))
+        (means (N.calls network.now) serves_desk) file.now listening
+        (done_by W.told host.old host.new result) }
+    ensures kept { host.new.files ≡ host.old.files }
 {
-    let (read, path) = read_settings_file(rt.alloc(), files, settings)?;
-    let mut found = String::new(rt.alloc());
-    let end = serve_at(
-        rt,
-        databases,
-        network,
-        read,
-        path.as_str(),
-        &mut found,
-        port,
-        count,
-        output,
-    );
-    ended_at(
-        rt.alloc(),
-        end,
-        port,
-        settings,
-        path,
-        found.as_str(),
-        output,
-    )
+    let (settings, mut store) = read_settings_file(host, file)?;
+    let watched = Watched {
+        tools: host.tools,
+        path: store.path.as_str(),
+        listening,
+    };
+    let end = serve_at(host, network, settings, watched, &mut store.found);
+    ended_at(host, end, listening.port, file, store)
 }
 
 /// How serving ended; trouble with the listener is about its address.
-fn ended_at<'a, W: Output>(
-    alloc: Global,
+fn ended_at<'a, D: Databases, F: Files, W: Output>(
+    host: &Host<'_, D, F, W>,
     end: Result<u8, Trouble>,
     port: u16,
     file: &'a str,
-    path: String,
-    found: &str,
-    output: &W,
+    store: Store,
 ) -> Result<u8, ProgramFault<'a>>
     ensures ends { EndsAs end result }
     ensures about { IfErr result
-        (IsAboutServing port file.now (string_bytes path) found.now) }
+        (IsAboutServing port file.now (string_bytes store.path) (string_bytes store.found)) }
 {
+    let alloc = host.tools.alloc;
     match end {
         Err(Trouble::ListenerUnopened(cause)) => {
             Err(about_port(alloc, Trouble::ListenerUnopened(cause), port))
@@ -85,7 +78,7 @@ fn ended_at<'a, W: Output>(
         Err(Trouble::Unaccepted(cause)) => {
             Err(about_port(alloc, Trouble::Unaccepted(cause), port))
         }
-        _ => ended(alloc, end, file, path, found, output),
+        _ => ended(host, end, file, store),
     }
 }
 
@@ -110,81 +103,65 @@ fn address(alloc: Global, port: u16) -> Result<String, AllocError>
     Ok(text)
 }
 
-/// Serves so many connections to this port from the registry in the database at a path. If the
-/// database is refused, `found` gets what is at fault, for the message: a row, a table, or what was
-/// added to one.
-fn serve_at<D: Databases, N: Network, W: Sink>(
-    rt: &HostRuntime,
-    databases: &mut D,
+/// Serves connections from the registry in a database.
+fn serve_at<D: Databases, F: Files, N: Network, W: Output>(
+    host: &mut Host<'_, D, F, W>,
     network: &N,
     settings: Settings,
-    path: &str,
+    watched: Watched<'_>,
     found: &mut String,
-    port: u16,
-    count: u64,
-    output: &mut W,
 ) -> Result<u8, Trouble>
-    ensures { AtDesk D.Disk.Store D.calls
-        (ServesDesk D.Disk.Store (N.calls network.now) serves_desk port count
-        (W.told output.old) (W.told output.new))
-        databases.old databases.new (W.told output.old) (W.told output.new)
-        settings path.now result }
+    ensures done { AtDesk (at D.Disk.Store D.calls)
+        (ServesDesk D.Disk.Store (means (N.calls network.now) serves_desk)
+        watched.entry.listening) (named settings watched.entry.path.now)
+        (done_by W.told host.old host.new result) }
+    ensures kept { host.new.files ≡ host.old.files }
 {
-    let mut desk = open_desk(rt, databases, settings, path, found)?;
-    let watched = Watched { rt, path };
-    let end = serve_desk(
-        rt.alloc(),
-        &mut desk,
-        network,
-        &watched,
-        port,
-        count,
-        output,
-    );
+    let path = watched.path;
+    let mut desk = open_desk(watched.tools, &mut host.databases, settings, path, found)?;
+    let end = serve_desk(&watched, &mut desk, network, &mut host.output);
     let conn = desk.close();
-    close(databases, conn);
+    close(&mut host.databases, conn);
     end
 }
 
-/// Listens on this port, says so, and serves so many connections of a desk.
-fn serve_desk<S: Alter, N: Network, V: Service, W: Sink>(
-    alloc: Global,
+/// Listens on the port, says so, and serves so many connections of a desk.
+fn serve_desk<S: Alter, N: Network, W: Sink>(
+    watched: &Watched<'_>,
     desk: &mut Desk<S>,
     network: &N,
-    service: &V,
-    port: u16,
-    count: u64,
     output: &mut W,
 ) -> Result<u8, Trouble>
-    ensures { ServesDesk S.Store (N.calls network.now) V.serves port count
-        (W.told output.old) (W.told output.new) desk.old desk.new result }
+    ensures { ServesDesk S.Store (means (N.calls network.now) serves_desk) watched.now.listening
+        (deed desk.old desk.new (W.told output.old) (W.told output.new) result) }
 {
-    match network.listen(port) {
-        Ok(mut listener) => match write_listening(output, port) {
-            Ok(()) => serve_turns(alloc, desk, &mut listener, service, count, output),
+    let listening = watched.listening;
+    match network.listen(listening.port) {
+        Ok(mut listener) => match write_listening(output, listening.port) {
+            Ok(()) => serve_turns(watched, desk, &mut listener, output),
             Err(_) => Err(Trouble::Unwritten),
         },
         Err(cause) => Err(Trouble::ListenerUnopened(cause)),
     }
 }
 
-/// What serves as `Both` does, and says on standard error when the database fails, and why, which
-/// stops the desk.
-#[derive(Drop)]
+/// What serves as `Both` does, so many connections to a port. When the database at its path fails,
+/// which stops the desk, it says so on standard error, and why.
+#[derive(Clone, Copy)]
 struct Watched<'a> {
-    rt: &'a HostRuntime,
+    tools: Tools<'a>,
     path: &'a str,
+    listening: Listening,
 }
 
 impl Watched<'_> {
     /// Says that the database failed with this error.
     fn say(&self, error: Error) {
-        let mut errors = Counted::new(self.rt.stderr());
         let trouble = Trouble::ServedInVain(DatabaseCause::of(error));
         // Its status is not the program's: serving goes on.
         let _ = ProgramFault::of(self.path, trouble)
-            .legible(self.rt.alloc())
-            .tell(&mut errors);
+            .legible(self.tools.alloc)
+            .tell(&mut self.tools.errors.counted());
     }
 }
 
@@ -207,19 +184,19 @@ impl Service for Watched<'_> {
 }
 
 /// Takes so many turns of a listener, and prints how many were served and how many failed.
-fn serve_turns<S: Alter, P: PeersWithCause, V: Service, W: Sink>(
-    alloc: Global,
+fn serve_turns<S: Alter, P: PeersWithCause, W: Sink>(
+    watched: &Watched<'_>,
     desk: &mut Desk<S>,
     peers: &mut P,
-    service: &V,
-    count: u64,
     output: &mut W,
 ) -> Result<u8, Trouble>
-    requires { (P.tally peers.old).turns + count < 2 ^ 64 }
-    ensures { HasServed S.Store V.serves count desk.old desk.new
-        (P.tally peers.old) (P.tally peers.new) (W.told output.old) (W.told output.new) result }
+    requires { (P.tally peers.old).turns + watched.now.listening.count < 2 ^ 64 }
+    ensures { HasServed S.Store serves_desk watched.now.listening.count
+        (P.tally peers.old) (P.tally peers.new)
+        (deed desk.old desk.new (W.told output.old) (W.told output.new) result) }
 {
-    let served = serve_all(alloc, desk, peers, service, count);
+    let count = watched.listening.count;
+    let served = serve_all(watched.tools.alloc, desk, peers, watched, count);
     match write_served(output, served) {
         Ok(()) => served_end(served, peers),
         Err(_) => Err(Trouble::Unwritten),

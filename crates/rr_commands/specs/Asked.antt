@@ -3,16 +3,14 @@ use Rattle.std.specs.Prelude.{◌≡◌, ℕ, ◌==◌, List, Result, Ok, Err, I
 use Rattle.std.specs.Prelude.{if◌then◌else◌}
 use Rattle.sqlite_trees.specs.declared.store.Store.{Ghosts}
 use Rattle.rr_io.specs.Sending.{Writes}
-use Rattle.rr_io.specs.Told.{Told}
 use Rattle.rr_answer.specs.declared.query_fault.QueryFault.{QueryFault}
 use Rattle.rr_answer.specs.Answers.{answer_bytes}
 use Rattle.rr_desk.specs.Desks.{GivesAnswer, desk_state}
 use Rattle.rr_desk.specs.Rows.{KeepsRows}
 use Rattle.rr_desk.specs.declared.desk.Desk.{Desk}
-use Rattle.rr_commands.specs.Commands.{ActsBySettings, AtDesk, CommandEnd, DatabaseCalls}
-use Rattle.rr_commands.specs.Commands.{ProgramEnd}
+use Rattle.rr_commands.specs.Commands.{ActsBySettings, AtDesk, CommandEnd, ProgramEnd}
 use Rattle.rr_commands.specs.Faults.{IsAbout}
-use Rattle.rr_commands.specs.Files.{FileCalls}
+use Rattle.rr_commands.specs.Worlds.{Deed, Ports}
 use Rattle.rr_commands.specs.declared.trouble.Trouble.TheVariants.{Unwritten}
 
 -- 0 where no error was written, and else 1, by the number of the error (profile)
@@ -27,18 +25,17 @@ answer_status (Err fault) = 1
 -- a desk was asked: its answer was printed, and the status says whether it is an error; or it could
 -- not be written whole. Nothing of the desk changes, and it keeps the rows of its registry
 -- (profile)
-pub record HasAsked {S : Type 0} (g : Ghosts S) (text : List ℕ) (old new : Told)
-    (before after : Desk S) (ended : CommandEnd) : Type 0 where
+pub record HasAsked {S : Type 0} (g : Ghosts S) (text : List ℕ) (done : Deed (Desk S) CommandEnd)
+    : Type 0 where
   pub answer : Result (List ℕ) QueryFault
-  pub gives : GivesAnswer before text answer
-  pub writes : Writes old new (answer_bytes answer) ended
-  pub status : IfOk ended (λ status. status ≡ answer_status answer)
-  pub trouble : IfErr ended (λ trouble. trouble ≡ Unwritten)
-  pub same : after ≡ before
-  pub keeps : KeepsRows before.stored.registry (desk_state g after)
+  pub gives : GivesAnswer done.before.has text answer
+  pub writes : Writes done.before.output done.after.output (answer_bytes answer) done.ended
+  pub status : IfOk done.ended (λ status. status ≡ answer_status answer)
+  pub trouble : IfErr done.ended (λ trouble. trouble ≡ Unwritten)
+  pub same : done.after.has ≡ done.before.has
+  pub keeps : KeepsRows done.before.has.stored.registry (desk_state g done.after.has)
 
 -- what `irrdesk query` does, by its settings file (profile)
-abbrev pub AsksBy : {D S : Type 0} → Ghosts S → DatabaseCalls D S → FileCalls → List ℕ → List ℕ
-    → D → D → Told → Told → ProgramEnd → Type 0
-AsksBy g calls files file text start end old new = ActsBySettings files file (IsAbout file)
-    (AtDesk g calls (HasAsked g text old new) start end old new) start end old new
+abbrev pub AsksBy : {D S : Type 0} → Ports D S → List ℕ → List ℕ → Deed D ProgramEnd → Type 0
+AsksBy by file text =
+    ActsBySettings by.files file (IsAbout file) (AtDesk by.stores (HasAsked by.stores.store text))

@@ -7,17 +7,18 @@ use Rattle.std.specs.declared.io.Error.{Error}
 use Rattle.std.specs.declared.io.ErrorKind.TheVariants.{OutOfMemory}
 use Rattle.sqlite_trees.specs.declared.store.Store.{Ghosts}
 use Rattle.sqlite.specs.Held.{Held, state}
-use Rattle.rr_io.specs.Told.{Told}
 use Rattle.rr_store.specs.declared.store_fault.OpenFault.{OpenFault}
 use Rattle.rr_desk.specs.declared.desk.Desk.{Desk}
 use Rattle.rr_desk.specs.Opened.{FailsToOpenTables, IsRunning, OpensTables}
 use Rattle.rr_desk.specs.Rows.{CommitsNothing}
 use Rattle.rr_desk.specs.Settings.{SettingsParts}
 use Rattle.rr_commands.specs.Causes.{system_cause}
+use Rattle.rr_commands.specs.Databases.{DatabaseCalls}
 use Rattle.rr_commands.specs.Faults.{name_on_line, place_on_line}
 use Rattle.rr_commands.specs.Files.{FileCalls}
 use Rattle.rr_commands.specs.Found.{IsToldUnopened}
 use Rattle.rr_commands.specs.SettingsFiles.{AreNoSettings, settings_of_text}
+use Rattle.rr_commands.specs.Worlds.{Deed, Named, Stores, ended_by, within}
 use Rattle.rr_commands.specs.declared.cause.Cause.{Cause}
 use Rattle.rr_commands.specs.declared.cause.Cause.TheVariants as cause
 use Rattle.rr_commands.specs.declared.cause.DatabaseCause.{DatabaseCause}
@@ -37,24 +38,13 @@ CommandEnd = Result ℕ Trouble
 abbrev pub ProgramEnd : Type 0
 ProgramEnd = Result ℕ ProgramFault
 
--- what a command does by its settings and the path of a database (profile)
-abbrev pub Action : Type 1
-Action = SettingsParts → List ℕ → CommandEnd → Type 0
+-- what a command does by what its settings name (profile)
+abbrev pub Action : Type 0 → Type 1
+Action D = Named → Deed D CommandEnd → Type 0
 
--- what it does at a desk, from one to the next (profile)
-abbrev pub DeskAction : Type 0 → Type 1
-DeskAction S = Desk S → Desk S → CommandEnd → Type 0
-
--- what it does in a database, from one connection to the next (profile)
-abbrev pub ConnectionAction : Type 0 → Type 1
-ConnectionAction S = Held S → Held S → CommandEnd → Type 0
-
--- what calls do with databases, from one state of what keeps them to the next: the one at a path is
--- opened as a connection or refused for a cause, by what is done if there is none, and the one of a
--- connection is closed (profile)
-pub record DatabaseCalls (D S : Type 0) : Type 1 where
-  pub opens : List ℕ → Absent → Result (Held S) DatabaseCause → D → D → Type 0
-  pub closes : Held S → D → D → Type 0
+-- what it does at a desk, or in a database through a connection (profile)
+abbrev pub Act : Type 0 → Type 1
+Act X = Deed X CommandEnd → Type 0
 
 -- what a fault of a command shows, by the path of its database and what was found in that (profile)
 abbrev pub Naming : Type 1
@@ -122,42 +112,40 @@ GivesNoSettings files file trouble =
 
 -- there are no settings, the fault names their file, no database was opened or closed, and nothing
 -- was printed (profile)
-pub record HasNoSettings {D : Type 0} (files : FileCalls) (file : List ℕ) (start end : D)
-    (old new : Told) (result : ProgramEnd) : Type 0 where
+pub record HasNoSettings {D : Type 0} (files : FileCalls) (file : List ℕ)
+    (done : Deed D ProgramEnd) : Type 0 where
   pub fault : ProgramFault
-  pub told : result ≡ Err fault
+  pub told : done.ended ≡ Err fault
   pub cause : GivesNoSettings files file fault.trouble
   pub about : name_on_line fault.about ≡ place_on_line place.File file []
-  pub untouched : end ≡ start
-  pub silent : new ≡ old
+  pub untouched : done.after.has ≡ done.before.has
+  pub silent : done.after.output ≡ done.before.output
 
 -- the settings and the path of the database are those of the file at this path, which is no longer
 -- than such a file may be, and so was read to its end (profile)
-pub record HasSettings (files : FileCalls) (file : List ℕ) (settings : SettingsParts)
-    (path : List ℕ) : Type 0 where
+pub record HasSettings (files : FileCalls) (file : List ℕ) (names : Named) : Type 0 where
   pub text : List ℕ
   pub read : ReadsFile files file text
   pub short : length text ≤ MOST_BYTES
-  pub says : settings_of_text text ≡ Ok (settings, path)
+  pub says : settings_of_text text ≡ Ok (names.settings, names.path)
 
 -- there are settings and the path of a database in a file, a command did what it does by these, and
 -- the program ends so; its fault shows what it is about (profile)
-pub record HasActed (files : FileCalls) (file : List ℕ) (names : Naming) (does : Action)
-    (result : ProgramEnd) : Type 0 where
-  pub settings : SettingsParts
-  pub path : List ℕ
-  pub read : HasSettings files file settings path
+pub record HasActed {D : Type 0} (files : FileCalls) (file : List ℕ) (shows : Naming)
+    (does : Action D) (done : Deed D ProgramEnd) : Type 0 where
+  pub names : Named
+  pub read : HasSettings files file names
   pub ended : CommandEnd
-  pub did : does settings path ended
-  pub ends : EndsAs ended result
+  pub did : does names (ended_by ended done)
+  pub ends : EndsAs ended done.ended
   pub found : List ℕ
-  pub about : IfErr result (names path found)
+  pub about : IfErr done.ended (shows names.path found)
 
 -- what a command does that reads its settings from the file at this path first (profile)
-abbrev pub ActsBySettings : {D : Type 0} → FileCalls → List ℕ → Naming → Action → D → D → Told
-    → Told → ProgramEnd → Type 0
-ActsBySettings files file names does start end old new result =
-    HasNoSettings files file start end old new result ⊎ HasActed files file names does result
+abbrev pub ActsBySettings : {D : Type 0} → FileCalls → List ℕ → Naming → Action D
+    → Deed D ProgramEnd → Type 0
+ActsBySettings files file shows does done =
+    HasNoSettings files file done ⊎ HasActed files file shows does done
 
 -- a look at a database for a message, from one connection to the next, which is in no transaction:
 -- nothing was committed (profile)
@@ -183,29 +171,28 @@ pub record IsNotGiven {D S : Type 0} (calls : DatabaseCalls D S) (path : List �
   pub is_told : told ≡ trouble.Database cause
 
 -- a database was given, its registry was not opened, and as that left it, it was closed (profile)
-pub record IsRefused {D S : Type 0} (g : Ghosts S) (calls : DatabaseCalls D S) (path : List ℕ)
-    (source : List ℕ) (start end : D) (trouble : Trouble) : Type 0 where
+pub record IsRefused {D S : Type 0} (by : Stores D S) (names : Named) (start end : D)
+    (trouble : Trouble) : Type 0 where
   pub conn : Held S
   pub after : Held S
   pub between : D
-  pub given : calls.opens path Refused (Ok conn) start between
-  pub fails : FailsToOpenDesk g source conn after trouble
-  pub closed : calls.closes after between end
+  pub given : by.databases.opens names.path Refused (Ok conn) start between
+  pub fails : FailsToOpenDesk by.store names.settings.source conn after trouble
+  pub closed : by.databases.closes after between end
 
 -- why no desk is opened: no database was given, or the one that was is refused (profile)
-abbrev pub OpensNoDesk : {D S : Type 0} → Ghosts S → DatabaseCalls D S → List ℕ → SettingsParts
-    → D → D → Trouble → Type 0
-OpensNoDesk g calls path parts start end trouble =
-    IsNotGiven calls path Refused start end trouble
-    ⊎ IsRefused g calls path parts.source start end trouble
+abbrev pub OpensNoDesk : {D S : Type 0} → Stores D S → Named → D → D → Trouble → Type 0
+OpensNoDesk by names start end trouble =
+    IsNotGiven by.databases names.path Refused start end trouble
+    ⊎ IsRefused by names start end trouble
 
 -- nothing was done but what this says of the trouble, and nothing was printed (profile)
-pub record FailsSilently (why : Trouble → Type 0) (old new : Told) (ended : CommandEnd)
+pub record FailsSilently {X : Type 0} (why : Trouble → Type 0) (done : Deed X CommandEnd)
     : Type 0 where
   pub trouble : Trouble
-  pub told : ended ≡ Err trouble
+  pub told : done.ended ≡ Err trouble
   pub cause : why trouble
-  pub silent : new ≡ old
+  pub silent : done.after.output ≡ done.before.output
 
 -- the file at this path was refused, and the trouble is why (profile)
 pub record IsUnopenedFile (files : FileCalls) (file : List ℕ) (told : Trouble) : Type 0 where
@@ -215,47 +202,44 @@ pub record IsUnopenedFile (files : FileCalls) (file : List ℕ) (told : Trouble)
 
 -- the database at a path was given and holds the rows of a registry of these settings, and the desk
 -- runs over it (profile)
-pub record OpensDesk {D S : Type 0} (g : Ghosts S) (calls : DatabaseCalls D S) (path : List ℕ)
-    (parts : SettingsParts) (start end : D) (desk : Desk S) : Type 0 where
+pub record OpensDesk {D S : Type 0} (by : Stores D S) (names : Named) (start end : D)
+    (desk : Desk S) : Type 0 where
   pub conn : Held S
-  pub given : calls.opens path Refused (Ok conn) start end
-  pub opens : OpensTables g conn desk.stored
-  pub runs : IsRunning g parts desk
+  pub given : by.databases.opens names.path Refused (Ok conn) start end
+  pub opens : OpensTables by.store conn desk.stored
+  pub runs : IsRunning by.store names.settings desk
 
 -- a desk was opened, and this was done at it; the database that it left was closed (profile)
-pub record IsDoneAtDesk {D S : Type 0} (g : Ghosts S) (calls : DatabaseCalls D S)
-    (path : List ℕ) (does : DeskAction S) (parts : SettingsParts) (start end : D)
-    (ended : CommandEnd) : Type 0 where
+pub record IsDoneAtDesk {D S : Type 0} (by : Stores D S) (does : Act (Desk S)) (names : Named)
+    (done : Deed D CommandEnd) : Type 0 where
   pub before : Desk S
   pub after : Desk S
   pub between : D
-  pub opens : OpensDesk g calls path parts start between before
-  pub did : does before after ended
-  pub closed : calls.closes after.stored.store between end
+  pub opens : OpensDesk by names done.before.has between before
+  pub did : does (within before after done)
+  pub closed : by.databases.closes after.stored.store between done.after.has
 
 -- what a command does at the desk that its settings open: if there is no database, none is made
 -- (profile)
-abbrev pub AtDesk : {D S : Type 0} →
-    Ghosts S → DatabaseCalls D S → DeskAction S → D → D → Told → Told → Action
-AtDesk g calls does start end old new parts path ended =
-    FailsSilently (OpensNoDesk g calls path parts start end) old new ended
-    ⊎ IsDoneAtDesk g calls path does parts start end ended
+abbrev pub AtDesk : {D S : Type 0} → Stores D S → Act (Desk S) → Action D
+AtDesk by does names done =
+    FailsSilently (OpensNoDesk by names done.before.has done.after.has) done
+    ⊎ IsDoneAtDesk by does names done
 
 -- a database was opened, and this was done in it; as this left it, it was closed (profile)
-pub record IsDoneInDatabase {D S : Type 0} (calls : DatabaseCalls D S) (path : List ℕ)
-    (absent : Absent) (does : ConnectionAction S) (start end : D) (ended : CommandEnd)
-    : Type 0 where
+pub record IsDoneInDatabase {D S : Type 0} (by : Stores D S) (absent : Absent)
+    (does : Act (Held S)) (path : List ℕ) (done : Deed D CommandEnd) : Type 0 where
   pub before : Held S
   pub after : Held S
   pub between : D
-  pub given : calls.opens path absent (Ok before) start between
-  pub did : does before after ended
-  pub closed : calls.closes after between end
+  pub given : by.databases.opens path absent (Ok before) done.before.has between
+  pub did : does (within before after done)
+  pub closed : by.databases.closes after between done.after.has
 
 -- what a command does in the database that its settings name, by what is done if there is none
 -- (profile)
-abbrev pub InDatabase : {D S : Type 0} → DatabaseCalls D S → Absent → ConnectionAction S → D → D
-    → Told → Told → List ℕ → CommandEnd → Type 0
-InDatabase calls absent does start end old new path ended =
-    FailsSilently (IsNotGiven calls path absent start end) old new ended
-    ⊎ IsDoneInDatabase calls path absent does start end ended
+abbrev pub InDatabase : {D S : Type 0} → Stores D S → Absent → (SettingsParts → Act (Held S))
+    → Action D
+InDatabase by absent does names done =
+    FailsSilently (IsNotGiven by.databases names.path absent done.before.has done.after.has) done
+    ⊎ IsDoneInDatabase by absent (does names.settings) names.path done

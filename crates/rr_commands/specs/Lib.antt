@@ -1,4 +1,5 @@
 pub mod Causes
+pub mod Databases
 pub mod Faults
 pub mod Files
 pub mod Found
@@ -14,3 +15,4 @@ pub mod Dumped
 pub mod Loaded
 pub mod Migrated
 pub mod Commands
+pub mod Worlds

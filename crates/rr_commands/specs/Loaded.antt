@@ -10,11 +10,12 @@ use Rattle.rr_desk.specs.Opened.{IsRunning, MakesTables}
 use Rattle.rr_desk.specs.Settings.{SettingsParts}
 use Rattle.rr_desk.specs.declared.desk.Desk.{Desk}
 use Rattle.rr_desk.specs.declared.loading.DeskLoadFault.{DeskLoadFault}
-use Rattle.rr_commands.specs.Commands.{ActsBySettings, CommandEnd, ConnectionAction, DatabaseCalls}
-use Rattle.rr_commands.specs.Commands.{FailsSilently, InDatabase, IsUnopenedFile, ProgramEnd}
+use Rattle.rr_commands.specs.Commands.{Act, ActsBySettings, CommandEnd, FailsSilently}
+use Rattle.rr_commands.specs.Commands.{InDatabase, IsUnopenedFile, ProgramEnd}
 use Rattle.rr_commands.specs.Faults.{IsAboutDump}
 use Rattle.rr_commands.specs.Files.{FileCalls}
 use Rattle.rr_commands.specs.Printed.{Tells}
+use Rattle.rr_commands.specs.Worlds.{Deed, Ports}
 use Rattle.rr_commands.specs.declared.registry_databases.Absent.TheVariants.{Made}
 use Rattle.rr_commands.specs.declared.trouble.Trouble.TheVariants.{Loading}
 
@@ -31,53 +32,50 @@ abbrev pub TellsLoaded : ℕ → Told → Told → CommandEnd → Type 0
 TellsLoaded count old new ended =
     Tells (loaded_line count) old new ended ⊎ Tells uncounted_line old new ended
 
-module _ {S : Type 0} (g : Ghosts S) (settings : SettingsParts)
-    (reader_old reader_new writer_old writer_new : Told) where
+module _ {S : Type 0} (g : Ghosts S) (settings : SettingsParts) (reader_old reader_new : Told) where
   -- no registry was made of what was read, and nothing was printed (profile)
-  pub record IsUnloaded (before after : Held S) (ended : CommandEnd) : Type 0 where
+  pub record IsUnloaded (done : Deed (Held S) CommandEnd) : Type 0 where
     pub fault : DeskLoadFault
-    pub told : ended ≡ Err (Loading fault)
-    pub fails : FailsToLoadTables g settings.source reader_old reader_new before after fault
-    pub silent : writer_new ≡ writer_old
+    pub told : done.ended ≡ Err (Loading fault)
+    pub fails : FailsToLoadTables g settings.source reader_old reader_new
+        done.before.has done.after.has fault
+    pub silent : done.after.output ≡ done.before.output
 
   -- a dump was read to its end, its registry was made, and that was printed (profile)
-  pub record HasLoaded (before after : Held S) (ended : CommandEnd) : Type 0 where
+  pub record HasLoaded (done : Deed (Held S) CommandEnd) : Type 0 where
     pub desk : Desk S
     pub runs : IsRunning g settings desk
     pub loaded : IsLoaded settings.source reader_old reader_new desk.stored.registry
-    pub makes : MakesTables g (HasLoadedRows settings.source reader_old reader_new) before
-        desk.stored.store
-    pub given_back : after ≡ desk.stored.store
-    pub tells : TellsLoaded (length (values desk.stored.registry)) writer_old writer_new ended
+    pub makes : MakesTables g (HasLoadedRows settings.source reader_old reader_new)
+        done.before.has desk.stored.store
+    pub given_back : done.after.has ≡ desk.stored.store
+    pub tells : TellsLoaded (length (values desk.stored.registry))
+        done.before.output done.after.output done.ended
 
 -- what the load of a dump does in a database, by what its reader told before and after (profile)
-abbrev pub Loads : {S : Type 0} → Ghosts S → SettingsParts → Told → Told → Told → Told
-    → ConnectionAction S
-Loads g settings reader_old reader_new writer_old writer_new before after ended =
-    IsUnloaded g settings reader_old reader_new writer_old writer_new before after ended
-    ⊎ HasLoaded g settings reader_old reader_new writer_old writer_new before after ended
+abbrev pub Loads : {S : Type 0} → Ghosts S → SettingsParts → Told → Told → Act (Held S)
+Loads g settings reader_old reader_new done =
+    IsUnloaded g settings reader_old reader_new done
+    ⊎ HasLoaded g settings reader_old reader_new done
 
 -- the file at this path was loaded into a database: what its reader told when it was opened, and
 -- when all was done (profile)
 pub record LoadsFile {S : Type 0} (g : Ghosts S) (settings : SettingsParts) (files : FileCalls)
-    (file : List ℕ) (writer_old writer_new : Told) (before after : Held S) (ended : CommandEnd)
-    : Type 0 where
+    (file : List ℕ) (done : Deed (Held S) CommandEnd) : Type 0 where
   pub reader_old : Told
   pub reader_new : Told
   pub opened : files.opens file (Ok reader_old.bytes)
-  pub loads : Loads g settings reader_old reader_new writer_old writer_new before after ended
+  pub loads : Loads g settings reader_old reader_new done
 
 -- what `irrdesk load` does in a database: its file is not opened and the database stays as it was,
 -- or what is read is loaded (profile)
-abbrev pub LoadsIn : {S : Type 0} → Ghosts S → SettingsParts → FileCalls → List ℕ → Told → Told
-    → ConnectionAction S
-LoadsIn g settings files file old new before after ended =
-    (FailsSilently (IsUnopenedFile files file) old new ended × (after ≡ before))
-    ⊎ LoadsFile g settings files file old new before after ended
+abbrev pub LoadsIn : {S : Type 0} → Ghosts S → FileCalls → List ℕ → SettingsParts → Act (Held S)
+LoadsIn g files file settings done =
+    (FailsSilently (IsUnopenedFile files file) done × (done.after.has ≡ done.before.has))
+    ⊎ LoadsFile g settings files file done
 
 -- what `irrdesk load` does, by its settings file (profile)
-abbrev pub LoadsBy : {D S : Type 0} → Ghosts S → DatabaseCalls D S → FileCalls → List ℕ → List ℕ
-    → D → D → Told → Told → ProgramEnd → Type 0
-LoadsBy g calls files file dump start end old new = ActsBySettings files file (IsAboutDump dump)
-    (λ settings. InDatabase calls Made (LoadsIn g settings files dump old new) start end old new)
-    start end old new
+abbrev pub LoadsBy : {D S : Type 0} → Ports D S → List ℕ → List ℕ → Deed D ProgramEnd → Type 0
+LoadsBy by file dump =
+    ActsBySettings by.files file (IsAboutDump dump)
+    (InDatabase by.stores Made (LoadsIn by.stores.store by.files dump))

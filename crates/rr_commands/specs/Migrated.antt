@@ -2,19 +2,18 @@
 use Rattle.std.specs.Prelude.{◌≡◌, ◌⊎◌, ℕ, Bool, true, false, List, Err, IsTrue, codes}
 use Rattle.sqlite_trees.specs.declared.store.Store.{Ghosts}
 use Rattle.sqlite.specs.Held.{Held}
-use Rattle.rr_io.specs.Told.{Told}
 use Rattle.rr_store.specs.declared.store_fault.MigrateFault.{MigrateFault}
 use Rattle.rr_store.specs.declared.store_fault.MigrateFault.TheVariants as migrating
 use Rattle.rr_desk.specs.Migrating.{FailsToMigrateTables, MigratesTables}
 use Rattle.rr_desk.specs.Opened.{IsRunning}
 use Rattle.rr_desk.specs.Settings.{SettingsParts}
 use Rattle.rr_desk.specs.declared.desk.Desk.{Desk}
-use Rattle.rr_commands.specs.Commands.{ActsBySettings, CommandEnd, ConnectionAction, DatabaseCalls}
-use Rattle.rr_commands.specs.Commands.{InDatabase, LooksAt, ProgramEnd}
+use Rattle.rr_commands.specs.Commands.{Act, ActsBySettings, CommandEnd, InDatabase, LooksAt}
+use Rattle.rr_commands.specs.Commands.{ProgramEnd}
 use Rattle.rr_commands.specs.Faults.{IsAbout}
-use Rattle.rr_commands.specs.Files.{FileCalls}
+use Rattle.rr_commands.specs.Worlds.{Deed, Ports, ended_by, within}
 use Rattle.rr_commands.specs.Found.{is_found}
-use Rattle.rr_commands.specs.Printed.{Tells}
+use Rattle.rr_commands.specs.Printed.{HasTold}
 use Rattle.rr_commands.specs.declared.registry_databases.Absent.TheVariants.{Refused}
 use Rattle.rr_commands.specs.declared.trouble.Trouble.{Trouble}
 use Rattle.rr_commands.specs.declared.trouble.Trouble.TheVariants.{Migrating}
@@ -23,29 +22,26 @@ use Rattle.rr_commands.specs.declared.trouble.Trouble.TheVariants.{Migrating}
 abbrev pub migrated_line : List ℕ
 migrated_line = codes "migrated to version 2\n"
 
-module _ {S : Type 0} (g : Ghosts S) (settings : SettingsParts) (old new : Told) where
+module _ {S : Type 0} (g : Ghosts S) (settings : SettingsParts) where
   -- the tables were not migrated, and nothing was printed (profile)
-  pub record IsUnmigrated (before after : Held S) (ended : CommandEnd) : Type 0 where
+  pub record IsUnmigrated (done : Deed (Held S) CommandEnd) : Type 0 where
     pub fault : MigrateFault
-    pub told : ended ≡ Err (Migrating fault)
-    pub fails : FailsToMigrateTables g settings before after fault
-    pub silent : new ≡ old
+    pub told : done.ended ≡ Err (Migrating fault)
+    pub fails : FailsToMigrateTables g settings done.before.has done.after.has fault
+    pub silent : done.after.output ≡ done.before.output
 
   -- the rows of a registry of version 1 were made those of version 2, with the block of the other
   -- AS numbers, and that was printed (RFC 6793; profile)
-  pub record HasMigrated (before after : Held S) (ended : CommandEnd) : Type 0 where
+  pub record HasMigrated (done : Deed (Held S) CommandEnd) : Type 0 where
     pub desk : Desk S
     pub runs : IsRunning g settings desk
-    pub migrates : MigratesTables g settings before desk.stored
-    pub given_back : after ≡ desk.stored.store
-    pub tells : Tells migrated_line old new ended
+    pub migrates : MigratesTables g settings done.before.has desk.stored
+    pub given_back : done.after.has ≡ desk.stored.store
+    pub tells : HasTold migrated_line done
 
 -- what `irrdesk migrate` does in a database, before a further look at it (profile)
-abbrev pub MigratesIn : {S : Type 0} →
-    Ghosts S → SettingsParts → Told → Told → ConnectionAction S
-MigratesIn g settings old new before after ended =
-    IsUnmigrated g settings old new before after ended
-    ⊎ HasMigrated g settings old new before after ended
+abbrev pub MigratesIn : {S : Type 0} → Ghosts S → SettingsParts → Act (Held S)
+MigratesIn g settings done = IsUnmigrated g settings done ⊎ HasMigrated g settings done
 
 -- the database was refused, and what a further look at it found is told (profile)
 pub record IsFoundOut (first ended : CommandEnd) : Type 0 where
@@ -81,17 +77,16 @@ LooksAtRefused g first left after =
 
 -- the command did this, left this connection and ended as `first`; what is told is that, or what a
 -- look at a database that was refused found (profile)
-pub record IsDiagnosed {S : Type 0} (g : Ghosts S) (does : ConnectionAction S)
-    (before after : Held S) (ended : CommandEnd) : Type 0 where
+pub record IsDiagnosed {S : Type 0} (g : Ghosts S) (does : Act (Held S))
+    (done : Deed (Held S) CommandEnd) : Type 0 where
   pub first : CommandEnd
   pub left : Held S
-  pub did : does before left first
-  pub looks : LooksAtRefused g first left after
-  pub diagnosis : IsDiagnosis first ended
+  pub did : does (within done.before.has left (ended_by first done))
+  pub looks : LooksAtRefused g first left done.after.has
+  pub diagnosis : IsDiagnosis first done.ended
 
 -- what `irrdesk migrate` does, by its settings file (profile)
-abbrev pub MigratesBy : {D S : Type 0} → Ghosts S → DatabaseCalls D S → FileCalls → List ℕ → D → D
-    → Told → Told → ProgramEnd → Type 0
-MigratesBy g calls files file start end old new = ActsBySettings files file (IsAbout file)
-    (λ settings. InDatabase calls Refused (IsDiagnosed g (MigratesIn g settings old new))
-    start end old new) start end old new
+abbrev pub MigratesBy : {D S : Type 0} → Ports D S → List ℕ → Deed D ProgramEnd → Type 0
+MigratesBy by file = ActsBySettings by.files file (IsAbout file)
+    (InDatabase by.stores Refused (λ settings. IsDiagnosed by.stores.store
+    (MigratesIn by.stores.store settings)))

@@ -3,12 +3,17 @@ use Rattle.std.specs.Prelude.{◌≡◌, ℕ, List, Ok, Err}
 use Rattle.rr_io.specs.Sending.{Takes, TakesPrefix}
 use Rattle.rr_io.specs.Told.{Told}
 use Rattle.rr_commands.specs.Commands.{CommandEnd, ProgramEnd}
+use Rattle.rr_commands.specs.Worlds.{Deed}
 use Rattle.rr_commands.specs.declared.trouble.Trouble.TheVariants.{Unwritten}
 
 -- a text was written, and the status is 0; or it could not be written whole (profile)
 abbrev pub Tells : List ℕ → Told → Told → CommandEnd → Type 0
 Tells text old new (Ok status) = (status ≡ 0) × Takes old new text
 Tells text old new (Err fault) = (fault ≡ Unwritten) × TakesPrefix old new text
+
+-- the same, of what was done
+abbrev pub HasTold : {X : Type 0} → List ℕ → Deed X CommandEnd → Type 0
+HasTold text done = Tells text done.before.output done.after.output done.ended
 
 -- the same, as the program ends by it (profile)
 abbrev pub Prints : List ℕ → Told → Told → ProgramEnd → Type 0

@@ -11,7 +11,7 @@ ghost use Rattle.rr_commands.specs.Found.{is_of_unopened, is_of_version};
 ghost use Rattle.rr_commands.specs.Migrated.{IsDiagnosis, LooksAtRefused};
 
 use crate::object_rows::{
-    RowFault, are_mostly_others, first_with, objects_of, push_numbered, push_row,
+    RowFault, Wanted, are_mostly_others, first_with, objects_of, push_numbered, push_row,
     suit_other_version,
 };
 use crate::obstacle::{has_other_order, has_other_tables, push_obstacle, text_at};
@@ -291,7 +291,13 @@ fn found_in_rows<S: Alter>(
         return Some(Trouble::OtherRows);
     }
     match look(conn, OBJECTS) {
-        Ok(rows) => judge_rows(alloc, conn, rows.as_slice(), source, version, found),
+        Ok(rows) => judge_rows(
+            alloc,
+            conn,
+            rows.as_slice(),
+            Wanted { source, version },
+            found,
+        ),
         Err(_) => None,
     }
 }
@@ -325,33 +331,38 @@ fn judge_rows<S: Alter>(
     alloc: Global,
     conn: &mut Connection<S>,
     rows: &[Row],
-    source: &Name,
-    version: Version,
+    wanted: Wanted<'_>,
     found: &mut String,
 ) -> Option<Trouble>
     requires { conn.old.in_transaction ≡ false }
     ensures kind { IfSome result (λ trouble. IsTrue (is_of_rows trouble)) }
     ensures looks { LooksAt S.Store conn.old conn.new }
 {
-    if are_mostly_others(alloc, rows, source, version) {
+    if are_mostly_others(alloc, rows, wanted.source, wanted.version) {
         return Some(Trouble::OtherSource);
     }
-    if let Some(row) = first_with(alloc, rows, source, version, RowFault::Bad) {
-        if suit_other_version(alloc, rows, source, version) {
+    if let Some(row) = first_with(alloc, rows, wanted.source, wanted.version, RowFault::Bad) {
+        if suit_other_version(alloc, rows, wanted.source, wanted.version) {
             push_meta(found);
-            return Some(keys_beside(version));
+            return Some(keys_beside(wanted.version));
         }
         // Without memory for the row, the message names the database alone.
         let _ = push_row(found, row);
         return Some(Trouble::BadObject);
     }
-    match first_with(alloc, rows, source, version, RowFault::OtherSource) {
+    match first_with(
+        alloc,
+        rows,
+        wanted.source,
+        wanted.version,
+        RowFault::OtherSource,
+    ) {
         Some(row) => {
             // As above.
             let _ = push_row(found, row);
             Some(Trouble::OtherSourceRow)
         }
-        None => judge_together(alloc, conn, rows, source, version, found),
+        None => judge_together(alloc, conn, rows, wanted, found),
     }
 }
 
@@ -361,15 +372,14 @@ fn judge_together<S: Alter>(
     alloc: Global,
     conn: &mut Connection<S>,
     rows: &[Row],
-    source: &Name,
-    version: Version,
+    wanted: Wanted<'_>,
     found: &mut String,
 ) -> Option<Trouble>
     requires { conn.old.in_transaction ≡ false }
     ensures kind { IfSome result (λ trouble. IsTrue (is_of_rows trouble)) }
     ensures looks { LooksAt S.Store conn.old conn.new }
 {
-    let Some(objects) = objects_of(alloc, rows, source, version) else {
+    let Some(objects) = objects_of(alloc, rows, wanted.source, wanted.version) else {
         return None;
     };
     let loaded: Result<Registry<IndexedBook>, LoadFault> = Registry::from_objects(alloc, objects);

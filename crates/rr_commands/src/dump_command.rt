@@ -4,9 +4,11 @@ ghost use Rattle.std.specs.Prelude.{◌≡◌, false};
 ghost use Rattle.rr_answer.specs.Dumps as dumps;
 ghost use Rattle.rr_commands.specs.Commands.{AtDesk};
 ghost use Rattle.rr_commands.specs.Dumped.{DumpsBy, DumpsDesk, HasDumped};
+ghost use Rattle.rr_commands.specs.Worlds.{at, done_by, named, ports};
 
 use crate::command_fault::ProgramFault;
 use crate::files::Files;
+use crate::host::Host;
 use crate::output::{Output, ended};
 use crate::progress::Shown;
 use crate::registry_databases::{Databases, close, open_desk};
@@ -20,43 +22,38 @@ use std::alloc::Global;
 /// Prints the dump of the registry that the settings name, with all of each object if it is to be
 /// full, and else with their public forms.
 pub fn dump<'a, D: Databases, F: Files, W: Output>(
-    rt: &HostRuntime,
-    databases: &mut D,
-    files: &F,
-    settings: &'a str,
+    host: &mut Host<'_, D, F, W>,
+    file: &'a str,
     full: bool,
-    output: &mut W,
 ) -> Result<u8, ProgramFault<'a>>
-    ensures { DumpsBy D.Disk.Store D.calls (F.calls files.now) settings.now full
-        databases.old databases.new (W.told output.old) (W.told output.new) result }
+    ensures done { DumpsBy (ports D.Disk.Store D.calls (F.calls host.old.files)) file.now full
+        (done_by W.told host.old host.new result) }
+    ensures kept { host.new.files ≡ host.old.files }
 {
-    let (read, path) = read_settings_file(rt.alloc(), files, settings)?;
-    let mut found = String::new(rt.alloc());
-    let end = dump_at(rt, databases, read, path.as_str(), &mut found, full, output);
-    ended(rt.alloc(), end, settings, path, found.as_str(), output)
+    let (settings, mut store) = read_settings_file(host, file)?;
+    let path = store.path.as_str();
+    let end = dump_at(host, settings, path, &mut store.found, full);
+    ended(host, end, file, store)
 }
 
 /// Prints the dump of the registry in the database at a path.
-fn dump_at<D: Databases, W: Output>(
-    rt: &HostRuntime,
-    databases: &mut D,
+fn dump_at<D: Databases, F: Files, W: Output>(
+    host: &mut Host<'_, D, F, W>,
     settings: Settings,
     path: &str,
     found: &mut String,
     full: bool,
-    output: &mut W,
 ) -> Result<u8, Trouble>
-    ensures { AtDesk D.Disk.Store D.calls
-        (DumpsDesk full (W.told output.old) (W.told output.new))
-        databases.old databases.new (W.told output.old) (W.told output.new)
-        settings path.now result }
+    ensures done { AtDesk (at D.Disk.Store D.calls) (DumpsDesk full) (named settings path.now)
+        (done_by W.told host.old host.new result) }
+    ensures kept { host.new.files ≡ host.old.files }
 {
-    let desk = open_desk(rt, databases, settings, path, found)?;
-    output.show(Shown::Objects);
-    let end = dump_to(rt.alloc(), &desk, full, output);
-    output.show(Shown::Nothing);
+    let desk = open_desk(host.tools, &mut host.databases, settings, path, found)?;
+    host.output.show(Shown::Objects);
+    let end = dump_to(host.tools.alloc, &desk, full, &mut host.output);
+    host.output.show(Shown::Nothing);
     let conn = desk.close();
-    close(databases, conn);
+    close(&mut host.databases, conn);
     end
 }
 

@@ -9,8 +9,8 @@ use crate::cause::Cause;
 use crate::trouble::Trouble;
 use rr_io::Counted;
 use std::fs::File;
-use std::io;
 use std::io::Read;
+use std::{fs, io};
 
 /// Where files are, by their paths: on this machine, or wherever else bytes are.
 pub trait Files {
@@ -26,6 +26,9 @@ pub trait Files {
         ensures opened { IfOk result (λ file.
             (calls self.now).opens path.now (Ok (Self.File.remaining file))) }
         ensures refused { IfErr result (λ error. (calls self.now).opens path.now (Err error)) };
+
+    /// Whether the file at a path can be read again from its beginning, as one on a disk can.
+    fn is_kept(&self, path: &str) -> bool;
 
     /// Closes a file that was opened at a path, with its failed reads counted.
     fn close(&self, path: &str, file: Counted<Self::File>)
@@ -53,6 +56,13 @@ impl Files for SystemFiles<'_> {
 
     fn open(&self, path: &str) -> io::Result<File> {
         File::open(self.rt, path)
+    }
+
+    fn is_kept(&self, path: &str) -> bool {
+        match fs::metadata(self.rt, path) {
+            Ok(found) => found.is_file(),
+            Err(_) => false,
+        }
     }
 
     fn close(&self, _path: &str, _file: Counted<File>)

@@ -3,9 +3,11 @@
 ghost use Rattle.std.specs.Prelude.{◌≡◌, false};
 ghost use Rattle.rr_commands.specs.Commands.{InDatabase};
 ghost use Rattle.rr_commands.specs.Created.{CreatesBy, CreatesIn};
+ghost use Rattle.rr_commands.specs.Worlds.{at, deed, done_by, named, ports};
 
 use crate::command_fault::ProgramFault;
 use crate::files::Files;
+use crate::host::Host;
 use crate::output::{Output, ended, tell};
 use crate::registry_databases::{Absent, Databases, close};
 use crate::settings_reading::read_settings_file;
@@ -17,36 +19,33 @@ use std::alloc::Global;
 
 /// Makes the database that the settings name, with the opening objects of a registry, and says so.
 pub fn init<'a, D: Databases, F: Files, W: Output>(
-    rt: &HostRuntime,
-    databases: &mut D,
-    files: &F,
-    settings: &'a str,
-    output: &mut W,
+    host: &mut Host<'_, D, F, W>,
+    file: &'a str,
 ) -> Result<u8, ProgramFault<'a>>
-    ensures { CreatesBy D.Disk.Store D.calls (F.calls files.now) settings.now
-        databases.old databases.new (W.told output.old) (W.told output.new) result }
+    ensures done { CreatesBy (ports D.Disk.Store D.calls (F.calls host.old.files)) file.now
+        (done_by W.told host.old host.new result) }
+    ensures kept { host.new.files ≡ host.old.files }
 {
-    let (read, path) = read_settings_file(rt.alloc(), files, settings)?;
-    let end = init_at(rt.alloc(), databases, read, path.as_str(), output);
-    ended(rt.alloc(), end, settings, path, "", output)
+    let (settings, store) = read_settings_file(host, file)?;
+    let end = init_at(host, settings, store.path.as_str());
+    ended(host, end, file, store)
 }
 
 /// Makes the registry that opens with these settings in the database at a path, and says so.
-fn init_at<D: Databases, W: Sink>(
-    alloc: Global,
-    databases: &mut D,
+fn init_at<D: Databases, F: Files, W: Output>(
+    host: &mut Host<'_, D, F, W>,
     settings: Settings,
     path: &str,
-    output: &mut W,
 ) -> Result<u8, Trouble>
-    ensures { InDatabase D.calls Absent.Made
-        (CreatesIn D.Disk.Store settings (W.told output.old) (W.told output.new))
-        databases.old databases.new (W.told output.old) (W.told output.new) path.now result }
+    ensures done { InDatabase (at D.Disk.Store D.calls) Absent.Made
+        (CreatesIn D.Disk.Store) (named settings path.now)
+        (done_by W.told host.old host.new result) }
+    ensures kept { host.new.files ≡ host.old.files }
 {
-    match databases.open(path, Absent::Made) {
+    match host.databases.open(path, Absent::Made) {
         Ok(conn) => {
-            let (conn, end) = create_to(alloc, conn, settings, output);
-            close(databases, conn);
+            let (conn, end) = create_to(host.tools.alloc, conn, settings, &mut host.output);
+            close(&mut host.databases, conn);
             end
         }
         Err(cause) => Err(Trouble::Database(cause)),
@@ -63,7 +62,7 @@ pub fn create_to<S: Alter, W: Sink>(
 ) -> (Connection<S>, Result<u8, Trouble>)
     requires { conn.in_transaction ≡ false }
     ensures creates { CreatesIn S.Store settings
-        (W.told writer.old) (W.told writer.new) conn result.0 result.1 }
+        (deed conn result.0 (W.told writer.old) (W.told writer.new) result.1) }
     ensures autocommit { result.0.in_transaction ≡ false }
     ensures aside { W.aside writer.new ≡ W.aside writer.old }
 {

@@ -1,14 +1,16 @@
 //! Loads of dumps, into a new database.
 
-ghost use Rattle.std.specs.Prelude.{◌≡◌, [], IfErr, IfOk, false, length, string_bytes};
+ghost use Rattle.std.specs.Prelude.{◌≡◌, IfErr, IfOk, false, length, string_bytes};
 ghost use Rattle.std.specs.FinMap.{values};
 ghost use Rattle.rr_commands.specs.Commands.{EndsAs, InDatabase};
 ghost use Rattle.rr_commands.specs.Faults.{IsAboutDump};
 ghost use Rattle.rr_commands.specs.Loaded.{Loads, LoadsBy, LoadsIn, TellsLoaded, loaded_line};
 ghost use Rattle.rr_commands.specs.Printed.{Tells};
+ghost use Rattle.rr_commands.specs.Worlds.{at, deed, done_by, named, ports};
 
 use crate::command_fault::ProgramFault;
 use crate::files::{Files, open_file};
+use crate::host::{Host, Store};
 use crate::output::{Output, cause_of, ended, tell};
 use crate::places::about_paragraph;
 use crate::progress::{Reading, Shown};
@@ -26,60 +28,61 @@ use std::alloc::{AllocError, Global};
 /// Makes the registry of a dump in the database that the settings name, which is to be new or
 /// without rows, and says how many objects it has.
 pub fn load<'a, D: Databases, F: Files, W: Output>(
-    rt: &HostRuntime,
-    databases: &mut D,
-    files: &F,
+    host: &mut Host<'_, D, F, W>,
     settings: &'a str,
     file: &'a str,
-    output: &mut W,
 ) -> Result<u8, ProgramFault<'a>>
-    ensures { LoadsBy D.Disk.Store D.calls (F.calls files.now) settings.now file.now
-        databases.old databases.new (W.told output.old) (W.told output.new) result }
+    ensures done { LoadsBy (ports D.Disk.Store D.calls (F.calls host.old.files)) settings.now
+        file.now (done_by W.told host.old host.new result) }
+    ensures kept { host.new.files ≡ host.old.files }
 {
-    let (read, path) = read_settings_file(rt.alloc(), files, settings)?;
-    let end = load_at(rt, databases, files, read, path.as_str(), file, output);
-    ended_in_dump(rt, end, file, path, output)
+    let (read, store) = read_settings_file(host, settings)?;
+    let end = load_at(host, read, store.path.as_str(), file);
+    ended_in_dump(host, end, file, store)
 }
 
 /// How a load ended; trouble with a paragraph of the dump is about its line and its key.
-fn ended_in_dump<'a, W: Output>(
-    rt: &HostRuntime,
+fn ended_in_dump<'a, D: Databases, F: Files, W: Output>(
+    host: &Host<'_, D, F, W>,
     end: Result<u8, Trouble>,
     file: &'a str,
-    path: String,
-    output: &W,
+    store: Store,
 ) -> Result<u8, ProgramFault<'a>>
     ensures ends { EndsAs end result }
-    ensures about { IfErr result (IsAboutDump file.now (string_bytes path) []) }
+    ensures about { IfErr result
+        (IsAboutDump file.now (string_bytes store.path) (string_bytes store.found)) }
 {
     match end {
         Ok(status) => Ok(status),
         Err(trouble) => match trouble.paragraph() {
-            Some(number) => Err(about_paragraph(rt, file, number, trouble)),
-            None => ended(rt.alloc(), end, file, path, "", output),
+            Some(number) => Err(about_paragraph(
+                host.tools.alloc,
+                &host.files,
+                file,
+                number,
+                trouble,
+            )),
+            None => ended(host, end, file, store),
         },
     }
 }
 
 /// Makes the registry of a dump in the database at a path, and says how many objects it has.
 fn load_at<D: Databases, F: Files, W: Output>(
-    rt: &HostRuntime,
-    databases: &mut D,
-    files: &F,
+    host: &mut Host<'_, D, F, W>,
     settings: Settings,
     path: &str,
     file: &str,
-    output: &mut W,
 ) -> Result<u8, Trouble>
-    ensures { InDatabase D.calls Absent.Made
-        (LoadsIn D.Disk.Store settings (F.calls files.now) file.now
-        (W.told output.old) (W.told output.new))
-        databases.old databases.new (W.told output.old) (W.told output.new) path.now result }
+    ensures done { InDatabase (at D.Disk.Store D.calls) Absent.Made
+        (LoadsIn D.Disk.Store (F.calls host.old.files) file.now) (named settings path.now)
+        (done_by W.told host.old host.new result) }
+    ensures kept { host.new.files ≡ host.old.files }
 {
-    match databases.open(path, Absent::Made) {
+    match host.databases.open(path, Absent::Made) {
         Ok(conn) => {
-            let (conn, end) = load_file(rt, conn, files, settings, file, output);
-            close(databases, conn);
+            let (conn, end) = load_file(host, conn, settings, file);
+            close(&mut host.databases, conn);
             end
         }
         Err(cause) => Err(Trouble::Database(cause)),
@@ -88,25 +91,26 @@ fn load_at<D: Databases, F: Files, W: Output>(
 
 /// Loads the file of a dump into a database, and shows on a terminal how many bytes were read. The
 /// connection is given back.
-fn load_file<S: Alter, F: Files, W: Output>(
-    rt: &HostRuntime,
+fn load_file<S: Alter, D: Databases, F: Files, W: Output>(
+    host: &mut Host<'_, D, F, W>,
     conn: Connection<S>,
-    files: &F,
     settings: Settings,
     file: &str,
-    output: &mut W,
 ) -> (Connection<S>, Result<u8, Trouble>)
     requires { conn.in_transaction ≡ false }
-    ensures { LoadsIn S.Store settings (F.calls files.now) file.now
-        (W.told output.old) (W.told output.new) conn result.0 result.1 }
+    ensures loads { LoadsIn S.Store (F.calls host.old.files) file.now settings
+        (deed conn result.0 (W.told host.old.output) (W.told host.new.output) result.1) }
+    ensures databases { host.new.databases ≡ host.old.databases }
+    ensures kept { host.new.files ≡ host.old.files }
 {
-    let file = match open_file(files, file) {
+    let file = match open_file(&host.files, file) {
         Ok(file) => file,
         Err(trouble) => return (conn, Err(trouble)),
     };
-    let mut reading = Reading::new(rt, Counted::new(file));
+    let output = &mut host.output;
+    let mut reading = Reading::new(host.tools.errors, Counted::new(file));
     output.show(Shown::Others);
-    let (conn, end) = load_to(rt.alloc(), conn, settings, &mut reading, output);
+    let (conn, end) = load_to(host.tools.alloc, conn, settings, &mut reading, output);
     reading.end();
     let cause = cause_of(end, &reading, output);
     output.keep(cause);
@@ -124,7 +128,7 @@ pub fn load_to<S: Alter, R: Source, W: Sink>(
 ) -> (Connection<S>, Result<u8, Trouble>)
     requires { conn.in_transaction ≡ false }
     ensures loads { Loads S.Store settings (R.told reader.old) (R.told reader.new)
-        (W.told writer.old) (W.told writer.new) conn result.0 result.1 }
+        (deed conn result.0 (W.told writer.old) (W.told writer.new) result.1) }
     ensures autocommit { result.0.in_transaction ≡ false }
     ensures reader_aside { R.aside reader.new ≡ R.aside reader.old }
     ensures writer_aside { W.aside writer.new ≡ W.aside writer.old }

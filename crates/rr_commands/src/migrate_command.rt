@@ -3,10 +3,12 @@
 ghost use Rattle.std.specs.Prelude.{◌≡◌, false};
 ghost use Rattle.rr_commands.specs.Commands.{InDatabase};
 ghost use Rattle.rr_commands.specs.Migrated.{IsDiagnosed, MigratesBy, MigratesIn};
+ghost use Rattle.rr_commands.specs.Worlds.{at, deed, done_by, named, ports};
 
 use crate::command_fault::ProgramFault;
 use crate::diagnosis::told_of;
 use crate::files::Files;
+use crate::host::Host;
 use crate::output::{Output, ended, tell};
 use crate::registry_databases::{Absent, Databases, close};
 use crate::settings_reading::read_settings_file;
@@ -19,48 +21,35 @@ use std::alloc::Global;
 /// Turns the tables of version 1, in the database that the settings name, into those of version 2,
 /// and says so.
 pub fn migrate<'a, D: Databases, F: Files, W: Output>(
-    rt: &HostRuntime,
-    databases: &mut D,
-    files: &F,
-    settings: &'a str,
-    output: &mut W,
+    host: &mut Host<'_, D, F, W>,
+    file: &'a str,
 ) -> Result<u8, ProgramFault<'a>>
-    ensures { MigratesBy D.Disk.Store D.calls (F.calls files.now) settings.now
-        databases.old databases.new (W.told output.old) (W.told output.new) result }
+    ensures done { MigratesBy (ports D.Disk.Store D.calls (F.calls host.old.files)) file.now
+        (done_by W.told host.old host.new result) }
+    ensures kept { host.new.files ≡ host.old.files }
 {
-    let (read, path) = read_settings_file(rt.alloc(), files, settings)?;
-    let mut found = String::new(rt.alloc());
-    let end = migrate_at(
-        rt.alloc(),
-        databases,
-        read,
-        path.as_str(),
-        &mut found,
-        output,
-    );
-    ended(rt.alloc(), end, settings, path, found.as_str(), output)
+    let (settings, mut store) = read_settings_file(host, file)?;
+    let end = migrate_at(host, settings, store.path.as_str(), &mut store.found);
+    ended(host, end, file, store)
 }
 
-/// Migrates the tables of version 1 of the database at a path, and says so. If the database is
-/// refused, `found` gets what is at fault, for the message: a row, a table, or what was added to
-/// one.
-fn migrate_at<D: Databases, W: Sink>(
-    alloc: Global,
-    databases: &mut D,
+/// Migrates the tables of version 1 of the database at a path, and says so.
+fn migrate_at<D: Databases, F: Files, W: Output>(
+    host: &mut Host<'_, D, F, W>,
     settings: Settings,
     path: &str,
     found: &mut String,
-    output: &mut W,
 ) -> Result<u8, Trouble>
-    ensures { InDatabase D.calls Absent.Refused
-        (IsDiagnosed D.Disk.Store
-        (MigratesIn D.Disk.Store settings (W.told output.old) (W.told output.new)))
-        databases.old databases.new (W.told output.old) (W.told output.new) path.now result }
+    ensures done { InDatabase (at D.Disk.Store D.calls) Absent.Refused
+        (λ settings. IsDiagnosed D.Disk.Store (MigratesIn D.Disk.Store settings))
+        (named settings path.now) (done_by W.told host.old host.new result) }
+    ensures kept { host.new.files ≡ host.old.files }
 {
-    match databases.open(path, Absent::Refused) {
+    match host.databases.open(path, Absent::Refused) {
         Ok(conn) => {
-            let (conn, end) = migrate_told(alloc, conn, settings, found, output);
-            close(databases, conn);
+            let output = &mut host.output;
+            let (conn, end) = migrate_told(host.tools.alloc, conn, settings, found, output);
+            close(&mut host.databases, conn);
             end
         }
         Err(cause) => Err(Trouble::Database(cause)),
@@ -77,9 +66,8 @@ fn migrate_told<S: Alter, W: Sink>(
     output: &mut W,
 ) -> (Connection<S>, Result<u8, Trouble>)
     requires { conn.in_transaction ≡ false }
-    ensures { IsDiagnosed S.Store
-        (MigratesIn S.Store settings (W.told output.old) (W.told output.new))
-        conn result.0 result.1 }
+    ensures { IsDiagnosed S.Store (MigratesIn S.Store settings)
+        (deed conn result.0 (W.told output.old) (W.told output.new) result.1) }
 {
     let source = settings.source().copy(alloc);
     let (mut conn, end) = migrate_to(alloc, conn, settings, output);
@@ -97,7 +85,7 @@ pub fn migrate_to<S: Alter, W: Sink>(
 ) -> (Connection<S>, Result<u8, Trouble>)
     requires { conn.in_transaction ≡ false }
     ensures migrates { MigratesIn S.Store settings
-        (W.told writer.old) (W.told writer.new) conn result.0 result.1 }
+        (deed conn result.0 (W.told writer.old) (W.told writer.new) result.1) }
     ensures autocommit { result.0.in_transaction ≡ false }
     ensures aside { W.aside writer.new ≡ W.aside writer.old }
 {

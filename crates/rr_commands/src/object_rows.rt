@@ -9,6 +9,13 @@ use sqlite::Row;
 use sqlite_value::value::ValueRef;
 use std::alloc::{AllocError, Global};
 
+/// Which objects rows are to have: those of this source, in tables of this version.
+#[derive(Clone, Copy)]
+pub(crate) struct Wanted<'a> {
+    pub(crate) source: &'a Name,
+    pub(crate) version: Version,
+}
+
 /// Why a row has no object of a registry by its class and key.
 #[derive(Clone, Copy, PartialEq, Eq)]
 pub(crate) enum RowFault {

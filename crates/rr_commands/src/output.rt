@@ -7,6 +7,7 @@ ghost use Rattle.rr_commands.specs.Printed.{Prints, Tells};
 
 use crate::cause::Cause;
 use crate::command_fault::ProgramFault;
+use crate::host::{Host, Store};
 use crate::progress::Shown;
 use crate::shown::shown_name;
 use crate::trouble::{Place, Trouble};
@@ -82,24 +83,38 @@ pub(crate) fn tell<W: Sink>(writer: &mut W, text: &[u8]) -> Result<u8, Trouble>
 /// How a command ended that read this file and used the database at this path, with what its
 /// trouble is about: of the database its path, as a line shows it, and then what was found in it,
 /// which is text that a line shows.
-pub fn ended<'a, W: Output>(
-    alloc: Global,
+pub fn ended<'a, D, F, W: Output>(
+    host: &Host<'_, D, F, W>,
     end: Result<u8, Trouble>,
     file: &'a str,
-    path: String,
-    found: &str,
-    output: &W,
+    store: Store,
 ) -> Result<u8, ProgramFault<'a>>
     ensures ends { EndsAs end result }
-    ensures about { IfErr result (λ fault. IsAbout file.now (string_bytes path) found.now fault) }
+    ensures about { IfErr result
+        (IsAbout file.now (string_bytes store.path) (string_bytes store.found)) }
 {
     match end {
         Ok(status) => Ok(status),
         Err(trouble) => {
-            let shown = shown_database(alloc, path, found);
-            Err(ProgramFault::placed(trouble, file, shown, output.cause()))
+            let cause = host.output.cause();
+            Err(placed(host.tools.alloc, trouble, file, store, cause))
         }
     }
+}
+
+/// A fault of a command that reads this file and uses this database, by what its trouble is about.
+pub(crate) fn placed<'a>(
+    alloc: Global,
+    trouble: Trouble,
+    file: &'a str,
+    store: Store,
+    stream: Cause,
+) -> ProgramFault<'a>
+    ensures trouble { result.trouble ≡ trouble }
+    ensures about { IsAbout file.now (string_bytes store.path) (string_bytes store.found) result }
+{
+    let shown = shown_database(alloc, store.path, store.found.as_str());
+    ProgramFault::placed(trouble, file, shown, stream)
 }
 
 /// The path of a database as a line shows it, and what was found in it: without memory the path as

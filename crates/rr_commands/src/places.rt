@@ -5,6 +5,7 @@ ghost use Rattle.rr_commands.specs.Faults.{NamesPath, name_on_line, place_on_lin
 ghost use Rattle.rr_commands.specs.declared.trouble.Place.TheVariants as place;
 
 use crate::command_fault::ProgramFault;
+use crate::files::Files;
 use crate::output::path_and_found;
 use crate::shown::push_key;
 use crate::trouble::Trouble;
@@ -12,14 +13,14 @@ use rr_io::{Counted, Source};
 use rr_object::{Key, key_of};
 use rr_text::{Paragraphs, TextFault, next_paragraph};
 use std::alloc::{AllocError, Global};
-use std::fs::File;
+use std::io;
 use std::io::{BufRead, BufReader, Read};
-use std::{fs, io};
 
 /// A fault about the paragraph of this number, from 1, of a file. If the file can be read again, it
 /// names the line and, where they can be read, the class and the key; otherwise the file alone.
-pub(crate) fn about_paragraph<'a>(
-    rt: &HostRuntime,
+pub(crate) fn about_paragraph<'a, F: Files>(
+    alloc: Global,
+    files: &F,
     file: &'a str,
     number: u64,
     trouble: Trouble,
@@ -28,31 +29,30 @@ pub(crate) fn about_paragraph<'a>(
     ensures about { (found : List ℕ) × (text : List ℕ) × NamesPath file.now found text
         × (name_on_line result.about ≡ place_on_line place.File text []) }
 {
-    match named_place(rt, file, number) {
+    match named_place(alloc, files, file, number) {
         Some(name) => ProgramFault::named(name, trouble),
         None => ProgramFault::of(file, trouble),
     }
 }
 
 /// The name of a file as a line shows it, with the line, class and key of a paragraph.
-fn named_place(rt: &HostRuntime, file: &str, number: u64) -> Option<String>
+fn named_place<F: Files>(alloc: Global, files: &F, file: &str, number: u64) -> Option<String>
     ensures { IfSome result (λ name. (found : List ℕ)
         × NamesPath file.now found (string_bytes name)) }
 {
-    let place = place_in(rt, file, number)?;
-    match path_and_found(rt.alloc(), file, place.as_str()) {
+    let place = place_in(alloc, files, file, number)?;
+    match path_and_found(alloc, file, place.as_str()) {
         Ok(name) => Some(name),
         Err(AllocError) => None,
     }
 }
 
 /// The line, class and key of a paragraph in a file, as they stand after its name.
-fn place_in(rt: &HostRuntime, file: &str, number: u64) -> Option<String> {
-    if !fs::metadata(rt, file).ok()?.is_file() {
+fn place_in<F: Files>(alloc: Global, files: &F, file: &str, number: u64) -> Option<String> {
+    if !files.is_kept(file) {
         return None;
     }
-    let alloc = rt.alloc();
-    let reader = BufReader::new(alloc, File::open(rt, file).ok()?).ok()?;
+    let reader = BufReader::new(alloc, files.open(file).ok()?).ok()?;
     let mut lines = Lines::new(alloc, reader);
     let key = find_paragraph(alloc, &mut lines, number)?;
     let line = lines.start?;
@@ -76,7 +76,11 @@ fn key_text(alloc: Global, key: &Key) -> Option<String> {
 }
 
 /// Reads up to the paragraph of this number, and gives its key, if it has one.
-fn find_paragraph(alloc: Global, lines: &mut Lines, number: u64) -> Option<Option<Key>> {
+fn find_paragraph<R: Read>(
+    alloc: Global,
+    lines: &mut Lines<R>,
+    number: u64,
+) -> Option<Option<Key>> {
     let mut paragraphs = Paragraphs::new(alloc).ok()?;
     let mut found = None;
     for _ in 0..number {
@@ -87,10 +91,10 @@ fn find_paragraph(alloc: Global, lines: &mut Lines, number: u64) -> Option<Optio
 
 /// Reads the next paragraph of a file, notes where it begins, and gives its key, if it has one;
 /// `None` at the end, or if the file cannot be read.
-fn next_of_file(
+fn next_of_file<R: Read>(
     alloc: Global,
     paragraphs: &mut Paragraphs,
-    lines: &mut Lines,
+    lines: &mut Lines<R>,
 ) -> Option<Option<Key>> {
     lines.start = None;
     next_key(alloc, paragraphs, &mut Counted::new(lines))
@@ -113,16 +117,16 @@ fn next_key<R: Source>(
 /// A file that gives no more than a line in one read, and knows on which line the paragraph begins
 /// that is read.
 #[derive(Drop)]
-struct Lines {
+struct Lines<R> {
     alloc: Global,
-    reader: BufReader<File>,
+    reader: BufReader<R>,
     ended: u64,
     is_line_start: bool,
     start: Option<u64>,
 }
 
-impl Lines {
-    fn new(alloc: Global, reader: BufReader<File>) -> Lines {
+impl<R: Read> Lines<R> {
+    fn new(alloc: Global, reader: BufReader<R>) -> Lines<R> {
         Lines {
             alloc,
             reader,
@@ -144,7 +148,7 @@ impl Lines {
     }
 }
 
-impl Read for Lines {
+impl<R: Read> Read for Lines<R> {
     fn read(&mut self, buf: &mut [u8]) -> io::Result<usize> {
         let held = self.reader.fill_buf()?;
         let piece = line_prefix(held, buf.len());

@@ -3,10 +3,11 @@
 ghost use Rattle.std.specs.Prelude.{◌≡◌};
 
 use crate::cause::Cause;
+use crate::error_stream::ErrorStream;
 use crate::output::{Input, Output};
-use rr_io::{Sink, Source};
+use itoa::Buffer;
+use rr_io::{Sink, Source, write_pieces};
 use std::io;
-use std::io::{IsTerminal, Write};
 use std::time::{Duration, Instant};
 
 /// A command that is done in fewer milliseconds shows nothing.
@@ -47,7 +48,7 @@ impl Things {
 /// terminal.
 #[derive(Drop)]
 struct Meter<'a> {
-    rt: &'a HostRuntime,
+    errors: ErrorStream<'a>,
     things: Things,
     started: Option<Instant>,
     drawn: Option<Instant>,
@@ -63,14 +64,14 @@ struct Meter<'a> {
 impl<'a> Meter<'a> {
     /// A count of these things, which begins now; whether they are printed where the count may
     /// stand.
-    fn new(rt: &'a HostRuntime, things: Things, is_shared: bool) -> Meter<'a> {
-        let started = if rt.stderr().is_terminal() {
-            Instant::now(rt).ok()
+    fn new(errors: ErrorStream<'a>, things: Things, is_shared: bool) -> Meter<'a> {
+        let started = if errors.is_terminal() {
+            errors.now()
         } else {
             None
         };
         Meter {
-            rt,
+            errors,
             things,
             started,
             drawn: None,
@@ -83,9 +84,9 @@ impl<'a> Meter<'a> {
     }
 
     /// A count that is never drawn.
-    fn silent(rt: &'a HostRuntime) -> Meter<'a> {
+    fn silent(errors: ErrorStream<'a>) -> Meter<'a> {
         Meter {
-            rt,
+            errors,
             things: Things::Items,
             started: None,
             drawn: None,
@@ -98,14 +99,14 @@ impl<'a> Meter<'a> {
     }
 
     /// A count that is never drawn, and takes away the line of one that may be.
-    fn eraser(rt: &'a HostRuntime) -> Meter<'a> {
+    fn eraser(errors: ErrorStream<'a>) -> Meter<'a> {
         Meter {
-            rt,
+            errors,
             things: Things::Items,
             started: None,
             drawn: None,
-            is_shown: rt.stderr().is_terminal(),
-            is_shared: rt.stdout().is_terminal(),
+            is_shown: errors.is_terminal(),
+            is_shared: errors.is_shared(),
             is_line_empty: true,
             is_note: false,
             count: 0,
@@ -116,8 +117,7 @@ impl<'a> Meter<'a> {
     fn clear(&mut self) {
         if self.is_shown {
             self.is_shown = false;
-            // A command does not fail because a terminal shows no progress.
-            let _ = self.rt.stderr().write_all(CLEARED);
+            self.errors.show(CLEARED);
         }
     }
 
@@ -176,7 +176,7 @@ impl<'a> Meter<'a> {
 
     /// Draws the line, if it had made way or it is time to.
     fn show(&mut self, started: Instant, made_way: bool) {
-        let Ok(now) = Instant::now(self.rt) else {
+        let Some(now) = self.errors.now() else {
             return;
         };
         let is_late = now.duration_since(started) >= Duration::from_millis(QUIET);
@@ -198,8 +198,16 @@ impl<'a> Meter<'a> {
         let things = self.things.name();
         self.drawn = Some(now);
         self.is_shown = true;
-        // As in `clear`: a command does not fail because a terminal shows no progress.
-        let _ = eprint!(self.rt; "\r\x1b[K{count} {things} so far");
+        let mut digits = Buffer::new();
+        let pieces = [
+            CLEARED,
+            digits.format(count).as_bytes(),
+            b" ",
+            things.as_bytes(),
+            b" so far",
+        ];
+        // A command does not fail because a terminal shows no progress.
+        let _ = write_pieces(&mut self.errors.counted(), &pieces);
     }
 }
 
@@ -219,7 +227,7 @@ pub enum Shown {
 /// Standard output, which shows on a terminal how much passed, and keeps why a write failed.
 #[derive(Drop)]
 pub struct Progress<'a, W> {
-    rt: &'a HostRuntime,
+    errors: ErrorStream<'a>,
     writer: W,
     meter: Meter<'a>,
     cause: Cause,
@@ -227,11 +235,11 @@ pub struct Progress<'a, W> {
 
 impl<'a, W: Sink> Progress<'a, W> {
     /// The writer, which shows nothing so far.
-    pub fn new(rt: &'a HostRuntime, writer: W) -> Progress<'a, W> {
+    pub fn new(errors: ErrorStream<'a>, writer: W) -> Progress<'a, W> {
         Progress {
-            rt,
+            errors,
             writer,
-            meter: Meter::silent(rt),
+            meter: Meter::silent(errors),
             cause: Cause::Unnumbered,
         }
     }
@@ -265,12 +273,12 @@ impl<W: Sink> Sink for Progress<'_, W> {
 impl<W: Sink> Output for Progress<'_, W> {
     fn show(&mut self, shown: Shown) {
         self.meter.clear();
-        let is_shared = self.rt.stdout().is_terminal();
+        let is_shared = self.errors.is_shared();
         self.meter = match shown {
-            Shown::Nothing => Meter::silent(self.rt),
-            Shown::Items => Meter::new(self.rt, Things::Items, is_shared),
-            Shown::Objects => Meter::new(self.rt, Things::Objects, is_shared),
-            Shown::Others => Meter::eraser(self.rt),
+            Shown::Nothing => Meter::silent(self.errors),
+            Shown::Items => Meter::new(self.errors, Things::Items, is_shared),
+            Shown::Objects => Meter::new(self.errors, Things::Objects, is_shared),
+            Shown::Others => Meter::eraser(self.errors),
         };
     }
 
@@ -294,23 +302,23 @@ pub struct Reading<'a, R> {
 
 impl<'a, R: Source> Reading<'a, R> {
     /// The reader, with its bytes counted from now on.
-    pub fn new(rt: &'a HostRuntime, reader: R) -> Reading<'a, R>
+    pub fn new(errors: ErrorStream<'a>, reader: R) -> Reading<'a, R>
         ensures { result.reader ≡ reader }
     {
         Reading {
             reader,
-            meter: Meter::new(rt, Things::Bytes, false),
+            meter: Meter::new(errors, Things::Bytes, false),
             cause: Cause::Endless,
         }
     }
 
     /// The reader, with nothing counted.
-    pub fn silent(rt: &'a HostRuntime, reader: R) -> Reading<'a, R>
+    pub fn silent(errors: ErrorStream<'a>, reader: R) -> Reading<'a, R>
         ensures { result.reader ≡ reader }
     {
         Reading {
             reader,
-            meter: Meter::silent(rt),
+            meter: Meter::silent(errors),
             cause: Cause::Endless,
         }
     }
@@ -354,28 +362,26 @@ impl<R: Source> Input for Reading<'_, R> {
 /// A line on a terminal that says, of a large database, that it is being opened.
 #[derive(Drop)]
 pub struct Opening<'a> {
-    rt: &'a HostRuntime,
+    errors: ErrorStream<'a>,
     is_shown: bool,
 }
 
 impl<'a> Opening<'a> {
     /// Shows the line for a database of so many bytes, if that is large and standard error is a
     /// terminal.
-    pub fn begin(rt: &'a HostRuntime, size: u64) -> Opening<'a> {
-        let is_shown = size >= LARGE && rt.stderr().is_terminal();
+    pub fn begin(errors: ErrorStream<'a>, size: u64) -> Opening<'a> {
+        let is_shown = size >= LARGE && errors.is_terminal();
         if is_shown {
-            // Without the line the database is opened all the same.
-            let _ = rt.stderr().write_all(b"opening the database");
+            errors.show(b"opening the database");
         }
-        Opening { rt, is_shown }
+        Opening { errors, is_shown }
     }
 
     /// Takes the line away.
     pub fn end(&mut self) {
         if self.is_shown {
             self.is_shown = false;
-            // What is left on a terminal does not change how the command ends.
-            let _ = self.rt.stderr().write_all(CLEARED);
+            self.errors.show(CLEARED);
         }
     }
 }

@@ -3,9 +3,11 @@
 ghost use Rattle.std.specs.Prelude.{◌≡◌, false};
 ghost use Rattle.rr_commands.specs.Asked.{AsksBy, HasAsked, error_status};
 ghost use Rattle.rr_commands.specs.Commands.{AtDesk};
+ghost use Rattle.rr_commands.specs.Worlds.{at, deed, done_by, named, ports};
 
 use crate::command_fault::ProgramFault;
 use crate::files::Files;
+use crate::host::Host;
 use crate::output::{Output, ended};
 use crate::registry_databases::{Databases, close, open_desk};
 use crate::settings_reading::read_settings_file;
@@ -21,49 +23,36 @@ const ERROR: u8 = 1;
 /// Asks the registry that the settings name, and prints the answer: the status is 0, or 1 if the
 /// answer is an error.
 pub fn query<'a, D: Databases, F: Files, W: Output>(
-    rt: &HostRuntime,
-    databases: &mut D,
-    files: &F,
-    settings: &'a str,
+    host: &mut Host<'_, D, F, W>,
+    file: &'a str,
     text: &str,
-    output: &mut W,
 ) -> Result<u8, ProgramFault<'a>>
-    ensures { AsksBy D.Disk.Store D.calls (F.calls files.now) settings.now text.now
-        databases.old databases.new (W.told output.old) (W.told output.new) result }
+    ensures done { AsksBy (ports D.Disk.Store D.calls (F.calls host.old.files)) file.now text.now
+        (done_by W.told host.old host.new result) }
+    ensures kept { host.new.files ≡ host.old.files }
 {
-    let (read, path) = read_settings_file(rt.alloc(), files, settings)?;
-    let mut found = String::new(rt.alloc());
-    let end = query_at(
-        rt,
-        databases,
-        read,
-        path.as_str(),
-        &mut found,
-        text.as_bytes(),
-        output,
-    );
-    ended(rt.alloc(), end, settings, path, found.as_str(), output)
+    let (settings, mut store) = read_settings_file(host, file)?;
+    let path = store.path.as_str();
+    let end = query_at(host, settings, path, &mut store.found, text.as_bytes());
+    ended(host, end, file, store)
 }
 
 /// Asks the registry in the database at a path, and prints the answer.
-fn query_at<D: Databases, W: Sink>(
-    rt: &HostRuntime,
-    databases: &mut D,
+fn query_at<D: Databases, F: Files, W: Output>(
+    host: &mut Host<'_, D, F, W>,
     settings: Settings,
     path: &str,
     found: &mut String,
     text: &[u8],
-    output: &mut W,
 ) -> Result<u8, Trouble>
-    ensures { AtDesk D.Disk.Store D.calls
-        (HasAsked D.Disk.Store text.now (W.told output.old) (W.told output.new))
-        databases.old databases.new (W.told output.old) (W.told output.new)
-        settings path.now result }
+    ensures done { AtDesk (at D.Disk.Store D.calls) (HasAsked D.Disk.Store text.now)
+        (named settings path.now) (done_by W.told host.old host.new result) }
+    ensures kept { host.new.files ≡ host.old.files }
 {
-    let desk = open_desk(rt, databases, settings, path, found)?;
-    let end = answer_to(rt.alloc(), &desk, text, output);
+    let desk = open_desk(host.tools, &mut host.databases, settings, path, found)?;
+    let end = answer_to(host.tools.alloc, &desk, text, &mut host.output);
     let conn = desk.close();
-    close(databases, conn);
+    close(&mut host.databases, conn);
     end
 }
 
@@ -76,7 +65,7 @@ pub fn answer_to<S: Alter, W: Sink>(
 ) -> Result<u8, Trouble>
     requires { desk.now.stored.stopped ≡ false }
     ensures asked { HasAsked S.Store query.now
-        (W.told writer.old) (W.told writer.new) desk.now desk.now result }
+        (deed desk.now desk.now (W.told writer.old) (W.told writer.new) result) }
     ensures aside { W.aside writer.new ≡ W.aside writer.old }
 {
     match desk.answer(alloc, query, writer) {

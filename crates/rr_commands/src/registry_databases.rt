@@ -3,11 +3,14 @@
 ghost use Rattle.std.specs.Prelude.{◌≡◌, IfErr, IfOk, Ok, false};
 ghost use Rattle.sqlite.specs.Held.{Held};
 ghost use Rattle.rr_desk.specs.Opened.{IsRunning, OpensTables};
-ghost use Rattle.rr_commands.specs.Commands.{DatabaseCalls, FailsToOpenDesk, IsNotGiven};
+ghost use Rattle.rr_commands.specs.Commands.{FailsToOpenDesk, IsNotGiven};
 ghost use Rattle.rr_commands.specs.Commands.{OpensDesk, OpensNoDesk};
+ghost use Rattle.rr_commands.specs.Databases.{DatabaseCalls};
+ghost use Rattle.rr_commands.specs.Worlds.{at, named};
 
 use crate::cause::{Cause, DatabaseCause};
 use crate::diagnosis::trouble_with;
+use crate::host::Tools;
 use crate::progress::Opening;
 use crate::trouble::Trouble;
 use rr_desk::{Desk, Settings};
@@ -330,23 +333,22 @@ fn make_file(rt: &HostRuntime, path: &str) -> Result<(), DatabaseCause> {
     }
 }
 
-/// Opens the desk of the registry in the database at a path. While a large one is opened, a line on
-/// a terminal says so. If the database is refused, `found` gets what is at fault, for the message:
-/// a row, a table, or what was added to one.
+/// Opens the desk of the registry in a database. While a large one is opened, a line on a terminal
+/// says so. If the database is refused, what is at fault is found, for the message.
 pub fn open_desk<D: Databases>(
-    rt: &HostRuntime,
+    tools: Tools<'_>,
     databases: &mut D,
     settings: Settings,
     path: &str,
     found: &mut String,
 ) -> Result<Desk<D::Disk>, Trouble>
-    ensures opens { IfOk result (OpensDesk D.Disk.Store D.calls path.now settings
+    ensures opens { IfOk result (OpensDesk (at D.Disk.Store D.calls) (named settings path.now)
         databases.old databases.new) }
-    ensures fails { IfErr result (OpensNoDesk D.Disk.Store D.calls path.now settings
+    ensures fails { IfErr result (OpensNoDesk (at D.Disk.Store D.calls) (named settings path.now)
         databases.old databases.new) }
 {
-    let mut opening = Opening::begin(rt, databases.size(path));
-    let opened = open_quietly(rt.alloc(), databases, settings, path, found);
+    let mut opening = Opening::begin(tools.errors, databases.size(path));
+    let opened = open_quietly(tools.alloc, databases, settings, path, found);
     opening.end();
     opened
 }
@@ -360,9 +362,9 @@ fn open_quietly<D: Databases>(
     path: &str,
     found: &mut String,
 ) -> Result<Desk<D::Disk>, Trouble>
-    ensures opens { IfOk result (OpensDesk D.Disk.Store D.calls path.now settings
+    ensures opens { IfOk result (OpensDesk (at D.Disk.Store D.calls) (named settings path.now)
         databases.old databases.new) }
-    ensures fails { IfErr result (OpensNoDesk D.Disk.Store D.calls path.now settings
+    ensures fails { IfErr result (OpensNoDesk (at D.Disk.Store D.calls) (named settings path.now)
         databases.old databases.new) }
 {
     let conn = open_at(databases, path)?;

@@ -6,11 +6,13 @@ ghost use Rattle.rr_commands.specs.Commands.{GivesNoSettings, HasSettings, IsNot
 ghost use Rattle.rr_commands.specs.Commands.{ReadsFile, unread_trouble};
 ghost use Rattle.rr_commands.specs.Faults.{name_on_line, place_on_line};
 ghost use Rattle.rr_commands.specs.SettingsFiles.{AreNoSettings, settings_of_text};
+ghost use Rattle.rr_commands.specs.Worlds.{named};
 ghost use Rattle.rr_commands.specs.declared.trouble.Place.TheVariants as place;
 
 use crate::cause::Cause;
 use crate::command_fault::ProgramFault;
 use crate::files::Files;
+use crate::host::{Host, Store};
 use crate::readable::Readable;
 use crate::settings_file::{SettingsFault, read_settings};
 use crate::trouble::Trouble;
@@ -25,20 +27,27 @@ const MOST_BYTES: u64 = 1_048_576;
 
 /// The settings in a file, and the path of the database. The fault is about the file (status 3), or
 /// that memory ran out (status 5).
-pub fn read_settings_file<'a, F: Files>(
-    alloc: Global,
-    files: &F,
+pub fn read_settings_file<'a, D, F: Files, W>(
+    host: &Host<'_, D, F, W>,
     file: &'a str,
-) -> Result<(Settings, String), ProgramFault<'a>>
-    ensures read { IfOk result (λ read.
-        HasSettings (F.calls files.now) file.now read.0 (string_bytes read.1)) }
+) -> Result<(Settings, Store), ProgramFault<'a>>
+    ensures read { IfOk result (λ read. HasSettings (F.calls host.now.files) file.now
+        (named read.0 (string_bytes read.1.path))) }
+    ensures unfound { IfOk result (λ read. string_bytes read.1.found ≡ []) }
     ensures fails { IfErr result (λ fault.
-        GivesNoSettings (F.calls files.now) file.now fault.trouble) }
+        GivesNoSettings (F.calls host.now.files) file.now fault.trouble) }
     ensures about { IfErr result (λ fault.
         name_on_line fault.about ≡ place_on_line place.File file.now []) }
 {
-    match read_at(alloc, files, file) {
-        Ok(read) => Ok(read),
+    let alloc = host.tools.alloc;
+    match read_at(alloc, &host.files, file) {
+        Ok((settings, path)) => Ok((
+            settings,
+            Store {
+                path,
+                found: String::new(alloc),
+            },
+        )),
         Err(trouble) => Err(ProgramFault::of(file, trouble)),
     }
 }
@@ -46,7 +55,7 @@ pub fn read_settings_file<'a, F: Files>(
 /// The settings in a file, and the path of the database.
 fn read_at<F: Files>(alloc: Global, files: &F, file: &str) -> Result<(Settings, String), Trouble>
     ensures read { IfOk result (λ read.
-        HasSettings (F.calls files.now) file.now read.0 (string_bytes read.1)) }
+        HasSettings (F.calls files.now) file.now (named read.0 (string_bytes read.1))) }
     ensures fails { IfErr result (GivesNoSettings (F.calls files.now) file.now) }
 {
     match read_bytes(alloc, files, file) {

@@ -7,12 +7,14 @@ ghost use Rattle.rr_desk.specs.Settings.{built_in};
 ghost use Rattle.rr_commands.specs.Commands.{AtDesk};
 ghost use Rattle.rr_commands.specs.Submitted.{EndsPlain, HasSubmitted, RunsPlain, SubmitsBy};
 ghost use Rattle.rr_commands.specs.Submitted.{SubmitsDesk};
-ghost use Rattle.rr_commands.specs.Submitted.{done_status, plain_end, plain_trouble};
+ghost use Rattle.rr_commands.specs.Worlds.{at, deed, done_by, named, ports};
+ghost use Rattle.rr_commands.specs.Submitted.{done_status, plain_trouble};
 
 use crate::cause::DatabaseCause;
 use crate::command_fault::ProgramFault;
 use crate::files::{Files, open_file};
-use crate::output::{Input, Output, cause_of, ended};
+use crate::host::{Host, Store, Tools};
+use crate::output::{Input, Output, cause_of, ended, placed};
 use crate::progress::{Reading, Shown};
 use crate::registry_databases::{Databases, close, open_desk};
 use crate::settings_reading::read_settings_file;
@@ -32,29 +34,25 @@ pub fn plain<'a, R: Input, W: Output>(
     input: &mut R,
     output: &mut W,
 ) -> Result<u8, ProgramFault<'a>>
-    ensures { EndsPlain over_memory (R.told input.old) (R.told input.new)
-        (W.told output.old) (W.told output.new) result }
+    ensures { EndsPlain over_memory (deed (R.told input.old) (R.told input.new)
+        (W.told output.old) (W.told output.new) result) }
 {
-    let end = submit_plain(alloc, input, output);
-    let cause = cause_of(end, input, output);
-    output.keep(cause);
-    ended(
-        alloc,
-        plain_end(end),
-        "standard input",
-        String::new(alloc),
-        "",
-        output,
-    )
-}
-
-/// How a run without arguments ends.
-fn plain_end(end: Result<u8, Trouble>) -> Result<u8, Trouble>
-    ensures { result ≡ plain_end end }
-{
-    match end {
+    match submit_plain(alloc, input, output) {
         Ok(status) => Ok(status),
-        Err(trouble) => Err(plain_trouble(trouble)),
+        Err(trouble) => {
+            let store = Store {
+                path: String::new(alloc),
+                found: String::new(alloc),
+            };
+            let cause = cause_of(Err(trouble), input, output);
+            Err(placed(
+                alloc,
+                plain_trouble(trouble),
+                "standard input",
+                store,
+                cause,
+            ))
+        }
     }
 }
 
@@ -74,58 +72,43 @@ fn plain_trouble(trouble: Trouble) -> Trouble
 /// Submits a file to the registry that the settings name, and prints the report: the status is 0,
 /// or 1 if an item was refused.
 pub fn submit<'a, D: Databases, F: Files, W: Output>(
-    rt: &HostRuntime,
-    databases: &mut D,
-    files: &F,
+    host: &mut Host<'_, D, F, W>,
     settings: &'a str,
     file: &'a str,
-    output: &mut W,
 ) -> Result<u8, ProgramFault<'a>>
-    ensures { SubmitsBy D.Disk.Store D.calls (F.calls files.now) settings.now file.now
-        databases.old databases.new (W.told output.old) (W.told output.new) result }
+    ensures done { SubmitsBy (ports D.Disk.Store D.calls (F.calls host.old.files)) settings.now
+        file.now (done_by W.told host.old host.new result) }
+    ensures kept { host.new.files ≡ host.old.files }
 {
-    let (read, path) = read_settings_file(rt.alloc(), files, settings)?;
-    let mut found = String::new(rt.alloc());
-    let end = submit_at(
-        rt,
-        databases,
-        files,
-        read,
-        path.as_str(),
-        &mut found,
-        file,
-        output,
-    );
-    ended(rt.alloc(), end, file, path, found.as_str(), output)
+    let (read, mut store) = read_settings_file(host, settings)?;
+    let path = store.path.as_str();
+    let end = submit_at(host, read, path, &mut store.found, file);
+    ended(host, end, file, store)
 }
 
 /// Submits a file to the registry in the database at a path, and prints the report.
 fn submit_at<D: Databases, F: Files, W: Output>(
-    rt: &HostRuntime,
-    databases: &mut D,
-    files: &F,
+    host: &mut Host<'_, D, F, W>,
     settings: Settings,
     path: &str,
     found: &mut String,
     file: &str,
-    output: &mut W,
 ) -> Result<u8, Trouble>
-    ensures { AtDesk D.Disk.Store D.calls
-        (SubmitsDesk D.Disk.Store (F.calls files.now) file.now
-        (W.told output.old) (W.told output.new))
-        databases.old databases.new (W.told output.old) (W.told output.new)
-        settings path.now result }
+    ensures done { AtDesk (at D.Disk.Store D.calls)
+        (SubmitsDesk D.Disk.Store (F.calls host.old.files) file.now) (named settings path.now)
+        (done_by W.told host.old host.new result) }
+    ensures kept { host.new.files ≡ host.old.files }
 {
-    let mut desk = open_desk(rt, databases, settings, path, found)?;
-    let end = submit_file(rt, &mut desk, files, file, output);
+    let mut desk = open_desk(host.tools, &mut host.databases, settings, path, found)?;
+    let end = submit_file(host.tools, &mut desk, &host.files, file, &mut host.output);
     let conn = desk.close();
-    close(databases, conn);
+    close(&mut host.databases, conn);
     end
 }
 
 /// Submits a file to a desk, and prints the report.
 fn submit_file<S: Alter, F: Files, W: Output>(
-    rt: &HostRuntime,
+    tools: Tools<'_>,
     desk: &mut Desk<S>,
     files: &F,
     file: &str,
@@ -133,11 +116,11 @@ fn submit_file<S: Alter, F: Files, W: Output>(
 ) -> Result<u8, Trouble>
     requires { desk.old.stored.stopped ≡ false }
     ensures { SubmitsDesk S.Store (F.calls files.now) file.now
-        (W.told output.old) (W.told output.new) desk.old desk.new result }
+        (deed desk.old desk.new (W.told output.old) (W.told output.new) result) }
 {
-    let mut reader = Reading::silent(rt, Counted::new(open_file(files, file)?));
+    let mut reader = Reading::silent(tools.errors, Counted::new(open_file(files, file)?));
     output.show(Shown::Items);
-    let end = submit_to(rt.alloc(), desk, &mut reader, output);
+    let end = submit_to(tools.alloc, desk, &mut reader, output);
     output.show(Shown::Nothing);
     let cause = cause_of(end, &reader, output);
     output.keep(cause);
@@ -152,8 +135,8 @@ pub fn submit_plain<R: Source, W: Sink>(
     input: &mut R,
     output: &mut W,
 ) -> Result<u8, Trouble>
-    ensures { RunsPlain over_memory (R.told input.old) (R.told input.new)
-        (W.told output.old) (W.told output.new) result }
+    ensures { RunsPlain over_memory (deed (R.told input.old) (R.told input.new)
+        (W.told output.old) (W.told output.new) result) }
 {
     match Connection::open_in_memory(alloc) {
         Ok(conn) => submit_new(alloc, conn, input, output),
@@ -169,8 +152,8 @@ fn submit_new<S: Alter + Drop, R: Source, W: Sink>(
     output: &mut W,
 ) -> Result<u8, Trouble>
     requires { conn.in_transaction ≡ false }
-    ensures { RunsPlain S.Store (R.told input.old) (R.told input.new)
-        (W.told output.old) (W.told output.new) result }
+    ensures { RunsPlain S.Store (deed (R.told input.old) (R.told input.new)
+        (W.told output.old) (W.told output.new) result) }
 {
     let mut desk = plain_desk(alloc, conn)?;
     submit_to(alloc, &mut desk, input, output)
@@ -203,8 +186,8 @@ pub fn submit_to<S: Alter, R: Source, W: Sink>(
     writer: &mut W,
 ) -> Result<u8, Trouble>
     requires { desk.old.stored.stopped ≡ false }
-    ensures submits { HasSubmitted S.Store desk.old desk.new
-        (R.told reader.old) (R.told reader.new) (W.told writer.old) (W.told writer.new) result }
+    ensures submits { HasSubmitted S.Store (R.told reader.old) (R.told reader.new)
+        (deed desk.old desk.new (W.told writer.old) (W.told writer.new) result) }
     ensures reader_aside { R.aside reader.new ≡ R.aside reader.old }
     ensures writer_aside { W.aside writer.new ≡ W.aside writer.old }
 {

@@ -1,0 +1,68 @@
+-- What commands use, and what they change (profile).
+use Rattle.std.specs.Prelude.{ℕ, List}
+use Rattle.sqlite_trees.specs.declared.store.Store.{Ghosts}
+use Rattle.rr_io.specs.Told.{Told}
+use Rattle.rr_desk.specs.Settings.{SettingsParts}
+use Rattle.rr_commands.specs.Databases.{DatabaseCalls}
+use Rattle.rr_commands.specs.Files.{FileCalls}
+use Rattle.rr_commands.specs.declared.host.Host.{Host}
+
+-- what the calls of a command do with databases, and with the one of a connection (profile)
+pub record Stores (D S : Type 0) : Type 1 where
+  pub store : Ghosts S
+  pub databases : DatabaseCalls D S
+
+-- these
+abbrev pub at : {D S : Type 0} → Ghosts S → DatabaseCalls D S → Stores D S
+at store databases = record { store = store; databases = databases }
+
+-- the same, and what calls do with files (profile)
+pub record Ports (D S : Type 0) : Type 1 where
+  pub stores : Stores D S
+  pub files : FileCalls
+
+-- these
+abbrev pub ports : {D S : Type 0} → Ghosts S → DatabaseCalls D S → FileCalls → Ports D S
+ports store databases files = record { stores = at store databases; files = files }
+
+-- what settings name: those of a registry, and the path of its database (profile)
+pub record Named : Type 0 where
+  pub settings : SettingsParts
+  pub path : List ℕ
+
+-- these
+abbrev pub named : SettingsParts → List ℕ → Named
+named settings path = record { settings = settings; path = path }
+
+-- what a command changes: what keeps databases, a desk or a connection; and what standard output
+-- told (profile)
+pub record World (X : Type 0) : Type 0 where
+  pub has : X
+  pub output : Told
+
+-- what was done: the world before and after, and how it ended (profile)
+pub record Deed (X E : Type 0) : Type 0 where
+  pub before : World X
+  pub after : World X
+  pub ended : E
+
+-- what was done to this, from one state to the next, where standard output told this
+abbrev pub deed : {X E : Type 0} → X → X → Told → Told → E → Deed X E
+deed old new told_old told_new ended = record {
+  before = record { has = old; output = told_old };
+  after = record { has = new; output = told_new };
+  ended = ended;
+}
+
+-- what was done by a host
+abbrev pub done_by : {D F W E : Type 0} → (W → Told) → Host D F W → Host D F W → E → Deed D E
+done_by told old new ended = deed old.databases new.databases (told old.output) (told new.output)
+    ended
+
+-- the same, of something else that was changed
+abbrev pub within : {X Y E : Type 0} → Y → Y → Deed X E → Deed Y E
+within old new done = deed old new done.before.output done.after.output done.ended
+
+-- the same, where it ended so
+abbrev pub ended_by : {X E F : Type 0} → F → Deed X E → Deed X F
+ended_by ended done = record { before = done.before; after = done.after; ended = ended }

@@ -1,0 +1,50 @@
+//! Standard error, for what is not a result: how far a command is, a hint, and why a database
+//! failed.
+
+use rr_io::Counted;
+use std::io::{IsTerminal, Stderr, Write};
+use std::time::Instant;
+
+/// Standard error, with a clock. It gives no way to standard output or to a file, so what is told
+/// while a command runs goes nowhere else.
+#[derive(Clone, Copy)]
+pub struct ErrorStream<'a> {
+    rt: &'a HostRuntime,
+}
+
+impl<'a> ErrorStream<'a> {
+    /// Standard error of the program.
+    pub fn new(rt: &'a HostRuntime) -> ErrorStream<'a> {
+        ErrorStream { rt }
+    }
+
+    /// Whether it is shown on a terminal.
+    pub fn is_terminal(self) -> bool {
+        self.rt.stderr().is_terminal()
+    }
+
+    /// Whether standard output is shown on a terminal, which may be the same one.
+    pub fn is_shared(self) -> bool {
+        self.rt.stdout().is_terminal()
+    }
+
+    /// Whether standard input is typed on a terminal.
+    pub fn is_typed(self) -> bool {
+        self.rt.stdin().is_terminal()
+    }
+
+    /// Writes these bytes. A command does not fail because they are not shown.
+    pub fn show(self, bytes: &[u8]) {
+        let _ = self.rt.stderr().write_all(bytes);
+    }
+
+    /// What counts its failed writes.
+    pub fn counted(self) -> Counted<Stderr> {
+        Counted::new(self.rt.stderr())
+    }
+
+    /// The time, if the clock tells it.
+    pub fn now(self) -> Option<Instant> {
+        Instant::now(self.rt).ok()
+    }
+}

@@ -1,0 +1,36 @@
+//! What commands use of the machine.
+
+use crate::error_stream::ErrorStream;
+use std::alloc::Global;
+
+/// What each command uses: memory, and standard error for what is not a result.
+#[derive(Clone, Copy)]
+pub struct Tools<'h> {
+    /// Memory.
+    pub alloc: Global,
+    /// Standard error.
+    pub errors: ErrorStream<'h>,
+}
+
+/// What a command uses: its tools, what keeps databases, where files are, and what it prints to.
+#[derive(Drop)]
+pub struct Host<'h, D, F, W> {
+    /// Its tools.
+    pub tools: Tools<'h>,
+    /// What keeps databases.
+    pub databases: D,
+    /// Where files are.
+    pub files: F,
+    /// What it prints to.
+    pub output: W,
+}
+
+/// The database that settings name, and what was found in it, for a message: a row, a table, or
+/// what was added to one.
+#[derive(Drop)]
+pub struct Store {
+    /// Its path.
+    pub path: String,
+    /// What was found in it, as it stands after the path; nothing at first.
+    pub found: String,
+}

@@ -14,8 +14,9 @@ from typing import Any
 import pytest
 
 from checks.running import PATIENCE, TOP, Failure, Tell, Trial, expect, short, write, write_settings
-from checks.serving import free_port, read_all
+from checks.serving import Serving, free_port, read_all
 from checks.texts import item
+from irr.local.replicas import Replica
 
 SECONDS = 50
 
@@ -24,6 +25,8 @@ MANUAL = os.path.join(TOP, "man", "irrdesk.1")
 UNITS = os.path.join(TOP, "units")
 LIMIT = 10_000
 NOBODY = 65_534
+# So many objects are opened, and the least that is saved then, in kB.
+OBJECTS, SAVED = 20_000, 400
 
 
 def done(command: list[str], **options: Any) -> str:
@@ -255,6 +258,43 @@ def test_the_command_of_the_unit_does_within_its_limits(trial: Trial, tell: Tell
         os.stat(os.path.join(folder, "irr.db")).st_mode & 0o077, 0, "who else may read the database"
     )
     tell(f"{len(calls)} calls of the system, all allowed")
+
+
+def test_an_opening_gives_back_memory_with_the_environment_of_the_unit(
+    trial: Trial, tell: Tell, monkeypatch: pytest.MonkeyPatch
+) -> None:
+    """That a server holds less with the unit's environment, and a replica as little."""
+    folder = trial.place("memory")
+    write_settings(folder, limit=LIMIT)
+    done([trial.program, "init", "s.toml"], cwd=folder)
+    first = done([trial.program, "dump", "s.toml", "--full"], cwd=folder)
+    os.remove(os.path.join(folder, "irr.db"))
+    sets = b"\n".join(item(b"as-set", b"AS-S%05d" % number) for number in range(OBJECTS))
+    write(folder, "full.rpsl", first.encode() + b"\n" + sets)
+    done([trial.program, "load", "s.toml", "full.rpsl"], cwd=folder)
+    monkeypatch.setenv("IRRDESK", trial.program)
+    replica = Replica(Path(folder), free_port())
+    replica.folder.mkdir()
+    shutil.copy(os.path.join(folder, "s.toml"), replica.folder / "irr.toml")
+    shutil.copy(os.path.join(folder, "irr.db"), replica.folder)
+    with Serving([trial.program], folder, 1) as server:
+        without = held(server.process)
+    environment = unit_lines("irrdesk.service")["Environment"]
+    with Serving(["env", environment, trial.program], folder, 1) as server:
+        within = held(server.process)
+    replica.start()
+    assert replica.process
+    copied = held(replica.process)
+    replica.kill()
+    seen = f"{without} kB, {within} in the unit, {copied} in a replica"
+    expect(max(within, copied) + SAVED < without, True, seen)
+    tell(seen)
+
+
+def held(process: "subprocess.Popen[bytes]") -> int:
+    """What a process has in memory, in kB."""
+    status = Path(f"/proc/{process.pid}/status").read_text(encoding="ascii")
+    return int(re.findall(r"^VmRSS:\s+(\d+) kB$", status, re.M)[0])
 
 
 def waiting(process: subprocess.Popen[str], port: int) -> subprocess.Popen[bytes]:

@@ -19,6 +19,9 @@ SETTINGS = (
     'source = "{source}"\nroot = "{root}"\nauth = "{auth}"\nlimit = {limit}\nstore = "irr.db"\n'
 )
 MOST_CONNECTIONS = 1_000_000
+# The C library raises this bound while a registry is opened, and then keeps what the opening gave
+# back, unless it is set. The unit of the registry has it too.
+THRESHOLD = {"MALLOC_MMAP_THRESHOLD_": "131072"}
 # What prctl sets: the signal that a process gets when its parent ends (Linux).
 PR_SET_PDEATHSIG = 1
 

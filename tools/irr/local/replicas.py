@@ -134,6 +134,7 @@ class Replica:
             stdin=subprocess.DEVNULL,
             stdout=subprocess.PIPE,
             stderr=subprocess.PIPE,
+            env=program.THRESHOLD | os.environ,
             preexec_fn=program.bound(),
         )
         try:

@@ -8,7 +8,7 @@ ghost use Rattle.rr_commands.specs.Worlds.{at, deed, done_by, named, ports};
 ghost use Rattle.rr_cli.specs.Networks.{means};
 ghost use Rattle.rr_cli.specs.Serving.{HasServed, IsAboutServing, IsServedEnd, ServesBy};
 ghost use Rattle.rr_cli.specs.Serving.{ServesDesk, ShowsPort, address, listening_head};
-ghost use Rattle.rr_cli.specs.Serving.{listening_line, served_line};
+ghost use Rattle.rr_cli.specs.Serving.{listening, listening_line, served_line};
 
 use crate::network::Network;
 use crate::peers_with_cause::PeersWithCause;
@@ -119,7 +119,8 @@ fn serve_at<D: Databases, F: Files, N: Network, W: Output>(
 {
     let path = watched.path;
     let mut desk = open_desk(watched.tools, &mut host.databases, settings, path, found)?;
-    let end = serve_desk(&watched, &mut desk, network, &mut host.output);
+    let count = watched.listening.count;
+    let end = serve_desk(&watched, &mut desk, network, &mut host.output, count);
     let conn = desk.close();
     close(&mut host.databases, conn);
     end
@@ -131,14 +132,16 @@ fn serve_desk<S: Alter, N: Network, W: Sink>(
     desk: &mut Desk<S>,
     network: &N,
     output: &mut W,
+    count: u64,
 ) -> Result<u8, Trouble>
-    ensures { ServesDesk S.Store (means (N.calls network.now) serves_desk) watched.now.listening
+    ensures { ServesDesk S.Store (means (N.calls network.now) serves_desk)
+        (listening watched.now.listening.port count)
         (deed desk.old desk.new (W.told output.old) (W.told output.new) result) }
 {
-    let listening = watched.listening;
-    match network.listen(listening.port) {
-        Ok(mut listener) => match write_listening(output, listening.port) {
-            Ok(()) => serve_turns(watched, desk, &mut listener, output),
+    let port = watched.listening.port;
+    match network.listen(port) {
+        Ok(mut listener) => match write_listening(output, port) {
+            Ok(()) => serve_turns(watched, desk, &mut listener, output, count),
             Err(_) => Err(Trouble::Unwritten),
         },
         Err(cause) => Err(Trouble::ListenerUnopened(cause)),
@@ -189,13 +192,13 @@ fn serve_turns<S: Alter, P: PeersWithCause, W: Sink>(
     desk: &mut Desk<S>,
     peers: &mut P,
     output: &mut W,
+    count: u64,
 ) -> Result<u8, Trouble>
-    requires { (P.tally peers.old).turns + watched.now.listening.count < 2 ^ 64 }
-    ensures { HasServed S.Store serves_desk watched.now.listening.count
+    requires { (P.tally peers.old).turns + count < 2 ^ 64 }
+    ensures { HasServed S.Store serves_desk count
         (P.tally peers.old) (P.tally peers.new)
         (deed desk.old desk.new (W.told output.old) (W.told output.new) result) }
 {
-    let count = watched.listening.count;
     let served = serve_all(watched.tools.alloc, desk, peers, watched, count);
     match write_served(output, served) {
         Ok(()) => served_end(served, peers),

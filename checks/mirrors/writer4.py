@@ -91,7 +91,7 @@ class Writer4:
     def put(self, kind: str, records: "list[Record]", head: Record | None = None) -> Record:
         """Puts a file of records, and says how it is named."""
         own = self.head(kind) | (head or {})
-        return self.put_bytes(kind, gzip.compress(sequence([own, *records])))
+        return self.put_bytes(kind, gzip.compress(sequence([own, *records]), mtime=0))
 
     def put_bytes(self, kind: str, text: bytes) -> Record:
         found = hashlib.sha256(text).hexdigest()

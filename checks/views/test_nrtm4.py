@@ -20,7 +20,6 @@ from checks.views.test_sources import route
 from checks.worlds import Tool
 from irr.errors import Failure
 from irr.system import signing
-from irr.views import sources
 
 IN_MEMORY = True
 SECONDS = 60
@@ -305,7 +304,7 @@ def test_what_is_wrong_is_reported_and_takes_nothing(world: Followed, what: str)
         line = world.view.lines()[0]
         expect(line[:32], f"RIPE is not renewed since {time.strftime('%Y-%m')[:6]}", line)
         world.begin()
-    left = state._replace(hash=sources.LEFT) if what == "back" else state
+    left = state._replace(is_left=True) if what == "back" else state
     expect(world.view.states["RIPE"], left, "its state")
     if any(word in what for word in ("gap", "gone", "snapshot of other")):
         writer.begin()
@@ -376,69 +375,6 @@ def test_keys_are_announced_before_they_sign(world: Followed) -> None:
     world.begin()
     writer.publish(add(22))
     expect((world.renew(), world.asked("snapshot")), ("", 1), "after a start")
-
-
-def test_a_registry_that_was_restored_is_taken_anew(world: Followed) -> None:
-    """Where it tells other changes by a version that was taken already."""
-    writer = world.writer
-    writer.publish(add(20))
-    writer.publish(add(21))
-    expect(world.renew(), "", "the first time")
-    writer.version, writer.deltas = 1, []
-    for number in 20, 21:
-        del writer.objects[named(route(number))[0]]
-    writer.publish(add(20))
-    writer.publish(add(23))
-    writer.publish(add(24))
-    expect(world.renew(), "", "after it was restored")
-    world.need_same("what it has then")
-    expect(world.asked("snapshot"), 2, "how often a snapshot was taken")
-
-
-def test_a_registry_that_was_restored_publishes_another_version(world: Followed) -> None:
-    """The version that was taken already, with other changes, after it was seen to go back or
-    not."""
-    writer = world.writer
-    for turn, seen in enumerate([False, True]):
-        writer.begin()
-        writer.publish(add(30 + turn))
-        expect(world.renew(), "", "the first time")
-        del writer.objects[named(route(30 + turn))[0]]
-        writer.version, writer.deltas = 1, []
-        if seen:
-            writer.notify()
-            expect("it went back" in world.renew(), True, "the fault")
-        writer.publish(add(40 + turn))
-        expect(world.renew(), "", "after it was restored")
-        world.need_same("what it has then")
-
-
-def test_a_registry_that_was_restored_names_changes_of_a_snapshot(world: Followed) -> None:
-    """Those of a version which was taken from a snapshot, without changes."""
-    writer = world.writer
-    for number in range(50, 53):
-        writer.publish(add(number))
-    writer.forget()
-    expect(world.renew(), "", "the first time")
-    for number in 51, 52:
-        del writer.objects[named(route(number))[0]]
-    writer.version = 2
-    writer.take_snapshot()
-    for number in range(60, 63):
-        writer.publish(add(number))
-    expect(world.renew(), "", "after it was restored")
-    world.need_same("what it has then")
-
-
-def test_a_registry_that_was_restored_has_another_snapshot(world: Followed) -> None:
-    """Of the version that was taken, where no changes are named."""
-    writer = world.writer
-    expect(world.renew(), "", "the first time")
-    name, text = named(route(70))
-    writer.objects[name] = text
-    writer.forget()
-    expect(world.renew(), "", "after it was restored")
-    world.need_same("what it has then")
 
 
 def test_what_is_published_of_one_object_is_one(world: Followed) -> None:

@@ -65,10 +65,6 @@ class Notification(NamedTuple):
         """The changes of the versions after one."""
         return [one for one in self.deltas if one.version > version]
 
-    def hash_of(self, version: int) -> str:
-        """The hash of the changes of a version; nothing where they are not named."""
-        return next((one.hash for one in self.deltas if one.version == version), "")
-
 
 class Follower:
     """Reads what a source publishes. Which keys it is trusted by stands in a file."""

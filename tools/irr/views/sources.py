@@ -23,15 +23,14 @@ from irr.views.settings import Source, is_address
 MOST_CHANGES = 1 << 26
 # How often a notification file is read where what it names is gone.
 TRIES = 3
-# In the place of a hash: the source went back behind the version.
-LEFT = "left"
 
 
 class State(NamedTuple):
     """What was taken of a source, in a folder: where it was taken from, what told its dumps from
     earlier ones, their digests, the serial of the last change that is in it, and how many objects
-    of each class it had once it was merged. By NRTM, version 4, the serial is the version of a
-    session; its changes have the one hash, and its snapshot the other, if they were named."""
+    of each class it had once it was merged; and the digest of the changes since the dumps. By NRTM,
+    version 4, the serial is the version of a session, of whose snapshot and changes it has the
+    hashes that were named. It is left where the source told of no changes after it."""
 
     folder: Path
     origin: str
@@ -42,6 +41,8 @@ class State(NamedTuple):
     session: str = ""
     hash: str = ""
     snapshot: str = ""
+    deltas: dict[str, str] = {}
+    is_left: bool = False
 
     @property
     def file(self) -> Path:
@@ -79,21 +80,24 @@ class State(NamedTuple):
         files.put(self.file, json.dumps(fields).encode(), files.PRIVATE)
 
     def leave(self) -> None:
-        """Keeps that the source went back behind it, without having seen it."""
+        """Keeps that nothing leads on from it, without having seen it."""
         seen = self.file.stat().st_mtime_ns
-        self._replace(hash=LEFT).put()
+        self._replace(is_left=True).put()
         os.utime(self.file, ns=(seen, seen))
 
+    def at(self, serial: int) -> "State":
+        """The same with the changes up to a serial, which are written."""
+        return self._replace(serial=serial, hash=digest(self.changes))
+
     def is_named(self, notification: Notification) -> bool:
-        """Whether its version is that of a notification file, as far as this names it. A registry
-        that was restored may tell other changes by the same numbers."""
-        serial, snapshot = self.serial or 0, notification.snapshot
-        named = snapshot.hash if snapshot.version == serial else ""
-        return (
-            self.hash != LEFT
-            and notification.hash_of(serial) in ("", self.hash)
-            and (not (named and self.snapshot) or named == self.snapshot)
-        )
+        """Whether a notification file names its version, and none that led to it otherwise. A
+        registry that was restored may tell other changes by the same numbers."""
+        snapshot = notification.snapshot
+        named = {str(one.version): one.hash for one in notification.deltas}
+        pairs = [(named[one], self.deltas[one]) for one in named.keys() & self.deltas.keys()]
+        if snapshot.version == self.serial and self.snapshot:
+            pairs.append((snapshot.hash, self.snapshot))
+        return not self.is_left and bool(pairs) and all(one == other for one, other in pairs)
 
     def changed(self) -> Iterator[tuple[bool, Block]]:
         """The changes since the dumps: whether each is an object that there is, and its text."""
@@ -125,6 +129,11 @@ def state_in(folder: Path) -> State | None:
     return State(**found)
 
 
+def noted(state: State | None) -> State | None:
+    """A state with what was noted of it in its folder since it was read."""
+    return state_in(state.folder) if state else None
+
+
 def renewed(source: Source, old: State | None, work: Path) -> State | None:
     """What a source has now, in a new folder; None where that is what was taken of it before.
     Nothing is left of what was taken elsewhere."""
@@ -136,17 +145,23 @@ def renewed(source: Source, old: State | None, work: Path) -> State | None:
     gap: nrtm.Behind | None = None
     if old and source.nrtm and old.serial is not None and old.has_room():
         try:
-            return followed(source, old, old.serial, work)
+            state = followed(source, old, old.serial, work)
+            if not old.is_left:
+                return state
+            # Serials went back, so these changes may be of another state.
+            gap = nrtm.Behind()
         except nrtm.Behind as behind:
             gap = behind
-            empty(work)
+            old.leave()
+        empty(work)
     state = taken(source, old, work, gap)
     if state is None or not source.nrtm or state.serial is None:
         return state
     before, now = (old.serial if old else None) or 0, state.serial
     try:
         with appended(state.changes) as out:
-            state = state._replace(serial=nrtm.follow(source.place(), source.name, now, out))
+            last = nrtm.follow(source.place(), source.name, now, out)
+        state = state.at(last)
     except nrtm.Behind as behind:
         # Serials may have begun anew. Otherwise the dump has to be newer than what there was; the
         # next check says that nothing leads on from it.
@@ -180,7 +195,7 @@ def followed(source: Source, old: State, serial: int, work: Path) -> State | Non
         last = nrtm.follow(source.place(), source.name, serial, out)
     if last == serial:
         return None
-    state = state._replace(serial=last)
+    state = state.at(last)
     state.put()
     return state
 
@@ -253,10 +268,9 @@ def noticed(
         for named in notification.after(state.serial or 0):
             follower.changes(notification, named, out)
     version, snapshot = notification.version, notification.snapshot
-    state = state._replace(
-        serial=version,
-        hash=notification.hash_of(version),
+    state = state.at(version)._replace(
         snapshot=snapshot.hash if snapshot.version == version else "",
+        deltas={str(one.version): one.hash for one in notification.deltas},
     )
     state.put()
     return state

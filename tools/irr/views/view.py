@@ -105,6 +105,12 @@ class View:
         one."""
         name = source.name
         old, (last, how) = self.states.get(name), self.shrunk.get(name, (None, ""))
+        # What was noted of them, or removed by hand.
+        old, last = sources.noted(old), sources.noted(last)
+        if old:
+            self.states[name] = old
+        else:
+            self.states.pop(name, None)
         self.new.pop(name, None)
         try:
             state = sources.renewed(source, last or old, self.place(source, "next"))

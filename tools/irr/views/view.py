@@ -9,6 +9,7 @@ from irr.errors import Failure
 from irr.local import program, tables
 from irr.local.databases import Copy
 from irr.local.replicas import Made
+from irr.migrate.paragraphs import CUT_OFF
 from irr.rpsl.holders import VIEW_ROOT
 from irr.system import files
 from irr.terminal import texts
@@ -139,6 +140,8 @@ class View:
             if state is None:
                 continue
             words = merge.shrank(old.counts if old else [], outcomes[one.name].counts, one.shrink)
+            if old and CUT_OFF in outcomes[one.name].left:
+                words = "it is cut off within its last object; it is fetched again"
             if words:
                 kept = self.place(one, "shrunk")
                 shutil.rmtree(kept, ignore_errors=True)

@@ -94,7 +94,7 @@ def test_a_registry_that_was_restored_has_another_snapshot(world: Followed) -> N
 def test_a_registry_that_was_restored_is_known_by_all_that_it_names(
     world: Followed, how: str
 ) -> None:
-    """Where the version that was taken is named by its snapshot, or by changes that are the same."""
+    """Where the version that was taken has a snapshot alone, or changes that are the same."""
     writer = world.writer
     for number in range(30, 34):
         writer.publish(add(number))

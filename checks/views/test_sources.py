@@ -308,29 +308,35 @@ def test_a_gap_in_what_is_followed_takes_nothing_back(followed: World) -> None:
     expect((world.routes_seen(), fault(world)), (142, ""), "what there is then")
 
 
-def test_serials_that_went_back_are_not_followed_once_they_pass(followed: World) -> None:
-    """As of a registry that was restored, whose changes are others: until another dump comes."""
+@pytest.mark.parametrize("count", [40, 15])
+def test_serials_that_went_back_are_not_followed_once_they_pass(
+    followed: World, count: int
+) -> None:
+    """As of a registry that was restored, whose changes are others: until another dump comes. They
+    pass what was taken, or the serial of its dump alone."""
     world = followed
     world.nrtm.publish([("ADD", route(number)) for number in range(200, 250)])
     world.routes |= {number: route(number) for number in range(200, 250)}
     world.publish()
+    world.nrtm.publish([("ADD", route(249, 2, "again"))])
     world.renew()
     expect((world.routes_seen(), fault(world)), (90, ""), "the first time")
     del world.nrtm.changes[20:]
     for number in range(220, 250):
         del world.routes[number]
-    words = "it tells no changes after 150, and the dump has serial 150 still"
-    for _ in range(2):
+    words = "it tells no changes after 151, and the dump has serial 150 still"
+    for first in 300, 300 + count:
         world.renew()
         expect(words in fault(world), True, fault(world))
-        world.nrtm.publish([("ADD", route(number)) for number in range(300, 340)])
-    world.routes |= {number: route(number) for number in range(300, 340)}
+        added = {number: route(number) for number in range(first, first + count)}
+        world.nrtm.publish([("ADD", text) for text in added.values()])
+        world.routes |= added
     world.renew()
     expect((world.routes_seen(), words in fault(world)), (90, True), fault(world))
     world.publish()
     world.renew()
     expect((world.routes_seen(), fault(world)), (len(world.routes), ""), "with a dump of now")
-    world.nrtm.publish([("ADD", route(341))])
+    world.nrtm.publish([("ADD", route(400))])
     world.renew()
     expect((world.routes_seen(), fault(world)), (len(world.routes) + 1, ""), "what comes then")
 

@@ -30,7 +30,8 @@ class State(NamedTuple):
     earlier ones, their digests, the serial of the last change that is in it, and how many objects
     of each class it had once it was merged; and the digest of the changes since the dumps. By NRTM,
     version 4, the serial is the version of a session, of whose snapshot and changes it has the
-    hashes that were named. It is left where the source told of no changes after it."""
+    hashes that were named. It is left where the source told of no changes after it, and its dumps
+    are refused while they have the serial from which nothing led on."""
 
     folder: Path
     origin: str
@@ -43,6 +44,7 @@ class State(NamedTuple):
     snapshot: str = ""
     deltas: dict[str, str] = {}
     is_left: bool = False
+    refused: int | None = None
 
     @property
     def file(self) -> Path:
@@ -79,10 +81,10 @@ class State(NamedTuple):
         fields = {**self._asdict(), "folder": ""}
         files.put(self.file, json.dumps(fields).encode(), files.PRIVATE)
 
-    def leave(self) -> None:
+    def leave(self, refused: int | None = None) -> None:
         """Keeps that nothing leads on from it, without having seen it."""
         seen = self.file.stat().st_mtime_ns
-        self._replace(is_left=True).put()
+        self._replace(is_left=True, refused=refused or self.refused).put()
         os.utime(self.file, ns=(seen, seen))
 
     def at(self, serial: int) -> "State":
@@ -303,7 +305,10 @@ def taken(source: Source, old: State | None, work: Path, gap: nrtm.Behind | None
     if old and old.digests == digests:
         before, now = old.serial or 0, serial or 0
         leads_on = gap is None or gap.is_anew(before) and now <= (gap.last or 0)
-        if source.nrtm and (before > now and gap is None or before >= now and not leads_on):
+        is_refused = serial is not None and old.refused == serial
+        is_before = before > now and gap is None or before >= now and not leads_on
+        if source.nrtm and (is_refused or is_before):
+            old.leave(serial)
             raise unfollowed(source, before, serial)
         if old.serial == serial:
             old._replace(stamps=stamps).put()

@@ -3,6 +3,7 @@ import gzip
 import io
 import os
 import random
+import re
 import shutil
 from collections.abc import Iterator
 from pathlib import Path
@@ -339,6 +340,43 @@ def test_serials_that_went_back_are_not_followed_once_they_pass(
     world.nrtm.publish([("ADD", route(400))])
     world.renew()
     expect((world.routes_seen(), fault(world)), (len(world.routes) + 1, ""), "what comes then")
+
+
+@pytest.mark.parametrize("words", ["RIPE's", "IRRd's", "a fault"])
+def test_a_dump_from_before_serials_went_back_is_not_followed_once_they_pass(
+    followed: World, words: str, monkeypatch: pytest.MonkeyPatch
+) -> None:
+    """One that was not taken before, as what came after it was followed. It is seen as soon as
+    serials are, or after a fault."""
+    world = followed
+    if words != "RIPE's":
+        monkeypatch.setattr(nrtm, "WITHIN", re.compile(rb"no words"))
+    expect((world.renew(), fault(world)), (True, ""), "the first time")
+    world.nrtm.publish([("ADD", route(number)) for number in range(200, 210)])
+    world.routes |= {number: route(number) for number in range(200, 210)}
+    world.publish()
+    world.nrtm.publish([("ADD", route(209, 2, "again"))])
+    world.renew()
+    expect((world.routes_seen(), fault(world)), (50, ""), "what was followed")
+    del world.nrtm.changes[5:]
+    for number in range(205, 210):
+        del world.routes[number]
+    if words == "a fault":
+        whole, world.files.texts["/ripe.db.as-set"] = world.files.texts["/ripe.db.as-set"], 500
+        world.renew()
+        expect("status 500" in fault(world), True, fault(world))
+        world.files.texts["/ripe.db.as-set"] = whole
+    else:
+        world.renew()
+    world.nrtm.publish([("ADD", route(number)) for number in range(300, 310)])
+    world.routes |= {number: route(number) for number in range(300, 310)}
+    for _ in range(2):
+        world.renew()
+        expect(world.routes_seen(), 50, "what was followed")
+        expect("the dump has serial 110 still" in fault(world), True, fault(world))
+    world.publish()
+    world.renew()
+    expect((world.routes_seen(), fault(world)), (len(world.routes), ""), "with a dump of now")
 
 
 def test_a_dump_that_is_cut_within_an_object_is_not_taken(world: World) -> None:

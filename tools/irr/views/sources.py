@@ -30,8 +30,8 @@ class State(NamedTuple):
     earlier ones, their digests, the serial of the last change that is in it, and how many objects
     of each class it had once it was merged; and the digest of the changes since the dumps. By NRTM,
     version 4, the serial is the version of a session, of whose snapshot and changes it has the
-    hashes that were named. It is left where the source told of no changes after it, and its dumps
-    are refused while they have the serial from which nothing led on."""
+    hashes that were named. It is left where the source told of no changes after it. Of the dumps from
+    which nothing led on it has the short names: they are refused, whatever is told later."""
 
     folder: Path
     origin: str
@@ -44,7 +44,7 @@ class State(NamedTuple):
     snapshot: str = ""
     deltas: dict[str, str] = {}
     is_left: bool = False
-    refused: int | None = None
+    refused: list[str] = []
 
     @property
     def file(self) -> Path:
@@ -81,10 +81,11 @@ class State(NamedTuple):
         fields = {**self._asdict(), "folder": ""}
         files.put(self.file, json.dumps(fields).encode(), files.PRIVATE)
 
-    def leave(self, refused: int | None = None) -> None:
-        """Keeps that nothing leads on from it, without having seen it."""
+    def leave(self, dump: "State | None" = None) -> None:
+        """Keeps that nothing leads on from it, nor from a dump, without having seen it."""
         seen = self.file.stat().st_mtime_ns
-        self._replace(is_left=True, refused=refused or self.refused).put()
+        names = {*self.refused, *([dump.digest()] if dump else [])}
+        self._replace(is_left=True, refused=sorted(names)).put()
         os.utime(self.file, ns=(seen, seen))
 
     def at(self, serial: int) -> "State":
@@ -159,29 +160,34 @@ def renewed(source: Source, old: State | None, work: Path) -> State | None:
     state = taken(source, old, work, gap)
     if state is None or not source.nrtm or state.serial is None:
         return state
-    before, now = (old.serial if old else None) or 0, state.serial
+    before = (old.serial if old else None) or 0
     try:
         with appended(state.changes) as out:
-            last = nrtm.follow(source.place(), source.name, now, out)
+            last = nrtm.follow(source.place(), source.name, state.serial, out)
         state = state.at(last)
     except nrtm.Behind as behind:
         # Serials may have begun anew. Otherwise the dump has to be newer than what there was; the
         # next check says that nothing leads on from it.
-        if now < before and not behind.is_anew(before):
-            raise unfollowed(source, before, now) from None
+        if old and state.serial < before and not behind.is_anew(before):
+            raise unfollowed(source, old, state) from None
         state.changes.unlink()
+        if gap:
+            # Serials went back behind it too, and may pass it with others.
+            state = state._replace(is_left=True, refused=[state.digest()])
     except Failure:
-        if now < before:
+        if state.serial < before:
             raise
         state.changes.unlink()
     state.put()
     return state
 
 
-def unfollowed(source: Source, before: int, serial: int | None) -> Failure:
+def unfollowed(source: Source, old: State, dump: State) -> Failure:
+    """What is wrong where nothing leads on from a state, nor from a dump, which is refused then."""
+    old.leave(dump)
     return Failure(
         f"nrtm://{source.nrtm}",
-        f"it tells no changes after {before}, and the dump has serial {serial} still",
+        f"it tells no changes after {old.serial or 0}, and the dump has serial {dump.serial} still",
     )
 
 
@@ -302,14 +308,16 @@ def taken(source: Source, old: State | None, work: Path, gap: nrtm.Behind | None
         digests.append(digest(part))
     counts = old.counts if old else []
     state = State(work, source.origin(), stamps, digests, serial, counts)
+    # The first dump that is seen after serials went back may be from before.
+    is_first = old is not None and old.is_left and not old.refused
+    if old and source.nrtm and (is_first or state.digest() in old.refused):
+        raise unfollowed(source, old, state)
     if old and old.digests == digests:
         before, now = old.serial or 0, serial or 0
         leads_on = gap is None or gap.is_anew(before) and now <= (gap.last or 0)
-        is_refused = serial is not None and old.refused == serial
         is_before = before > now and gap is None or before >= now and not leads_on
-        if source.nrtm and (is_refused or is_before):
-            old.leave(serial)
-            raise unfollowed(source, before, serial)
+        if source.nrtm and is_before:
+            raise unfollowed(source, old, state)
         if old.serial == serial:
             old._replace(stamps=stamps).put()
             return None

@@ -379,18 +379,6 @@ def test_a_dump_from_before_serials_went_back_is_not_followed_once_they_pass(
     expect((world.routes_seen(), fault(world)), (len(world.routes), ""), "with a dump of now")
 
 
-def test_a_dump_that_is_cut_within_an_object_is_not_taken(world: World) -> None:
-    """Where nothing but its last object tells of it."""
-    expect(world.renew(), True, "the first time")
-    text = "\n".join(world.routes.values())
-    world.files.texts["/ripe.db.route.gz"] = text[:-20].encode()
-    expect(world.renew(), False, "a file that is cut")
-    expect("it is cut off within its last object" in fault(world), True, fault(world))
-    world.files.texts["/ripe.db.route.gz"] = text.encode()
-    world.renew()
-    expect((world.routes_seen(), fault(world)), (40, ""), "once it is whole")
-
-
 def test_a_dump_from_before_what_was_followed_takes_nothing_back(followed: World) -> None:
     """Where the changes since are no longer told, what there is stays until a newer dump comes."""
     world = followed

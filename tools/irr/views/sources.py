@@ -4,6 +4,7 @@ import contextlib
 import hashlib
 import json
 import os
+import re
 import shutil
 from pathlib import Path
 from typing import Any, BinaryIO, Iterator, NamedTuple
@@ -23,6 +24,9 @@ from irr.views.settings import Source, is_address
 MOST_CHANGES = 1 << 26
 # How often a notification file is read where what it names is gone.
 TRIES = 3
+# What tells of a dump that it is whole, in words for people: in so many bytes at its end.
+LINE_END, EOF, TAIL = "line end", "`# EOF`", 200
+EOF_LINE = re.compile(rb"[#%]+ *EOF", re.I)
 
 
 class State(NamedTuple):
@@ -31,7 +35,8 @@ class State(NamedTuple):
     of each class it had once it was merged; and the digest of the changes since the dumps. By NRTM,
     version 4, the serial is the version of a session, of whose snapshot and changes it has the
     hashes that were named. It is left where the source told of no changes after it. Of the dumps from
-    which nothing led on it has the short names: they are refused, whatever is told later."""
+    which nothing led on it has the short names: they are refused, whatever is told later. It has
+    what tells of each dump that it is whole."""
 
     folder: Path
     origin: str
@@ -45,6 +50,7 @@ class State(NamedTuple):
     deltas: dict[str, str] = {}
     is_left: bool = False
     refused: list[str] = []
+    ends: list[list[str]] = []
 
     @property
     def file(self) -> Path:
@@ -160,22 +166,22 @@ def renewed(source: Source, old: State | None, work: Path) -> State | None:
     state = taken(source, old, work, gap)
     if state is None or not source.nrtm or state.serial is None:
         return state
-    before = (old.serial if old else None) or 0
+    before, now = (old.serial if old else None) or 0, state.serial
     try:
         with appended(state.changes) as out:
-            last = nrtm.follow(source.place(), source.name, state.serial, out)
+            last = nrtm.follow(source.place(), source.name, now, out)
         state = state.at(last)
     except nrtm.Behind as behind:
         # Serials may have begun anew. Otherwise the dump has to be newer than what there was; the
         # next check says that nothing leads on from it.
-        if old and state.serial < before and not behind.is_anew(before):
+        if old and now < before and not behind.is_anew(before):
             raise unfollowed(source, old, state) from None
         state.changes.unlink()
         if gap:
             # Serials went back behind it too, and may pass it with others.
             state = state._replace(is_left=True, refused=[state.digest()])
     except Failure:
-        if state.serial < before:
+        if now < before:
             raise
         state.changes.unlink()
     state.put()
@@ -289,7 +295,7 @@ def taken(source: Source, old: State | None, work: Path, gap: nrtm.Behind | None
     than never. A Failure where they are those of before, and nothing leads on from them."""
     serial = serial_of(source) if source.serial else None
     places = [source.registry] if source.registry else list(source.dump)
-    stamps, digests = [], []
+    stamps, digests, ends = [], [], []
     for number, place in enumerate(places):
         part = work / str(number)
         is_old = old is not None and number < len(old.digests)
@@ -302,12 +308,14 @@ def taken(source: Source, old: State | None, work: Path, gap: nrtm.Behind | None
         except downloads.Unchanged:
             assert old
             os.link(old.parts[number], part)
+            # Version 2.3.0 did not note how they end.
+            ends.append(old.ends[number] if old.ends else ending(part, place))
         else:
-            need_whole(part, place)
+            ends.append(ending(part, place))
         stamps.append(stamp)
         digests.append(digest(part))
     counts = old.counts if old else []
-    state = State(work, source.origin(), stamps, digests, serial, counts)
+    state = State(work, source.origin(), stamps, digests, serial, counts, ends=ends)
     # The first dump that is seen after serials went back may be from before.
     is_first = old is not None and old.is_left and not old.refused
     if old and source.nrtm and (is_first or state.digest() in old.refused):
@@ -319,7 +327,7 @@ def taken(source: Source, old: State | None, work: Path, gap: nrtm.Behind | None
         if source.nrtm and is_before:
             raise unfollowed(source, old, state)
         if old.serial == serial:
-            old._replace(stamps=stamps).put()
+            old._replace(stamps=stamps, ends=ends).put()
             return None
     state.put()
     return state
@@ -343,10 +351,26 @@ def digest(part: Path) -> str:
         return hashlib.file_digest(file, "sha256").hexdigest()
 
 
-def need_whole(part: Path, name: str) -> None:
-    """That a dump can be read to its end."""
+def ending(part: Path, name: str) -> list[str]:
+    """What tells of a dump that it is whole, which has to be read to its end."""
+    tail = b""
     try:
-        for _ in dumps.pieces_of(str(part)):
-            pass
+        for piece in dumps.pieces_of(str(part)):
+            tail = (tail + piece)[-TAIL:]
     except Failure as failure:
         raise Failure(name, failure.what) from None
+    last = tail.rstrip().splitlines()[-1:] or [b""]
+    is_told = {LINE_END: tail.endswith((b"\n", b"\r")), EOF: EOF_LINE.fullmatch(last[0])}
+    return [words for words, found in is_told.items() if found]
+
+
+def cut(source: Source, old: State, state: State) -> str:
+    """How a dump lacks what told of the one before that it was whole; no words where none does."""
+    for place, before, now in zip(source.dump, old.ends, state.ends):
+        lost = [words for words in before if words not in now]
+        if lost and EOF not in now:
+            return (
+                f"{place} ends without the {lost[-1]} that it had; look whether it is cut off, and "
+                f"remove {old.folder} if it is whole"
+            )
+    return ""

@@ -9,7 +9,6 @@ from irr.errors import Failure
 from irr.local import program, tables
 from irr.local.databases import Copy
 from irr.local.replicas import Made
-from irr.migrate.paragraphs import CUT_OFF
 from irr.rpsl.holders import VIEW_ROOT
 from irr.system import files
 from irr.terminal import texts
@@ -110,8 +109,10 @@ class View:
         old, last = sources.noted(old), sources.noted(last)
         if old:
             self.states[name] = old
-        else:
-            self.states.pop(name, None)
+        elif self.states.pop(name, None):
+            # What it was too unlike is no longer there.
+            self.shrunk.pop(name, None)
+            last = None
         self.new.pop(name, None)
         try:
             state = sources.renewed(source, last or old, self.place(source, "next"))
@@ -140,8 +141,8 @@ class View:
             if state is None:
                 continue
             words = merge.shrank(old.counts if old else [], outcomes[one.name].counts, one.shrink)
-            if old and CUT_OFF in outcomes[one.name].left:
-                words = "it is cut off within its last object; it is fetched again"
+            if old and old.origin == state.origin:
+                words = words or sources.cut(one, old, state)
             if words:
                 kept = self.place(one, "shrunk")
                 shutil.rmtree(kept, ignore_errors=True)

@@ -34,9 +34,9 @@ class State(NamedTuple):
     earlier ones, their digests, the serial of the last change that is in it, and how many objects
     of each class it had once it was merged; and the digest of the changes since the dumps. By NRTM,
     version 4, the serial is the version of a session, of whose snapshot and changes it has the
-    hashes that were named. It is left where the source told of no changes after it. Of the dumps from
-    which nothing led on it has the short names: they are refused, whatever is told later. It has
-    what tells of each dump that it is whole."""
+    hashes that were named. It is left where the source told of no changes after it. Of the dumps
+    from which nothing led on it has the short names: they are refused, whatever is told later. It
+    has what tells of each dump that it is whole."""
 
     folder: Path
     origin: str

@@ -137,6 +137,12 @@ def test_queries_are_answered_and_faults_reported(case: Commands) -> None:
     case.run("query", "s.toml", "--help").gives(
         "a query that begins with a dash", 1, "", "% error 1"
     )
+    case.run("query", "s.toml", *[""] * 1_000, "ROOT-MNT").gives(
+        "a query of 1001 words, the last of which alone is not empty",
+        0,
+        "",
+        f"mntner:         ROOT-MNT\nauth:           # filtered\n{OWNED}",
+    )
     case.run("query", "s.toml", "ROOT-MNT" + " " * 1_016).gives(
         "a query of 1024 bytes",
         0,

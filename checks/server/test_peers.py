@@ -11,6 +11,7 @@ from typing import Any
 
 import pytest
 
+from checks.heads import refusal
 from checks.pace import pace
 from checks.running import Failure, cases_of, expect
 from checks.server.peers import GIVEN_HEAD, INETNUM, LONGEST, ROOT, TEN, Cases, Server, post
@@ -266,6 +267,18 @@ def peer_that_never_ends(program: str, folder: str) -> None:
             expect(server.ask("root-mnt\n"), ROOT, "the next answer")
             expect_within(time.monotonic() - start, 0, 9, "until the next one was answered")
         server.expect_end(2, 0)
+
+
+@case("a peer that goes on sending for a while after its refusal meets no reset")
+def peer_that_goes_on(program: str, folder: str) -> None:
+    with Server(program, folder, 1) as server:
+        with contextlib.closing(server.connect()) as peer:
+            peer.sendall(b"POST /dump HTTP/1.1\r\n\r\n")
+            for _ in range(4):
+                time.sleep(0.05)
+                peer.sendall(b"%" * 10_000)
+            expect(read_all(peer), refusal(405, "GET"), "the reply")
+        server.expect_end(1, 0)
 
 
 @case("a hundred peers at once are served one after the other")

@@ -1,5 +1,6 @@
-"""A server and its peers, one by one: where it listens, what it says where nobody is accepted, how
-long a peer is given, by a clock that runs fast, and what it does while it is held still."""
+"""A server and its peers, one by one: where it listens, what it says where nobody is accepted, in
+how many calls it reads, how long a peer is given, by a clock that runs fast, and what it does while
+it is held still."""
 
 import contextlib
 import os
@@ -11,7 +12,7 @@ from collections.abc import Callable, Iterator
 
 import pytest
 
-from checks.failing import Failing
+from checks.failing import NONE, Failing, number_in
 from checks.hostile.sweeping import made_registry
 from checks.model.queries import answer
 from checks.pace import pace
@@ -48,9 +49,11 @@ def folder(trial: Trial) -> str:
     return made
 
 
-def failing_words(failing: Failing, kind: str, how: str, number: int) -> list[str]:
+def failing_words(
+    failing: Failing, kind: str, how: str, number: int, counted: str = "/dev/null"
+) -> list[str]:
     """The words that start the program under the library of failing calls."""
-    given = failing.environment(kind, how, number)
+    given = failing.environment(kind, how, number, counted)
     named = [f"{name}={given[name]}" for name in ("LD_PRELOAD", "FAILING", "FAILING_COUNT")]
     return ["env", *named, failing.trial.program]
 
@@ -137,6 +140,24 @@ def test_probe_says_why_it_could_not_be_accepted(failing: Failing, folder: str) 
     ran = failing.run(folder, ["probe", "s.toml"], failing.environment("accept", "once", 1))
     reported = f"irrdesk: the program's own listener cannot be asked: {MANY_FILES}\n"
     expect((ran.status, ran.printed, ran.reported.decode()), (5, b"", reported), "how it ended")
+
+
+# How it reads.
+
+
+def test_a_request_that_came_whole_is_read_in_few_calls(
+    trial: Trial, failing: Failing, folder: str
+) -> None:
+    """Not a call for each byte: a head of 8,000 bytes that comes at once, and its reply."""
+    counted = os.path.join(trial.work, "calls")
+    words = failing_words(failing, "peer", "once", NONE, counted)
+    with Serving(words, folder, 1) as server, connected(server.port) as peer:
+        peer.sendall(b"GET /query/root-mnt HTTP/1.1\r\nA: %s\r\n\r\n" % (b"x" * 8_000))
+        expect(read_all(peer), GIVEN + ROOT, "the reply")
+        peer.close()
+        expect(server.process.communicate(timeout=LONGEST)[0], b"served 1, failed 0\n", "its end")
+    calls = number_in(counted)
+    expect(1 < calls < 100, True, f"whether {calls} calls are few")
 
 
 # How long a peer is given.

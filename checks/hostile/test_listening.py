@@ -3,9 +3,12 @@ how many calls it reads, how long a peer is given, by a clock that runs fast, an
 it is held still."""
 
 import contextlib
+import ctypes
 import os
 import signal
 import socket
+import stat
+import struct
 import subprocess
 import time
 from collections.abc import Callable, Iterator
@@ -32,6 +35,8 @@ ROOT = answer(opened(), b"ROOT-MNT", 10_000)
 LONGEST = 60
 # How many inetnums a long dump has, and how many bytes each of them.
 LARGE, SIZE = 60, 60_000
+# The call of Linux that gives a file of another process.
+LIBC, PIDFD_GETFD = ctypes.CDLL(None), 438
 # How many times as fast the clock runs: 60 seconds of it are two here, or three.
 FAST, SLOWER = 30, 20
 
@@ -161,6 +166,36 @@ def test_a_request_that_came_whole_is_read_in_few_calls(
 
 
 # How long a peer is given.
+
+
+def waited(process: subprocess.Popen[bytes]) -> set[int]:
+    """How many seconds the system waits for a peer in a read, of each connection of a process."""
+    opened = os.pidfd_open(process.pid)
+    found = set()
+    for name in os.listdir(f"/proc/{process.pid}/fd"):
+        number = LIBC.syscall(PIDFD_GETFD, opened, int(name), 0)
+        expect(number >= 0, True, f"whether its file {name} can be looked at")
+        if not stat.S_ISSOCK(os.fstat(number).st_mode):
+            os.close(number)
+            continue
+        with socket.socket(fileno=number) as peer:
+            if not peer.getsockopt(socket.SOL_SOCKET, socket.SO_ACCEPTCONN):
+                given = peer.getsockopt(socket.SOL_SOCKET, socket.SO_RCVTIMEO, 16)
+                found.add(struct.unpack("qq", given)[0])
+    os.close(opened)
+    return found
+
+
+def test_the_system_waits_10_seconds_for_a_peer_that_says_nothing(
+    trial: Trial, folder: str
+) -> None:
+    """As the connection says, since a busy machine makes all times long."""
+    with Serving([trial.program], folder, 1) as server, connected(server.port) as peer:
+        peer.sendall(b"root-")
+        wait_until(lambda: waited(server.process) not in (set(), {0}), 10)
+        expect(waited(server.process), {10}, "the seconds of its waits")
+        peer.sendall(b"mnt\n")
+        expect(read_all(peer), ROOT, "its answer")
 
 
 def test_a_request_that_drips_is_cut_off_after_its_time(failing: Failing, folder: str) -> None:

@@ -276,7 +276,7 @@ def test_passwords_are_sent_once_and_kept_nowhere(stage: Stage, tell: Tell) -> N
         "where the password is now",
     )
     browser.write("password-1", " blank at its start")
-    expect_in("no blank at its ends", stage.sent(), "a password with a blank")
+    expect_in("must not begin or end with a space", stage.sent(), "a password with a blank")
     browser.write("text", "descr: x" * 140_000)
     browser.write("password-1", "")
     expect_in("1,048,576 bytes", stage.sent(), "a text that is too long")

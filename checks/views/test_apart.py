@@ -11,7 +11,6 @@ import pytest
 from checks.door.opened import HEAD, SPACE
 from checks.running import Trial, expect, write, write_settings
 from checks.serving import Serving, free_port
-from checks.views import test_merge, test_sources
 from checks.views.test_merge import ViewOf, asked, made
 from checks.views.test_sources import World, dump, fault, route
 from checks.worlds import COUNT
@@ -19,7 +18,6 @@ from irr.errors import Failure
 from irr.views import nrtm, settings
 from irr.views.view import View
 
-followed, view_of = test_sources.followed, test_merge.view_of
 # Attributes that the rules take as text in an object of a stranger, who may register it.
 INSIDE = {
     "route": "route: 192.0.2.0/24\norigin: AS666\n",
@@ -60,10 +58,9 @@ def queried(folder: Path, *words: str) -> str:
 @pytest.mark.parametrize("what", INSIDE)
 @pytest.mark.parametrize("way", ["registry", "dump", "nrtm"])
 def test_a_stranger_adds_no_object_by_the_text_of_another(
-    trial: Trial, tmp_path: Path, monkeypatch: pytest.MonkeyPatch, what: str, way: str
+    trial: Trial, tmp_path: Path, what: str, way: str
 ) -> None:
     """A maintainer's class is the first of a dump, so that its text would win."""
-    monkeypatch.setenv("IRRDESK", trial.program)
     evil = EVIL + INSIDE[what]
     text = f"{HEAD}{GOOD if way == 'nrtm' else evil + chr(10) + GOOD}{SPACE}"
     write_settings(str(tmp_path))

@@ -1,24 +1,11 @@
 """Dumps of a view that lack the end which they had."""
 
 import shutil
-from collections.abc import Iterator
-from pathlib import Path
 
 import pytest
 
-from checks.running import Trial, expect
+from checks.running import expect
 from checks.views.test_sources import World, fault, route
-
-IN_MEMORY = True
-
-
-@pytest.fixture
-def world(trial: Trial, tmp_path: Path, monkeypatch: pytest.MonkeyPatch) -> Iterator[World]:
-    monkeypatch.setenv("IRRDESK", trial.program)
-    one = World(tmp_path)
-    with one.files:
-        yield one
-
 
 ENDS = {
     "line": ("", -20, "ends without the line end that it had"),

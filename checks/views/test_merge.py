@@ -53,18 +53,6 @@ class Few(NamedTuple):
 ViewOf = Callable[[dict[str, str]], Few]
 
 
-@pytest.fixture
-def view_of(program: str, tmp_path: Path, monkeypatch: pytest.MonkeyPatch) -> ViewOf:
-    """Makes a view of the objects that `several_of` reads."""
-    monkeypatch.setenv("IRRDESK", program)
-
-    def few(sources: dict[str, str]) -> Few:
-        view = written(tmp_path, several_of(sources))
-        return Few(view, made(view), program)
-
-    return few
-
-
 def roas_text(roas: Roas) -> str:
     entries = [
         {"prefix": rpsl.prefix_text(prefix), "maxLength": most, "asn": number}
@@ -119,11 +107,8 @@ def objects_in(text: str) -> dict[tuple[str, str], rpsl.Object]:
     return found
 
 
-def test_a_view_is_the_merge_of_its_sources(
-    program: str, trial: Trial, monkeypatch: pytest.MonkeyPatch
-) -> None:
+def test_a_view_is_the_merge_of_its_sources(program: str, trial: Trial) -> None:
     """Its objects, with the source of each, and what each set stands for."""
-    monkeypatch.setenv("IRRDESK", program)
     seen = {"sets": 0, "missing": 0, "scoped": 0, "apart": 0, "joined": 0, "invalid": 0}
 
     @settings(max_examples=1_000 if LONG else 50, deadline=None, phases=[Phase.generate])

@@ -6,7 +6,7 @@ import json
 import os
 import random
 import time
-from collections.abc import Callable, Iterator
+from collections.abc import Callable
 from pathlib import Path
 
 import pytest
@@ -24,19 +24,6 @@ from irr.system import signing
 IN_MEMORY = True
 SECONDS = 60
 HOUR = 3_600
-
-
-@pytest.fixture(autouse=True)
-def _program(trial: Trial, monkeypatch: pytest.MonkeyPatch) -> None:
-    monkeypatch.setenv("IRRDESK", trial.program)
-
-
-@pytest.fixture
-def world(tmp_path: Path) -> Iterator[Followed]:
-    one = Followed(tmp_path)
-    with one.files:
-        yield one
-
 
 # Objects whose first line comes again, with the key and another one: no registry of this kind
 # would open with such a row.
@@ -61,12 +48,12 @@ def add(number: int, words: str = "x") -> list[tuple[str, str]]:
 
 
 @pytest.mark.parametrize("algorithm", ["EdDSA", "ES256"])
-def test_a_source_is_followed(world: Followed, trial: Trial, algorithm: str, tell: Tell) -> None:
+def test_a_source_is_followed(mirror: Followed, trial: Trial, algorithm: str, tell: Tell) -> None:
     """After each renewal the view has what the registry has: through changes of chance, stops,
     sessions, keys that are rolled, and changes that are named no more."""
-    writer, chance = world.writer, random.Random(algorithm)
-    expect(world.renew(), "", "the first time")
-    world.need_same("the first time")
+    writer, chance = mirror.writer, random.Random(algorithm)
+    expect(mirror.renew(), "", "the first time")
+    mirror.need_same("the first time")
     counts = dict.fromkeys(("stops", "sessions", "away", "rolled"), 0)
     for turn in range(trial.pick(40, 1_000)):
         for _ in range(chance.choice([0, 1, 1, 3])):
@@ -79,7 +66,7 @@ def test_a_source_is_followed(world: Followed, trial: Trial, algorithm: str, tel
             writer.publish(list(changes.values()))
         lot = chance.random()
         if lot < 0.1:
-            world.begin()
+            mirror.begin()
             counts["stops"] += 1
         elif lot < 0.2:
             writer.forget()
@@ -90,22 +77,22 @@ def test_a_source_is_followed(world: Followed, trial: Trial, algorithm: str, tel
         elif lot < 0.4:
             writer.next_key = writer.new_key(algorithm)
             writer.notify()
-            expect(world.renew(), "", "a next key")
+            expect(mirror.renew(), "", "a next key")
             if chance.random() < 0.5:
-                world.begin()
+                mirror.begin()
             writer.roll()
             writer.notify()
             counts["rolled"] += 1
-        expect(world.renew(), "", f"turn {turn}")
-        world.need_same(f"turn {turn}")
+        expect(mirror.renew(), "", f"turn {turn}")
+        mirror.need_same(f"turn {turn}")
         status = next(
-            one for one in world.view.status()["view"]["sources"] if one["name"] == "RIPE"
+            one for one in mirror.view.status()["view"]["sources"] if one["name"] == "RIPE"
         )
         expect((status["nrtm"], status["serial"]), (4, writer.version), "what is told")
     snapshots = 1 + counts["sessions"]
-    expect(world.asked("snapshot") >= snapshots, True, "snapshots, at least one a session")
-    expect(world.asked("snapshot") <= snapshots + counts["away"], True, "and no others")
-    tell(f"{counts}, {world.asked('snapshot')} snapshots, {world.asked('delta')} changes files")
+    expect(mirror.asked("snapshot") >= snapshots, True, "snapshots, at least one a session")
+    expect(mirror.asked("snapshot") <= snapshots + counts["away"], True, "and no others")
+    tell(f"{counts}, {mirror.asked('snapshot')} snapshots, {mirror.asked('delta')} changes files")
 
 
 # What is wrong with what is published, and what is told of it.
@@ -286,44 +273,44 @@ FAULTS: dict[str, tuple[Fault, str]] = {
 
 
 @pytest.mark.parametrize("what", FAULTS)
-def test_what_is_wrong_is_reported_and_takes_nothing(world: Followed, what: str) -> None:
+def test_what_is_wrong_is_reported_and_takes_nothing(mirror: Followed, what: str) -> None:
     """The view stays as it was, also after a start, and goes on once it is right again."""
-    writer = world.writer
-    expect(world.renew(), "", "the first time")
+    writer = mirror.writer
+    expect(mirror.renew(), "", "the first time")
     writer.publish(add(20))
     writer.publish(add(21))
-    expect(world.renew(), "", "two changes")
-    world.need_same("what it has")
-    before, state = world.objects(), world.view.states["RIPE"]
+    expect(mirror.renew(), "", "two changes")
+    mirror.need_same("what it has")
+    before, state = mirror.objects(), mirror.view.states["RIPE"]
     spoil, words = FAULTS[what]
-    spoil(world)
+    spoil(mirror)
     for _ in range(2):
-        fault = world.renew()
+        fault = mirror.renew()
         expect(words in fault, True, f"{what}: {fault}")
-        expect(world.objects(), before, what)
-        line = world.view.lines()[0]
+        expect(mirror.objects(), before, what)
+        line = mirror.view.lines()[0]
         expect(line[:32], f"RIPE is not renewed since {time.strftime('%Y-%m')[:6]}", line)
-        world.begin()
+        mirror.begin()
     left = state._replace(is_left=True) if what == "back" else state
-    expect(world.view.states["RIPE"], left, "its state")
+    expect(mirror.view.states["RIPE"], left, "its state")
     if any(word in what for word in ("gap", "gone", "snapshot of other")):
         writer.begin()
     else:
         writer.publish(add(22))
-    expect(world.renew(), "", "once it is right")
-    world.need_same("what it has then")
+    expect(mirror.renew(), "", "once it is right")
+    mirror.need_same("what it has then")
 
 
-def test_the_first_time_needs_all(world: Followed) -> None:
-    world.writer.notify({"nrtm_version": 3})
+def test_the_first_time_needs_all(mirror: Followed) -> None:
+    mirror.writer.notify({"nrtm_version": 3})
     with pytest.raises(Failure, match="not a notification file.*there is no view without it"):
-        world.renew()
+        mirror.renew()
 
 
-def test_what_is_gone_in_between_is_read_again(world: Followed) -> None:
+def test_what_is_gone_in_between_is_read_again(mirror: Followed) -> None:
     """A file that is no longer named by the time that it is asked for."""
-    expect(world.renew(), "", "the first time")
-    writer, lost = world.writer, list[str]()
+    expect(mirror.renew(), "", "the first time")
+    writer, lost = mirror.writer, list[str]()
     for turn, renewed in enumerate([lambda: writer.publish(add(41)), writer.forget, writer.begin]):
         writer.publish(add(30 + turn, f"{turn}"))
         path = f"/4/{writer.deltas[-1]['url']}"
@@ -339,47 +326,47 @@ def test_what_is_gone_in_between_is_read_again(world: Followed) -> None:
                     return 404
                 return super().get(name, other)
 
-        world.files.texts = writer.texts = Once(writer.texts)
-        expect(world.renew(), "", f"turn {turn}")
-        world.need_same(f"turn {turn}")
+        mirror.files.texts = writer.texts = Once(writer.texts)
+        expect(mirror.renew(), "", f"turn {turn}")
+        mirror.need_same(f"turn {turn}")
         expect((len(lost), bool(text)), (turn + 1, True), "how many were lost")
 
 
-def test_keys_are_announced_before_they_sign(world: Followed) -> None:
+def test_keys_are_announced_before_they_sign(mirror: Followed) -> None:
     """A view that was not told has to be given the key by hand, and then goes on."""
-    writer = world.writer
-    expect(world.renew(), "", "the first time")
+    writer = mirror.writer
+    expect(mirror.renew(), "", "the first time")
     writer.next_key = writer.new_key("ES256")
     writer.notify()
     # An older notification, without the key, does not take it back.
     old = {"timestamp": stamp(time.time() - HOUR), "next_signing_key": None}
-    expect(world.renew(), "", "a next key")
+    expect(mirror.renew(), "", "a next key")
     writer.notify(old)
-    expect(world.renew(), "", "an older one")
+    expect(mirror.renew(), "", "an older one")
     first = writer.key
     writer.roll()
     writer.publish(add(20))
-    expect(world.renew(), "", "by the next key")
-    world.need_same("by the next key")
+    expect(mirror.renew(), "", "by the next key")
+    mirror.need_same("by the next key")
     writer.key = first
     writer.publish(add(21))
-    expect("no key that is trusted" in world.renew(), True, "the first key, which signs no more")
+    expect("no key that is trusted" in mirror.renew(), True, "the first key, which signs no more")
     writer.key = writer.new_key("EdDSA")
     writer.notify()
-    expect("no key that is trusted" in world.renew(), True, "a key that nobody told")
-    (world.folder / "key.pem").write_text("x")
-    expect("it has no public key" in world.renew(), True, "no key")
-    (world.folder / "key.pem").write_text(writer.public(writer.key))
-    expect(world.renew(), "", "the key by hand")
-    world.need_same("by the key that was given")
-    world.begin()
+    expect("no key that is trusted" in mirror.renew(), True, "a key that nobody told")
+    (mirror.folder / "key.pem").write_text("x")
+    expect("it has no public key" in mirror.renew(), True, "no key")
+    (mirror.folder / "key.pem").write_text(writer.public(writer.key))
+    expect(mirror.renew(), "", "the key by hand")
+    mirror.need_same("by the key that was given")
+    mirror.begin()
     writer.publish(add(22))
-    expect((world.renew(), world.asked("snapshot")), ("", 1), "after a start")
+    expect((mirror.renew(), mirror.asked("snapshot")), ("", 1), "after a start")
 
 
-def test_what_is_published_of_one_object_is_one(world: Followed) -> None:
+def test_what_is_published_of_one_object_is_one(mirror: Followed) -> None:
     """Empty lines and names of classes in its text begin no other, which nobody authorised."""
-    writer = world.writer
+    writer = mirror.writer
     stranger = route(50, 666).replace("\n", "\n\n")
     odd = [
         "route: 10.0.40.0/24\norigin: AS2\nmnt-by: B-MNT\nsource: RIPE\n\n" + route(41, 666),
@@ -401,18 +388,18 @@ def test_what_is_published_of_one_object_is_one(world: Followed) -> None:
         if count:
             writer.objects = dict([named(route(44))])
             writer.begin()
-            expect((world.renew(), len(world.objects())), ("", 1), "nothing else of it")
+            expect((mirror.renew(), len(mirror.objects())), ("", 1), "nothing else of it")
             writer.publish([("ADD", text) for text in odd[:-1]])
         else:
             writer.objects = {str(place): text for place, text in enumerate(odd[:-1])}
             writer.begin()
-        expect(world.renew(), "", "odd objects")
-        names = [one.split("\n")[0].split()[1] for one in world.objects()]
+        expect(mirror.renew(), "", "odd objects")
+        names = [one.split("\n")[0].split()[1] for one in mirror.objects()]
         expect(sorted(names), sorted(wanted), f"what there is, {count}")
-        expect("\norigin:         AS666" in world.known, False, "a stranger's route")
-        expect("\n\nas-set:         AS-S" in world.known, False, "a stranger's set")
+        expect("\norigin:         AS666" in mirror.known, False, "a stranger's route")
+        expect("\n\nas-set:         AS-S" in mirror.known, False, "a stranger's set")
     writer.publish([("ADD", odd[-1])])
-    expect("is not a change" in world.renew(), True, "a remark alone")
+    expect("is not a change" in mirror.renew(), True, "a remark alone")
 
 
 def test_a_file_of_this_machine_is_followed_too(tmp_path: Path) -> None:
@@ -447,9 +434,9 @@ def test_a_file_of_this_machine_is_followed_too(tmp_path: Path) -> None:
     expect((world.renew(), len(world.objects())), ("", 8), "and then")
 
 
-def test_what_is_unpacked_is_bounded(world: Followed, monkeypatch: pytest.MonkeyPatch) -> None:
-    expect(world.renew(), "", "the first time")
-    writer = world.writer
+def test_what_is_unpacked_is_bounded(mirror: Followed, monkeypatch: pytest.MonkeyPatch) -> None:
+    expect(mirror.renew(), "", "the first time")
+    writer = mirror.writer
     monkeypatch.setattr("irr.views.nrtm4.MOST_TEXT", 1 << 20)
     monkeypatch.setattr("irr.views.nrtm4.MOST", 1 << 20)
     monkeypatch.setattr("irr.system.sequences.MOST", 1 << 16)
@@ -463,7 +450,7 @@ def test_what_is_unpacked_is_bounded(world: Followed, monkeypatch: pytest.Monkey
         (noise, "it has over 1 MiB"),
     ]:
         writer.notify({"deltas": [writer.put_bytes("delta", text)]})
-        fault = world.renew()
+        fault = mirror.renew()
         expect(words in fault, True, f"{words}: {fault}")
 
 

@@ -5,7 +5,7 @@ import os
 import random
 import re
 import shutil
-from collections.abc import Iterator
+from collections.abc import Iterable
 from pathlib import Path
 
 import pytest
@@ -78,27 +78,15 @@ serial = "{self.files.url}/RIPE.CURRENTSERIAL"
         return self.seen.count("route:")
 
 
-@pytest.fixture
-def world(trial: Trial, tmp_path: Path, monkeypatch: pytest.MonkeyPatch) -> Iterator[World]:
-    monkeypatch.setenv("IRRDESK", trial.program)
-    one = World(tmp_path)
-    with one.files:
-        yield one
-
-
-@pytest.fixture
-def followed(trial: Trial, tmp_path: Path, monkeypatch: pytest.MonkeyPatch) -> Iterator[World]:
-    monkeypatch.setenv("IRRDESK", trial.program)
-    one = World(tmp_path)
-    text = (tmp_path / "view.toml").read_text() + f'nrtm = "{one.nrtm.place}"\n'
-    (tmp_path / "view.toml").write_text(text)
-    one.view = View(settings.read(str(tmp_path / "view.toml")))
-    with one.files, one.nrtm:
-        yield one
-
-
 def fault(world: World) -> str:
     return world.view.faults.get("RIPE", "")
+
+
+def add(world: World, numbers: Iterable[int]) -> None:
+    """Adds routes to the registry, which tells them by NRTM."""
+    added = {number: route(number) for number in numbers}
+    world.nrtm.publish([("ADD", text) for text in added.values()])
+    world.routes |= added
 
 
 def test_what_cannot_be_read_stays_as_it_was(world: World) -> None:
@@ -154,8 +142,7 @@ def test_a_source_is_followed_by_nrtm(followed: World, trial: Trial) -> None:
     """After each renewal the view has what the registry has, also where the changes are no longer
     told, or an answer is cut."""
     world, chance = followed, random.Random(7)
-    world.nrtm.publish([("ADD", route(900))])
-    world.routes[900] = route(900)
+    add(world, [900])
     world.publish()
     expect(world.renew(), True, "the first time")
     expect(world.nrtm.asked, [f"-g RIPE:3:{world.nrtm.last + 1}-LAST"], "what was asked")
@@ -316,8 +303,7 @@ def test_serials_that_went_back_are_not_followed_once_they_pass(
     """As of a registry that was restored, whose changes are others: until another dump comes. They
     pass what was taken, or the serial of its dump alone."""
     world = followed
-    world.nrtm.publish([("ADD", route(number)) for number in range(200, 250)])
-    world.routes |= {number: route(number) for number in range(200, 250)}
+    add(world, range(200, 250))
     world.publish()
     world.nrtm.publish([("ADD", route(249, 2, "again"))])
     world.renew()
@@ -329,9 +315,7 @@ def test_serials_that_went_back_are_not_followed_once_they_pass(
     for first in 300, 300 + count:
         world.renew()
         expect(words in fault(world), True, fault(world))
-        added = {number: route(number) for number in range(first, first + count)}
-        world.nrtm.publish([("ADD", text) for text in added.values()])
-        world.routes |= added
+        add(world, range(first, first + count))
     world.renew()
     expect((world.routes_seen(), words in fault(world)), (90, True), fault(world))
     world.publish()
@@ -352,8 +336,7 @@ def test_a_dump_from_before_serials_went_back_is_not_followed_once_they_pass(
     if words != "RIPE's":
         monkeypatch.setattr(nrtm, "WITHIN", re.compile(rb"no words"))
     expect((world.renew(), fault(world)), (True, ""), "the first time")
-    world.nrtm.publish([("ADD", route(number)) for number in range(200, 210)])
-    world.routes |= {number: route(number) for number in range(200, 210)}
+    add(world, range(200, 210))
     world.publish()
     world.nrtm.publish([("ADD", route(209, 2, "again"))])
     world.renew()
@@ -368,8 +351,7 @@ def test_a_dump_from_before_serials_went_back_is_not_followed_once_they_pass(
         world.files.texts["/ripe.db.as-set"] = whole
     else:
         world.renew()
-    world.nrtm.publish([("ADD", route(number)) for number in range(300, 310)])
-    world.routes |= {number: route(number) for number in range(300, 310)}
+    add(world, range(300, 310))
     for _ in range(2):
         world.renew()
         expect(world.routes_seen(), 50, "what was followed")

@@ -6,7 +6,6 @@ import tempfile
 from contextlib import closing
 from pathlib import Path
 
-import pytest
 from hypothesis import Phase, given, settings
 
 from checks.running import PATIENCE, Trial, expect
@@ -71,8 +70,7 @@ def need_same(program: str, folder: Path) -> int:
     return len(own["object"])
 
 
-def test_a_view_of_all_kinds_of_objects(trial: Trial, monkeypatch: pytest.MonkeyPatch) -> None:
-    monkeypatch.setenv("IRRDESK", trial.program)
+def test_a_view_of_all_kinds_of_objects(trial: Trial) -> None:
     folder = Path(trial.place("kinds"))
     text = "".join(f"{one}\nsource: RIPE\n\n" for one in OBJECTS)
     (folder / "ripe.db").write_text(text, encoding="ascii")
@@ -91,9 +89,7 @@ def test_a_view_of_all_kinds_of_objects(trial: Trial, monkeypatch: pytest.Monkey
     expect(len(bodies[0]) > syntax.LARGEST, True, f"a text of {len(bodies[0])} bytes")
 
 
-def test_a_view_of_registries_by_chance(program: str, monkeypatch: pytest.MonkeyPatch) -> None:
-    monkeypatch.setenv("IRRDESK", program)
-
+def test_a_view_of_registries_by_chance(program: str) -> None:
     @settings(max_examples=25, deadline=None, phases=[Phase.generate])
     @given(merged.several())
     def holds(several: Several) -> None:

@@ -4,6 +4,7 @@ door tells of it all."""
 import contextlib
 import json
 import os
+import re
 import signal
 import socket
 import threading
@@ -287,7 +288,8 @@ def test_replicas_are_found_by_the_agent_and_old_ones_left_out(trial: Trial) -> 
                 {"port": at, "ready": True, "state": "a", "seen": time.time() - age}
                 for at, age in zip(ports, ages)
             ]
-            state["text"] = json.dumps({"replicas": entries, "fault": fault}).encode() + b"\n"
+            told = {"replicas": entries, "fault": fault, "view": {"name": "ALL", "sources": []}}
+            state["text"] = json.dumps(told).encode() + b"\n"
 
         def serve(listener: socket.socket) -> None:
             for peer in accepted(listener):
@@ -299,7 +301,8 @@ def test_replicas_are_found_by_the_agent_and_old_ones_left_out(trial: Trial) -> 
         with socket.create_server(("127.0.0.1", port)) as listener:
             threading.Thread(target=serve, args=(listener,), daemon=True).start()
             words = [registries.words[0], f"--agent=127.0.0.1:{port}"]
-            with Opened(trial, "agent-door", words, "oldest = 100\n") as door:
+            config = f'oldest = 100\nview = ["127.0.0.1:{port}"]\n'
+            with Opened(trial, "agent-door", words, config) as door:
                 wait_until(
                     "two replicas",
                     20,
@@ -316,12 +319,13 @@ def test_replicas_are_found_by_the_agent_and_old_ones_left_out(trial: Trial) -> 
                 expect("old" in door.status()["faults"][0], True, "the fault")
                 expect(door.whois("AS1")[:8], b"aut-num:", "an answer")
                 report([1, 1], "it has other objects")
-                wait_until(
-                    "a fault",
-                    20,
-                    lambda: "replicas are not renewed: it has other objects"
-                    in door.status()["faults"],
-                )
+                for what in "replicas are", "view ALL is":
+                    wanted = rf"{what} not renewed since \d+-\d+-\d+T\S+Z: it has other objects"
+                    wait_until(
+                        "a fault",
+                        20,
+                        lambda: any(re.fullmatch(wanted, one) for one in door.status()["faults"]),
+                    )
                 expect(door.metrics()["irrdesk_door_renewal_failed"], 1.0, "the figure")
                 report([500, 500], "no server listens there")
                 wait_until(

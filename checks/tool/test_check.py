@@ -296,6 +296,20 @@ def test_a_fault_is_one_line_with_its_remedy(
         expect(is_line, True, lines[0])
 
 
+def test_replicas_are_not_renewed_since_the_oldest_was(trial: Trial, tool: Tool) -> None:
+    """One that was never renewed counts for nothing."""
+    now, told = time.time(), json.loads(agent("other objects"))
+    stamp = time.strftime(" since %Y-%m-%dT%H:%M:%SZ", time.gmtime(now - 9))
+    for times, since in [((now - 7, now - 9, 0), stamp), ((0, 0), "")]:
+        told["replicas"] = [told["replicas"][0] | {"seen": seen} for seen in times]
+        with standing(trial, tool, f"renewed-{len(times)}") as machine:
+            with answering(json.dumps(told).encode() + b"\n") as url:
+                printed = machine("--agent", place_of(url)).printed.decode()
+        place, what = place_of(url), f"not renewed{since}: other objects"
+        wanted = f"replicas-not-renewed: {place}: {what}; {REMEDIES['replicas-not-renewed']}\n"
+        expect(printed, wanted, f"replicas of {times}")
+
+
 def test_nothing_is_reported_of_a_registry_that_is_well(trial: Trial, tool: Tool) -> None:
     """That all of it is looked at, and each bound is one of the settings, too."""
     well = answering(*[reply(b"well: TEST\n"), serials(19_999)] * 2)

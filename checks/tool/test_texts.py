@@ -21,6 +21,13 @@ class Texts(unittest.TestCase):
     def test_columns_are_aligned(self) -> None:
         self.assertEqual(texts.columns([["a", "bb", "c"], ["aaa", "b"]]), ["a    bb  c", "aaa  b"])
 
+    def test_the_first_time_counts(self) -> None:
+        self.assertEqual(
+            texts.since([1_700_000_000.9, 0, 1_800_000_000]), " since 2023-11-14T22:13:20Z"
+        )
+        for times in list[float](), [0.0, 0.0], [1e300], [float("nan")]:
+            self.assertEqual(texts.since(times), "")
+
 
 class Codes(unittest.TestCase):
     def test_each_code_has_a_sentence_and_a_remedy(self) -> None:

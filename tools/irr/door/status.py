@@ -8,6 +8,7 @@ from collections import Counter
 from typing import Any, Callable, Iterator, Mapping
 
 from irr import VERSION
+from irr.door import upstreams
 from irr.door.pool import Pool
 from irr.door.settings import Settings
 from irr.door.upstreams import Upstream
@@ -77,8 +78,7 @@ class Status:
             age = one.age()
             if one.is_up and age is not None and age > self.settings.oldest:
                 found.append(f"{one.name}: its state is {texts.counted(int(age), 'second')} old")
-        if self.pool.reported.get("fault"):
-            found.append(f"replicas are not renewed: {self.pool.reported['fault']}")
+        found += upstreams.not_renewed("replicas are", self.pool.reported, self.pool.replicas)
         return found + self.pool.mirrors.faults() + self.pool.views.faults()
 
     def all(self) -> dict[str, Any]:

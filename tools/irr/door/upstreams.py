@@ -10,6 +10,7 @@ from irr.door.settings import Place
 from irr.door.sockets import Watch
 from irr.registry import answers
 from irr.rpsl import keys, syntax
+from irr.terminal import texts
 
 # The query that each is asked to see that it answers: one object, and the registry's name in it.
 PROBE, NOTHING = b"less 0.0.0.0/0\r\n", b"% no entries\n"
@@ -172,3 +173,10 @@ async def reported_by(agent: Place) -> Optional[dict[str, Any]]:
         return found if isinstance(found, dict) else None
     except (OSError, ValueError, RecursionError):
         return None
+
+
+def not_renewed(what: str, reported: dict[str, Any], replicas: list[Upstream]) -> list[str]:
+    """A line for people on what can't be renewed, by what its agent reported; none where it can
+    be."""
+    since = texts.since(one.seen for one in replicas)
+    return [f"{what} not renewed{since}: {reported['fault']}"] if reported.get("fault") else []

@@ -3,6 +3,7 @@ import dataclasses
 import json
 from typing import Any, Optional
 
+from irr.door import upstreams
 from irr.door.pool import Pool, Refused
 from irr.door.settings import Settings
 from irr.door.upstreams import Upstream
@@ -45,9 +46,7 @@ class ViewPool(Pool):
         view = self.reported.get("view", {})
         found += [f"{name}: {line}" for line in view.get("lines", [])]
         found += [f"{name}: {line}" for line in view.get("doubts", [])]
-        if self.reported.get("fault"):
-            found.append(f"{name} is not renewed: {self.reported['fault']}")
-        return found
+        return found + upstreams.not_renewed(f"{name} is", self.reported, self.replicas)
 
     def status(self) -> dict[str, Any]:
         """What is reported of it: its sources, each with its state, and its replicas."""

@@ -284,7 +284,8 @@ class Health:
             self.fault("mirror-down", place, f"the agent does not answer ({why})")
             return
         if fault:
-            self.fault("replicas-not-renewed", place, fault)
+            since = texts.since(seen for _, _, seen in found)
+            self.fault("replicas-not-renewed", place, f"not renewed{since}: {fault}")
         for port, is_ready, seen in found:
             thing, age = f"replica 127.0.0.1:{port}", self.now - seen
             self.dated += [(thing, seen)] * bool(seen)

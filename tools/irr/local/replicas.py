@@ -282,9 +282,7 @@ class Keeper:
 
     def since(self) -> str:
         """Since when the replicas have not been renewed, in words."""
-        seen = min((one.seen for one in self.replicas if one.seen), default=0.0)
-        stamp = time.strftime("%Y-%m-%dT%H:%M:%SZ", time.gmtime(seen))
-        return f" since {stamp}" if seen else ", and there are none"
+        return texts.since(one.seen for one in self.replicas) or ", and there are none"
 
     def settle(self) -> None:
         """Lets what was made before stand where it is looked for, also after a stop within a

@@ -4,6 +4,7 @@ import contextlib
 import os
 import re
 import sys
+import time
 from typing import IO, Iterable
 
 # C0 but tab and LF, DEL, C1, and the marks that turn the direction of writing round.
@@ -108,6 +109,15 @@ def columns(rows: Iterable[Iterable[str]], gap: int = 2) -> list[str]:
 def counted(number: int, thing: str, things: str = "") -> str:
     """`1 object`, `2 objects`."""
     return f"{number:,} {thing}" if number == 1 else f"{number:,} {things or thing + 's'}"
+
+
+def since(times: Iterable[float]) -> str:
+    """` since` the first of some times, in UTC; nothing where there is none, each is 0, or no
+    calendar has it."""
+    first = min(filter(None, times), default=0.0)
+    with contextlib.suppress(ValueError, OverflowError, OSError):
+        return time.strftime(" since %Y-%m-%dT%H:%M:%SZ", time.gmtime(first)) if first else ""
+    return ""
 
 
 def wrapped(words: str, indent: str = "    ") -> list[str]:

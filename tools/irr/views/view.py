@@ -1,7 +1,6 @@
 """A view in a folder: its sources as they were last taken, and what is made of them."""
 import json
 import shutil
-import time
 from pathlib import Path
 from typing import Any
 
@@ -276,6 +275,4 @@ def by(source: dict[str, Any]) -> str:
 
 
 def since(state: State | None) -> str:
-    if state is None:
-        return ""
-    return f" since {time.strftime('%Y-%m-%dT%H:%M:%SZ', time.gmtime(state.seen()))}"
+    return texts.since([state.seen()]) if state else ""

@@ -173,9 +173,7 @@ class Delegations(unittest.TestCase):
         name."""
         routes = re.findall(rf"route (\S+ \S+): {name} registers it", notes)
         for key in routes:
-            wanted = (
-                rf": (\S+) (.+) decides about route {key}: its holder adds `mnt-routes: (.+)` to"
-            )
+            wanted = rf": (\S+) (.+) decides about route {key}: .+ adds `mnt-routes: (.+)` to"
             for kind, other, names in re.findall(wanted, notes):
                 query = f"object {kind} {other}".replace(" ", "%20").replace("/", "%2F")
                 with urlopen(f"{self.registry.url}/query/{query}") as reply:
@@ -203,8 +201,8 @@ class Delegations(unittest.TestCase):
         status, body, notes = self.registry.delegate(*words)
         self.assertEqual(status, 0)
         self.assertIn(
-            "route 192.0.2.128/25 AS64496 decides about route 192.0.2.128/26 AS64500: its holder "
-            "adds `mnt-routes: A-MNT, B-MNT {192.0.2.128/26^+}` to it",
+            "route 192.0.2.128/25 AS64496 decides about route 192.0.2.128/26 AS64500: A-MNT adds"
+            " `mnt-routes: A-MNT, B-MNT {192.0.2.128/26^+}` to it",
             notes,
         )
         self.registry.take(given("A-MNT") + body)

@@ -63,6 +63,22 @@ def test_each_route_of_a_prefix_decides() -> None:
     assert named.key.text == "10.0.0.0/8 AS2"
 
 
+@pytest.mark.parametrize(
+    ("held_by", "who"), [("A-MNT", "A-MNT adds"), ("A-MNT, B-MNT", "one of A-MNT, B-MNT adds")]
+)
+def test_who_holds_what_decides_is_named(held_by: str, who: str) -> None:
+    """It may be the one that hands over."""
+    (route,) = read(f"route: 10.0.0.0/8\norigin: AS1\nmnt-by: {held_by}\nsource: TEST\n")
+    reasons = cast(Reasons, SimpleNamespace(ask=lambda query: [route]))
+    prefix, handover = keys.Prefix(10 << 24, 16), Handover(reasons, "D-MNT", "A-MNT")
+    handover.note_grants([handover.of_space(prefix, [])], "a route 10.0.0.0/16", prefix)
+    (noted,) = handover.noted
+    assert noted == (
+        f"route 10.0.0.0/8 AS1 decides about a route 10.0.0.0/16: {who} "
+        f"`mnt-routes: {held_by}, D-MNT {{10.0.0.0/16^+}}` to it"
+    )
+
+
 @pytest.mark.parametrize("order", [[0, 1, 2], [1, 2, 0], [2, 0, 1], [2, 1, 0]])
 def test_ranges_that_are_handed_over_together_do_not_cross(order: list[int]) -> None:
     """Whichever two of them do, and wherever they stand."""

@@ -22,10 +22,11 @@ class Wanted(NamedTuple):
 
 
 class Grantor(NamedTuple):
-    """What decides about a route: its key, and who may add the route below it."""
+    """What decides about a route: its key, who may add the route below it, and who holds it."""
 
     key: Key
     names: list[str]
+    held_by: list[str]
 
 
 class Handover:
@@ -157,19 +158,19 @@ class Handover:
         space = closest_new(self.of("inetnum"), prefix)
         added = closest_new(before, prefix)
         if added and all(size_of(added) < span_of(other).size for other in routes):
-            return Grantor(added.key, [added.holder])
+            return Grantor(added.key, [added.holder], [added.holder])
         if routes:
             own = next((other for other in routes if self.holder in holders.by(other)), routes[0])
             names = [name for other in routes for name in holders.routes(other, prefix)]
             return grantor(own, names)
         if space and all(size_of(space) < span_of(other).size for other in near):
-            return Grantor(space.key, [space.holder])
+            return Grantor(space.key, [space.holder], [space.holder])
         return grantor(near[0], holders.routes(near[0], prefix))
 
     def of_number(self, prefix: Prefix, number: Wanted) -> Grantor:
         """The same by its origin."""
         if number.registered is None:
-            return Grantor(number.key, [number.holder])
+            return Grantor(number.key, [number.holder], [number.holder])
         return grantor(number.registered, holders.routes(number.registered, prefix))
 
     def note_grants(self, grantors: list[Grantor], what: str, prefix: Prefix) -> None:
@@ -178,8 +179,10 @@ class Handover:
         for one in grantors:
             if one.key not in handed and self.name not in one.names:
                 names = ", ".join(dict.fromkeys([*one.names, f"{self.name} {{{prefix.text()}^+}}"]))
+                who = listed(one.held_by)
+                who = who if len(one.held_by) == 1 else f"one of {who}"
                 self.noted.append(
-                    f"{name_of(one.key)} decides about {what}: its holder adds "
+                    f"{name_of(one.key)} decides about {what}: {who} adds "
                     f"`mnt-routes: {names}` to it"
                 )
 
@@ -225,7 +228,7 @@ def grantor(paragraph: Paragraph, names: list[str]) -> Grantor:
     key = keys.key_of(paragraph)
     if key is None:
         raise Failure("", "the answer has an object of no class or key of this irr", ARGUMENTS)
-    return Grantor(key, list(dict.fromkeys(names)))
+    return Grantor(key, list(dict.fromkeys(names)), holders.by(paragraph))
 
 
 def span_of_key(key: Key) -> Span:

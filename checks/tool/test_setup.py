@@ -227,6 +227,9 @@ class Service:
         expect(names, ["door.toml", "irr.toml", "submitters.conf"], "what is beside the settings")
         found = self.settings.stat()
         expect((found.st_gid, stat.S_IMODE(found.st_mode)), (OWNER, 0o640), "who reads them")
+        for name in "door.toml", "submitters.conf":
+            mode = stat.S_IMODE((self.etc / name).stat().st_mode)
+            expect(f"{mode:o}", "644", f"who reads {name}")
         expect((self.store / "irr.db").stat().st_uid, OWNER, "whose the database is")
 
 

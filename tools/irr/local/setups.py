@@ -224,11 +224,12 @@ class Made:
         text = tomls.text_of(plan.door_settings)
         self.put(plan.door_settings, text or DOOR_HEAD, plan.door_values, files.PUBLIC)
         if plan.is_service:
-            os.chmod(plan.door_settings, files.PUBLIC)
             lines = submitters(plan.submit)
             if lines != tomls.text_of(plan.submitters):
                 files.put(plan.submitters, lines.encode(), files.PUBLIC)
                 self.done("who may submit through nginx", plan.submitters)
+            for path in plan.door_settings, plan.submitters:
+                os.chmod(path, files.PUBLIC)
 
     # The registry.
 

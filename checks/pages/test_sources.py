@@ -275,7 +275,8 @@ def test_a_version_is_released_once() -> None:
 
 
 def test_the_release_is_whole_and_in_the_changelog() -> None:
-    """dist/ has one package, its sums fit, and CHANGELOG has a section of its version."""
+    """dist/ has one package, its sums fit, and CHANGELOG has a section of its version. What no
+    version has yet is above all of them."""
     proof = dict(
         line.split(": ", 1) for line in (TOP / "dist/PROOF").read_text("utf-8").splitlines()
     )
@@ -283,6 +284,8 @@ def test_the_release_is_whole_and_in_the_changelog() -> None:
     assert packages == [f"irrdesk_{proof['Version']}_amd64.deb"]
     assert not judged("sh", "-c", "cd dist && sha256sum --check --quiet SHA256SUMS")
     versions = re.findall(r"^## \[(.+?)\]", (TOP / "CHANGELOG.md").read_text("utf-8"), re.M)
+    if versions[0] == "Unreleased":
+        del versions[0]
     assert proof["Version"] in versions
     assert versions == sorted(versions, key=lambda one: [*map(int, one.split("."))], reverse=True)
 

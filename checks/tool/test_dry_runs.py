@@ -170,6 +170,19 @@ def test_a_dry_run_says_what_it_took_and_leaves_nothing(
             (0, b"1 inetnum 192.0.2.0 - 192.0.2.127: added\n% items 1\n"),
             "by the passwords of the file",
         )
+        gone = b"password: x\n\ninetnum: 192.0.2.0/24\ndelete: x\n"
+        ran = world.tool("submit", "--dry-run", "--raw", "-", stdin=gone)
+        expect(
+            (b"refused E11" in ran.printed, b"taken as nobody's" in ran.reported),
+            (True, True),
+            "a deletion by a password whose maintainer is not named",
+        )
+        ran = world.tool("submit", "--dry-run", "--raw", "--whose", "A-MNT", "-", stdin=gone)
+        expect(
+            (b"deleted" in ran.printed, b"taken as nobody's" in ran.reported),
+            (True, False),
+            "a deletion by the password of A-MNT",
+        )
         expect_line(
             world.tool("submit", "--whose", "A-MNT", place), 2, ".*--dry-run.*", "--whose alone"
         )

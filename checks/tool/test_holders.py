@@ -259,6 +259,11 @@ delete: x
             (1, 3, True),
             "of nobody",
         )
+        expect(
+            b"and you have no aut-num: ask the holder of an AS to name you" in ran.printed,
+            True,
+            "that another's AS may be the origin",
+        )
         expect_line(
             tool("held", "192.0.2.0", "A-MNT"),
             2,

@@ -121,8 +121,8 @@ def exact(seen: Seen, prefix: Prefix, names: list[str]) -> Iterator[Finding]:
             if not own or own[0] is None:
                 yield Finding(
                     (
-                        f"there is no route of exactly {prefix.text()}, and no aut-num of yours to"
-                        " be its origin: register one"
+                        f"there is no route of exactly {prefix.text()}, and you have no aut-num:"
+                        " ask the holder of an AS to name you in `mnt-routes`, and register it"
                     ),
                     True,
                 )

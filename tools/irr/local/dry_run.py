@@ -45,6 +45,7 @@ def run(
     """Does it, with a printer for the registry that is asked about refusals, and gives the status.
     The items come after the passwords that were asked for, each with its maintainer."""
     passwords = owners(asked, items, whose)
+    is_nobodys = not passwords and not whose and any(item.passwords() for item in items)
     excerpt = excerpts.of_items(place, items)
     source, blocks = copied(place, excerpt)
     hidden: dict[Key, bytes] = {}
@@ -61,7 +62,7 @@ def run(
         sender = Sender(lambda text: [scratch.submit(text)], size, size)
         unknown = show(sender, [*(item for _, item in asked), *items], hidden, printer)
         status = printer.end(sender)
-    report(passwords, unknown, excerpt is None)
+    report(passwords, unknown, excerpt is None, is_nobodys)
     return status
 
 
@@ -185,7 +186,9 @@ class Served:
         return self.served().dump()
 
 
-def report(passwords: dict[str, list[bytes]], unknown: bool, is_whole: bool) -> None:
+def report(
+    passwords: dict[str, list[bytes]], unknown: bool, is_whole: bool, is_nobodys: bool
+) -> None:
     """What a dry run can't know, and that it copied everything, which takes longer."""
     texts.note("irr submit: dry run: nothing was sent or changed")
     if is_whole:
@@ -196,6 +199,11 @@ def report(passwords: dict[str, list[bytes]], unknown: bool, is_whole: bool) -> 
         texts.note(
             f"irr submit: dry run: the passwords are taken as those of {', '.join(passwords)}; "
             f"whether they are is not known"
+        )
+    if is_nobodys:
+        texts.note(
+            "irr submit: dry run: the passwords are taken as nobody's, because the text has no"
+            " `mnt-by`; name their maintainers with --whose"
         )
     if unknown:
         texts.note(

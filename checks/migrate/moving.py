@@ -148,7 +148,9 @@ class Second:
         self.causes: dict[str, int] = {}
         self.sources: dict[Order, bytes] = {}
         # The maintainers and sets that can't be read, and the registry of the last object.
-        self.withheld: dict[Order, bytes] = {}
+        self.withheld: dict[Order, bytes | None] = {}
+        # The registries of the objects that can be read, in their order.
+        self.ranks: dict[bytes, None] = {}
         for text in texts:
             parts = [part for block in blocks(text) for part in parted(block)]
             paragraphs, self.last = [block for block, _ in parts], b""
@@ -168,6 +170,7 @@ class Second:
                         raise
                     source = b"".join(values(attributes, b"source")).upper()
                     self.last = source or self.last
+                    self.ranks.setdefault(source)
                     if order in self.objects:
                         is_named = order[0] == MNTNER or order[0] in SETS
                         is_other = is_named and source != self.sources[order]
@@ -219,9 +222,15 @@ class Second:
         number = CLASSES.index(names[0]) + 1
         key = self.key(number, meaning(attributes[0][1]), None)
         sources = values(attributes[:end], b"source")
-        source = next(filter(numbers.NAME.fullmatch, sources), self.last)
+        several = {
+            one.upper() if numbers.NAME.fullmatch(one) else self.last for one in sources or [b""]
+        }
+        source = next(iter(several))
+        if len(several) > 1:
+            several.add(self.last)
+            source = next((one for one in self.ranks if one and one in several), None)
         if key is not None and number in (MNTNER, *SETS):
-            self.withheld.setdefault((number, key), source.upper())
+            self.withheld.setdefault((number, key), source)
 
     def leave_out(self, cause: str) -> None:
         self.causes[cause] = self.causes.get(cause, 0) + 1

@@ -86,6 +86,27 @@ def test_an_item_of_a_registry_whose_name_another_one_has_that_cannot_be_read() 
     assert dict(tally.items.causes) == {"its name is that of a set of another registry": 2}
 
 
+@pytest.mark.parametrize("kind", ["mntner: A-MNT", "as-set: AS-X", "route-set: RS-X"])
+def test_a_name_of_several_sources_is_of_the_first_registry(kind: str) -> None:
+    """Nobody knows which of them it is of. Where none has an object before, it is of none."""
+    before, radb = obj("aut-num: AS1", "source: RIPE"), obj("aut-num: AS2", "source: RADB")
+    # Objects that can't be read, or are inside a text, put no registry before another one.
+    odd = [obj("mntner: A B", "source: RADB"), obj("as-set: AS-Z", "no colon", "source: RADB")]
+    odd += [obj("aut-num: AS3", "descr: x\rmntner: Z-MNT\rsource: RADB", "source: RIPE"), b""]
+    for sources in ("RADB", "RIPE"), ("RIPE", "RADB"), ("RADB", "ALTDB"), ("RADB", "R PE"):
+        first = obj(kind, *(f"source: {source}" for source in sources))
+        others = [obj(kind, "mnt-by: B-MNT", f"source: {one}") for one in ("RIPE", "RADB", "ALTDB")]
+        others.append(obj(kind, "mnt-by: B-MNT"))
+
+        def unread(*texts: bytes) -> list[int]:
+            return [made(*texts, other)[1].causes[UNREAD] for other in others]
+
+        for one in odd:
+            assert unread(one + before + first) == [0, 1, 1, 1], (sources, one)
+        assert unread(radb, before + first) == [1, 0, 1, 1], sources
+        assert unread(odd[0] + first) == unread(first) == [1, 1, 1, 1], sources
+
+
 def test_a_piece_of_text_takes_no_name_of_its_own_registry() -> None:
     """What an object has after its `source`, which may look like another one."""
     text = obj(*SET, "route-set: RS-X", "members: AS666")
@@ -118,6 +139,14 @@ BESIDE += [(f"CLASS{line}", SOURCE) for line in (" NAME descr: x", ": (NAME)", '
 INSIDE = ("CLASS; NAME", "\xa0KIND", "CLASS\xa0NAME descr: x")
 BESIDE += [("aut-num: AS1", SOURCE, line, "mnt-by: A-MNT", SOURCE) for line in INSIDE]
 BESIDE += [("CLASS; NAME\rmnt-by: A-MNT\rsource: RIPE",), ("CLASS\xa0: # x", " NAME", SOURCE)]
+# Where the key has a registry, or several names; where a line is quoted, or a key goes on oddly.
+BESIDE += [(f"CLASS: {key}", SOURCE) for key in ("RIPE::NAME", "AS-A/NAME", "AS-A, NAME", "1;NAME")]
+QUOTED = [f"{mark}KIND" for mark in ("*", "> ", '"', "# ", "#\t", "> > ", "- ", "|", "\xbb ", "%")]
+QUOTED += ['"CLASS": "NAME"', "// CLASS: RIPE::NAME", "# CLASS: AS-A, NAME"]
+BESIDE += [("aut-num: AS1", line, "mnt-by: A-MNT", SOURCE, SOURCE) for line in QUOTED]
+BESIDE += [(line, "mnt-by: A-MNT", SOURCE) for line in QUOTED if line[0] not in "#%"]
+BESIDE += [("CLASS:", f"{blank}NAME", SOURCE) for blank in ("\xa0", "\xc2\xa0", "\v")]
+BESIDE += [("aut-num: AS1", "CLASS:", "\xa0NAME", SOURCE), ("CLASS: # x", "\xa0NAME", SOURCE)]
 # In a comment whose parts end in a CR, and where a blank line became a blank.
 BESIDE += [("% x\r\rKIND\rmnt-by: A-MNT\rsource: RIPE\r",)]
 BESIDE += [
@@ -208,12 +237,32 @@ def test_a_name_in_a_joined_auth_is_of_no_other_registry() -> None:
 
 
 @pytest.mark.parametrize(
-    "line", ["person: Jo Doe", "x as-set: AS-X", "as-sets AS-X", "as-set_AS-X"]
+    "line",
+    [
+        "person: Jo Doe",
+        "x as-set: AS-X",
+        "as-sets AS-X",
+        "as-set_AS-X",
+        "as-set: AS-Y members: AS-X, AS-Z",
+        "as-set: AS-Y # AS-X",
+    ],
 )
-def test_a_name_that_an_object_only_tells_of_is_free(line: str) -> None:
+@pytest.mark.parametrize("comment", ["# the as-set: AS-X", "# as-set AS-X", "> members: AS-X"])
+def test_a_name_that_an_object_only_tells_of_is_free(line: str, comment: str) -> None:
     """A class after a blank joins no lines, and a longer word is no class."""
-    first = obj(line, "remarks: our as-set: AS-X,", " as-set: AS-X", SOURCE)
+    first = obj(line, comment, "remarks: our as-set: AS-X,", " as-set: AS-X", SOURCE)
     assert b"B-MNT" in made(first, obj("as-set: AS-X", "mnt-by: B-MNT", "source: RADB"))[0]
+
+
+def test_a_name_in_a_comment_of_what_is_taken_is_free() -> None:
+    """Also where a line has a CR inside, unless it is after that."""
+    other = obj("as-set: AS-X", "mnt-by: B-MNT", "source: RADB")
+    for comment in "# as-set: AS-X", "%as-set: AS-X", "# x", "#":
+        for line in "descr: x\ry", "descr: x":
+            first = obj("aut-num: AS1", line, comment, SOURCE)
+            assert b"B-MNT" in made(first, other)[0]
+        first = obj("aut-num: AS1", f"{comment}\r# as-set: AS-X", SOURCE)
+        assert made(first, other)[1].causes[UNREAD] == 1
 
 
 def test_a_name_beyond_what_is_kept_of_a_paragraph_is_of_no_other_registry(

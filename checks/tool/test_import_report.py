@@ -199,6 +199,19 @@ def test_an_object_inside_a_line_is_reported() -> None:
     assert f"taken, {cause}: 2\n" in "\n".join(made(text)[1].lines())
 
 
+def test_an_item_that_has_lost_the_blank_before_it_is_reported() -> None:
+    """It is an attribute, and written as one."""
+    cause = "an attribute that has the form of an item, and may be one of a list before it"
+    for line in "AS2:AS-X", "as-y:AS-X, AS3", "AS4: x", "RIPE::AS-X", "radb::as2:rs-x":
+        text = obj("as-set: AS-Z", "members: AS1,", line, "mnt-by: A-MNT", "source: RIPE")
+        (found,) = [one.split("\t") for one in listed(text)]
+        assert found[:2] == ["taken", cause] and found[2].endswith(":3") and found[4] == line
+        assert line.partition(":")[0].lower() + ":" in made(text)[0].decode()
+    for line in "as-name:AS-X", "asx: y", "descr: AS2:AS-X", "as-in: from AS1", "x:: y", "x::::":
+        text = obj("aut-num: AS1", line, "mnt-by: A-MNT", "source: RIPE")
+        assert listed(text) == []
+
+
 def test_odd_lines_of_what_is_left_out_are_not_reported() -> None:
     text = obj(*A, "# x") + obj(*A, "# y") + obj("person: Jo", "# z", "source: RIPE")
     assert [one[-1] for one in reported(text)] == ["# x"]

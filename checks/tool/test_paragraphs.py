@@ -245,6 +245,18 @@ def test_an_object_after_a_cr_in_a_comment_is_reported(comment: str) -> None:
     assert left_out(obj("% c\rdescr: x\ras-sets: y", *B)) == []
 
 
+@pytest.mark.parametrize(
+    "line", ["as-set; AS-Y", "as-set AS-Y", "\xa0as-set: AS-Y", "> as-set: AS-Y"]
+)
+def test_a_class_line_with_a_fault_is_listed(line: str) -> None:
+    """In what is left out, as its name is kept."""
+    text = obj("aut-num: AS1", "mnt-by: A-MNT", line, "mnt-by: B-MNT", "source: RIPE", "source: X")
+    for own in text, text.replace(b"source: X\n", b""):
+        found = [one.split("\t") for one in listed(own)]
+        assert [one[0] for one in found] == ["left out", "left out with it"]
+        assert found[1][2].endswith(":3") and "AS-Y" in found[1][3]
+
+
 @pytest.mark.parametrize("cut", ["descr: Ex", "descr: a text ", "descr:"])
 @pytest.mark.parametrize("kind", ["person", "role"])
 def test_an_object_that_is_joined_with_a_person(cut: str, kind: str) -> None:

@@ -54,9 +54,12 @@ ALL_OF_ONE = "all of one registry of several"
 # whose objects name it, whether it can be read or not.
 DUPLICATE, NAMESAKE = "duplicate", "a name of another registry"
 UNREAD_THERE = "a name of another registry, where it can't be read"
+# The number of the registry of a name that may be of any one.
+NO_REGISTRY = -1
 # What is odd about a line of an object that is taken.
 COMMENT, CR = "a line with # or % first, which is not kept", "a line with a CR first, which goes on"
 CR_INSIDE = "a line with a CR inside, which may be the end of a line"
+ITEM_NAME = "an attribute that has the form of an item, and may be one of a list before it"
 # What is odd about a maintainer that is taken.
 OF_OTHERS = "a mntner that objects of another registry name"
 
@@ -83,7 +86,8 @@ class Import:
         self.sources: dict[str, int] = {}
         # The maintainers and sets that can't be read, each with the first registry that has it.
         self.withheld: dict[tuple[int, int | str], int] = {}
-        # The registry of the last object of a file that can be read.
+        # The registries of objects that can be read, in this order; that of the last one of a file.
+        self.met: dict[str, None] = {}
         self.before = ""
         # Of the objects whose lists have lost items, or have scoped ones: the lost ones.
         self.dropped: dict[int, tuple[Dropped, ...]] = {}
@@ -210,7 +214,8 @@ class Import:
         except LeftOut as cause:
             self.withhold(self.mender.left(part, cause))
             raise
-        self.before = mended.source or self.before
+        if mended.source:
+            self.met[mended.source], self.before = None, mended.source
         if part.may_have_more():
             inside = self.mender.left(part)
             self.withhold(name for name in inside if name[:2] != (mended.number, mended.key))
@@ -220,7 +225,16 @@ class Import:
         """Keeps what can't be read from being another registry's."""
         for name in names:
             if name.number in NAMED:
-                self.withheld.setdefault(name[:2], self.number_of(name.source or self.before))
+                self.withheld.setdefault(name[:2], self.owner(name.sources))
+
+    def owner(self, sources: tuple[str, ...]) -> int:
+        """The number of the registry whose a name is: of several, with that of the object before,
+        the first one of which an object was read; if none was, it is no registry's."""
+        several = {source or self.before for source in sources or ("",)}
+        if len(several) == 1:
+            return self.number_of(*several)
+        several.add(self.before)
+        return next((self.number_of(one) for one in self.met if one in several), NO_REGISTRY)
 
     def number_of(self, source: str) -> int:
         return self.sources.setdefault(source, len(self.sources))
@@ -327,7 +341,8 @@ class Import:
         for place, lines in self.odd.items():
             for number, line in lines:
                 own = Place(self.place_of(place).path, number)
-                cause = {b"#": COMMENT, b"%": COMMENT, b"\r": CR}.get(line[:1], CR_INSIDE)
+                other = ITEM_NAME if paragraphs.is_item(line) else CR_INSIDE
+                cause = {b"#": COMMENT, b"%": COMMENT, b"\r": CR}.get(line[:1], other)
                 self.tally.note_odd(cause, own, self.text_of(place), line)
         for place in self.bare:
             self.tally.note_odd(NO_SOURCE, self.place_of(place), self.text_of(place))

@@ -2,7 +2,7 @@
 import functools
 import re
 import socket
-from typing import Callable
+from typing import Callable, Iterator
 
 from irr.rpsl import keys, syntax
 from irr.rpsl.syntax import Attribute
@@ -18,6 +18,9 @@ NAME = re.compile(
     re.I,
 )
 SCOPED = re.compile(rb"([A-Za-z][A-Za-z0-9_-]*)::(.+)")
+# A word of a key with more around it, and a mark that parts two of them.
+KEY_WORD = re.compile(rb"[A-Za-z0-9](?:[A-Za-z0-9_.:/-]*[A-Za-z0-9])?")
+KEY_MARK = re.compile(rb"[,;:/|&+]")
 # Items, and braces by themselves.
 TOKEN = re.compile(rb"[{}]|[^, \t\r\n{}]+")
 # What stands between two items, with a brace before or after it.
@@ -85,6 +88,18 @@ def without_host_bits(item: bytes) -> bytes:
     if prefix is None or keys.read_address(front.partition(b"/")[0]) == prefix.first:
         return item
     return prefix.text().encode() + hat + rest
+
+
+def key_words(value: bytes) -> Iterator[bytes]:
+    """What may be names in a key with more around it: its words as far as commas part them, or the
+    like, and not blanks alone. A registry before one is none, and a slash parts two."""
+    end = 0
+    for word in KEY_WORD.finditer(value):
+        if end and not KEY_MARK.search(value, end, word.start()):
+            return
+        for part in word[0].split(b"/"):
+            yield part.rpartition(b"::")[2]
+        end = word.end()
 
 
 def tidied(between: re.Match[bytes]) -> bytes:

@@ -2,7 +2,7 @@
 a time."""
 import contextlib
 import re
-from typing import Callable, Iterator, NamedTuple
+from typing import Callable, Iterable, NamedTuple
 
 from irr.local.tables import once
 from irr.migrate import paragraphs
@@ -15,6 +15,7 @@ from irr.migrate.items import (
     is_member,
     is_name,
     is_range,
+    key_words,
     name_of,
     source_of,
     with_items,
@@ -41,12 +42,6 @@ READ = [
 OTHERS = frozenset((b"mp-members", b"password", b"delete"))
 # Those that name maintainers, in the order in which a database has these.
 NAMING = (b"mnt-by", b"mnt-lower", b"mnt-routes", b"mbrs-by-ref")
-# What a key with more around it begins with: a range, or a word.
-KEY_WORD = rb"[A-Za-z0-9](?:[A-Za-z0-9_.:/-]*[A-Za-z0-9])?"
-KEY_FRONTS = [
-    re.compile(rb"[^A-Za-z0-9]*(%s)" % front)
-    for front in (rb"%s\s*-\s*%s" % (KEY_WORD, KEY_WORD), KEY_WORD)
-]
 # An `auth` of a password, one that lets nobody in, and the longest name of a maintainer.
 PASSWORD = re.compile(rb"SHA256-PW [A-Za-z0-9]{0,16}:[0-9A-Fa-f]{64}", re.I)
 NOBODY = b"FILTERED"
@@ -91,11 +86,11 @@ class Mended(NamedTuple):
 
 class Name(NamedTuple):
     """What tells an object from others, also where it can't be read: its class's number, its key,
-    and the registry that it is of, which has no name where `source` can't be read either."""
+    and what each `source` says, which is nothing where that can't be read either."""
 
     number: int
     key: int | str
-    source: str
+    sources: tuple[str, ...]
 
 
 class Mender:
@@ -114,7 +109,7 @@ class Mender:
         none, as where the file was cut off there. Scoped items stay in its text."""
         if part.doubt and not (is_cut and part.doubt == paragraphs.INSIDE):
             raise LeftOut(part.doubt)
-        block, name = part.block, class_of(part.block)
+        block, name = part.block, class_of(part.block.text)
         if is_cut and (name in NUMBERS or name in paragraphs.FOREIGN):
             raise LeftOut(paragraphs.CUT_OFF)
         if name in paragraphs.FOREIGN:
@@ -139,30 +134,39 @@ class Mender:
         return Mended(number, key, source, names, text, frozenset(self.kinds), tuple(self.drops))
 
     def left(self, part: paragraphs.Part, cause: LeftOut | None = None) -> list[Name]:
-        """What objects were left out of a part, or stand inside its lines, of the registries that
-        are asked for."""
+        """The names of what was left out of a part, or stands inside its lines, of the registries
+        that are asked for."""
         is_joined = cause is not None and str(cause) in (paragraphs.JOINED, paragraphs.JOINED_AUTH)
         line = cause.item[1] if cause and cause.item and is_joined else b""
-        begun = part.begun(cause is None, line)
-        return [name for block in begun if (name := self.name_in(block))]
+        is_taken = cause is None
+        found: list[Name] = []
+        for block in part.begun(is_taken, line):
+            found += self.names_in(block, paragraphs.quoted(block.text, is_taken))
+        return found
 
-    def name_in(self, block: syntax.Block, is_whole: bool = False) -> Name | None:
-        """Which object it is that may be none, by the lines that can be read: by what its key
-        begins with, or by a whole key alone; None where they tell none."""
-        text = block.text if is_whole else paragraphs.headed(block.text)
-        kind = text.partition(b":")[0].strip(syntax.BLANKS).lower()
-        found = syntax.read_any(readable(text)).attributes if kind in NUMBERS else []
-        if not found or found[0].name != kind:
-            return None
-        # From another class on it is of no object, or of another one.
-        names = [attribute.name for attribute in found[1:]]
-        ends = [one in NUMBERS or one in paragraphs.FOREIGN for one in names] + [True]
-        own = found[: ends.index(True) + 1]
-        sources = [source_of(one.meaning()) for one in own if one.name == b"source"]
-        source = next(filter(None, sources), "")
-        for key in own[:1] if is_whole else key_fronts(own[0]):
+    def names_in(self, block: syntax.Block, quoted: Iterable[bytes] = ()) -> list[Name]:
+        """The maintainers and sets that may be told by lines which may be no object: by the first
+        one, and those that are quoted."""
+        heads = [paragraphs.headed(head) for head in (block.text, *quoted)]
+        named = [one for one in heads if NUMBERS.get(class_of(one)) in NAMED]
+        sources = sources_of(own_attributes(heads[0])) if named else ()
+        found: list[Name] = []
+        for head in named:
+            key, number = own_attributes(head)[:1], NUMBERS[class_of(head)]
+            if key and key[0].name == class_of(head):
+                for word in key_words(key[0].meaning()):
+                    with contextlib.suppress(LeftOut):
+                        own = self.keyed(number, [Attribute(key[0].name, [word])])
+                        found.append(Name(number, own[0], sources))
+        return found
+
+    def name_in(self, block: syntax.Block) -> Name | None:
+        """Which object it is that may be none, by the lines that can be read, if they have a whole
+        key."""
+        own, kind = own_attributes(block.text), class_of(block.text)
+        if own and own[0].name == kind and kind in NUMBERS:
             with contextlib.suppress(LeftOut):
-                return Name(NUMBERS[kind], self.keyed(NUMBERS[kind], [key, *own[1:]])[0], source)
+                return Name(NUMBERS[kind], self.keyed(NUMBERS[kind], own)[0], sources_of(own))
         return None
 
     def need_one(self, number: int, attributes: list[Attribute], text: bytes) -> None:
@@ -463,34 +467,22 @@ def ordered(number: int, value: bytes, origins: list[bytes]) -> int | str | None
     return key.text if key else None
 
 
-def class_of(block: syntax.Block) -> bytes:
+def class_of(text: bytes) -> bytes:
     """What stands before the first colon of a block, which is the class of an object."""
-    return block.text.partition(b":")[0].strip(syntax.BLANKS).lower()
+    return text.partition(b":")[0].strip(syntax.BLANKS).lower()
 
 
-def key_fronts(key: Attribute) -> Iterator[Attribute]:
-    """A key as it stands, and then what it begins with."""
-    yield key
-    for front in KEY_FRONTS:
-        found = front.match(key.meaning())
-        if found:
-            yield key._replace(lines=[found[1]])
+def own_attributes(text: bytes) -> list[Attribute]:
+    """Those of a block that can be read; from another class on they are of another object."""
+    found = syntax.read_any(paragraphs.readable(text)).attributes
+    names = [attribute.name for attribute in found[1:]]
+    ends = [one in NUMBERS or one in paragraphs.FOREIGN for one in names] + [True]
+    return found[: ends.index(True) + 1]
 
 
-def readable(text: bytes) -> bytes:
-    """The lines of a block without those that have a fault, and what goes on with them."""
-    kept: list[bytes] = []
-    goes_on = False
-    for line in text.split(b"\n"):
-        is_good = syntax.BAD_BYTE.search(line) is None
-        if line[:1] in syntax.CONTINUED:
-            is_good = is_good and goes_on
-        elif line[:1] not in syntax.PASSED_OVER:
-            front, colon, _ = line.partition(b":")
-            is_good = is_good and bool(colon) and syntax.name_of(front) is not None
-            goes_on = is_good
-        kept += [line] if is_good else []
-    return b"\n".join(kept)
+def sources_of(attributes: list[Attribute]) -> tuple[str, ...]:
+    found = [one.meaning() for one in attributes if one.name == b"source"]
+    return tuple(dict.fromkeys(source_of(value) or "" for value in found))
 
 
 def not_mended(kind: str) -> str:

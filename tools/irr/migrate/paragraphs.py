@@ -8,7 +8,7 @@ from typing import Iterator, NamedTuple
 
 from irr.migrate.dumps import MARK
 from irr.rpsl import keys
-from irr.rpsl.syntax import BLANKS, PASSED_OVER, Block
+from irr.rpsl.syntax import BAD_BYTE, BLANKS, CONTINUED, PASSED_OVER, Block, name_of
 
 # Other classes of RPSL (RFC 2622, 2725, 2726, 4012), of the RIPE Database, of IRRd and of RIPE-181.
 FOREIGN = frozenset(
@@ -31,7 +31,12 @@ LATER_SOURCE = re.compile(SOURCE_LINE)
 BEGINNING = re.compile(rb"[\n\r]" + CLASS_LINE)
 # In what is no object: the colon may be missing, or blanks of another kind be before the class.
 HEADING = re.compile(rb"[\n\r][\x80-\xff]*(?:%s)(?![a-z0-9_-])" % b"|".join(CLASSES))
+# In a line that is quoted there, or a comment, it needs the colon: that is no end of an object.
+QUOTED = re.compile(
+    rb"[\n\r][^a-z0-9 \t\r\n+][^a-z0-9\n\r]*(?:%s)[^a-z0-9_\n\r:-]*:[^\n\r]*" % b"|".join(CLASSES)
+)
 LATER = re.compile(BEGINNING.pattern + rb"|" + SOURCE_LINE)
+LATER_LEFT = re.compile(HEADING.pattern + rb"|" + QUOTED.pattern + rb"|" + SOURCE_LINE)
 # What a line begins with that goes on with the one before, and has a class.
 GOES_ON_WITH = re.compile(rb"(?<=\n)[ \t+]+(?=%s)" % CLASS_LINE, re.I)
 LINE_END = re.compile(rb"[\n\r]")
@@ -60,10 +65,17 @@ JOINED_TEXT = re.compile(
 JOINED_LINE = re.compile(rb"(?:%s)[ \t\r]*:(?!:)" % b"|".join(CLASSES), re.I)
 # A CR that ends no line: the last of several, so that many of them take no longer each.
 CR_INSIDE = re.compile(rb"\r(?=[ \t]*[^ \t\r\n])")
-# A class at the beginning of a first line, with the marks before a key; and bytes in what follows
-# that are no visible ASCII, such as blanks of other pages of codes.
-CLASS_WORD = re.compile(rb"[^!-~\n]*([A-Za-z0-9_-]+)[^A-Za-z0-9#\n]*")
-NOT_SHOWN = re.compile(rb"[^!-~]")
+# What may be an item of a list whose line has lost the blank before it, and is an attribute so.
+ITEM_LINE = re.compile(
+    rb"\n(?:[Aa][Ss][0-9]+[ \t\r]*:|(?!as-name:)[AaRr][Ss]-[^ \t\r\n:]*:[AaRr][Ss]"
+    rb"|[A-Za-z][A-Za-z0-9_-]*::[AaRr][Ss][-0-9])"
+)
+# A class at the beginning of a line, also of one that is quoted, with the marks before a key; bytes
+# in what follows that are no visible ASCII, such as blanks of other pages of codes; and the lines
+# that go on with the key, also with such a blank.
+CLASS_WORD = re.compile(rb"[^A-Za-z0-9\n]*([A-Za-z0-9][A-Za-z0-9_-]*)[^A-Za-z0-9#\n]*")
+NOT_SHOWN = re.compile(rb"[^!-~\n]")
+KEY_GOES_ON = re.compile(rb"(?:(?:[+#%]|[^!-~\n])[^\n]*\n)*")
 CUT_OFF = "cut off at the end of the file"
 IN_COMMENT = "a class after a CR in a comment"
 CLASS_AGAIN = "a class again after the first line"
@@ -85,19 +97,16 @@ class Part(NamedTuple):
     has_source: bool
 
     def further(self) -> list[tuple[int, bytes]]:
-        """The lines at which further objects may begin, or end, in what is not one, or inside a
-        line of what is: each with its number in the file."""
-        block = self.block
-        if not self.may_have_more():
-            return []
-        text = block.text
+        """The lines at which further objects may begin, or end, in what is not one: each with its
+        number in the file."""
+        block, text = self.block, self.block.text
         if block.size > len(text):
             # Its last line is not whole, and told of as the others that are not kept.
             text = text[: text.rfind(b"\n") + 1]
         text = restored(text)
         end = LINE_END.search(text)
         after, line = (text[end.end() :], block.line + (end[0] == b"\n")) if end else (b"", 0)
-        found = [*later(after, line), *block.beyond]
+        found = [*later(after, line, LATER_LEFT), *block.beyond]
         classes = [one for one in found if not is_source(one[1])]
         return classes or (found[1:] if self.doubt else [])
 
@@ -123,14 +132,20 @@ class Part(NamedTuple):
 
     def odd_lines(self) -> tuple[tuple[int, bytes], ...]:
         """The lines with `#` or `%` first, which are not kept, those with a CR first, which go on
-        with the line before, and those with a CR inside: each with its number in the file."""
+        with the line before, those with a CR inside, and those that may be items of a list: each
+        with its number in the file."""
         text = self.block.text
         has_cr = b"\r" in text and CR_INSIDE.search(text) is not None
-        if b"\n#" not in text and b"\n%" not in text and not has_cr:
+        has_item = ITEM_LINE.search(text) is not None
+        if b"\n#" not in text and b"\n%" not in text and not has_cr and not has_item:
             return ()
         numbered = enumerate(text.split(b"\n"), self.block.line)
         lines = ((number, line.rstrip(BLANKS)) for number, line in numbered)
-        return tuple(one for one in lines if one[1][:1] in (b"#", b"%") or b"\r" in one[1])
+        return tuple(
+            one
+            for place, one in enumerate(lines)
+            if one[1][:1] in (b"#", b"%") or b"\r" in one[1] or (place and is_item(one[1]))
+        )
 
 
 def parts(block: Block) -> list[Part]:
@@ -193,11 +208,11 @@ def joined(part: Part) -> Part:
     return part if part.doubt or part.has_source else part._replace(doubt=INSIDE)
 
 
-def later(text: bytes, line: int) -> list[tuple[int, bytes]]:
+def later(text: bytes, line: int, pattern: re.Pattern[bytes] = LATER) -> list[tuple[int, bytes]]:
     """Of the lines of a text those that begin with a class or `source`, each with its number; that
     of the first one is given."""
     small, found, start = b"\n" + text.lower(), [], 0
-    for one in LATER.finditer(small):
+    for one in pattern.finditer(small):
         line += small.count(b"\n", start + 1, one.start() + 1)
         start = one.start()
         end = LINE_END.search(text, start)
@@ -217,6 +232,13 @@ def joined_at(small: bytes, line: bytes) -> Iterator[int]:
         yield place + found.start()
 
 
+def quoted(text: bytes, is_taken: bool) -> list[bytes]:
+    """The lines after the first one in which a class is quoted. In what is taken a comment is one,
+    and only what is after a CR may be another object."""
+    found = [one.span() for one in QUOTED.finditer(text.lower())]
+    return [text[at + 1 : end] for at, end in found if not is_taken or text[at : at + 1] == b"\r"]
+
+
 def headed(text: bytes) -> bytes:
     """The lines of what may be an object, the first of which has a class, a colon and a key even if
     other marks stand there. If it ends in a CR, so do the others."""
@@ -226,8 +248,31 @@ def headed(text: bytes) -> bytes:
     text = text[found.end() :]
     if CR_INSIDE.search(text.partition(b"\n")[0]):
         text = CR_INSIDE.sub(b"\n", text)
-    first, end, rest = text.partition(b"\n")
-    return found[1] + b":" + NOT_SHOWN.sub(b" ", first) + end + rest
+    end = text.find(b"\n") + 1 or len(text)
+    goes_on = KEY_GOES_ON.match(text, end)
+    end = goes_on.end() if goes_on else end
+    return found[1] + b":" + NOT_SHOWN.sub(b" ", text[:end]) + text[end:]
+
+
+def readable(text: bytes) -> bytes:
+    """The lines of a block without those that have a fault, and what goes on with them."""
+    kept: list[bytes] = []
+    goes_on = False
+    for line in text.split(b"\n"):
+        is_good = BAD_BYTE.search(line) is None
+        if line[:1] in CONTINUED:
+            is_good = is_good and goes_on
+        elif line[:1] not in PASSED_OVER:
+            front, colon, _ = line.partition(b":")
+            is_good = is_good and bool(colon) and name_of(front) is not None
+            goes_on = is_good
+        kept += [line] if is_good else []
+    return b"\n".join(kept)
+
+
+def is_item(line: bytes) -> bool:
+    """Whether a line that is an attribute may be an item of the list before."""
+    return ITEM_LINE.match(b"\n" + line) is not None
 
 
 def is_source(line: bytes) -> bool:

@@ -82,21 +82,24 @@ class ViewMender(Mender):
     def left(self, part: Part, cause: LeftOut | None = None) -> list[Name]:
         if str(cause) == OTHER_SOURCE:
             return []
-        own = self.name_in(part.block)
-        found = super().left(part, cause) if not self.is_one else [own] if own else []
+        found = self.names_in(part.block) if self.is_one else super().left(part, cause)
         return [
-            name._replace(source=self.own)
+            name._replace(sources=(self.own,))
             for name in found
-            if name.source in ("", self.own) and name[:2] not in self.superseded
+            if self.is_own(name) and name[:2] not in self.superseded
         ]
+
+    def is_own(self, name: Name) -> bool:
+        """Whether it may be of this source."""
+        return not name.sources or not {"", self.own}.isdisjoint(name.sources)
 
     def key_changed(self, part: Part) -> tuple[int, int | str] | None:
         """Which object of the source a change is of."""
         try:
             mended = super().mend(part)
         except LeftOut:
-            name = self.name_in(part.block, is_whole=True)
-            return name[:2] if name and name.source in ("", self.own) else None
+            name = self.name_in(part.block)
+            return name[:2] if name and self.is_own(name) else None
         return mended.number, mended.key
 
     def mend(self, part: Part, is_cut: bool = False) -> Mended:

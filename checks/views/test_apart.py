@@ -253,18 +253,21 @@ def test_a_set_that_a_source_between_has_and_cannot_be_read_is_apart(view_of: Vi
             as-set: AS-X|members: AS1 EXCEPT AS2|mnt-by: X-MNT
             as-set: AS-Z|members: AS1 EXCEPT AS2|mnt-by: X-MNT
             as-set: AS-Y|members: AS1 EXCEPT AS2|source: OTHER
+            as-set: AS-W|members: AS1|source: RI PE
         """,
         "RADB": """
             as-set: AS-X|members: AS6|mnt-by: X-MNT
             as-set: AS-Y|members: AS7|mnt-by: X-MNT
             as-set: AS-Z|members: AS8|mnt-by: X-MNT
+            as-set: AS-W|members: AS9|mnt-by: X-MNT
         """,
     }
     few = view_of(sources)
     expect(few.asked("expand", "AS-ALL"), "AS6\n", "AS-ALL")
     expect(few.asked("expand", "AS-X"), "AS1\n", "AS-X")
     expect(few.asked("expand", "AS-Y"), "AS7\n", "AS-Y")
-    expect(few.asked("object", "as-set", "AS-Z"), "% no entries\n", "AS-Z")
+    for name in "AS-Z", "AS-W":
+        expect(few.asked("object", "as-set", name), "% no entries\n", name)
 
 
 def test_a_set_that_cannot_be_read_keeps_its_name_from_one_that_would_be_apart(

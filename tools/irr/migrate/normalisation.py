@@ -48,7 +48,7 @@ NOBODY = b"FILTERED"
 LONGEST_NAME = 80
 # Why an item is taken out of a list.
 OTHER_KIND = "a set of the other kind"
-NO_SOURCE = "no `source`"
+NO_SOURCE, UNREAD_SOURCE = "no `source`", "a `source` that can't be read"
 # Why an object is left out: an item may change what others of its list mean.
 UNREAD = "a list that can't be read"
 
@@ -388,7 +388,7 @@ class Mender:
         found = attributes[place].meaning() if place < len(attributes) else b""
         name = source_of(found)
         if name is None:
-            raise LeftOut("a `source` that can't be read")
+            raise LeftOut(UNREAD_SOURCE)
         if found.upper() == self.source:
             return name, attributes
         if not name and "source" in self.off:

@@ -5,13 +5,14 @@ from typing import Collection, Iterable, NamedTuple
 
 from irr.errors import reading
 from irr.migrate import conversion
-from irr.migrate.items import with_items
+from irr.migrate.items import source_of, with_items
 from irr.migrate.normalisation import (
     AUT_NUM,
     NOBODY,
     NUMBERS,
     ROUTE,
     SETS,
+    UNREAD_SOURCE,
     Dropped,
     LeftOut,
     Mended,
@@ -142,7 +143,7 @@ class ViewMender(Mender):
         place = source_place(attributes)
         found = attributes[place].meaning() if place < len(attributes) else b""
         if found and found.upper() != self.own.encode():
-            raise LeftOut(OTHER_SOURCE)
+            raise LeftOut(OTHER_SOURCE if source_of(found) else UNREAD_SOURCE)
         line = self.source + b" # " + self.own.encode()
         attributes[place : place + 1] = [Attribute(b"source", [line])]
         return self.own, attributes

@@ -213,6 +213,53 @@ def test_a_restored_folder_of_keys_begins_a_session_anew(states: Publishing) -> 
     states.need_same(mirror)
 
 
+def test_a_restored_folder_of_keys_of_another_session_begins_one_anew(states: Publishing) -> None:
+    """Its session may have had more versions, which a mirror has that was away since."""
+    states.publish(aut_num(1))
+    copy = states.keys.folder.with_name("copy")
+    shutil.copytree(states.keys.folder, copy)
+    states.publish(aut_num(1), aut_num(2))
+    mirror, away = states.mirror(), states.mirror()
+    mirror.follow()
+    away.follow()
+    shutil.copytree(states.folder, states.folder.with_name("kept"))
+    shutil.rmtree(states.serials.folder)
+    states.update()
+    second = states.publish(aut_num(1), aut_num(4))
+    expect(second.session != mirror.session, True, "whether a second session began")
+    mirror.follow()
+    for folder, kept in (states.keys.folder, copy), (
+        states.folder,
+        states.folder.with_name("kept"),
+    ):
+        shutil.rmtree(folder)
+        kept.rename(folder)
+    third = states.publish(aut_num(1), aut_num(5))
+    sessions = {away.session, second.session, third.session}
+    expect((versions(third), len(sessions)), ((1, 1, []), 3), "what is anew")
+    for one in mirror, away:
+        expect(one.follow(), True, "a mirror")
+        states.need_same(one)
+
+
+def test_a_lost_notification_begins_a_session_anew(states: Publishing) -> None:
+    """With a folder of keys that was restored, nothing else says what mirrors have."""
+    first = states.publish(aut_num(1))
+    copy = states.keys.folder.with_name("copy")
+    shutil.copytree(states.keys.folder, copy)
+    states.publish(aut_num(1), aut_num(2))
+    mirror = states.mirror()
+    mirror.follow()
+    shutil.rmtree(states.keys.folder)
+    copy.rename(states.keys.folder)
+    shutil.rmtree(states.out)
+    states.out.mkdir()
+    again = states.publish(aut_num(1), aut_num(3))
+    expect((versions(again), again.session == first.session), ((1, 1, []), False), "what is anew")
+    expect((mirror.follow(), mirror.snapshots), (True, 2), "the mirror")
+    states.need_same(mirror)
+
+
 def test_states_that_nobody_knows_any_more_begin_a_session_anew(
     states: Publishing, monkeypatch: pytest.MonkeyPatch
 ) -> None:
@@ -233,7 +280,8 @@ def test_files_that_were_lost_are_made_anew(states: Publishing) -> None:
     mirror = states.mirror()
     mirror.follow()
     for path in states.out.iterdir():
-        path.unlink()
+        if path.name != NOTIFICATION:
+            path.unlink()
     expect(versions(states.publish()), (2, 2, []), "without a change")
     expect(mirror.follow(), False, "a mirror that has it all")
     states.publish(aut_num(3))

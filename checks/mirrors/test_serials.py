@@ -15,8 +15,10 @@ from hypothesis import strategies as st
 
 from checks.mirrors.client import Key, Mirror, key_of
 from checks.running import Trial, expect
+from irr.commands import export
 from irr.door import flags, nrtm
 from irr.door.settings import Settings
+from irr.errors import Failure
 from irr.local import changes, serials
 from irr.local.history import Repository
 from irr.rpsl import syntax
@@ -150,6 +152,59 @@ def test_a_registry_that_went_back_goes_on_with_higher_serials(states: States) -
     after = states.add(aut_num(1))
     expect((after.first, after.last), (before.first, before.last + 1), "the serials")
     expect(states.changes(after.last, after.last), [(f"DEL {after.last}", "AS2")], "what it told")
+
+
+@pytest.mark.parametrize("count", [1, 2, 4])
+def test_an_export_sees_a_restored_history(states: States, count: int) -> None:
+    """One that has come to the same serial again, to a lower or to a higher one, by other states:
+    mirrors began with that which was exported."""
+    out, number = states.folder.with_name(f"out{count}"), NOW // 10
+    out.mkdir()
+    states.add()
+    expect(sum(export.of_history(states.folder, out).values()), 1, "the first time")
+    states.add(aut_num(1))
+    copy = states.folder.with_name(f"copy{count}")
+    shutil.copytree(states.folder, copy)
+    states.add(aut_num(1), aut_num(2))
+    expect(sum(export.of_history(states.folder, out).values()), 3, "before it is restored")
+    expect(export.of_history(states.folder, out), {}, "without a change")
+    shutil.rmtree(states.folder)
+    copy.rename(states.folder)
+    for other in range(count - 1):
+        states.add(aut_num(1), *(aut_num(5 + one) for one in range(other + 1)))
+    expect(states.serials.range().last, number + count, "the last serial")
+    before = {path.name: path.read_bytes() for path in out.iterdir()}
+    for _ in range(2):
+        with pytest.raises(Failure, match="serials went back; remove .*/serials, and run"):
+            export.of_history(states.folder, out)
+    found = {path.name: path.read_bytes() for path in out.iterdir()}
+    expect(found == before, True, "whether the files are as they were")
+    shutil.rmtree(states.serials.folder)
+    states.update(NOW + 3_600)
+    expect(bool(export.of_history(states.folder, out)), True, "once serials begin anew")
+    expect(export.of_history(states.folder, out), {}, "and without a change")
+
+
+def test_an_export_that_was_stopped_or_damaged_is_made_up_for(states: States) -> None:
+    out = states.folder.with_name("out-stopped")
+    out.mkdir()
+    states.add()
+    states.add(aut_num(1))
+    export.of_history(states.folder, out)
+    serial = (out / "TEST.CURRENTSERIAL").read_bytes()
+    states.add(aut_num(1), aut_num(2))
+    export.of_history(states.folder, out)
+    # The dump is put in place before its serial.
+    (out / "TEST.CURRENTSERIAL").write_bytes(serial)
+    expect(bool(export.of_history(states.folder, out)), True, "after a stop between the two")
+    expect((out / "TEST.CURRENTSERIAL").read_bytes() > serial, True, "the serial")
+    whole = (out / "test.db.gz").read_bytes()
+    for spoilt in whole[:-9], b"", None:
+        (out / "test.db.gz").unlink()
+        if spoilt is not None:
+            (out / "test.db.gz").write_bytes(spoilt)
+        expect(bool(export.of_history(states.folder, out)), True, f"{spoilt!r}")
+        (out / "test.db.gz").write_bytes(whole)
 
 
 def test_the_clock_never_lets_serials_go_back(states: States) -> None:

@@ -1,8 +1,11 @@
 """Registries of others, as they are handed out: files by HTTP, and changes by NRTM, version 3."""
+import contextlib
 import http.server
+import re
 import socketserver
 import threading
 from collections.abc import Sequence
+from email.utils import formatdate, parsedate_to_datetime
 from typing import Any, Self
 
 
@@ -28,6 +31,8 @@ class Files(Served):
         self.texts: dict[str, bytes | int] = {}
         self.asked: list[tuple[str, int]] = []
         self.is_cut = False
+        # The dates of files that are told by these alone, in seconds since 1970.
+        self.dates: dict[str, float] = {}
         files = self
 
         class Handler(http.server.BaseHTTPRequestHandler):
@@ -35,15 +40,25 @@ class Files(Served):
                 found = files.texts.get(self.path, 404)
                 status = found if isinstance(found, int) else 200
                 text = b"" if isinstance(found, int) else found
-                tag = f'"{hash(text)}"'
-                if status == 200 and self.headers.get("If-None-Match") == tag:
+                tag, date = f'"{hash(text)}"', files.dates.get(self.path)
+                since: str = self.headers.get("If-Modified-Since") or ""
+                is_same = self.headers.get("If-None-Match") == tag
+                if date is not None:
+                    # As Apache does: what is not newer is not sent.
+                    is_same = since != "" and parsedate_to_datetime(since).timestamp() >= date
+                if status == 200 and is_same:
                     status, text = 304, b""
                 files.asked.append((self.path, status))
                 self.send_response(status)
                 self.send_header("Content-Length", str(len(text)))
-                self.send_header("ETag", tag)
+                if date is None:
+                    self.send_header("ETag", tag)
+                else:
+                    self.send_header("Last-Modified", formatdate(date, usegmt=True))
                 self.end_headers()
-                self.wfile.write(text[: len(text) // 2] if files.is_cut else text)
+                # Who knows by the head that it is as it was goes away.
+                with contextlib.suppress(ConnectionError):
+                    self.wfile.write(text[: len(text) // 2] if files.is_cut else text)
 
             def log_message(self, *_: Any) -> None:
                 pass
@@ -86,14 +101,15 @@ class Nrtm(Served):
     def answer(self, line: str) -> str:
         """What RIPE's server says, with a remark before it."""
         remark = "% The objects are in RPSL format.\n%\n\n"
-        begin = int(line.rpartition(":")[2].partition("-")[0])
-        assert line == f"-g {self.name}:3:{begin}-LAST"
-        if begin == self.last + 1:
+        found = re.fullmatch(rf"-g {self.name}:3:([0-9]+)-(LAST|[0-9]+)", line)
+        assert found, line
+        begin, end = int(found[1]), self.last if found[2] == "LAST" else int(found[2])
+        if begin == self.last + 1 and found[2] == "LAST":
             return remark + "% Warning: there are no newer updates available\n\n"
-        if not self.first <= begin <= self.last:
+        if not self.first <= begin <= end <= self.last:
             return remark + f"%ERROR:401: invalid range: Not within {self.first}-{self.last}\n\n"
-        parts = [f"%START Version: 3 {self.name} {begin}-{self.last}\n"]
-        for serial in range(begin, self.last + 1):
+        parts = [f"%START Version: 3 {self.name} {begin}-{end}\n"]
+        for serial in range(begin, end + 1):
             word, text = self.changes[serial - self.first]
             parts.append(f"\n{word} {serial}\n\n{text}")
         return remark + "".join(parts) + f"\n%END {self.name}\n\n"

@@ -206,14 +206,14 @@ def test_what_comes_after_the_object_of_a_change_is_counted(followed: World) -> 
 def test_a_change_without_an_object_is_none(text: str) -> None:
     answer = f"%START Version: 3 RIPE 2-3\n\nADD 2\n\n{text}\nADD 3\n\n{route(1)}\n%END RIPE\n"
     with pytest.raises(Failure, match="serial 2 has no whole object"):
-        nrtm.taken(iter(answer.encode().splitlines()), "x", "RIPE", 1, io.BytesIO())
+        nrtm.taken(iter(answer.encode().splitlines()), "x", "RIPE", 1, io.BytesIO(), {})
 
 
 def test_what_a_registry_filters_is_followed() -> None:
     """RIPE and IRRd say so in the first line."""
     answer = f"%START Version: 3 RIPE 2-2 FILTERED\n\nADD 2\n\n{route(1)}\n%END RIPE\n"
     out = io.BytesIO()
-    expect(nrtm.taken(iter(answer.encode().splitlines()), "x", "RIPE", 1, out), 2, "the serial")
+    expect(nrtm.taken(iter(answer.encode().splitlines()), "x", "RIPE", 1, out, {}), 2, "the serial")
     expect(out.getvalue().decode(), f"ADD\n\n{route(1)}\n", "the changes")
 
 

@@ -4,14 +4,16 @@ NRTM, version 4."""
 import argparse
 import contextlib
 import gzip
+import hashlib
 from pathlib import Path
 from typing import BinaryIO, Iterable
 
 from irr.errors import ARGUMENTS, DONE, Failure
 from irr.local.nrtm4 import Publisher
 from irr.local.serials import Serials
+from irr.migrate import dumps
 from irr.registry import answers, server
-from irr.rpsl import keys
+from irr.rpsl import keys, syntax
 from irr.system import files
 from irr.system.signing import Keys
 from irr.terminal import texts
@@ -80,23 +82,45 @@ def published(options: argparse.Namespace) -> int:
 def of_history(history: Path, folder: Path) -> dict[str, int]:
     """Writes the last state that has serials, and after it its serial: who reads the serial first
     never has one that is ahead of the dump. Nothing where it was written before."""
-    last = Serials(history).now()
+    serials = Serials(history)
+    last = serials.range()
     if last is None:
         raise Failure(str(history), "it has no serials; let `irr history` fetch a state", ARGUMENTS)
-    path, one = folder / f"{last.source}.CURRENTSERIAL", f"{last.source.lower()}.db.gz"
+    path, one = folder / f"{last.source}.CURRENTSERIAL", folder / f"{last.source.lower()}.db.gz"
     before = serial_of(path)
-    if before == last.last and (folder / one).exists():
-        return {}
-    if before is not None and before > last.last:
-        raise Failure(
-            str(path),
-            f"it has serial {before}, and the history has {last.last}: serials went back; remove"
-            f" {Serials(history).folder}, and run `irr history` and this again, so that mirrors"
-            " begin anew",
+    if before is not None:
+        is_kept = (
+            before < last.first if before not in serials.kept() else was_of(serials, before, one)
         )
-    counts = written(Serials(history).dump(last), str(history), folder, True)
+        if is_kept is False:
+            raise Failure(
+                str(path),
+                f"it has serial {before} of another state than the history, whose last serial is"
+                f" {last.last}: serials went back; remove {serials.folder}, and run `irr history`"
+                " and this again, so that mirrors begin anew",
+            )
+        if is_kept and before == last.last:
+            return {}
+    counts = written(serials.dump(last), str(history), folder, True)
     files.put(path, f"{last.last}\n".encode())
     return counts
+
+
+def was_of(serials: Serials, serial: int, dump: Path) -> bool | None:
+    """Whether a dump that was written before its serial is of states that are kept, as a mirror is
+    that began with both; None where it can't be read, or is not there."""
+    digest, count = hashlib.sha256(), 0
+    try:
+        for block in syntax.blocks(dumps.pieces_of(str(dump))):
+            digest.update(block.text + b"\n")
+            count += 1
+    except Failure:
+        return None
+    if not count:
+        return None
+    digest.update(b"%% end %d\n" % count)
+    kept = (one for one in serials.kept() if one >= serial)
+    return any(serials.at(one).dump == digest.hexdigest() for one in kept)
 
 
 def serial_of(path: Path) -> int | None:

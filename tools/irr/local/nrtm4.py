@@ -95,10 +95,13 @@ def published_in(folder: Path) -> Published | None:
 
 
 def was_restored(old: Published, notification: Record) -> bool:
-    """Whether more was published in the session than is kept of it, as after a restored backup:
-    mirrors may have other changes of the next version."""
-    return bool(notification) and (
-        notification["session_id"] == old.session and notification["version"] > old.version
+    """Whether more was published than is kept of it, in its session or in another one, as after a
+    restored backup: mirrors may have other changes of the next version. Nobody knows where there is
+    no notification."""
+    return (
+        not notification
+        or notification["session_id"] != old.session
+        or notification["version"] > old.version
     )
 
 

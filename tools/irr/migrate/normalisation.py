@@ -474,7 +474,8 @@ def class_of(text: bytes) -> bytes:
 
 def own_attributes(text: bytes) -> list[Attribute]:
     """Those of a block that can be read; from another class on they are of another object."""
-    found = syntax.read_any(paragraphs.readable(text)).attributes
+    text = paragraphs.readable(text)
+    found = syntax.read_any(text).attributes if text else []
     names = [attribute.name for attribute in found[1:]]
     ends = [one in NUMBERS or one in paragraphs.FOREIGN for one in names] + [True]
     return found[: ends.index(True) + 1]

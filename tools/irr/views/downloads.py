@@ -6,6 +6,8 @@ import os
 import time
 import urllib.error
 import urllib.request
+from email.message import Message
+from email.utils import parsedate_to_datetime
 from pathlib import Path
 from typing import Any, BinaryIO, Iterator
 
@@ -18,6 +20,8 @@ from irr.views.settings import is_address, is_safe
 # Seconds for a piece of a file, and for all of it; the most bytes of one.
 WAITING, LASTS, MOST = 120, 3_600, 1 << 32
 CHUNK = 1 << 20
+# The field that asks for what has another tag; after how many seconds a date tells files apart.
+MATCH, SETTLED = "If-None-Match", 60
 
 
 class Unchanged(Exception):
@@ -77,14 +81,33 @@ def taken(place: str, is_plain: bool, stamp: str, part: Path, most: int = MOST) 
 
 def fetched(url: str, is_plain: bool, stamp: str, part: Path, most: int) -> str:
     fields = dict(json.loads(stamp)) if stamp else {}
-    with opened(url, is_plain, fields) as reply, open(part, "wb") as out:
+    with opened(url, is_plain, {name: fields[name] for name in fields if name == MATCH}) as reply:
+        found = dated(reply.headers)
+        if found and found == fields:
+            raise Unchanged
         length = keys.read_number(reply.headers.get("Content-Length", ""), 0, 1 << 62)
-        size = written(reply, out, url, most)
+        with open(part, "wb") as out:
+            size = written(reply, out, url, most)
         if length is not None and size != length:
             raise Failure(url, f"it was cut off after {size:,} of {length:,} bytes")
-        names = {"ETag": "If-None-Match", "Last-Modified": "If-Modified-Since"}
-        fields = {names[name]: reply.headers[name] for name in names if reply.headers.get(name)}
-    return json.dumps(fields) if fields else ""
+        tag = reply.headers.get("ETag")
+    found = {MATCH: tag} if tag else found
+    return json.dumps(found) if found else ""
+
+
+def dated(head: Message) -> dict[str, str]:
+    """What tells a file from another one where it has no tag: its date and its size. Servers hold
+    back what is not newer than a date that is asked for, so it is compared here. One of a moment
+    ago may be followed by another of the same date (RFC 9110, 8.8.2.2)."""
+    found = {name: head.get(name, "") for name in ("Last-Modified", "Content-Length")}
+    try:
+        made, now = (
+            parsedate_to_datetime(head.get(name, "")) for name in ("Last-Modified", "Date")
+        )
+        is_settled = (now - made).total_seconds() >= SETTLED
+    except (TypeError, ValueError, OverflowError):
+        return {}
+    return found if is_settled and not head.get("ETag") else {}
 
 
 def written(source: BinaryIO, out: BinaryIO, name: str, most: int) -> int:
@@ -105,7 +128,9 @@ def written(source: BinaryIO, out: BinaryIO, name: str, most: int) -> int:
 def copied(path: str, stamp: str, part: Path, most: int) -> str:
     with files.opened(path) as file:
         found = os.fstat(file.fileno())
-        new = json.dumps([found.st_mtime_ns, found.st_size, found.st_ino])
+        # The last one is no time that a copy may keep.
+        times = [found.st_mtime_ns, found.st_ctime_ns]
+        new = json.dumps([found.st_size, found.st_ino, *times])
         if new == stamp:
             raise Unchanged
         with open(part, "wb") as out:

@@ -72,6 +72,8 @@ class ViewMender(Mender):
         # What is of before the changes of the source; how many objects it has of each class; how
         # many of its routes are invalid.
         self.superseded: Collection[tuple[int, int | str]] = ()
+        # The same by the first line of what has no key that can be read.
+        self.headings: Collection[bytes] = ()
         self.counts = [0] * (len(NUMBERS) + 1)
         self.invalid = 0
 
@@ -83,16 +85,29 @@ class ViewMender(Mender):
     def left(self, part: Part, cause: LeftOut | None = None) -> list[Name]:
         if str(cause) == OTHER_SOURCE:
             return []
-        found = self.names_in(part.block) if self.is_one else super().left(part, cause)
+        own = self.names_in(part.block)
+        found = own if self.is_one else super().left(part, cause)
+        gone = {name[:2] for name in own} if self.is_gone(part) else set()
         return [
             name._replace(sources=(self.own,))
             for name in found
-            if self.is_own(name) and name[:2] not in self.superseded
+            if self.is_own(name) and name[:2] not in self.superseded and name[:2] not in gone
         ]
 
     def is_own(self, name: Name) -> bool:
         """Whether it may be of this source."""
         return not name.sources or not {"", self.own}.isdisjoint(name.sources)
+
+    def mark_of(self, part: Part) -> bytes:
+        """What tells a change from others of which no key can be read: its first line, if that has
+        the name of a set or a maintainer of the source, with more around it; otherwise its text."""
+        is_read = self.name_in(part.block) is not None
+        is_named = any(map(self.is_own, self.names_in(part.block)))
+        return heading(part) if is_named and not is_read else part.block.text
+
+    def is_gone(self, part: Part) -> bool:
+        """Whether a change was of what has no key that can be read."""
+        return bool(self.headings) and heading(part) in self.headings
 
     def key_changed(self, part: Part) -> tuple[int, int | str] | None:
         """Which object of the source a change is of."""
@@ -105,7 +120,12 @@ class ViewMender(Mender):
 
     def mend(self, part: Part, is_cut: bool = False) -> Mended:
         """The object, if the source has it still, and ROAs do not say that it is in error."""
-        mended = super().mend(part, is_cut)
+        try:
+            mended = super().mend(part, is_cut)
+        except LeftOut:
+            if self.is_gone(part):
+                raise LeftOut(CHANGED) from None
+            raise
         if (mended.number, mended.key) in self.superseded:
             raise LeftOut(CHANGED)
         self.counts[mended.number] += 1
@@ -147,6 +167,11 @@ class ViewMender(Mender):
         line = self.source + b" # " + self.own.encode()
         attributes[place : place + 1] = [Attribute(b"source", [line])]
         return self.own, attributes
+
+
+def heading(part: Part) -> bytes:
+    """The first line of a part, in whatever letter case and with whatever blanks it is."""
+    return b" ".join(part.block.text.partition(b"\n")[0].upper().replace(b":", b": ", 1).split())
 
 
 class Outcome(NamedTuple):
@@ -244,7 +269,7 @@ class Merge(conversion.Import):
         self.own.is_one = self.own.is_apart
         for path in state.parts:
             self.read_file(str(path))
-        self.own.superseded, self.own.is_one = (), True
+        self.own.superseded, self.own.headings, self.own.is_one = (), (), True
         self.paths.append(str(state.changes))
         for part in added:
             self.take(part, str(state.changes))
@@ -254,7 +279,7 @@ class Merge(conversion.Import):
         """The objects that changes have added, and are there still. What they changed in the dump
         is known from then on."""
         last: dict[tuple[int, int | str], list[Part]] = {}
-        # Those without a key that can be read, by their text.
+        # Those without a key that can be read, by what tells them from others.
         unread: dict[bytes, list[Part]] = {}
         for is_there, block in state.changed():
             # A change is of one object, and what comes after that is none.
@@ -265,11 +290,9 @@ class Merge(conversion.Import):
             key = self.own.key_changed(found[0])
             if key:
                 last[key] = found if is_there else []
-            elif is_there:
-                unread[block.text] = found
             else:
-                unread.pop(block.text, None)
-        self.own.superseded = last.keys()
+                unread[self.own.mark_of(found[0])] = found if is_there else []
+        self.own.superseded, self.own.headings = last.keys(), unread.keys()
         # What can't be taken is counted once it is tried.
         return [part for found in (*last.values(), *unread.values()) for part in found]
 

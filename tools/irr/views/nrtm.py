@@ -1,6 +1,8 @@
 """What changed of a registry after a serial, as it is told by NRTM, version 3 (RIPE Database
 documentation, "NRTM")."""
 import contextlib
+import hashlib
+import io
 import re
 import socket
 import time
@@ -22,34 +24,74 @@ ERROR = re.compile(rb"%ERROR:([0-9]+):.*")
 # IRRd's words, version 4, where RIPE has number 401.
 GONE = re.compile(rb"%% ?ERROR: .*do not exist", re.I)
 WITHIN = re.compile(rb"([0-9]{1,18})-([0-9]{1,18})")
+# So many of the last changes are asked for once more; fewer where so many are no longer told.
+AGAIN = (100, 10, 1)
+# The hash of each change, by its serial, in order.
+Told = dict[str, str]
 
 
 class Behind(Exception):
     """The changes after a serial are not told any more: a dump has to be taken. The last serial
-    that is told, if that is said."""
+    that is told, if that is said; why it is so, where it is for another reason."""
 
-    def __init__(self, last: int | None = None) -> None:
+    def __init__(self, last: int | None = None, why: str = "") -> None:
         super().__init__(last)
-        self.last = last
+        self.last, self.why = last, why
 
     def is_anew(self, serial: int) -> bool:
         """Whether serials began anew since one."""
         return self.last is not None and self.last < serial
 
 
-def follow(place: tuple[str, int], name: str, serial: int, out: BinaryIO) -> int:
-    """Writes the changes of a registry after a serial, each a line `ADD` or `DEL` and its object
-    between empty lines, and gives the last serial; that serial where there are none. Behind where
-    they are not told any more; a Failure where the answer is not whole."""
+def follow(
+    place: tuple[str, int],
+    name: str,
+    serial: int,
+    out: BinaryIO,
+    told: Told,
+    until: int | None = None,
+) -> int:
+    """Writes the changes of a registry after a serial, up to the last one or a given one, each a
+    line `ADD` or `DEL` and its object between empty lines; notes them, and gives the last serial;
+    that serial where there are none. Behind where they are not told any more; a Failure where the
+    answer is not whole."""
     thing = f"nrtm://{place[0]}:{place[1]}"
-    begun = time.monotonic()
+    begun, end = time.monotonic(), "LAST" if until is None else until
     try:
         with contextlib.closing(socket.create_connection(place, WAITING)) as peer:
-            peer.sendall(f"-g {name}:3:{serial + 1}-LAST\r\n".encode())
+            peer.sendall(f"-g {name}:3:{serial + 1}-{end}\r\n".encode())
             with peer.makefile("rb") as answer:
-                return taken(lines(answer, thing, begun), thing, name, serial, out)
+                return taken(lines(answer, thing, begun), thing, name, serial, out, told)
     except OSError as error:
         raise Failure(thing, f"it does not answer: {system_words(error)}") from None
+
+
+def told_before(place: tuple[str, int], name: str, serial: int) -> Told:
+    """The last changes up to a serial; none where they are not told."""
+    for count in AGAIN:
+        told: Told = {}
+        with contextlib.suppress(Behind, Failure):
+            follow(place, name, max(serial - count, 0), io.BytesIO(), told, serial)
+            return told
+    return {}
+
+
+def is_same(place: tuple[str, int], name: str, serial: int, known: Told) -> bool | None:
+    """Whether the last changes up to a serial are told as they were before; None where they are
+    not told any more. After a restored backup others come by the same serials."""
+    for count in AGAIN:
+        wanted: Told = dict(list(known.items())[-count:])
+        told: Told = {}
+        for first in list(wanted)[:1]:
+            with contextlib.suppress(Behind):
+                follow(place, name, int(first) - 1, io.BytesIO(), told, serial)
+                return told == wanted
+    return None
+
+
+def last_of(told: Told) -> Told:
+    """As many of the last changes as are asked for once more."""
+    return dict(list(told.items())[-AGAIN[0] :])
 
 
 def lines(answer: BinaryIO, thing: str, begun: float) -> Iterator[bytes]:
@@ -64,8 +106,11 @@ def lines(answer: BinaryIO, thing: str, begun: float) -> Iterator[bytes]:
         yield line.rstrip(b"\r\n")
 
 
-def taken(answer: Iterator[bytes], thing: str, name: str, serial: int, out: BinaryIO) -> int:
-    """Writes the changes of an answer that is whole, in order and of this registry."""
+def taken(
+    answer: Iterator[bytes], thing: str, name: str, serial: int, out: BinaryIO, told: Told
+) -> int:
+    """Writes the changes of an answer that is whole, in order and of this registry, and notes
+    them."""
     last = start(answer, thing, name, serial)
     if last == serial:
         return last
@@ -82,6 +127,7 @@ def taken(answer: Iterator[bytes], thing: str, name: str, serial: int, out: Bina
         text = syntax.one_block(object_lines(answer, thing, before))
         if not put(out, change[1], text):
             raise Failure(thing, f"serial {before} has no whole object")
+        told[str(before)] = hashlib.sha256(change[1] + b"\n" + text).hexdigest()[:16]
     raise Failure(thing, "its answer is cut off; it is asked again")
 
 

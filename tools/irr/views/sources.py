@@ -36,7 +36,8 @@ class State(NamedTuple):
     version 4, the serial is the version of a session, of whose snapshot and changes it has the
     hashes that were named. It is left where the source told of no changes after it. Of the dumps
     from which nothing led on it has the short names: they are refused, whatever is told later. It
-    has what tells of each dump that it is whole."""
+    has what tells of each dump that it is whole, and the last changes that were told up to its
+    serial; and why it may be other than the source, where that was known as it was taken."""
 
     folder: Path
     origin: str
@@ -51,6 +52,8 @@ class State(NamedTuple):
     is_left: bool = False
     refused: list[str] = []
     ends: list[list[str]] = []
+    told: nrtm.Told = {}
+    doubt: str = ""
 
     @property
     def file(self) -> Path:
@@ -76,6 +79,13 @@ class State(NamedTuple):
         """A short name of it."""
         return hashlib.sha256(self.mark().encode()).hexdigest()[:16]
 
+    def names(self, serial: int | None) -> set[str]:
+        """Short names of its dumps, whatever their serial is, and of their serial if it is not
+        after another one, since a registry may renew one of both long before the other."""
+        is_old = (self.serial or 0) <= (serial or 0)
+        parts = [json.dumps(self.digests), *([str(self.serial)] if is_old else [])]
+        return {hashlib.sha256(one.encode()).hexdigest()[:16] for one in parts}
+
     def seen(self) -> float:
         """When the source was last seen to have it, in seconds since 1970."""
         return self.file.stat().st_mtime
@@ -87,16 +97,21 @@ class State(NamedTuple):
         fields = {**self._asdict(), "folder": ""}
         files.put(self.file, json.dumps(fields).encode(), files.PRIVATE)
 
-    def leave(self, dump: "State | None" = None) -> None:
-        """Keeps that nothing leads on from it, nor from a dump, without having seen it."""
+    def note(self, **fields: Any) -> None:
+        """Keeps something of it without having seen it."""
         seen = self.file.stat().st_mtime_ns
-        names = {*self.refused, *([dump.digest()] if dump else [])}
-        self._replace(is_left=True, refused=sorted(names)).put()
+        self._replace(**fields).put()
         os.utime(self.file, ns=(seen, seen))
 
-    def at(self, serial: int) -> "State":
+    def leave(self, dump: "State | None" = None) -> None:
+        """Keeps that nothing leads on from it, nor from a dump."""
+        names = {*self.refused, *(dump.names(self.serial) if dump else [])}
+        self.note(is_left=True, refused=sorted(names))
+
+    def at(self, serial: int, told: nrtm.Told | None = None) -> "State":
         """The same with the changes up to a serial, which are written."""
-        return self._replace(serial=serial, hash=digest(self.changes))
+        last = nrtm.last_of({**self.told, **(told or {})})
+        return self._replace(serial=serial, hash=digest(self.changes), told=last, doubt="")
 
     def is_named(self, notification: Notification) -> bool:
         """Whether a notification file names its version, and none that led to it otherwise. A
@@ -143,17 +158,32 @@ def noted(state: State | None) -> State | None:
     return state_in(state.folder) if state else None
 
 
-def renewed(source: Source, old: State | None, work: Path) -> State | None:
+def renewed(
+    source: Source, old: State | None, work: Path, is_refused: bool = False
+) -> State | None:
     """What a source has now, in a new folder; None where that is what was taken of it before.
-    Nothing is left of what was taken elsewhere."""
+    Nothing is left of what was taken elsewhere. From what was refused since, no changes lead on."""
     empty(work)
     if old and old.origin != source.origin():
         old = None
     if source.nrtm4:
         return published(source, old, work)
+    state: State | None = None
     gap: nrtm.Behind | None = None
-    if old and source.nrtm and old.serial is not None and old.has_room():
+    if old and source.nrtm and old.serial is not None and not is_refused:
         try:
+            if not old.has_room():
+                raise nrtm.Behind(why=f"over {MOST_CHANGES >> 20} MiB of changes are kept")
+            is_same = nrtm.is_same(source.place(), source.name, old.serial, old.told)
+            if is_same is False:
+                raise nrtm.Behind(why=f"it tells other changes up to {old.serial} than before")
+            if is_same is None and all(old.stamps) and serial_of(source) == old.serial:
+                # What is told no more may be other than before, which a dump of that serial shows.
+                # One that nothing tells from the one before is not fetched for its serial alone.
+                state = newer(source, old, work)
+                if state:
+                    return state
+                empty(work)
             state = followed(source, old, old.serial, work)
             if not old.is_left:
                 return state
@@ -161,40 +191,68 @@ def renewed(source: Source, old: State | None, work: Path) -> State | None:
             gap = nrtm.Behind()
         except nrtm.Behind as behind:
             gap = behind
-            old.leave()
+            if behind.why or behind.is_anew(old.serial):
+                # A dump that is there already may be from before.
+                if old.has_room():
+                    old.leave()
+                old = noted(old)
         empty(work)
     state = taken(source, old, work, gap)
     if state is None or not source.nrtm or state.serial is None:
         return state
     before, now = (old.serial if old else None) or 0, state.serial
     try:
-        with appended(state.changes) as out:
-            last = nrtm.follow(source.place(), source.name, now, out)
-        state = state.at(last)
+        state = begun(source, state, now)
     except nrtm.Behind as behind:
-        # Serials may have begun anew. Otherwise the dump has to be newer than what there was; the
-        # next check says that nothing leads on from it.
-        if old and now < before and not behind.is_anew(before):
+        # Serials may have begun anew. Otherwise the dump has to be newer than what there was, and
+        # not ahead of what is told.
+        is_ahead = behind.last is not None and behind.last < now
+        if old and (is_ahead or now < before and not behind.is_anew(before)):
             raise unfollowed(source, old, state) from None
         state.changes.unlink()
+        state = state._replace(doubt=f"nrtm://{source.nrtm}: it tells no changes after {now}")
         if gap:
             # Serials went back behind it too, and may pass it with others.
-            state = state._replace(is_left=True, refused=[state.digest()])
-    except Failure:
+            state = state._replace(is_left=True, refused=sorted(state.names(now)))
+    except Failure as failure:
         if now < before:
             raise
         state.changes.unlink()
+        state = state._replace(doubt=str(failure))
     state.put()
     return state
 
 
-def unfollowed(source: Source, old: State, dump: State) -> Failure:
+def newer(source: Source, old: State, work: Path) -> State | None:
+    """A dump that is another one, with the changes after it; None where they do not lead on from
+    it."""
+    state = taken(source, old, work, None)
+    if state and state.serial is not None:
+        with contextlib.suppress(nrtm.Behind):
+            state = begun(source, state, state.serial)
+            state.put()
+            return state
+    return None
+
+
+def begun(source: Source, dump: State, serial: int) -> State:
+    """A dump with the changes after its serial; those before it are asked for so that they are
+    known once more."""
+    told: nrtm.Told = {}
+    with appended(dump.changes) as out:
+        last = nrtm.follow(source.place(), source.name, serial, out, told)
+    before = nrtm.told_before(source.place(), source.name, serial)
+    return dump.at(last, {**before, **told})
+
+
+def unfollowed(source: Source, old: State, dump: State, gap: nrtm.Behind | None = None) -> Failure:
     """What is wrong where nothing leads on from a state, nor from a dump, which is refused then."""
     old.leave(dump)
-    return Failure(
-        f"nrtm://{source.nrtm}",
-        f"it tells no changes after {old.serial or 0}, and the dump has serial {dump.serial} still",
-    )
+    serial, now = old.serial or 0, dump.serial or 0
+    why = gap.why if gap and gap.why else f"it tells no changes after {serial}"
+    is_same = now > serial and old.digests == dump.digests
+    its = "is the one of before" if is_same else f"has serial {now}"
+    return Failure(f"nrtm://{source.nrtm}", f"{why}, and the dump {its} still")
 
 
 def empty(folder: Path) -> None:
@@ -205,11 +263,17 @@ def empty(folder: Path) -> None:
 def followed(source: Source, old: State, serial: int, work: Path) -> State | None:
     """The changes since a state, by NRTM."""
     state = continued(old, work)
+    told: nrtm.Told = {}
     with appended(state.changes) as out:
-        last = nrtm.follow(source.place(), source.name, serial, out)
+        last = nrtm.follow(source.place(), source.name, serial, out, told)
+    if not old.told:
+        # Version 2.4.0 did not note it.
+        told = {**nrtm.told_before(source.place(), source.name, serial), **told}
     if last == serial:
+        if told:
+            old.note(told=nrtm.last_of(told))
         return None
-    state = state.at(last)
+    state = state.at(last, told)
     state.put()
     return state
 
@@ -316,19 +380,16 @@ def taken(source: Source, old: State | None, work: Path, gap: nrtm.Behind | None
         digests.append(digest(part))
     counts = old.counts if old else []
     state = State(work, source.origin(), stamps, digests, serial, counts, ends=ends)
-    # The first dump that is seen after serials went back may be from before.
-    is_first = old is not None and old.is_left and not old.refused
-    if old and source.nrtm and (is_first or state.digest() in old.refused):
-        raise unfollowed(source, old, state)
-    if old and old.digests == digests:
-        before, now = old.serial or 0, serial or 0
-        leads_on = gap is None or gap.is_anew(before) and now <= (gap.last or 0)
-        is_before = before > now and gap is None or before >= now and not leads_on
-        if source.nrtm and is_before:
-            raise unfollowed(source, old, state)
-        if old.serial == serial:
-            old._replace(stamps=stamps, ends=ends).put()
-            return None
+    if old and source.nrtm:
+        # The first dump that is seen after serials went back may be from before. One that was there
+        # is of its serial of then, whatever serial is told now.
+        is_first = old.is_left and not old.refused
+        is_known = gap and old.digests == digests
+        if is_first or is_known or {state.digest(), *state.names(serial)} & {*old.refused}:
+            raise unfollowed(source, old, state, gap)
+    if old and old.digests == digests and not gap and (source.nrtm or old.serial == serial):
+        old.note(stamps=stamps, ends=ends)
+        return None
     state.put()
     return state
 

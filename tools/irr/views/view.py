@@ -113,8 +113,13 @@ class View:
             self.shrunk.pop(name, None)
             last = None
         self.new.pop(name, None)
+        work = self.place(source, "next")
         try:
-            state = sources.renewed(source, last or old, self.place(source, "next"))
+            state = sources.renewed(source, last or old, work, is_refused=last is not None)
+            if last and old and state and state.digests == old.digests:
+                # What was there before is there again, and may lead on.
+                self.forget(name)
+                last, state = None, sources.renewed(source, old, work)
         except Failure as failure:
             self.faults[name] = str(failure)
             return
@@ -127,9 +132,15 @@ class View:
                 old.see()
             return
         if last:
-            shutil.rmtree(last.folder, ignore_errors=True)
-            del self.shrunk[name]
+            self.forget(name)
+        if state.doubt:
+            self.faults[name] = state.doubt
         self.new[name] = state._replace(counts=old.counts if old else [])
+
+    def forget(self, name: str) -> None:
+        """Removes what shrank too much."""
+        last, _ = self.shrunk.pop(name)
+        shutil.rmtree(last.folder, ignore_errors=True)
 
     def refuse_shrunk(self, outcomes: dict[str, Outcome]) -> bool:
         """Takes the old state again of each source that shrank too much, or has nothing. Whether
@@ -146,7 +157,11 @@ class View:
                 kept = self.place(one, "shrunk")
                 shutil.rmtree(kept, ignore_errors=True)
                 self.new.pop(one.name).folder.rename(kept)
-                self.shrunk[one.name] = state._replace(folder=kept), words
+                state = state._replace(folder=kept)
+                if old and old.is_left:
+                    # What was refused of the source is so still.
+                    state.note(is_left=True, refused=sorted({*old.refused, *state.refused}))
+                self.shrunk[one.name] = state, words
                 self.faults[one.name] = words
                 found = True
         return found

@@ -14,6 +14,7 @@ from checks.commands import (
     Commands,
     of,
 )
+from checks.running import needs
 
 
 def test_submissions_are_reported_with_their_faults(case: Commands) -> None:
@@ -87,6 +88,14 @@ def test_submissions_are_reported_with_their_faults(case: Commands) -> None:
     case.run("submit", "s.toml", "added.rpsl").gives(
         "the same file again", 0, "", "1 inetnum 10.0.0.0 - 10.255.255.255: unchanged\n% items 1"
     )
+    case.write("blanks.rpsl", case.read("refused.rpsl"))
+    case.write(" blanks.rpsl ", case.read("added.rpsl"))
+    case.run("submit", "s.toml", " blanks.rpsl ").gives(
+        "a file whose name has a blank at either end, beside one without",
+        0,
+        "",
+        "1 inetnum 10.0.0.0 - 10.255.255.255: unchanged\n% items 1",
+    )
     case.run("submit", "s.toml", "added.rpsl", to="/dev/full").gives(
         "a report on a file that cannot be written",
         5,
@@ -95,6 +104,19 @@ def test_submissions_are_reported_with_their_faults(case: Commands) -> None:
             " again: the disk is full: make room; items decided before that: 1"
         ),
     )
+
+
+@needs("strace")
+def test_a_file_is_opened_once(case: Commands) -> None:
+    """The writer of a pipe may be gone at a second time."""
+    sets(case)
+    case.run("dump", "s.toml", "--full", to="full.rpsl")
+    for command, name in [("submit", "added.rpsl"), ("load", "full.rpsl")]:
+        if command == "load":
+            case.fresh("new.db")
+        case.run(command, "s.toml", name, before=["strace", "-qqfe", "/open", "-o", "calls"])
+        case.check(f"{command} is done", case.status == 0)
+        case.check(f"{command} opens its file once", case.read("calls").count(f'"{name}"') == 1)
 
 
 def test_queries_are_answered_and_faults_reported(case: Commands) -> None:

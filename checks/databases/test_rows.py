@@ -176,6 +176,15 @@ CHANGES = [
         ),
     ),
     (
+        "another source in half of all objects",
+        of_another(2, "00000000-0000ffff"),
+        (
+            added(4, "0a010000-0a01ffff", "ROOT-MNT", "inetnum:        10.1.0.0/16")
+            + " UPDATE object SET body = CAST(replace(CAST(body AS TEXT), 'TEST', 'REST') AS BLOB)"
+            " WHERE class = 2 OR TEN"
+        ),
+    ),
+    (
         "another source in all but a row without an object",
         OTHER_SOURCE,
         (

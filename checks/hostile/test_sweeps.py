@@ -31,6 +31,7 @@ WRITING = [
 ]
 # And in one that reads it.
 READING = [("memory", "once"), ("memory", "on"), ("disk", "once"), ("output", "once")]
+NO_MEMORY = b"out of memory: give the program more\n"
 
 
 def sweep(
@@ -100,8 +101,9 @@ def test_what_was_reported_of_a_submission_stands(
 # Commands that make a registry.
 
 
-def check_made(right: bytes) -> Callable[..., Any]:
-    """That a command that makes a registry made all of it or nothing."""
+def check_made(right: bytes, kind: str) -> Callable[..., Any]:
+    """That a command that makes a registry made all of it or nothing, and that memory that ran out
+    is what it tells then."""
 
     def check(ran: Ran, rows: bytes | None, _: int) -> None:
         if ran.status == 0:
@@ -111,6 +113,8 @@ def check_made(right: bytes) -> Callable[..., Any]:
             True,
             f"a fault told: {ran.status}, {short(ran.reported)}",
         )
+        if kind == "memory":
+            expect(ran.reported.endswith(NO_MEMORY), True, f"a fault of memory: {ran.reported!r}")
         return check_rows(rows, None, right)
 
     return check
@@ -157,7 +161,7 @@ def test_a_command_that_makes_a_registry_makes_all_or_nothing(
             ["init", "s.toml"],
             kind,
             how,
-            check_made(rows),
+            check_made(rows, kind),
             (b"created 4 objects\n", rows),
         )
     base = made_registry(trial, "made already", SUBMISSIONS["three inetnums"])
@@ -196,7 +200,7 @@ def test_a_command_that_makes_a_registry_makes_all_or_nothing(
                 words,
                 kind,
                 how,
-                check_not_made(None) if fault else check_made(text),
+                check_not_made(None) if fault else check_made(text, kind),
                 right,
             )
 

@@ -84,11 +84,12 @@ def stock_whois(program: str, folder: str) -> None:
 
 @case("curl, each page and each refusal")
 def stock_curl(program: str, folder: str) -> None:
-    with Server(program, folder, 9) as server:
+    with Server(program, folder, 10) as server:
         ok = "HTTP/1.1 200 OK"
         expect(curl(server, "/query/ROOT-MNT"), (ok, ROOT), "a query")
         expect(curl(server, "/query/exact%2010.0.0.0%2F8"), (ok, TEN), "a query with escapes")
         expect(curl(server, "/query/%2E"), (ok, "% error 1\n"), "a bad query")
+        expect(curl(server, "/query/%2541"), (ok, "% error 1\n"), "an escaped escape")
         status, dump = curl(server, "/dump")
         expect(
             (status, dump.endswith("\n\n% end 5\n"), dump.count("# filtered"), DIGEST in dump),
@@ -104,7 +105,7 @@ def stock_curl(program: str, folder: str) -> None:
             server, "/submissions", "-H", "Transfer-Encoding: chunked", "--data-binary", "x"
         )
         expect(chunked[0], "HTTP/1.1 501 Not Implemented", "chunks")
-        server.expect_end(9, 0)
+        server.expect_end(10, 0)
 
 
 @case("curl submits a file, with Expect and without")

@@ -13,7 +13,7 @@ import pytest
 
 from checks.heads import refusal
 from checks.pace import pace
-from checks.running import Failure, cases_of, expect
+from checks.running import Failure, cases_of, expect, peak_memory
 from checks.server.peers import GIVEN_HEAD, INETNUM, LONGEST, ROOT, TEN, Cases, Server, post
 from checks.serving import read_all
 
@@ -255,6 +255,17 @@ def slow_reader(program: str, folder: str) -> None:
         expect(len(dump) > 12_000_000, True, f"whether its {len(dump)} bytes are many")
         expect(server.ask("root-mnt\n"), ROOT, "the next answer")
         server.expect_end(2, 0)
+
+
+@case("a long answer is not made whole in memory before it is sent", store="large")
+def answer_in_parts(program: str, folder: str) -> None:
+    with Server(program, folder, 1) as server:
+        before = peak_memory(server.process.pid)
+        with contextlib.closing(server.connect(window=4_096)) as peer:
+            peer.sendall(b"inverse mnt ROOT-MNT\n")
+            expect(peer.recv(10).decode(), ROOT[:10], "its first bytes")
+            more = peak_memory(server.process.pid) - before
+        expect(more < 4_000, True, f"whether {more} KiB are few beside the 12,000 of it")
 
 
 @case("a peer that never ends its side after the reply does not hold the port")

@@ -10,9 +10,11 @@ const why = new Client('why');
 const nameOf = name => /^[ar]s-any$/i.test(name) ? shown(name) : link(`object ${name}`, name);
 const byWords = holders => holders ? `maintained by ${holders.join(', ')}` : 'not registered';
 
+const sourceOf = one => one.source ? ` of ${shown(one.source)}` : '';
+
 function stepItem(step) {
     const words = [byWords(step['mnt-by']), step.says, `gives ${step.range ?? 'nothing'}`];
-    return el('li', {}, nameOf(step.object), step.source ? ` of ${shown(step.source)}` : '',
+    return el('li', {}, nameOf(step.object), sourceOf(step),
         el('p', {class: 'hint'}, shown(words.filter(Boolean).join('; '))));
 }
 
@@ -39,6 +41,7 @@ function nearOf(found) {
     if (near.length)
         parts.push(el('h2', {}, 'What is not in the set'), el('ul', {class: 'chain', role: 'list'},
         ...near.map(one => el('li', {}, one['mnt-by'] ? nameOf(one.object) : shown(one.object),
+            sourceOf(one),
             el('p', {class: 'hint'}, shown(`${byWords(one['mnt-by'])}; ${one.why}`))))));
     if (!parts.length)
         parts.push(el('p', {}, 'No route covers it, and no set that is reached lists a range ' +

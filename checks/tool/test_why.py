@@ -118,7 +118,7 @@ def test_member_by_reference_that_is_not_taken() -> None:
     found = References(place, prefix("10.0.0.0/16"), "AS1:AS-D")
     assert not found.chains(10).first
     why_not = "its member-of names AS1:AS-D, whose mbrs-by-ref has none of its mnt-by"
-    assert ("aut-num AS1", ["A-MNT"], why_not) in found.near()
+    assert ("aut-num AS1", ["A-MNT"], why_not, "") in found.near()
 
 
 def test_any() -> None:
@@ -163,7 +163,7 @@ def test_a_range_of_nothing() -> None:
     found = References(place, prefix("10.0.0.1/32"), "AS1:RS-E")
     assert not found.chains(10).first
     says = "its `members: 10.0.0.1/32^-` stands for nothing"
-    assert found.near() == [("route-set AS1:RS-E", ["A-MNT"], says)]
+    assert found.near() == [("route-set AS1:RS-E", ["A-MNT"], says, "")]
 
 
 def test_a_cycle_counts_where_it_is_needed() -> None:
@@ -316,6 +316,19 @@ def test_a_source_is_named_in_a_view_alone(capsys: pytest.CaptureFixture[str]) -
         prefix = keys.need_place("10.0.0.0/16")
         found = References(registry, prefix, 1, sources).chains(10).first
         assert [step.source for step in found[0]] == ["", wanted]
+        (near,) = References(registry, prefix, 2, sources).near()
+        assert (near.name, near.source) == ("route 10.0.0.0/16 AS1", wanted)
+
+
+def test_what_is_near_in_a_view_has_its_source(
+    capsys: pytest.CaptureFixture[str], monkeypatch: pytest.MonkeyPatch
+) -> None:
+    monkeypatch.setitem(OBJECTS, "less 10.0.1.0/24", ALL + of(ROUTE, "RADB") + of(INNER, "RIPE"))
+    words = "  route 10.0.1.0/24 AS2 (RIPE)  B-MNT  its origin is not in the set\n"
+    assert run("10.0.1.0/24", "AS1:AS-A") == REFUSED
+    assert capsys.readouterr().out.endswith(f"What is not in the set:\n{words}")
+    assert run("--json", "10.0.1.0/24", "AS1:AS-A") == REFUSED
+    assert json.loads(capsys.readouterr().out)["near"][0]["source"] == "RIPE"
 
 
 VIEW_ROOT = made("mntner: IRR-VIEW-MNT\nauth: # filtered", "IRR-VIEW-MNT")

@@ -76,7 +76,7 @@ def lines(
         yield "No route covers it, and no set that is reached lists a range that covers it."
     if near:
         yield "What is not in the set:"
-        rows = [[f"  {one.name}", by(one.maintainers), one.why] for one in near[:MOST_NEAR]]
+        rows = [[named(one), by(one.maintainers), one.why] for one in near[:MOST_NEAR]]
         yield from texts.columns(rows)
         if len(near) > MOST_NEAR:
             yield f"and {len(near) - MOST_NEAR:,} more"
@@ -89,15 +89,14 @@ def table(chains: list[list[Step]]) -> list[str]:
     for place, chain in enumerate(chains):
         rows += [[]] if place else []
         rows += [
-            [
-                f"  {step.name}" + (f" ({step.source})" if step.source else ""),
-                by(step.maintainers),
-                step.says,
-                step.range_text(),
-            ]
-            for step in chain
+            [named(step), by(step.maintainers), step.says, step.range_text()] for step in chain
         ]
     return texts.columns(rows)
+
+
+def named(one: Step | Near) -> str:
+    """An object, with its source where it is of a view."""
+    return f"  {one.name}" + (f" ({one.source})" if one.source else "")
 
 
 def by(maintainers: list[str] | None) -> str:

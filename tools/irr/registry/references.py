@@ -114,11 +114,12 @@ class Chains(NamedTuple):
 
 class Near(NamedTuple):
     """What is not in a set, and nearly is: an object with its maintainers, or None where it is not
-    registered, and why it does not count."""
+    registered, why it does not count, and in a view the source that it is of."""
 
     name: str
     maintainers: list[str] | None
     why: str
+    source: str = ""
 
 
 State = tuple[Node, Wanted]
@@ -265,8 +266,7 @@ class Reached:
                 if own.low <= own.high:
                     links.append(Link(Leaf(own, None), "", says))
                 else:
-                    by, why = holders.by(found), f"its `{says}` stands for nothing"
-                    self.refused.append(Near(object_name(found), by, why))
+                    self.refused.append(self.as_near(found, f"its `{says}` stands for nothing"))
             elif number is not None:
                 if number in self.origins:
                     links.append(Link(number, hat + rest, says))
@@ -292,13 +292,8 @@ class Reached:
             if fitting:
                 links.append(Link(target, "", f"mbrs-by-ref: {fitting[0]}, and member-of names it"))
             else:
-                self.refused.append(
-                    Near(
-                        object_name(one),
-                        holders.by(one),
-                        f"its member-of names {name}, whose mbrs-by-ref has none of its mnt-by",
-                    )
-                )
+                why = f"its member-of names {name}, whose mbrs-by-ref has none of its mnt-by"
+                self.refused.append(self.as_near(one, why))
 
     # Chains.
 
@@ -415,6 +410,9 @@ class Reached:
             yield None
         return found[::-1]
 
+    def as_near(self, found: Paragraph, why: str) -> Near:
+        return Near(object_name(found), holders.by(found), why, self.source_of(found))
+
     def source_of(self, found: Paragraph) -> str:
         """The source that an object of a view is of; nothing elsewhere, where anybody may write
         such a comment."""
@@ -483,8 +481,7 @@ class Reached:
         for route in sorted(self.routes, key=lambda one: -leaf_of(one).range.prefix.length):
             yield None
             if leaf_of(route) not in reached:
-                by, why = holders.by(route), "its origin is not in the set"
-                found.append(Near(object_name(route), by, why))
+                found.append(self.as_near(route, "its origin is not in the set"))
         found += self.refused
         found += [
             Near(name_of(name), None, f"{name_of(lister)} lists it")
@@ -594,6 +591,7 @@ def as_json(
         "nearest": steps(nearest),
         "near": [
             {"object": one.name, "mnt-by": one.maintainers, "why": one.why}
+            | ({"source": one.source} if one.source else {})
             for one in near[:MOST_NEAR]
         ],
     }

@@ -48,7 +48,7 @@ def run(options: argparse.Namespace) -> int:
     print(*lines, sep="\n", end="\n" if lines else "")
     texts.note(
         f"irr rov: {texts.counted(sum(counts.values()), 'route')}, "
-        f"{len(read.roas):,} of IPv4 in {name}: "
+        f"{texts.counted(len(read.roas), 'ROA')} of IPv4 in {name}: "
         + ", ".join(f"{count:,} {state}" for state, count in counts.items())
     )
     return REFUSED if counts["invalid"] else DONE

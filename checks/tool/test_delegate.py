@@ -208,6 +208,35 @@ class Delegations(unittest.TestCase):
         self.registry.take(given("A-MNT") + body)
         self.assertEqual(self.go_on("B-MNT", notes), 1)
 
+    def test_a_route_that_goes_with_it_takes_no_instructions(self) -> None:
+        """The new maintainer holds the closest route by then, whatever is named first."""
+        self.registry.take(
+            given("ROOT-MNT", "A-MNT", "B-MNT", "D-MNT")
+            + "\n".join(
+                [
+                    text("as-block", "AS1 - AS9", "ROOT-MNT", "mnt-lower: A-MNT"),
+                    text("aut-num", "AS9", "A-MNT"),
+                    text("inetnum", "10.0.0.0/8", "ROOT-MNT"),
+                    text("route", "10.0.0.0/8 AS9", "D-MNT, ROOT-MNT"),
+                    text("inetnum", "10.1.2.0/24", "B-MNT"),
+                    text("inetnum", "10.2.2.0/24", "B-MNT"),
+                    text("inetnum", "10.3.0.0/16", "D-MNT, ROOT-MNT"),
+                    text("route", "10.3.0.0/16 AS9", "D-MNT, ROOT-MNT"),
+                    text("inetnum", "10.3.2.0/24", "B-MNT"),
+                ]
+            )
+        )
+        for prefixes, number in [
+            (["10.1.0.0/16", "10.1.2.0/24"], "AS1"),
+            (["10.2.2.0/24", "10.2.0.0/16"], "AS2"),
+            # It is as close as that of another AS.
+            (["10.3.2.0/24", "10.3.0.0/16"], "AS3"),
+        ]:
+            status, body, notes = self.registry.delegate("B-MNT", *prefixes, number)
+            self.assertEqual((status, "decides about" in notes), (0, False), notes)
+            self.registry.take(given("ROOT-MNT", "A-MNT", "D-MNT") + body)
+            self.assertEqual(self.go_on("B-MNT", notes), 1)
+
     def test_the_maintainer_that_was_asked_for_speaks(self) -> None:
         """The maintainer that was asked for speaks, where an object names several."""
         self.registry.take(

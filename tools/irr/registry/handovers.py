@@ -35,6 +35,8 @@ class Handover:
     def __init__(self, reasons: Reasons, name: str, holder: str | None) -> None:
         self.reasons, self.name, self.holder = reasons, name, holder
         self.objects: list[Wanted] = []
+        # The prefixes whose routes the new maintainer has to register, with the AS number, if any.
+        self.left: list[tuple[Prefix, Wanted | None]] = []
         self.noted: list[str] = []
 
     def add(self, key: Key) -> None:
@@ -107,7 +109,8 @@ class Handover:
         return [thing for thing in self.objects if thing.key.kind == kind]
 
     def add_routes(self) -> None:
-        """Adds the routes of exactly the prefixes, with the first AS number that is handed over."""
+        """Adds the routes of exactly the prefixes, with the first AS number that is handed over,
+        and tells who has to do what for those that can't be added."""
         numbers = self.of("aut-num")
         found: list[Wanted] = []
         for thing in self.of("inetnum"):
@@ -119,21 +122,17 @@ class Handover:
                 if numbers:
                     found += self.route(prefix, numbers[0], thing, found)
                 else:
-                    self.noted.append(
-                        f"{prefix.text()}: no AS is given, so {self.name} has to register the route"
-                        " of exactly this prefix at once: until then the holder of a route above"
-                        " decides about routes inside"
-                    )
-                    grantors = [self.of_space(prefix, found)]
-                    self.note_grants(grantors, f"a route {prefix.text()}", prefix)
+                    self.left.append((prefix, None))
         self.objects += dict.fromkeys(found)
+        for prefix, number in self.left:
+            self.note_left(prefix, number)
 
     def route(
         self, prefix: Prefix, number: Wanted, space: Wanted, before: list[Wanted]
     ) -> list[Wanted]:
-        """The route of a prefix, if the one that hands over can add or change it; else it is told
-        who has to do what. Those before it are added first."""
-        key = Key("route", f"{prefix.text()} {number.key.text}")
+        """The route of a prefix, if the one that hands over can add or change it. Those before it
+        are added first."""
+        key = route_key(prefix, number)
         registered = next(iter(self.reasons.ask(key.query())), None)
         if registered:
             names = holders.by(registered)
@@ -146,9 +145,24 @@ class Handover:
         grantors = [self.of_space(prefix, before), self.of_number(prefix, number)]
         if given and all(set(given) & set(grantor.names) for grantor in grantors):
             return [Wanted(key, None, given[0])]
-        self.noted.append(f"{name_of(key)}: {self.name} registers it, once this is submitted")
-        self.note_grants(grantors, name_of(key), prefix)
+        self.left.append((prefix, number))
         return []
+
+    def note_left(self, prefix: Prefix, number: Wanted | None) -> None:
+        """Tells of a route that the new maintainer registers, once all of this is submitted."""
+        grantors = [self.of_space(prefix, self.of("route"))]
+        if number:
+            what = name_of(route_key(prefix, number))
+            grantors.append(self.of_number(prefix, number))
+            self.noted.append(f"{what}: {self.name} registers it, once this is submitted")
+        else:
+            what = f"a route {prefix.text()}"
+            self.noted.append(
+                f"{prefix.text()}: no AS is given, so {self.name} has to register the route of"
+                " exactly this prefix at once: until then the holder of a route above decides"
+                " about routes inside"
+            )
+        self.note_grants(grantors, what, prefix)
 
     def of_space(self, prefix: Prefix, before: list[Wanted]) -> Grantor:
         """What decides about a new route of a prefix by its addresses: the closest route, otherwise
@@ -156,12 +170,16 @@ class Handover:
         near = self.reasons.ask(f"closest {prefix.text()}")
         routes = [other for other in near if other.name == b"route"]
         space = closest_new(self.of("inetnum"), prefix)
+        names = [name for other in routes for name in holders.routes(other, prefix)]
         added = closest_new(before, prefix)
-        if added and all(size_of(added) < span_of(other).size for other in routes):
-            return Grantor(added.key, [added.holder], [added.holder])
+        if added and all(size_of(added) <= span_of(other).size for other in routes):
+            # One of several of a prefix is enough.
+            beside = names if routes and size_of(added) == span_of(routes[0]).size else []
+            return Grantor(added.key, [added.holder, *beside], [added.holder])
         if routes:
+            handed = {thing.key for thing in before}
             own = next((other for other in routes if self.holder in holders.by(other)), routes[0])
-            names = [name for other in routes for name in holders.routes(other, prefix)]
+            own = next((other for other in routes if keys.key_of(other) in handed), own)
             return grantor(own, names)
         if space and all(size_of(space) < span_of(other).size for other in near):
             return Grantor(space.key, [space.holder], [space.holder])
@@ -229,6 +247,10 @@ def grantor(paragraph: Paragraph, names: list[str]) -> Grantor:
     if key is None:
         raise Failure("", "the answer has an object of no class or key of this irr", ARGUMENTS)
     return Grantor(key, list(dict.fromkeys(names)), holders.by(paragraph))
+
+
+def route_key(prefix: Prefix, number: Wanted) -> Key:
+    return Key("route", f"{prefix.text()} {number.key.text}")
 
 
 def span_of_key(key: Key) -> Span:

@@ -139,6 +139,14 @@ def test_macros_are_lists() -> None:
     assert loss("openbgpd", old + numbers, old + numbers.replace("7", "8")) == gone
 
 
+def test_names_in_quotes_are_of_lists() -> None:
+    """So BIRD takes a name with a dash or a colon, such as that of a set."""
+    old = MANY["bird"].replace("A", "'AS1:AS-A'").replace("B", "'AS-B'")
+    assert loss("bird", old, old) == [("'AS1:AS-A'", 0, 1), ("'AS-B'", 0, 2)]
+    for other in old.replace("AS-B", "AS-C"), old.partition("define 'AS-B'")[0]:
+        assert loss("bird", old, other) == [("'AS1:AS-A'", 0, 1), ("'AS-B'", 2, 2)]
+
+
 @pytest.mark.parametrize("router", list(MANY))
 def test_each_list_of_a_file(router: str) -> None:
     """What one list has lost is not made up for by another one, nor by one of another name."""

@@ -29,7 +29,7 @@ SLASHED = re.compile(PREFIX)
 # Where a list begins, with its kind and its name: a router's configuration refers to it by these. A
 # macro of OpenBGPD has no kind.
 BEGINS = {
-    "bird": re.compile(r"\b(define)[ \t]+(\w+)"),
+    "bird": re.compile(r"\b(define)[ \t]+(\w+|'[^'\n]+')"),
     "frr": re.compile(r"\b((?:ip(?:v6)?[ \t]+)?prefix-list|as-path[ \t]+access-list)[ \t]+(\S+)"),
     "openbgpd": re.compile(
         r"(?:\b(prefix-set|as-set|origin-set|roa-set)[ \t]+\"?|^[ \t]*(?=\w+[ \t]*=[ \t]*\"))"

@@ -128,6 +128,13 @@ def test_roas_that_are_cut_are_not_taken() -> None:
             roas.read(CSV + line + b"\n", "x")
 
 
+def test_a_quotation_mark_takes_no_lines() -> None:
+    """Neither program quotes a value. As one of several lines it would be ROAs that are lost."""
+    whole = CSV.replace(b",Expires", b"").replace(b",4000000000", b"")
+    for count in 1, 2:
+        assert roas.read(whole.replace(b"ripe", b'"ripe', count), "x") == roas.read(CSV, "x")
+
+
 @pytest.mark.parametrize("said", ["", "soon", "-1", "1e9", "2026-11-29T00:00:00Z"])
 def test_an_end_that_cannot_be_read_is_reported_in_either_form(said: str) -> None:
     """A ROA would count for ever otherwise. It is found by the name of its column."""

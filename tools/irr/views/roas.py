@@ -1,7 +1,6 @@
 """Validated ROAs, as rpki-client and Routinator write them in JSON or CSV, and what they say of a
 route (RFC 6811)."""
 import calendar
-import csv
 import hashlib
 import json
 import math
@@ -92,13 +91,13 @@ def read(text: bytes, place: str) -> Read:
 
 def csv_entries(text: bytes, place: str) -> Iterator[dict[str, object]]:
     """The lines of CSV as the entries of JSON are. Each ends, and has the columns of the first one:
-    otherwise it was cut off, and a prefix or a number may be another one."""
+    otherwise it was cut off, and a prefix or a number may be another one. Nothing is quoted: a
+    stray quotation mark would take the lines up to the next one for a value."""
     if not text.endswith(b"\n"):
         raise Failure(place, f"it ends within a line, so it was cut off; {MADE}")
     head, *lines = text.decode("latin-1").splitlines()
     columns = head.split(",")
-    rows = csv.reader(line for line in lines if line.strip())
-    while row := next_row(rows, place):
+    for row in (line.split(",") for line in lines if line.strip()):
         if len(row) != len(columns):
             raise Failure(
                 place, f"a line has {len(row)} columns in place of {len(columns)}; {MADE}"
@@ -112,13 +111,6 @@ def csv_entries(text: bytes, place: str) -> Iterator[dict[str, object]]:
 def whole(text: str) -> int | str:
     """A number as JSON has it; the text where it is none, which is told as that."""
     return int(text) if keys.read_number(text, 0, 1 << 62) is not None else text
-
-
-def next_row(rows: Iterator[list[str]], place: str) -> list[str] | None:
-    try:
-        return next(rows, None)
-    except csv.Error as error:
-        raise Failure(place, f"this is not CSV: {error}; {MADE}") from None
 
 
 def kept(listed: list[Any], doubt: str | None, place: str) -> Read:

@@ -555,7 +555,8 @@ def maintainers_in(kind: str, attributes: list[tuple[str, list[str]]]) -> Iterat
 def odd(dump: bytes, registry: Registry) -> Iterator[tuple[object, ...]]:
     """What is odd about the objects of a registry: the lines with `#` or `%` first, or a CR that is
     not at the end, as they are shown, and the first lines of those that have no `source`, and of
-    the mntners that objects of another registry name."""
+    the mntners that objects of another registry name; and of the first that names a maintainer
+    without a mntner which one of another registry names, with this maintainer."""
     others = {
         ("mntner", name.upper())
         for place, attributes in registry.objects.items()
@@ -565,6 +566,15 @@ def odd(dump: bytes, registry: Registry) -> Iterator[tuple[object, ...]]:
     }
     for other in others:
         yield (registry.lines[other],)
+    alone: dict[str, list[tuple[int, str]]] = {}
+    for own, attributes in registry.objects.items():
+        for name in maintainers_in(own[0], attributes) if registry.sources[own] else ():
+            if ("mntner", name.upper()) not in registry.objects and name.upper() != "ROOT-MNT":
+                one = registry.lines[own], registry.sources[own]
+                alone.setdefault(name.upper(), []).append(one)
+    for name, named in alone.items():
+        named.sort()
+        yield from [(line, name) for line, source in named if source != named[0][1]][:1]
     lines = dump.decode("latin-1").split("\n")
     left_out = set(registry.causes)
     for piece in registry.pieces:

@@ -299,6 +299,21 @@ def test_routes_without_an_aut_num_are_reported(capsys: pytest.CaptureFixture[st
     ) in capsys.readouterr().err
 
 
+def test_a_root_maintainer_that_a_dump_names_is_reported(
+    capsys: pytest.CaptureFixture[str],
+) -> None:
+    """Also without its mntner, as of split files; not where an object gets it, having none."""
+    own = obj("mntner: ROOT-MNT", "auth: X", "mnt-by: ROOT-MNT", "source: RIPE")
+    lower = obj("as-set: AS-A", "mnt-by: A-MNT", "mnt-lower: root-mnt", "source: RIPE")
+    for text in own + GOOD, GOOD.replace(b"A-MNT", b"ROOT-MNT"), GOOD + lower:
+        Path("dump").write_bytes(text)
+        assert run("dump", "-o", "full") == 0
+        assert "ROOT-MNT was in a dump: its objects are the root" in capsys.readouterr().err
+    Path("dump").write_bytes(GOOD + obj("aut-num: AS2", "source: RIPE"))
+    assert run("dump", "-o", "full") == 0
+    assert "was in a dump" not in capsys.readouterr().err
+
+
 def test_scopes_are_kept_by_an_option() -> None:
     Path("dump").write_bytes(obj("as-set: AS-X", "members: RADB::AS-Y", "source: RIPE"))
     options: list[tuple[list[str], bool]] = [([], False), (["--keep-scoped"], True)]

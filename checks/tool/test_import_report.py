@@ -70,6 +70,23 @@ def test_a_mntner_that_may_change_objects_of_another_registry_is_reported() -> N
     assert reported(obj("aut-num: AS1", "mnt-by: B-MNT", "source: RIPE") + own) == []
 
 
+def test_a_maintainer_without_a_mntner_of_several_registries_is_reported() -> None:
+    """It is one maintainer, whoever gets its password: also where its mntner can't be read."""
+    cause = "a maintainer without a mntner that objects of several registries name"
+    first = obj("aut-num: AS1", "mnt-by: A-MNT", "source: RADB")
+    unread = obj("mntner: A-MNT", "mnt-by: A-MNT, AS-X", "source: RADB")
+    for line in "mnt-by: A-MNT", "mnt-lower: a-mnt", "mnt-routes: A-MNT {10.0.0.0/8}":
+        other = obj("aut-num: AS2", line, "source: RIPE")
+        found = [(cause, 5, "aut-num: AS2", "A-MNT")]
+        assert reported(first + other + other.replace(b"AS2", b"AS3")) == found
+        assert [one[::2] for one in reported(unread + other + first)] == [(cause, "aut-num: AS1")]
+        assert reported(first + other.replace(b"RIPE", b"RADB")) == []
+    bare = obj("aut-num: AS2", "mnt-by: A-MNT")
+    assert [one[0] for one in reported(bare + first)] == ["no `source`"]
+    root = first.replace(b"A-MNT", b"ROOT-MNT")
+    assert reported(root + root.replace(b"AS1", b"AS2").replace(b"RADB", b"RIPE")) == []
+
+
 # Files that were cut off at the end of a line.
 
 

@@ -334,6 +334,15 @@ class Importing(unittest.TestCase):
         with self.assertRaisesRegex(Failure, "Z-MNT"):
             made(text, auths={"Z-MNT": [AUTH.encode()]})
 
+    def test_lines_under_the_old_and_the_new_name_are_all_given(self) -> None:
+        own, other = AUTH.encode(), AUTH.encode().replace(b" a:", b" b:")
+        text = obj("mntner: 1-MNT", "auth: X", "mnt-by: 1-MNT", "source: TEST")
+        dump, _ = made(text, auths={"1-MNT": [own], "MNT-1-MNT": [other]})
+        (found,) = (
+            one for one in syntax.paragraphs([dump]) if one.value(b"mntner") == b"MNT-1-MNT"
+        )
+        self.assertEqual(sorted(found.values(b"auth")), [own, other])
+
     def test_two_bad_names_stay_two_maintainers(self) -> None:
         """Also where both would get the same new name: neither gets what is the other's."""
         names = ["A" * 80 + end for end in ("B-MNT", "C-MNT", "D-MNT")]

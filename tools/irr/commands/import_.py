@@ -12,7 +12,7 @@ from typing import Iterable, Iterator
 from irr.errors import ARGUMENTS, DONE, REFUSED, Failure
 from irr.migrate import conversion, passwords, verification
 from irr.migrate.kinds import KINDS
-from irr.migrate.normalisation import MNTNER, PASSWORD, Mender
+from irr.migrate.normalisation import PASSWORD, Mender
 from irr.migrate.report import Tally
 from irr.rpsl import keys
 from irr.system import files
@@ -179,7 +179,7 @@ def need_some(tally: Tally) -> None:
 
 def notes(made: conversion.Import, root: str) -> Iterator[str]:
     """What an operator has to know of the registry that is made."""
-    if root in made.taken[MNTNER] and made.tally.made:
+    if made.tally.made and made.names_root():
         yield (
             f"{root} was in a dump: its objects are the root maintainer's now; take another --root "
             "if that is not yours"

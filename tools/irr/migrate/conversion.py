@@ -60,8 +60,9 @@ NO_REGISTRY = -1
 COMMENT, CR = "a line with # or % first, which is not kept", "a line with a CR first, which goes on"
 CR_INSIDE = "a line with a CR inside, which may be the end of a line"
 ITEM_NAME = "an attribute that has the form of an item, and may be one of a list before it"
-# What is odd about a maintainer that is taken.
+# What is odd about a maintainer, with a mntner that is taken or without one.
 OF_OTHERS = "a mntner that objects of another registry name"
+OF_SEVERAL = "a maintainer without a mntner that objects of several registries name"
 
 
 class Import:
@@ -298,7 +299,9 @@ class Import:
             known.add(self.new[old])
         self.new_names = {old: new.encode() for old, new in self.new.items()}
         self.got_name = set(self.new.values())
-        self.auths = {self.new.get(name, name): values for name, values in self.auths.items()}
+        given, self.auths = self.auths, {}
+        for name, lines in given.items():
+            self.auths.setdefault(self.new.get(name, name), []).extend(lines)
         self.stubs = {self.new.get(name, name) for name in named if name not in mntners}
         if "initial" not in self.off:
             self.stubs -= {self.root}
@@ -348,6 +351,10 @@ class Import:
             self.tally.note_odd(NO_SOURCE, self.place_of(place), self.text_of(place))
         for place in self.of_others():
             self.tally.note_odd(OF_OTHERS, self.place_of(place), self.text_of(place))
+        for name, place in self.of_several().items():
+            self.tally.note_odd(
+                OF_SEVERAL, self.place_of(place), self.text_of(place), name.encode("latin-1")
+            )
 
     def of_others(self) -> list[int]:
         """The maintainers that may change objects of another registry than theirs. What has no
@@ -360,6 +367,26 @@ class Import:
                 for name in self.names[place]
                 if name in mntners and len({numbers[place], numbers[mntners[name]], bare}) == 3
             }
+        )
+
+    def of_several(self) -> dict[str, int]:
+        """The maintainers without a mntner that objects of several registries name, each with the
+        first object of another registry than the first one has."""
+        known, bare = self.taken[MNTNER].keys() | {self.root}, self.sources.get("")
+        first: dict[str, int] = {}
+        found: dict[str, int] = {}
+        for place in sorted(self.places()):
+            number = self.source_numbers[place]
+            for name in self.names[place] if number != bare else ():
+                if name not in known and first.setdefault(name, number) != number:
+                    found.setdefault(name, place)
+        return found
+
+    def names_root(self) -> bool:
+        """Whether objects of a dump are the root maintainer's, also where it has no mntner there."""
+        return self.root in self.taken[MNTNER] or any(
+            self.root in self.names[place] and "mnt-by" not in self.kinds[place]
+            for place in self.places()
         )
 
     def refusal(self, source: str, item: bytes) -> str:

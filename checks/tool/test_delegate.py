@@ -274,6 +274,15 @@ class Delegations(unittest.TestCase):
         self.assertEqual(body.count("inetnum:"), 1)
         self.registry.take(given("B-MNT") + body)
 
+    def test_an_object_that_grows_when_it_is_printed_is_taken(self) -> None:
+        """The registry prints more blanks than it was sent, and takes 65,536 bytes."""
+        self.registry.take(given("ROOT-MNT") + text("as-block", "AS1 - AS9", "ROOT-MNT"))
+        long = ["import:from AS2"] * 4_000
+        self.registry.take(given("ROOT-MNT") + text("aut-num", "AS1", "ROOT-MNT", *long))
+        status, body, _ = self.registry.delegate("--as", "ROOT-MNT", "A-MNT", "AS1")
+        self.assertEqual((status, body.count("import:")), (0, len(long)))
+        self.registry.take(given("ROOT-MNT") + body)
+
     def test_bits_after_the_length_are_reported(self) -> None:
         status, body, notes = self.registry.delegate("A-MNT", "192.0.2.1/24")
         self.assertEqual((status, body), (2, ""))

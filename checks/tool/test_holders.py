@@ -159,9 +159,9 @@ def test_what_is_delegated_is_then_held(trial: Trial, tool: Tool, tell: Tell) ->
 
 
 def test_what_a_prefix_lacks_is_found_and_mended(trial: Trial, tool: Tool, tell: Tell) -> None:
-    """What a prefix lacks is found and mended."""
-    start = (
-        b"""password: bc
+    """What a prefix lacks is found and mended, also in an object that is printed with more bytes
+    than the registry takes."""
+    start = b"""password: bc
 password: one good secret
 password: another good secret
 
@@ -172,7 +172,7 @@ source: TEST
 
 inetnum: 192.0.2.0/25
 descr: kept
-mnt-by: A-MNT, ROOT-MNT
+%smnt-by: A-MNT, ROOT-MNT
 mnt-lower: ROOT-MNT
 source: TEST
 
@@ -190,8 +190,9 @@ source: TEST
 route: 192.0.2.0/24
 origin: AS64496
 delete: x
-"""
-        % B_AUTH.encode()
+""" % (
+        B_AUTH.encode(),
+        b"remarks:x\n" * 6_000,
     )
     with World(trial, tool, "held", start) as world:
         tool = world.tool
@@ -235,7 +236,8 @@ delete: x
             "what mends it",
         )
         expect(
-            b"descr:          kept" in tool("query", "exact", "192.0.2.0/25").printed,
+            b"descr:          kept\n" + b"remarks:        x\n" * 6_000
+            in tool("query", "exact", "192.0.2.0/25").printed,
             True,
             "that other attributes stay",
         )

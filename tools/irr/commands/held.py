@@ -63,7 +63,7 @@ def run(options: argparse.Namespace) -> int:
     for finding in findings:
         if finding.remedy:
             print()
-            texts.put(finding.remedy.text())
+            texts.put(finding.remedy.fitting_text())
     return REFUSED if holes else DONE
 
 

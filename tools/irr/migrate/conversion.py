@@ -566,10 +566,7 @@ class Import:
         if given:
             attributes = [attribute for attribute in attributes if attribute.name != b"auth"]
             attributes[1:1] = [Attribute(b"auth", [value]) for value in given]
-        paragraph = Paragraph(attributes)
-        new = paragraph.text()
-        if len(new) > syntax.LARGEST:
-            new = b"".join(attribute.short_text() for attribute in attributes)
+        new = Paragraph(attributes).fitting_text()
         if len(new) > syntax.LARGEST:
             raise Failure(
                 mntner or self.place_of(place).text(),

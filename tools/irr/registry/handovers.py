@@ -276,7 +276,7 @@ def text_of(handover: Handover, source: str) -> bytes:
     new = [thing for thing in handover.objects if not thing.registered]
     paragraphs = [made(thing.key, thing.holder, source) for thing in new]
     paragraphs += last_steps(handover, source)
-    return b"\n".join(paragraph.text() for paragraph in paragraphs)
+    return b"\n".join(paragraph.fitting_text() for paragraph in paragraphs)
 
 
 def last_steps(handover: Handover, source: str) -> Iterator[Paragraph]:

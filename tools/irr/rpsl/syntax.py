@@ -119,6 +119,13 @@ class Paragraph:
         """Canonical text."""
         return b"".join([attribute.text() for attribute in self.attributes])
 
+    def fitting_text(self) -> bytes:
+        """Canonical text; with as few blanks as can be where the registry would not take so much."""
+        text = self.text()
+        if len(text) <= LARGEST:
+            return text
+        return b"".join([attribute.short_text() for attribute in self.attributes])
+
 
 def read(text: bytes) -> Paragraph:
     """The paragraph that a block's lines are; raises TextFault with E07 or E01."""

@@ -283,6 +283,13 @@ class Delegations(unittest.TestCase):
         self.assertEqual((status, body.count("import:")), (0, len(long)))
         self.registry.take(given("ROOT-MNT") + body)
 
+    def test_what_stands_across_the_prefixes_of_a_range_is_told(self) -> None:
+        own = text("inetnum", "10.0.0.192 - 10.0.1.63", "C-MNT")
+        self.registry.take(given("ROOT-MNT", "C-MNT") + own)
+        _, body, _ = self.registry.delegate("A-MNT", "10.0.0.128 - 10.0.1.127")
+        line = "% inside 10.0.0.128 - 10.0.1.127: inetnum 10.0.0.192 - 10.0.1.63 of C-MNT, who"
+        self.assertEqual(body.count(line), 1, body)
+
     def test_bits_after_the_length_are_reported(self) -> None:
         status, body, notes = self.registry.delegate("A-MNT", "192.0.2.1/24")
         self.assertEqual((status, body), (2, ""))

@@ -208,8 +208,12 @@ class Handover:
         """What stands inside already and is somebody else's."""
         found = []
         for thing in self.of("inetnum"):
-            for prefix in span_of_key(thing.key).prefixes():
-                for other in self.reasons.ask(f"more {prefix.text()}"):
+            span = span_of_key(thing.key)
+            for prefix in span.prefixes():
+                # What begins before the prefix is in none of those that make up the range.
+                across = self.reasons.ask(f"less {keys.address_text(prefix.first)}")
+                across = [other for other in across if span.covers(span_of(other))]
+                for other in [*across, *self.reasons.ask(f"more {prefix.text()}")]:
                     key, names = keys.key_of(other), holders.by(other)
                     is_handed = any(key == handed.key for handed in self.objects)
                     if key and not is_handed and self.name not in names:

@@ -383,7 +383,7 @@ class Import:
         return found
 
     def names_root(self) -> bool:
-        """Whether objects of a dump are the root maintainer's, also where it has no mntner there."""
+        """Whether objects of a dump are the root maintainer's, also if it has no mntner there."""
         return self.root in self.taken[MNTNER] or any(
             self.root in self.names[place] and "mnt-by" not in self.kinds[place]
             for place in self.places()

@@ -120,7 +120,7 @@ class Paragraph:
         return b"".join([attribute.text() for attribute in self.attributes])
 
     def fitting_text(self) -> bytes:
-        """Canonical text; with as few blanks as can be where the registry would not take so much."""
+        """Canonical text; with as few blanks as can be if the registry would not take so much."""
         text = self.text()
         if len(text) <= LARGEST:
             return text

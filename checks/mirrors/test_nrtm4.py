@@ -197,8 +197,10 @@ def test_lost_serials_begin_a_session_anew(states: Publishing) -> None:
     need_anew("others in the place of those that were lost")
 
 
-def test_a_restored_folder_of_keys_begins_a_session_anew(states: Publishing) -> None:
-    """Where more was published in its session, which a mirror may have."""
+@pytest.mark.parametrize("is_lost", [False, True])
+def test_a_restored_folder_of_keys_begins_a_session_anew(states: Publishing, is_lost: bool) -> None:
+    """Where more was published in its session, which a mirror may have. Of that nothing tells once
+    the notification is lost too."""
     first = states.publish(aut_num(1))
     copy = states.keys.folder.with_name("copy")
     shutil.copytree(states.keys.folder, copy)
@@ -207,6 +209,9 @@ def test_a_restored_folder_of_keys_begins_a_session_anew(states: Publishing) -> 
     mirror.follow()
     shutil.rmtree(states.keys.folder)
     copy.rename(states.keys.folder)
+    if is_lost:
+        shutil.rmtree(states.out)
+        states.out.mkdir()
     again = states.publish(aut_num(1), aut_num(3))
     expect((versions(again), again.session == first.session), ((1, 1, []), False), "what is anew")
     expect((mirror.follow(), mirror.snapshots), (True, 2), "the mirror")
@@ -240,24 +245,6 @@ def test_a_restored_folder_of_keys_of_another_session_begins_one_anew(states: Pu
     for one in mirror, away:
         expect(one.follow(), True, "a mirror")
         states.need_same(one)
-
-
-def test_a_lost_notification_begins_a_session_anew(states: Publishing) -> None:
-    """With a folder of keys that was restored, nothing else says what mirrors have."""
-    first = states.publish(aut_num(1))
-    copy = states.keys.folder.with_name("copy")
-    shutil.copytree(states.keys.folder, copy)
-    states.publish(aut_num(1), aut_num(2))
-    mirror = states.mirror()
-    mirror.follow()
-    shutil.rmtree(states.keys.folder)
-    copy.rename(states.keys.folder)
-    shutil.rmtree(states.out)
-    states.out.mkdir()
-    again = states.publish(aut_num(1), aut_num(3))
-    expect((versions(again), again.session == first.session), ((1, 1, []), False), "what is anew")
-    expect((mirror.follow(), mirror.snapshots), (True, 2), "the mirror")
-    states.need_same(mirror)
 
 
 def test_states_that_nobody_knows_any_more_begin_a_session_anew(

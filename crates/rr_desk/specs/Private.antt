@@ -13,7 +13,10 @@ use Rattle.rr_text.specs.Fields.{Field}
 use Rattle.rr_object.specs.declared.key.Key.{Key}
 use Rattle.rr_object.specs.Objects.{Obj}
 use Rattle.rr_object.specs.Readings.{object_of}
+use Rattle.rr_auth.specs.declared.item.Item.{Item}
+use Rattle.rr_auth.specs.Laws.{key_about}
 use Rattle.rr_auth.specs.Registries.{Reg}
+use Rattle.rr_auth.specs.Sources.{IsRegistryOf}
 use Rattle.rr_registry.specs.declared.outcome.Outcome.{Outcome}
 use Rattle.rr_registry.specs.declared.outcome.Outcome.TheVariants.{Added, Changed}
 use Rattle.rr_registry.specs.declared.outcome.Outcome.TheVariants.{Unchanged, Deleted}
@@ -29,6 +32,7 @@ use Rattle.rr_store.specs.declared.store_fault.StoreFault.{StoreFault}
 use Rattle.rr_store.specs.declared.store_fault.StoreFault.TheVariants as store_fault
 use Rattle.rr_store.specs.declared.store_fault.OpenFault.{OpenFault}
 use Rattle.rr_store.specs.declared.store_fault.OpenFault.TheVariants as opened
+use Rattle.rr_desk.specs.Stocks.{Stock, StoresRows}
 use Rattle.rr_desk.specs.declared.loading.DeskLoadFault.{DeskLoadFault}
 use Rattle.rr_desk.specs.declared.loading.DeskLoadFault.TheVariants as load
 
@@ -50,6 +54,24 @@ LeadsTo before key Changed after = Gains before key after
 LeadsTo before key Unchanged after = after ≡ before
 LeadsTo before key Deleted after = after ≡ remove before key
 LeadsTo before key (Refused code) after = after ≡ before
+
+-- a stock of this registry runs, and its store holds the rows of it
+pub record IsStockOf {S : Type 0} (g : Ghosts S) (this : Reg) (stock : Stock S) : Type 0 where
+  pub registry : stock.registry ≡ this
+  pub running : stock.stopped ≡ false
+  pub holds : StoresRows g stock
+
+-- a stock of a registry of this source runs, and its store holds the rows of it
+pub record IsStockOfSource {S : Type 0} (g : Ghosts S) (source : List ℕ) (stock : Stock S)
+    : Type 0 where
+  pub of_source : IsRegistryOf source stock.registry
+  pub running : stock.stopped ≡ false
+  pub holds : StoresRows g stock
+
+-- a stock runs, and is to decide an item that is about this key
+pub record Awaits {S : Type 0} (stock : Stock S) (this : Key) (item : Item) : Type 0 where
+  pub running : stock.stopped ≡ false
+  pub key : this ≡ key_about item
 
 -- after the outcome an object stands under the key of its item
 abbrev pub puts_one : Outcome → Bool

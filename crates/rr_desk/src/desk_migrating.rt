@@ -11,7 +11,7 @@ ghost use Rattle.rr_desk.specs.Migrating.{AreRegistry, FailsMigrating, FailsToMi
 ghost use Rattle.rr_desk.specs.Migrating.{HasUpper, IsGrown, MigratesTables, RefusesOldRegistry};
 ghost use Rattle.rr_desk.specs.MigratingParts.{HasLoadFault, HasUpperFault, IsGrowthFault, told_as};
 ghost use Rattle.rr_desk.specs.Opened.{IsRunning};
-ghost use Rattle.rr_desk.specs.Stocks.{StoresRows};
+ghost use Rattle.rr_desk.specs.Private.{IsStockOf, IsStockOfSource};
 
 use crate::desk::Desk;
 use crate::opening::{upper_object, with_object};
@@ -57,9 +57,7 @@ fn migrate_stored<S: Alter>(
     settings: &Settings,
 ) -> Result<Stored<S>, (MigrateFault, Connection<S>)>
     requires autocommit { conn.in_transaction ≡ false }
-    ensures running { IfOk result (λ stored. stored.stopped ≡ false) }
-    ensures of_source { IfOk result (λ stored. IsRegistryOf settings.now.source stored.registry) }
-    ensures holds { IfOk result (StoresRows S.Store) }
+    ensures stock { IfOk result (IsStockOfSource S.Store settings.now.source) }
     ensures migrates { IfOk result (MigratesTables S.Store settings.now conn) }
     ensures fails { IfErr result (λ e. FailsToMigrateTables S.Store settings.now conn e.1 e.0) }
 {
@@ -80,9 +78,7 @@ fn migrate_tables<S: Alter>(
     requires autocommit { conn.in_transaction ≡ false }
     requires grown { OnCleanDisk S.Store conn
         (IsGrown settings.now (database S.Store conn) registry) }
-    ensures running { IfOk result (λ stored. stored.stopped ≡ false) }
-    ensures registry { IfOk result (λ stored. stored.registry ≡ registry) }
-    ensures holds { IfOk result (StoresRows S.Store) }
+    ensures stock { IfOk result (IsStockOf S.Store registry) }
     ensures migrates { IfOk result (MigratesTables S.Store settings.now conn) }
     ensures fails { IfErr result (λ e. FailsToMigrateTables S.Store settings.now conn e.1 e.0) }
 {

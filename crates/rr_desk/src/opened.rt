@@ -2,13 +2,12 @@
 //! ones.
 
 ghost use Rattle.std.specs.Prelude.{◌≡◌, false, IfErr, IfOk};
-ghost use Rattle.rr_auth.specs.Sources.{IsRegistryOf};
 ghost use Rattle.rr_store.specs.Maps.{HasRows};
 ghost use Rattle.rr_store.specs.Calls.{IsOpen, IsSettled, OnCleanDisk, database};
 ghost use Rattle.rr_desk.specs.Opened.{FailsToMakeTables, FailsToOpenTables, MakesTables};
 ghost use Rattle.rr_desk.specs.Opened.{OpensTables};
 ghost use Rattle.rr_desk.specs.Private.{opening_fault};
-ghost use Rattle.rr_desk.specs.Stocks.{StoresRows};
+ghost use Rattle.rr_desk.specs.Private.{IsStockOf, IsStockOfSource};
 
 use crate::stored::Stored;
 use rr_index::IndexedBook;
@@ -25,9 +24,7 @@ pub(crate) fn open_stored<S: Alter>(
     source: &Name,
 ) -> Result<Stored<S>, (OpenFault, Connection<S>)>
     requires autocommit { conn.in_transaction ≡ false }
-    ensures running { IfOk result (λ stored. stored.stopped ≡ false) }
-    ensures of_source { IfOk result (λ stored. IsRegistryOf source.now stored.registry) }
-    ensures holds { IfOk result (StoresRows S.Store) }
+    ensures stock { IfOk result (IsStockOfSource S.Store source.now) }
     ensures opens { IfOk result (OpensTables S.Store conn) }
     ensures fails { IfErr result (λ e. FailsToOpenTables S.Store source.now conn e.1 e.0) }
 {
@@ -59,9 +56,7 @@ pub(crate) fn create_stored<S: Alter>(
     registry: Registry<IndexedBook>,
 ) -> Result<Stored<S>, (CreateFault, Connection<S>)>
     requires autocommit { conn.in_transaction ≡ false }
-    ensures running { IfOk result (λ stored. stored.stopped ≡ false) }
-    ensures registry { IfOk result (λ stored. stored.registry ≡ registry) }
-    ensures holds { IfOk result (StoresRows S.Store) }
+    ensures stock { IfOk result (IsStockOf S.Store registry) }
     ensures makes { IfOk result (λ stored.
         MakesTables S.Store (HasRows registry) conn stored.store) }
     ensures fails { IfErr result (λ e.

@@ -12,8 +12,9 @@ ghost use Rattle.rr_desk.specs.Private.{Follows, FollowsGain, FollowsIn, Follows
 ghost use Rattle.rr_desk.specs.Private.{LeavesRest, error_of, puts_one};
 ghost use Rattle.rr_desk.specs.Rows.{KeepsRows};
 ghost use Rattle.rr_desk.specs.Stocks.{DatabaseLasts, StoresUntilStopped};
-ghost use Rattle.rr_desk.specs.Stocks.{StoresRows, stock_ledger};
+ghost use Rattle.rr_desk.specs.Stocks.{stock_ledger};
 ghost use Rattle.rr_desk.specs.Lasting.{stock_on, stock_still};
+ghost use Rattle.rr_desk.specs.Private.{Awaits, IsStockOf};
 
 use rr_auth::{Book, Item, Secrets};
 use rr_index::IndexedBook;
@@ -52,10 +53,8 @@ impl<S: Alter> Stored<S> {
         requires is_open { IsOpen S.Store store }
         requires settled { IsSettled S.Store store }
         requires rows { OnCleanDisk S.Store store (HasRows registry (database S.Store store)) }
-        ensures registry { result.registry ≡ registry }
         ensures store { result.store ≡ store }
-        ensures running { result.stopped ≡ false }
-        ensures held { StoresRows S.Store result }
+        ensures stock { IsStockOf S.Store registry result }
     {
         Stored {
             registry,
@@ -98,8 +97,7 @@ impl<S: Alter> Stored<S> {
         key: &Key,
         item: Item,
     ) -> Result<Outcome, Stopped>
-        requires running { self.old.stopped ≡ false }
-        requires key { key.now ≡ key_about item }
+        requires { Awaits self.old key.now item }
         ensures decides { IfOk result (λ outcome.
             IsStep self.old.registry secrets.old item outcome self.new.registry) }
         ensures running { OnOk result (self.new.stopped ≡ false) }

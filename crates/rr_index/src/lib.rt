@@ -8,7 +8,6 @@ mod name_index;
 mod naming_index;
 mod object_map;
 mod origin_index;
-mod placed;
 mod span_index;
 
 pub use indexed_book::IndexedBook;

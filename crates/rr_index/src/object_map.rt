@@ -29,7 +29,6 @@ ghost use Rattle.rr_index.specs.OriginIndexes.{origin_cmp};
 ghost use Rattle.rr_index.specs.Private.{is_from, IsTold};
 
 use crate::origin_index::OriginIndex;
-use crate::placed::Placed;
 use rr_book::listings::lies_in;
 use rr_book::object_lists::origin_at;
 use rr_number::{Address, AsNumber, Prefix, Span};
@@ -38,11 +37,12 @@ use std::alloc::{AllocError, AllocFailed, Global};
 use std::collections::btree_map::Range;
 use std::collections::{BTreeMap, BTreeSet};
 use std::marker::Model;
+use std::mem;
 
 /// Objects, each under its key; contracts see the finite map from keys to objects.
 #[derive(Drop)]
 pub(crate) struct ObjectMap {
-    entries: BTreeMap<Key, Placed>,
+    entries: BTreeMap<Key, Object>,
 }
 
 impl Model for ObjectMap {
@@ -81,8 +81,7 @@ impl ObjectMap {
         let mut entries = Vec::with_capacity(alloc, objects.len())?;
         for object in objects {
             let key = object.key().copy(alloc)?;
-            let placed = Placed::new(alloc, object)?;
-            entries.push((key, placed))?;
+            entries.push((key, object))?;
         }
         Ok(ObjectMap {
             entries: BTreeMap::from_iter(alloc, entries)?,
@@ -93,7 +92,7 @@ impl ObjectMap {
     pub(crate) fn get(&self, key: &Key) -> Option<&Object>
         ensures { option_copied result ≡ get self.now key.now }
     {
-        self.entries.get(key).map(Placed::object)
+        self.entries.get(key)
     }
 
     /// Puts the object under its key. The error is that memory ran out; nothing changes, and it
@@ -106,14 +105,11 @@ impl ObjectMap {
         let Ok(key) = object.key().copy(alloc) else {
             return Err(AllocFailed { value: object });
         };
-        let placed = Placed::new(alloc, object)?;
-        match self.entries.insert(key, placed) {
+        match self.entries.insert(key, object) {
             Ok(_) => Ok(()),
             Err(refused) => {
-                let (_, placed) = refused.value;
-                Err(AllocFailed {
-                    value: placed.into_object(),
-                })
+                let (_, object) = refused.value;
+                Err(AllocFailed { value: object })
             }
         }
     }
@@ -128,7 +124,7 @@ impl ObjectMap {
         ensures back { IfErr result (λ back. back ≡ object) }
     {
         match self.entries.get_mut(object.key()) {
-            Some(placed) => Ok(placed.replace(object)),
+            Some(standing) => Ok(mem::replace(standing, object)),
             None => Err(object),
         }
     }
@@ -138,7 +134,7 @@ impl ObjectMap {
         ensures rest { self.new ≡ remove self.old key.now }
         ensures old { result ≡ get self.old key.now }
     {
-        self.entries.remove(key).map(Placed::into_object)
+        self.entries.remove(key)
     }
 
     /// The objects in the order of class and key; the error is that memory ran out.
@@ -146,8 +142,8 @@ impl ObjectMap {
         ensures { IfOk result (λ found. lent found.items ≡ values self.now) }
     {
         let mut found = Vec::new(alloc);
-        for placed in self.entries.values() {
-            found.push(placed.object())?;
+        for object in self.entries.values() {
+            found.push(object)?;
         }
         Ok(found)
     }
@@ -231,15 +227,15 @@ impl ObjectMap {
             ≡ values_of (filter (λ e. lies_between first last e.0) (entries self.now))) }
     {
         let mut found = Vec::new(alloc);
-        for (_, placed) in self.between(first, last) {
-            found.push(placed.object())?;
+        for (_, object) in self.between(first, last) {
+            found.push(object)?;
         }
         Ok(found)
     }
 
     /// The objects whose keys lie from one key to another, with their keys, in the order of class
     /// and key.
-    fn between(&self, first: Key, last: Key) -> Range<'_, Key, Placed>
+    fn between(&self, first: Key, last: Key) -> Range<'_, Key, Object>
         requires { is_gt (key_cmp first last) ≡ false }
         ensures { result ≡ filter (λ e. lies_between first last e.0) (entries self.now) }
     {
@@ -293,9 +289,9 @@ impl ObjectMap {
             (values_of (filter (λ e. lies_between first last e.0) (entries self.now)))) }
     {
         let mut found = Vec::new(alloc);
-        for (_, placed) in self.between(first, last) {
-            if lies_in(placed.object(), span) {
-                found.push(placed.object())?;
+        for (_, object) in self.between(first, last) {
+            if lies_in(object, span) {
+                found.push(object)?;
             }
         }
         Ok(found)
@@ -364,8 +360,8 @@ impl ObjectMap {
         ensures { IfOk result (λ v. v.items ≡ origins_among (values self.now) prefix) }
     {
         let mut origins = Vec::new(alloc);
-        for (_, placed) in self.between(first_of(prefix), last_of(prefix)) {
-            if let Some(origin) = origin_at(placed.object().key(), prefix) {
+        for (_, object) in self.between(first_of(prefix), last_of(prefix)) {
+            if let Some(origin) = origin_at(object.key(), prefix) {
                 origins.push(origin)?;
             }
         }

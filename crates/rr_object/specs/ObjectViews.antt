@@ -6,13 +6,13 @@ use Rattle.rr_object.specs.Objects.{Obj}
 -- the parts of what an object keeps
 abbrev pub parts_of : Inside → Obj
 parts_of o = record {
-  key = o.key;
-  paragraph = o.paragraph;
-  maintainers = o.maintainers.items;
-  lower = (kept_extra o.extra).lower;
-  routes = (kept_extra o.extra).routes;
-  auths = (kept_extra o.extra).auths;
-  members = (kept_extra o.extra).members;
-  by_ref = (kept_extra o.extra).by_ref;
-  member_of = (kept_extra o.extra).member_of;
+  key = o.kept.value.key;
+  paragraph = o.kept.value.paragraph;
+  maintainers = o.kept.value.maintainers.items;
+  lower = (kept_extra o.kept.value.extra).lower;
+  routes = (kept_extra o.kept.value.extra).routes;
+  auths = (kept_extra o.kept.value.extra).auths;
+  members = (kept_extra o.kept.value.extra).members;
+  by_ref = (kept_extra o.kept.value.extra).by_ref;
+  member_of = (kept_extra o.kept.value.extra).member_of;
 }

@@ -26,9 +26,15 @@ use std::alloc::{AllocError, Global};
 use std::marker::Model;
 
 /// An object: its paragraph, and what the interpreted attributes of it say (RFC 2622, 2 to 6;
-/// RFC 2725, 10).
+/// RFC 2725, 10). All of it is in a place of its own, so that lists and maps of objects stay small.
 #[derive(Debug, Drop)]
 pub struct Object {
+    kept: Box<Kept>,
+}
+
+/// What an object keeps.
+#[derive(Debug, Drop)]
+struct Kept {
     key: Key,
     paragraph: Paragraph,
     maintainers: Vec<Name>,
@@ -47,7 +53,7 @@ impl Model for Object {
     ghost view = { parts_of };
 
     // the fields are those that are read from the paragraph
-    ghost invariant = { λ o. obj_of o.paragraph ≡ Ok (parts_of o) };
+    ghost invariant = { λ o. obj_of o.kept.value.paragraph ≡ Ok (parts_of o) };
 }
 
 impl Object {
@@ -90,8 +96,8 @@ impl Object {
     pub fn copy(&self, alloc: Global) -> Result<Object, AllocError>
         ensures { IfOk result (λ copy. copy ≡ self.now) }
     {
-        let key = self.key.copy(alloc)?;
-        let paragraph = self.paragraph.copy(alloc)?;
+        let key = self.kept.key.copy(alloc)?;
+        let paragraph = self.kept.paragraph.copy(alloc)?;
         match read_of_any_source(alloc, key, paragraph) {
             Ok(read) => Ok(read.object),
             Err(_) => Err(AllocError),
@@ -104,7 +110,7 @@ impl Object {
         ensures value { result.now ≡ self.now.key }
         ensures formed { IsKeyValue self.now.key }
     {
-        &self.key
+        &self.kept.key
     }
 
     /// The whole paragraph, from which the object was read.
@@ -112,21 +118,21 @@ impl Object {
         ensures value { result.now ≡ self.now.paragraph }
         ensures read { obj_of self.now.paragraph ≡ Ok self.now }
     {
-        &self.paragraph
+        &self.kept.paragraph
     }
 
     /// The maintainers in `mnt-by`.
     pub fn maintainers(&self) -> &[Name]
         ensures { result.now ≡ self.now.maintainers }
     {
-        self.maintainers.as_slice()
+        self.kept.maintainers.as_slice()
     }
 
     /// The maintainers in `mnt-lower`.
     pub fn lower(&self) -> &[Name]
         ensures { result.now ≡ self.now.lower }
     {
-        match &self.extra {
+        match &self.kept.extra {
             Some(extra) => extra.lower.as_slice(),
             None => &[],
         }
@@ -136,7 +142,7 @@ impl Object {
     pub fn routes(&self) -> &[Grant]
         ensures { result.now ≡ self.now.routes }
     {
-        match &self.extra {
+        match &self.kept.extra {
             Some(extra) => extra.routes.as_slice(),
             None => &[],
         }
@@ -146,7 +152,7 @@ impl Object {
     pub fn auths(&self) -> &[Auth]
         ensures { result.now ≡ self.now.auths }
     {
-        match &self.extra {
+        match &self.kept.extra {
             Some(extra) => extra.auths.as_slice(),
             None => &[],
         }
@@ -156,7 +162,7 @@ impl Object {
     pub fn members(&self) -> &[Member]
         ensures { result.now ≡ self.now.members }
     {
-        match &self.extra {
+        match &self.kept.extra {
             Some(extra) => extra.members.as_slice(),
             None => &[],
         }
@@ -166,7 +172,7 @@ impl Object {
     pub fn by_ref_any(&self) -> bool
         ensures { result ≡ self.now.by_ref.any }
     {
-        match &self.extra {
+        match &self.kept.extra {
             Some(extra) => extra.by_ref.any(),
             None => false,
         }
@@ -176,7 +182,7 @@ impl Object {
     pub fn by_ref(&self) -> &[Name]
         ensures { result.now ≡ self.now.by_ref.names }
     {
-        match &self.extra {
+        match &self.kept.extra {
             Some(extra) => extra.by_ref.names(),
             None => &[],
         }
@@ -186,7 +192,7 @@ impl Object {
     pub fn member_of(&self) -> &[SetName]
         ensures { result.now ≡ self.now.member_of }
     {
-        match &self.extra {
+        match &self.kept.extra {
             Some(extra) => extra.member_of.as_slice(),
             None => &[],
         }
@@ -280,10 +286,14 @@ fn object_with(
         member_of,
     };
     let extra = extra.kept(alloc)?;
-    Ok(Object {
+    let kept = Kept {
         key,
         paragraph,
         maintainers,
         extra,
-    })
+    };
+    match Box::new(alloc, kept) {
+        Ok(kept) => Ok(Object { kept }),
+        Err(_) => Err(AllocError),
+    }
 }

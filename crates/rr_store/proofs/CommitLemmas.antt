@@ -10,6 +10,7 @@ use Rattle.sqlite.proofs.StateLemmas.{survives_then, survives_weaker}
 use Rattle.rr_store.specs.Contents.{RunsOn}
 use Rattle.rr_store.specs.Entries.{TreesOf}
 use Rattle.rr_store.specs.Calls.{Transacts, WhereOpen}
+use Rattle.rr_store.specs.StepParts.{EndsWork, Step}
 use Rattle.rr_store.proofs.BodyLemmas.{then_ok}
 use Rattle.rr_store.proofs.LookLemmas.{of_both, on_err_as}
 
@@ -92,6 +93,18 @@ module _ {S X Y E F : Type 0} (g : Ghosts S) (old begun mid new : Held S) (work 
       kept = λ clean on. on_err_as result (err clean on) (back clean);
       crash = ended_survives;
     }
+
+-- a transaction writes what its one step made
+pub transacted : {S X Y E F : Type 0} (g : Ghosts S) (old begun mid new : Held S)
+    (work : Result X E) (result : Result Y F) (Change : Database → Database → Type 0) →
+    begun ≡ record old { in_transaction = true } → Step g Change begun mid work →
+    EndsWork g mid new work result →
+    (IsTrue (state g old).is_open → (state g old).now ≡ (state g old).committed) →
+    Transacts g Change old new result
+transacted g old begun mid new work result Change begins step ends settled =
+    ended_writes g old begun mid new work result Change begins step.made ends.survives step.survives
+    step.kept step.goes_on settled ends.autocommit ends.done ends.ok ends.is_open ends.was_open
+    ends.err
 
 module _ {S : Type 0} (g : Ghosts S) (old new : Held S) (P Q : Database → Database → Type 0) where
   -- and what is written, too

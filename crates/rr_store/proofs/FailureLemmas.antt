@@ -26,7 +26,7 @@ use Rattle.rr_store.specs.Calls.{FailsFor, FailsOverTidy, IsCaused}
 use Rattle.rr_store.specs.Faults.{store_fault}
 use Rattle.rr_store.specs.Listing.{FailsToList}
 use Rattle.rr_store.specs.Opening.{HoldNone, IfStore}
-use Rattle.rr_store.specs.ReadingParts.{TellsNoVersion}
+use Rattle.rr_store.specs.CheckParts.{HasBadRow}
 use Rattle.rr_store.specs.StreamParts.{FailsToCount, FailsAfterRows}
 use Rattle.rr_store.specs.declared.store_fault.OpenFault.{OpenFault}
 use Rattle.rr_store.specs.declared.store_fault.OpenFault.TheVariants.{WrongVersion, BadRow, Store}
@@ -178,14 +178,14 @@ module _ {S : Type 0} (g : Ghosts S) (a b c : Held S) (same : HasCleanDisk (stat
 -- objects are listed from tables that hold rows of such, unless the database fails for a cause
 -- outside these
 pub lists_fail : {S : Type 0} (g : Ghosts S) (source : List ℕ) (old new : Held S)
-    (fault : OpenFault) → TellsNoVersion fault → (HasCleanDisk (state g new) → fault ≡ BadRow →
-    HoldNone Current source (state g old).now)
-    → IfStore (FailsOverTidy g old new) fault → FailsToList g source old new (store_fault fault)
-lists_fail g source old new (WrongVersion number) other none cause objects stored error is =
-    absurd (other number refl)
-lists_fail g source old new BadRow other none cause objects stored error is = λ clean.
-    absurd (none clean refl objects stored)
-lists_fail g source old new (Store e) other none cause objects stored error is =
+    (fault : OpenFault) → (HasCleanDisk (state g new) →
+    HasBadRow (HoldNone Current source) (state g old).now fault) →
+    IfStore (FailsOverTidy g old new) fault → FailsToList g source old new (store_fault fault)
+lists_fail g source old new (WrongVersion number) why cause objects stored error is = λ clean.
+    absurd ((why clean).no_other number refl)
+lists_fail g source old new BadRow why cause objects stored error is = λ clean.
+    absurd ((why clean).bad_row refl objects stored)
+lists_fail g source old new (Store e) why cause objects stored error is =
     let same : e ≡ error = cc in
     cause error (ap Store same) stored.rows.tidy
-lists_fail g source old new Memory other none cause objects stored error is = absurd (cc)
+lists_fail g source old new Memory why cause objects stored error is = absurd (cc)

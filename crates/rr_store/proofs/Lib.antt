@@ -11,6 +11,7 @@ pub mod CreateLemmas
 pub mod EntryLemmas
 pub mod FailureLemmas
 pub mod FillLemmas
+pub mod InspectLemmas
 pub mod KeptLemmas
 pub mod ListForms
 pub mod LookLemmas

@@ -178,12 +178,6 @@ module _ {S : Type 0} (g : Ghosts S) where
 
   module _ (a b c : Held S) (one : Rests g a b) (same : HasCleanDisk (state g b) →
       IsUnchanged (state g a) (state g b)) where
-    -- the tables are still there
-    pub tables_then : (HasCleanDisk (state g a) → HasTables a.schema) → HasCleanDisk (state g b) →
-        HasTables b.schema
-    tables_then had clean = subst (λ (d : Database). HasTables d.schema)
-        (sym (same clean).0.now_is) (had (omega (arith, clean, one.crash.clean)))
-
     -- of what was read twice, too, nothing changes
     pub rests_then : Rests g b c → Rests g a c
     rests_then two = record {
@@ -239,11 +233,6 @@ module _ {S : Type 0} (g : Ghosts S) where
     crash = survives_weaker (state g a) (state g b) (λ _. ⊥)
         (WhereOpen g a (TreesOf (Change (state g a).now))) (λ clean db h. absurd h) one.crash;
   }
-
-  pub looks_failed : {X E : Type 0} (a b : Held S) (r : Result X E) → IsErr r → Rests g a b →
-      Looks g a b r
-  looks_failed a b (Ok x) is one = absurd (let e = is in cc)
-  looks_failed a b (Err e) is one = record { rests = one; same = λ clean. tt }
 
   -- and after a query that failed nothing has changed
   pub rests_failed : (sql : List ℕ) (params : Row) (old new : Held S) →

@@ -10,7 +10,7 @@ use Rattle.sqlite.specs.State.{HasCleanDisk, Executes, ExecutesInside, State, Su
 use Rattle.sqlite.specs.Held.{Held, state}
 use Rattle.sqlite.proofs.StateLemmas.{survives_then}
 use Rattle.rr_store.specs.Contents.{RunsOn}
-use Rattle.rr_store.specs.StepParts.{Steps, StepsWhereOpen}
+use Rattle.rr_store.specs.StepParts.{Step, StepWhereOpen}
 use Rattle.rr_store.proofs.AddingLemmas.{keeps_then}
 use Rattle.rr_store.proofs.BodyLemmas.{then_ok}
 use Rattle.rr_store.proofs.CallLemmas.{did, keeps, steps}
@@ -46,7 +46,7 @@ module _ {S : Type 0} (g : Ghosts S) where
       (Change : Database → Database → Type 0)
       → (HasCleanDisk (state g new) → (count : ℕ) → Executes sql params (state g old) (state g new)
       (Ok count) → IsTrue (state g old).is_open → Change (state g old).now (state g new).now) →
-      Steps g Change old new r
+      Step g Change old new r
   statement_steps old new sql params r ended runs survives Change each = record {
     made = λ clean. did g old new sql params r ended (runs clean)
         (Change (state g old).now (state g new).now) (each clean);
@@ -57,7 +57,7 @@ module _ {S : Type 0} (g : Ghosts S) where
 
   -- a step that succeeded is one, whatever it is called
   pub steps_ok : {a b : Held S} {Change : Database → Database → Type 0} {X E Y F : Type 0}
-      {p : Result X E} (q : Result Y F) → Steps g Change a b p → IsOk p → Steps g Change a b q
+      {p : Result X E} (q : Result Y F) → Step g Change a b p → IsOk p → Step g Change a b q
   steps_ok {p = p} q h is = record {
     made = λ clean. on_any q (done_so p is (h.made clean));
     goes_on = λ clean. on_any q (done_so p is (h.goes_on clean));
@@ -68,10 +68,10 @@ module _ {S : Type 0} (g : Ghosts S) where
 
   -- a step after one that succeeded
   pub steps_then : {a b c : Held S} {First Second Both : Database → Database → Type 0}
-      {X E Y F : Type 0} {p : Result X E} {q : Result Y F} → Steps g First a b p →
-      Steps g Second b c q → IsOk p
+      {X E Y F : Type 0} {p : Result X E} {q : Result Y F} → Step g First a b p →
+      Step g Second b c q → IsOk p
       → (HasCleanDisk (state g c) → First (state g a).now (state g b).now → Second (state g b).now
-      (state g c).now → Both (state g a).now (state g c).now) → Steps g Both a c q
+      (state g c).now → Both (state g a).now (state g c).now) → Step g Both a c q
   steps_then {a = a} {b = b} {c = c} {p = p} {q = q} one two is both =
       let earlier : HasCleanDisk (state g c) → HasCleanDisk (state g b) = λ clean.
       omega (arith, two.survives.clean) in
@@ -87,17 +87,17 @@ module _ {S : Type 0} (g : Ghosts S) where
       }
 
   pub steps_both : {a b c : Held S} {First Second : Database → Database → Type 0}
-      {X E Y F : Type 0} {p : Result X E} {q : Result Y F} → Steps g First a b p →
-      Steps g Second b c q → IsOk p → Steps g (Then First Second) a c q
+      {X E Y F : Type 0} {p : Result X E} {q : Result Y F} → Step g First a b p →
+      Step g Second b c q → IsOk p → Step g (Then First Second) a c q
   steps_both {b = b} one two is = steps_then one two is (λ clean first second.
       ((state g b).now, first, second))
 
   -- and some after it, which find the connection open
   pub steps_more : {a b c : Held S} {First Second Both : Database → Database → Type 0}
-      {X E Y F : Type 0} {p : Result X E} {q : Result Y F} → Steps g First a b p →
-      StepsWhereOpen g Second b c q → IsOk p
+      {X E Y F : Type 0} {p : Result X E} {q : Result Y F} → Step g First a b p →
+      StepWhereOpen g Second b c q → IsOk p
       → (HasCleanDisk (state g c) → First (state g a).now (state g b).now → Second (state g b).now
-      (state g c).now → Both (state g a).now (state g c).now) → Steps g Both a c q
+      (state g c).now → Both (state g a).now (state g c).now) → Step g Both a c q
   steps_more {a = a} {b = b} {c = c} {p = p} {q = q} one two is both =
       let earlier : HasCleanDisk (state g c) → HasCleanDisk (state g b) = λ clean.
       omega (arith, two.survives.clean) in

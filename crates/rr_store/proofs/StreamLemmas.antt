@@ -24,7 +24,7 @@ use Rattle.sqlite.proofs.StateLemmas.{survives_then}
 use Rattle.rr_store.specs.Queries.{Means}
 use Rattle.rr_store.specs.Tables.{HasTables, Layout}
 use Rattle.rr_store.specs.Calls.{Looks}
-use Rattle.rr_store.specs.StreamParts.{GivesMore, GivesRest, Streams}
+use Rattle.rr_store.specs.StreamParts.{GivesMore, GivesRest, HasStreamed}
 use Rattle.rr_store.proofs.AddingLemmas.{survives_itself}
 use Rattle.rr_store.proofs.BodyLemmas.{then_ok}
 use Rattle.rr_store.proofs.LookLemmas.{looks}
@@ -88,7 +88,7 @@ module _ {S : Type 0} (g : Ghosts S) where
   pub streams_then : {X E : Type 0} (r : Result X E) (a b c : Held S) →
       (a.in_transaction ≡ false → b.in_transaction ≡ false) →
       (HasCleanDisk (state g b) → IsUnchanged (state g a) (state g b))
-      → Survives (state g a) (state g b) (λ _. ⊥) → Streams g b c r → Streams g a c r
+      → Survives (state g a) (state g b) (λ _. ⊥) → HasStreamed g b c r → HasStreamed g a c r
   streams_then r a b c mode same first two =
       let before : HasCleanDisk (state g c) → HasCleanDisk (state g b) = λ clean.
       omega (arith, clean, two.survives.clean) in
@@ -104,7 +104,8 @@ module _ {S : Type 0} (g : Ghosts S) where
   -- after a query whose rows were read, or whose reading failed, the database is as it was
   module _ {X E : Type 0} (r : Result X E) (old begun new : Held S)
       (same : HasCleanDisk (state g begun) → IsUnchanged (state g old) (state g begun))
-      (first : Survives (state g old) (state g begun) (λ _. ⊥)) (two : Streams g begun new r) where
+      (first : Survives (state g old) (state g begun) (λ _. ⊥))
+      (two : HasStreamed g begun new r) where
     pub streamed : begun.in_transaction ≡ false → (IsTrue (state g old).is_open → (state g old).now
         ≡ (state g old).committed) → Looks g old new r
     streamed mode settled =
@@ -204,7 +205,7 @@ module _ {S : Type 0} (g : Ghosts S) where
     pub read_streams : {X E : Type 0} (r : Result X E) →
         (HasCleanDisk (state g new) → OnOk r (IsUnchanged (state g mid) (state g new)))
         → (HasCleanDisk (state g new) → IsUnchanged (state g mid) (state g new) ⊎ IsRolledBack
-        (state g mid) (state g new)) → Streams g old new r
+        (state g mid) (state g new)) → HasStreamed g old new r
     read_streams r same left = record {
       autocommit = λ m. mode (had.mode m);
       same = λ clean. then_ok r (same clean) (unchanged_then (state g old) (state g mid)
@@ -216,7 +217,7 @@ module _ {S : Type 0} (g : Ghosts S) where
 
   -- so far nothing has changed, whatever is told of it
   pub streams_so : {X E : Type 0} (r : Result X E) (old now : Held S) (P : List Row → Type 0) →
-      HasRead g old now P → Streams g old now r
+      HasRead g old now P → HasStreamed g old now r
   streams_so r old now P had = record {
     autocommit = had.mode;
     same = λ clean.

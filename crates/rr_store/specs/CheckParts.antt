@@ -11,7 +11,7 @@ use Rattle.rr_store.specs.Contents.{numbered, pointed}
 use Rattle.rr_store.specs.Entries.{named_rows}
 use Rattle.rr_store.specs.Maps.{KeyForm, entry_in, current_form}
 use Rattle.rr_store.specs.Tables.{HasTables, meta_tree, named_tree, object_tree}
-use Rattle.rr_store.specs.ReadingParts.{AreNone, AreRead}
+use Rattle.rr_store.specs.ReadingParts.{AreNone, AreRead, TellsNoVersion}
 use Rattle.rr_store.specs.Versions.{SaysVersion, form_of, version_number, version_text}
 use Rattle.rr_store.specs.declared.version.Version.{Version}
 use Rattle.rr_store.specs.declared.store_fault.OpenFault.{OpenFault}
@@ -65,6 +65,11 @@ pub record AreRowsOfNone (form : KeyForm) (source : List ℕ) (held : List Row) 
   pub same : IsPermutation held rows
   pub none : AreNone form source rows
 
+-- the fault tells of no other version, and of a bad row only where this is true of the tables
+pub record HasBadRow (Bad : Database → Type 0) (db : Database) (fault : OpenFault) : Type 0 where
+  pub bad_row : fault ≡ BadRow → Bad db
+  pub no_other : TellsNoVersion fault
+
 -- `object` holds the rows of these objects
 abbrev pub TableHolds : Version → List ℕ → List Obj → Database → Type 0
 TableHolds version source objects db =
@@ -74,6 +79,12 @@ TableHolds version source objects db =
 abbrev pub TableHoldsInTurn : Version → List ℕ → List Obj → Database → Type 0
 TableHoldsInTurn version source objects db =
     HoldsInTurn (form_of version) source objects (db.trees object_tree)
+
+-- `object` holds the rows of these objects, also in turn
+pub record TableGives (version : Version) (source : List ℕ) (objects : List Obj) (db : Database)
+    : Type 0 where
+  pub all : TableHolds version source objects db
+  pub in_turn : TableHoldsInTurn version source objects db
 
 -- `object` holds the rows of no objects of the source
 abbrev pub TableHoldsNone : Version → List ℕ → Database → Type 0

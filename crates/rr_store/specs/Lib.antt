@@ -7,6 +7,7 @@ pub mod Entries
 pub mod Faults
 pub mod Kept
 pub mod Listing
+pub mod LookParts
 pub mod Made
 pub mod Maps
 pub mod Migrating

@@ -1,5 +1,5 @@
 -- What becomes of a call that opens a store.
-use Rattle.std.specs.Prelude.{◌≡◌, ◌≢◌, ℕ, ◌<◌, ◌^◌, List, IsTrue}
+use Rattle.std.specs.Prelude.{◌≡◌, ◌≢◌, ℕ, ◌<◌, ◌^◌, List, IsTrue, Result, IfErr, IfOk}
 use Rattle.std.specs.List.{AllByRecursion}
 use Rattle.sqlite_trees.specs.declared.store.Store.{Ghosts}
 use Rattle.sqlite.specs.declared.error.Error.{Error}
@@ -10,7 +10,8 @@ use Rattle.rr_object.specs.Objects.{Obj}
 use Rattle.rr_store.specs.Contents.{meta_rows}
 use Rattle.rr_store.specs.Maps.{AreInOrder, AreStored, AreStoredIn, IsObjectOf}
 use Rattle.rr_store.specs.Tables.{HasTables, meta_tree}
-use Rattle.rr_store.specs.Calls.{FailsOverTidy, IsOpen, IsSettled, OnCleanDisk, Rests, database}
+use Rattle.rr_store.specs.Calls.{FailsOverTidy, IsOpen, IsSettled, Looks, OnCleanDisk, Rests}
+use Rattle.rr_store.specs.Calls.{database}
 use Rattle.rr_store.specs.Faults.{no_tables}
 use Rattle.rr_store.specs.Versions.{SaysVersion, form_of, version_number, version_text}
 use Rattle.rr_store.specs.declared.store_fault.OpenFault.{OpenFault}
@@ -33,6 +34,12 @@ pub record SaysNoOther (version : Version) (db : Database) : Type 0 where
 -- the objects are such as readers make in a registry of the source
 abbrev pub AreObjectsOf : List ℕ → List Obj → Type 0
 AreObjectsOf source = AllByRecursion (IsObjectOf source)
+
+-- the objects stand in the order of class and key, and each is such as readers make in a registry
+-- of the source
+pub record AreListed (source : List ℕ) (objects : List Obj) : Type 0 where
+  pub in_order : AreInOrder objects
+  pub of_source : AreObjectsOf source objects
 
 -- the tables of this version hold the rows of these objects, all of the source (profile)
 abbrev pub AreStoredAs : Version → List ℕ → List Obj → Database → Type 0
@@ -63,6 +70,17 @@ pub record RefusesTables (version : Version) (source : List ℕ) (db : Database)
   pub no_other_said : fault ≡ BadRow → SaysNoOther version db
   pub tables : IsOfRows fault → HasTables db.schema
   pub untabled : ¬ HasTables db.schema → fault ≡ Store no_tables
+
+-- rows are read, and nothing changes: where the disk has returned what was written, this is read of
+-- the tables, or this is why they are not read; where they were tidy, the database's error has a
+-- cause outside the rows
+pub record Inspects {S : Type 0} (g : Ghosts S) {X : Type 0} (old new : Held S)
+    (result : Result X OpenFault) (Read : Database → X → Type 0)
+    (Why : Database → OpenFault → Type 0) : Type 0 where
+  pub looks : Looks g old new result
+  pub read : OnCleanDisk g new (IfOk result (Read (database g old)))
+  pub why : OnCleanDisk g new (IfErr result (Why (database g old)))
+  pub cause : IfErr result (IfStore (FailsOverTidy g old new))
 
 module _ {S : Type 0} (g : Ghosts S) (source : List ℕ) (conn : Held S) where
   -- the store of these objects is open, in order of class and key, with the rows as they were, over

@@ -18,6 +18,7 @@ use Rattle.rr_object.specs.Keys.{class_of}
 use Rattle.rr_object.specs.Objects.{Obj}
 use Rattle.rr_store.specs.Contents.{object_values}
 use Rattle.rr_store.specs.Maps.{IsObjectOf, KeyForm}
+use Rattle.rr_store.specs.Opening.{IfStore}
 use Rattle.rr_store.specs.declared.store_fault.OpenFault.{OpenFault}
 use Rattle.rr_store.specs.declared.store_fault.OpenFault.TheVariants.{WrongVersion}
 
@@ -48,6 +49,11 @@ AreNone form source rows = (objects : List Obj) → AreRead form source rows obj
 -- the fault tells of no other version
 abbrev pub TellsNoVersion : OpenFault → Type 0
 TellsNoVersion = λ fault. (number : ℕ) → fault ≡ WrongVersion number → ⊥
+
+-- the fault is a bad row or lack of memory
+pub record IsRowFault (fault : OpenFault) : Type 0 where
+  pub no_other : TellsNoVersion fault
+  pub no_store : IfStore (λ _. ⊥) fault
 
 -- objects in the order of their keys
 abbrev pub by_key : Obj → Obj → Ordering

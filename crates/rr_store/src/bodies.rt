@@ -1,13 +1,13 @@
 //! What a transaction does before its commit.
 
-ghost use Rattle.std.specs.Prelude.{◌≡◌, [], ◌∷◌, map};
+ghost use Rattle.std.specs.Prelude.{[], ◌∷◌, map};
 ghost use Rattle.rr_store.specs.Contents.{Adds, Alters, IsTidy, Removes, is_name_among};
 ghost use Rattle.rr_store.specs.Contents.{is_named_of, named_values};
 ghost use Rattle.rr_store.specs.Entries.{IsAdded, IsPut, IsTakenOut};
 ghost use Rattle.rr_store.specs.Maps.{AreOfObjects};
 ghost use Rattle.rr_store.specs.Tables.{named_tree};
-ghost use Rattle.rr_store.specs.Calls.{WhileOpen, database};
 ghost use Rattle.rr_store.specs.StepParts.{Steps, StepsWhereOpen};
+ghost use Rattle.rr_store.specs.StepParts.{IsOver};
 
 use crate::entry::Entry;
 use crate::leaving_names::names_of_rows;
@@ -24,12 +24,11 @@ fn add_names<S: Alter>(
     class: u8,
     key: &[u8],
 ) -> Result<(), Error>
-    requires { WhileOpen S.Store tx.old.conn.now (IsTidy (database S.Store tx.old.conn.now)) }
-    ensures same_reference { tx.new.conn.ghost_name ≡ tx.old.conn.ghost_name }
-    ensures steps { StepsWhereOpen S.Store
+    requires { IsOver S.Store IsTidy tx.old }
+    ensures { StepsWhereOpen S.Store
         (λ old new. Alters old new named_tree
         (Adds (map (λ name. named_values name class key.now) names.now)))
-        tx.old.conn.now tx.new.conn.now result }
+        tx.old tx.new result }
 {
     for name in names {
         // the count is not asked for: the clause says which rows changed
@@ -43,10 +42,9 @@ pub(crate) fn add_rows<S: Alter>(
     tx: &mut Transaction<'_, S>,
     entry: &Entry,
 ) -> Result<(), StoreFault>
-    requires { WhileOpen S.Store tx.old.conn.now (IsTidy (database S.Store tx.old.conn.now)) }
-    ensures same_reference { tx.new.conn.ghost_name ≡ tx.old.conn.ghost_name }
-    ensures steps { Steps S.Store (IsAdded (entry.now ∷ []))
-        tx.old.conn.now tx.new.conn.now result }
+    requires { IsOver S.Store IsTidy tx.old }
+    ensures { Steps S.Store (IsAdded (entry.now ∷ []))
+        tx.old tx.new result }
 {
     let class = entry.class();
     let key = entry.key();
@@ -63,11 +61,10 @@ fn remove_names<S: Alter>(
     class: u8,
     key: &[u8],
 ) -> Result<(), Error>
-    requires { WhileOpen S.Store tx.old.conn.now (IsTidy (database S.Store tx.old.conn.now)) }
-    ensures same_reference { tx.new.conn.ghost_name ≡ tx.old.conn.ghost_name }
-    ensures steps { StepsWhereOpen S.Store
+    requires { IsOver S.Store IsTidy tx.old }
+    ensures { StepsWhereOpen S.Store
         (λ old new. Alters old new named_tree (Removes (is_name_among class key.now names.now)))
-        tx.old.conn.now tx.new.conn.now result }
+        tx.old tx.new result }
 {
     for name in names {
         // the count is not asked for: the clause says which rows changed
@@ -84,11 +81,10 @@ fn forget_names<S: Alter>(
     class: u8,
     key: &[u8],
 ) -> Result<(), StoreFault>
-    requires { WhileOpen S.Store tx.old.conn.now (AreOfObjects (database S.Store tx.old.conn.now)) }
-    ensures same_reference { tx.new.conn.ghost_name ≡ tx.old.conn.ghost_name }
-    ensures steps { Steps S.Store
+    requires { IsOver S.Store AreOfObjects tx.old }
+    ensures { Steps S.Store
         (λ old new. Alters old new named_tree (Removes (is_named_of class key.now)))
-        tx.old.conn.now tx.new.conn.now result }
+        tx.old tx.new result }
 {
     let rows = rows_of_key(tx, class, key)?;
     let names = names_of_rows(alloc, &rows)?;
@@ -103,10 +99,9 @@ pub(crate) fn remove_rows<S: Alter>(
     class: u8,
     key: &[u8],
 ) -> Result<(), StoreFault>
-    requires { WhileOpen S.Store tx.old.conn.now (AreOfObjects (database S.Store tx.old.conn.now)) }
-    ensures same_reference { tx.new.conn.ghost_name ≡ tx.old.conn.ghost_name }
-    ensures steps { Steps S.Store (IsTakenOut class key.now)
-        tx.old.conn.now tx.new.conn.now result }
+    requires { IsOver S.Store AreOfObjects tx.old }
+    ensures { Steps S.Store (IsTakenOut class key.now)
+        tx.old tx.new result }
 {
     forget_names(tx, alloc, class, key)?;
     // the count is not asked for: the clause says which rows changed
@@ -120,9 +115,8 @@ pub(crate) fn put_rows<S: Alter>(
     alloc: Global,
     entry: &Entry,
 ) -> Result<(), StoreFault>
-    requires { WhileOpen S.Store tx.old.conn.now (AreOfObjects (database S.Store tx.old.conn.now)) }
-    ensures same_reference { tx.new.conn.ghost_name ≡ tx.old.conn.ghost_name }
-    ensures steps { Steps S.Store (IsPut entry.now) tx.old.conn.now tx.new.conn.now result }
+    requires { IsOver S.Store AreOfObjects tx.old }
+    ensures { Steps S.Store (IsPut entry.now) tx.old tx.new result }
 {
     remove_rows(tx, alloc, entry.class(), entry.key())?;
     add_rows(tx, entry)

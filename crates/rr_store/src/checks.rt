@@ -6,18 +6,21 @@ ghost use Rattle.std.specs.Prelude.{IsSorted};
 ghost use Rattle.sqlite.specs.Held.{state};
 ghost use Rattle.sqlite.specs.State.{IsUnchanged};
 ghost use Rattle.rr_store.specs.Contents.{AreNumbered, by_three, contents, meta_row, meta_rows};
-ghost use Rattle.rr_store.specs.Maps.{AreInOrder, HasVersion, current_form};
-ghost use Rattle.rr_store.specs.Tables.{HasTables, meta_tree, named_tree, object_tree};
-ghost use Rattle.rr_store.specs.Calls.{FailsOverTidy, Looks, OnCleanDisk, database};
+ghost use Rattle.rr_store.specs.Maps.{HasVersion, current_form};
+ghost use Rattle.rr_store.specs.Tables.{meta_tree, named_tree, object_tree};
+ghost use Rattle.rr_store.specs.Calls.{OnCleanDisk};
 ghost use Rattle.rr_store.specs.CheckParts.{AreNamingRows, HoldsObjects, IsVersionFault};
-ghost use Rattle.rr_store.specs.CheckParts.{NamedPointsTo, NamesAre, TableHolds};
-ghost use Rattle.rr_store.specs.CheckParts.{TableHoldsInTurn, TableHoldsNone};
+ghost use Rattle.rr_store.specs.CheckParts.{NamedPointsTo, NamesAre};
+ghost use Rattle.rr_store.specs.CheckParts.{TableHoldsNone};
 ghost use Rattle.rr_store.specs.Opening.{AreObjectsOf, HoldNone, IfStore};
-ghost use Rattle.rr_store.specs.ReadingParts.{TellsNoVersion};
 ghost use Rattle.rr_store.specs.Versions.{version_text};
 ghost use Rattle.rr_store.specs.declared.store_fault.OpenFault.TheVariants.{BadRow, Memory};
 ghost use Rattle.rr_store.specs.declared.store_fault.OpenFault.TheVariants.{WrongVersion};
 ghost use Rattle.rr_store.specs.declared.version.Version.TheVariants.{Current};
+ghost use Rattle.rr_store.specs.LookParts.{IsIdle, IsTabled};
+ghost use Rattle.rr_store.specs.Opening.{AreListed, Inspects};
+ghost use Rattle.rr_store.specs.CheckParts.{HasBadRow, TableGives};
+ghost use Rattle.rr_store.specs.ReadingParts.{IsRowFault};
 
 use crate::meta::{is_version_row_alone, other_version};
 use crate::namings::are_named;
@@ -56,14 +59,10 @@ pub(crate) fn check_version<S: Alter>(
     conn: &mut Connection<S>,
     version: Version,
 ) -> Result<(), OpenFault>
-    requires autocommit { conn.old.in_transaction ≡ false }
-    requires tables { OnCleanDisk S.Store conn.old (HasTables conn.old.schema) }
-    ensures looks { Looks S.Store conn.old conn.new result }
-    ensures ok { OnCleanDisk S.Store conn.new (OnOk result
-        (HasVersion (version_text version) (database S.Store conn.old))) }
-    ensures fault { OnCleanDisk S.Store conn.new (IfErr result
-        (IsVersionFault version (meta_rows ((database S.Store conn.old).trees meta_tree)))) }
-    ensures cause { IfErr result (IfStore (FailsOverTidy S.Store conn.old conn.new)) }
+    requires { IsIdle S.Store IsTabled conn.old }
+    ensures { Inspects S.Store conn.old conn.new result
+        (λ db _. HasVersion (version_text version) db)
+        (λ db. IsVersionFault version (meta_rows (db.trees meta_tree))) }
 {
     let rows = meta_rows(conn)?;
     judge_version(&rows, version)
@@ -77,20 +76,12 @@ pub(crate) fn check_objects<S: Alter>(
     source: &Name,
     version: Version,
 ) -> Result<Vec<Object>, OpenFault>
-    requires autocommit { conn.old.in_transaction ≡ false }
-    requires tables { OnCleanDisk S.Store conn.old (HasTables conn.old.schema) }
-    ensures looks { Looks S.Store conn.old conn.new result }
-    ensures numbered { OnCleanDisk S.Store conn.new (OnOk result
-        (AreNumbered ((database S.Store conn.old).trees object_tree))) }
-    ensures read { OnCleanDisk S.Store conn.new (IfOk result (λ objects.
-        TableHolds version source.now objects.items (database S.Store conn.old))) }
-    ensures in_turn { OnCleanDisk S.Store conn.new (IfOk result (λ objects.
-        TableHoldsInTurn version source.now objects.items (database S.Store conn.old))) }
+    requires { IsIdle S.Store IsTabled conn.old }
+    ensures inspects { Inspects S.Store conn.old conn.new result
+        (λ db objects. AreNumbered (db.trees object_tree)
+        × TableGives version source.now objects.items db)
+        (HasBadRow (TableHoldsNone version source.now)) }
     ensures of_source { IfOk result (λ objects. AreObjectsOf source.now objects.items) }
-    ensures bad_row { OnCleanDisk S.Store conn.new (IfErr result (λ fault. fault ≡ BadRow →
-        TableHoldsNone version source.now (database S.Store conn.old))) }
-    ensures no_other { IfErr result TellsNoVersion }
-    ensures cause { IfErr result (IfStore (FailsOverTidy S.Store conn.old conn.new)) }
 {
     let count = count_object(conn)?;
     read_objects(conn, alloc, count, source, version)
@@ -103,16 +94,11 @@ pub(crate) fn all_objects<S: Alter>(
     source: &Name,
 ) -> Result<Vec<Object>, OpenFault>
     requires autocommit { conn.old.in_transaction ≡ false }
-    ensures looks { Looks S.Store conn.old conn.new result }
-    ensures read { OnCleanDisk S.Store conn.new (IfOk result (λ objects.
-        HoldsObjects current_form source.now objects.items
-        (contents ((database S.Store conn.old).trees object_tree)))) }
-    ensures in_order { IfOk result (λ objects. AreInOrder objects.items) }
-    ensures of_source { IfOk result (λ objects. AreObjectsOf source.now objects.items) }
-    ensures bad_row { OnCleanDisk S.Store conn.new (IfErr result (λ fault. fault ≡ BadRow →
-        HoldNone Current source.now (database S.Store conn.old))) }
-    ensures no_other { IfErr result TellsNoVersion }
-    ensures cause { IfErr result (IfStore (FailsOverTidy S.Store conn.old conn.new)) }
+    ensures inspects { Inspects S.Store conn.old conn.new result
+        (λ db objects. HoldsObjects current_form source.now objects.items
+        (contents (db.trees object_tree)))
+        (HasBadRow (HoldNone Current source.now)) }
+    ensures listed { IfOk result (λ objects. AreListed source.now objects.items) }
 {
     if !has_tables(conn.schema()) {
         return Err(OpenFault::Store(NO_TABLES));
@@ -132,8 +118,7 @@ fn judge_names(
     ensures ok { OnOk result (AreNamingRows version objects.now rows.now) }
     ensures bad_row { IsSorted by_three rows.now → IfErr result (λ fault. fault ≡ BadRow →
         AreNamingRows version objects.now rows.now → ⊥) }
-    ensures no_other { IfErr result TellsNoVersion }
-    ensures no_store { IfErr result (IfStore (λ _. ⊥)) }
+    ensures row_fault { IfErr result IsRowFault }
 {
     if are_named(alloc, rows, objects, version)? {
         Ok(())
@@ -150,15 +135,10 @@ fn check_sorted_names<S: Alter>(
     objects: &[Object],
     version: Version,
 ) -> Result<(), OpenFault>
-    requires autocommit { conn.old.in_transaction ≡ false }
-    requires tables { OnCleanDisk S.Store conn.old (HasTables conn.old.schema) }
-    ensures looks { Looks S.Store conn.old conn.new result }
-    ensures ok { OnCleanDisk S.Store conn.new (OnOk result
-        (NamesAre version objects.now (database S.Store conn.old))) }
-    ensures bad_row { OnCleanDisk S.Store conn.new (IfErr result (λ fault. fault ≡ BadRow →
-        NamesAre version objects.now (database S.Store conn.old) → ⊥)) }
-    ensures no_other { IfErr result TellsNoVersion }
-    ensures cause { IfErr result (IfStore (FailsOverTidy S.Store conn.old conn.new)) }
+    requires { IsIdle S.Store IsTabled conn.old }
+    ensures { Inspects S.Store conn.old conn.new result
+        (λ db _. NamesAre version objects.now db)
+        (HasBadRow (λ db. NamesAre version objects.now db → ⊥)) }
 {
     let rows = sorted_named_rows(conn)?;
     judge_names(alloc, &rows, objects, version)
@@ -171,15 +151,10 @@ fn check_maintainers<S: Alter>(
     objects: &[Object],
     version: Version,
 ) -> Result<(), OpenFault>
-    requires autocommit { conn.old.in_transaction ≡ false }
-    requires tables { OnCleanDisk S.Store conn.old (HasTables conn.old.schema) }
-    ensures looks { Looks S.Store conn.old conn.new result }
-    ensures ok { OnCleanDisk S.Store conn.new (OnOk result
-        (NamesAre version objects.now (database S.Store conn.old))) }
-    ensures bad_row { OnCleanDisk S.Store conn.new (IfErr result (λ fault. fault ≡ BadRow →
-        NamesAre version objects.now (database S.Store conn.old) → ⊥)) }
-    ensures no_other { IfErr result TellsNoVersion }
-    ensures cause { IfErr result (IfStore (FailsOverTidy S.Store conn.old conn.new)) }
+    requires { IsIdle S.Store IsTabled conn.old }
+    ensures { Inspects S.Store conn.old conn.new result
+        (λ db _. NamesAre version objects.now db)
+        (HasBadRow (λ db. NamesAre version objects.now db → ⊥)) }
 {
     if names_in_turn(conn, alloc, objects, version)? {
         return Ok(());
@@ -195,17 +170,10 @@ pub(crate) fn check_named_table<S: Alter>(
     objects: &[Object],
     version: Version,
 ) -> Result<(), OpenFault>
-    requires autocommit { conn.old.in_transaction ≡ false }
-    requires tables { OnCleanDisk S.Store conn.old (HasTables conn.old.schema) }
-    ensures looks { Looks S.Store conn.old conn.new result }
-    ensures numbered { OnCleanDisk S.Store conn.new (OnOk result
-        (AreNumbered ((database S.Store conn.old).trees named_tree))) }
-    ensures ok { OnCleanDisk S.Store conn.new (OnOk result
-        (NamesAre version objects.now (database S.Store conn.old))) }
-    ensures bad_row { OnCleanDisk S.Store conn.new (IfErr result (λ fault. fault ≡ BadRow →
-        NamesAre version objects.now (database S.Store conn.old) → ⊥)) }
-    ensures no_other { IfErr result TellsNoVersion }
-    ensures cause { IfErr result (IfStore (FailsOverTidy S.Store conn.old conn.new)) }
+    requires { IsIdle S.Store IsTabled conn.old }
+    ensures { Inspects S.Store conn.old conn.new result
+        (λ db _. AreNumbered (db.trees named_tree) × NamesAre version objects.now db)
+        (HasBadRow (λ db. NamesAre version objects.now db → ⊥)) }
 {
     // the count is not needed: the clause says that the rows have numbers of their own
     let _count = count_named(conn)?;
@@ -220,15 +188,10 @@ pub(crate) fn naming_objects<S: Alter>(
     name: &Name,
 ) -> Result<Vec<Object>, OpenFault>
     requires autocommit { conn.old.in_transaction ≡ false }
-    ensures looks { Looks S.Store conn.old conn.new result }
-    ensures read { OnCleanDisk S.Store conn.new (IfOk result (λ objects.
-        NamedPointsTo source.now name.now objects.items (database S.Store conn.old))) }
-    ensures in_order { IfOk result (λ objects. AreInOrder objects.items) }
-    ensures of_source { IfOk result (λ objects. AreObjectsOf source.now objects.items) }
-    ensures bad_row { OnCleanDisk S.Store conn.new (IfErr result (λ fault. fault ≡ BadRow →
-        HoldNone Current source.now (database S.Store conn.old))) }
-    ensures no_other { IfErr result TellsNoVersion }
-    ensures cause { IfErr result (IfStore (FailsOverTidy S.Store conn.old conn.new)) }
+    ensures inspects { Inspects S.Store conn.old conn.new result
+        (λ db objects. NamedPointsTo source.now name.now objects.items db)
+        (HasBadRow (HoldNone Current source.now)) }
+    ensures listed { IfOk result (λ objects. AreListed source.now objects.items) }
     ensures memory { OnCleanDisk S.Store conn.new (IfErr result (λ fault. fault ≡ Memory →
         IsUnchanged (state S.Store conn.old) (state S.Store conn.new))) }
 {

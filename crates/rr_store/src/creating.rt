@@ -10,6 +10,7 @@ ghost use Rattle.rr_store.specs.Faults.{no_tables};
 ghost use Rattle.rr_object.specs.Objects.{lent};
 ghost use Rattle.rr_store.specs.declared.store_fault.CreateFault.TheVariants.{Memory, NotEmpty};
 ghost use Rattle.rr_store.specs.declared.store_fault.CreateFault.TheVariants.{Store};
+ghost use Rattle.rr_store.specs.LookParts.{IsIdle, IsTabled};
 
 use crate::committed::note_committed;
 use crate::ending::end;
@@ -44,8 +45,7 @@ fn create_in_bare<S: Alter>(
     alloc: Global,
     objects: &[&Object],
 ) -> Result<(), StoreFault>
-    requires autocommit { conn.old.in_transaction ≡ false }
-    requires bare { OnCleanDisk S.Store conn.old (IsBare (database S.Store conn.old)) }
+    requires { IsIdle S.Store IsBare conn.old }
     ensures { Transacts S.Store (IsMadeWith (IsStoreOf (lent objects.now)))
         conn.old conn.new result }
 {
@@ -61,8 +61,7 @@ fn create_in_tables<S: Alter>(
     alloc: Global,
     objects: &[&Object],
 ) -> Result<(), CreateFault>
-    requires autocommit { conn.old.in_transaction ≡ false }
-    requires tables { OnCleanDisk S.Store conn.old (HasTables conn.old.schema) }
+    requires { IsIdle S.Store IsTabled conn.old }
     ensures makes { Transacts S.Store (IsMadeWith (IsStoreOf (lent objects.now)))
         conn.old conn.new result }
     ensures filled { OnCleanDisk S.Store conn.new (IfErr result (λ fault. fault ≡ NotEmpty →

@@ -6,10 +6,10 @@ ghost use Rattle.rr_store.specs.Contents.{IsTidy, KeepsOthers};
 ghost use Rattle.rr_store.specs.Entries.{IsAdded, entry_of};
 ghost use Rattle.rr_store.specs.Made.{HasItsTables, IsBare, no_schema};
 ghost use Rattle.rr_store.specs.Maps.{IsObject};
-ghost use Rattle.rr_store.specs.Calls.{WhileOpen, database};
 ghost use Rattle.rr_store.specs.Creating.{IsStoreOf};
 ghost use Rattle.rr_object.specs.Objects.{lent};
 ghost use Rattle.rr_store.specs.StepParts.{Made, Steps, StepsWhereOpen};
+ghost use Rattle.rr_store.specs.StepParts.{IsOver};
 
 use crate::bodies::add_rows;
 use crate::entry::Entry;
@@ -27,10 +27,9 @@ pub(crate) fn add_objects<S: Alter>(
     alloc: Global,
     objects: &[&Object],
 ) -> Result<(), StoreFault>
-    requires { WhileOpen S.Store tx.old.conn.now (IsTidy (database S.Store tx.old.conn.now)) }
-    ensures same_reference { tx.new.conn.ghost_name ≡ tx.old.conn.ghost_name }
+    requires { IsOver S.Store IsTidy tx.old }
     ensures steps { StepsWhereOpen S.Store (IsAdded (map entry_of (lent objects.now)))
-        tx.old.conn.now tx.new.conn.now result }
+        tx.old tx.new result }
     ensures read { OnOk result (AllByRecursion IsObject (lent objects.now)) }
 {
     for object in objects {
@@ -46,10 +45,9 @@ pub(crate) fn fill<S: Alter>(
     alloc: Global,
     objects: &[&Object],
 ) -> Result<(), StoreFault>
-    requires { WhileOpen S.Store tx.old.conn.now (IsBare (database S.Store tx.old.conn.now)) }
-    ensures same_reference { tx.new.conn.ghost_name ≡ tx.old.conn.ghost_name }
+    requires { IsOver S.Store IsBare tx.old }
     ensures steps { Steps S.Store (λ _. IsStoreOf (lent objects.now))
-        tx.old.conn.now tx.new.conn.now result }
+        tx.old tx.new result }
     ensures others { Made S.Store KeepsOthers tx.old.conn.now tx.new.conn.now result }
 {
     // the count is not asked for: the clause says which rows changed
@@ -63,11 +61,9 @@ pub(crate) fn make_filled<S: Alter>(
     alloc: Global,
     objects: &[&Object],
 ) -> Result<(), StoreFault>
-    requires { WhileOpen S.Store tx.old.conn.now
-        ((database S.Store tx.old.conn.now).schema ≡ no_schema) }
-    ensures same_reference { tx.new.conn.ghost_name ≡ tx.old.conn.ghost_name }
+    requires { IsOver S.Store (λ db. db.schema ≡ no_schema) tx.old }
     ensures steps { Steps S.Store (λ _. IsStoreOf (lent objects.now))
-        tx.old.conn.now tx.new.conn.now result }
+        tx.old tx.new result }
     ensures tables { Made S.Store HasItsTables tx.old.conn.now tx.new.conn.now result }
 {
     make_tables(tx)?;

@@ -4,13 +4,15 @@ ghost use Rattle.std.specs.Prelude.{◌≡◌, [], ◌∷◌, ◌++◌, false, m
 ghost use Rattle.rr_store.specs.Contents.{IsTidy, KeepsOthers};
 ghost use Rattle.rr_store.specs.Entries.{entry_of};
 ghost use Rattle.rr_store.specs.Made.{IsBare};
-ghost use Rattle.rr_store.specs.Calls.{OnCleanDisk, Transacts, WhileOpen, database};
+ghost use Rattle.rr_store.specs.Calls.{OnCleanDisk, Transacts, database};
 ghost use Rattle.rr_object.specs.Objects.{lent};
 ghost use Rattle.rr_store.specs.Migrating.{FailsOverOldRows, IsMigrated, RefusesOldTables};
 ghost use Rattle.rr_store.specs.Migrating.{has_mntner};
 ghost use Rattle.rr_store.specs.MigratingParts.{IsReplaced, IsRewritten};
 ghost use Rattle.rr_store.specs.declared.store_fault.MigrateFault.TheVariants.{Store};
 ghost use Rattle.rr_store.specs.StepParts.{Made, Steps};
+ghost use Rattle.rr_store.specs.LookParts.{IsIdle};
+ghost use Rattle.rr_store.specs.StepParts.{IsOver};
 
 use crate::committed::note_committed;
 use crate::ending::end;
@@ -28,9 +30,8 @@ use std::alloc::{AllocError, Global};
 
 /// Takes out all rows of the three tables, and no others.
 fn clear_rows<S: Alter>(tx: &mut Transaction<'_, S>) -> Result<(), Error>
-    requires { WhileOpen S.Store tx.old.conn.now (IsTidy (database S.Store tx.old.conn.now)) }
-    ensures same_reference { tx.new.conn.ghost_name ≡ tx.old.conn.ghost_name }
-    ensures steps { Steps S.Store (λ _. IsBare) tx.old.conn.now tx.new.conn.now result }
+    requires { IsOver S.Store IsTidy tx.old }
+    ensures steps { Steps S.Store (λ _. IsBare) tx.old tx.new result }
     ensures others { Made S.Store KeepsOthers tx.old.conn.now tx.new.conn.now result }
 {
     // the counts are not asked for: the clauses say which rows changed
@@ -46,10 +47,9 @@ fn refill<S: Alter>(
     alloc: Global,
     objects: &[&Object],
 ) -> Result<(), StoreFault>
-    requires { WhileOpen S.Store tx.old.conn.now (IsTidy (database S.Store tx.old.conn.now)) }
-    ensures same_reference { tx.new.conn.ghost_name ≡ tx.old.conn.ghost_name }
-    ensures steps { Steps S.Store (IsReplaced (map entry_of (lent objects.now)))
-        tx.old.conn.now tx.new.conn.now result }
+    requires { IsOver S.Store IsTidy tx.old }
+    ensures { Steps S.Store (IsReplaced (map entry_of (lent objects.now)))
+        tx.old tx.new result }
 {
     clear_rows(tx)?;
     fill(tx, alloc, objects)
@@ -61,8 +61,7 @@ fn replace<S: Alter>(
     alloc: Global,
     objects: &[&Object],
 ) -> Result<(), StoreFault>
-    requires autocommit { conn.old.in_transaction ≡ false }
-    requires tidy { WhileOpen S.Store conn.old (IsTidy (database S.Store conn.old)) }
+    requires { IsIdle S.Store IsTidy conn.old }
     ensures { Transacts S.Store (IsReplaced (map entry_of (lent objects.now)))
         conn.old conn.new result }
 {
@@ -89,8 +88,7 @@ fn rewrite<S: Alter>(
     root: &Name,
     source: &Name,
 ) -> Result<(), StoreFault>
-    requires autocommit { conn.old.in_transaction ≡ false }
-    requires tidy { WhileOpen S.Store conn.old (IsTidy (database S.Store conn.old)) }
+    requires { IsIdle S.Store IsTidy conn.old }
     ensures { Transacts S.Store (IsRewritten root.now source.now objects.items)
         conn.old conn.new result }
 {

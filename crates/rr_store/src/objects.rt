@@ -10,10 +10,10 @@ ghost use Rattle.rr_object.specs.Objects.{Obj, lent};
 ghost use Rattle.rr_object.specs.Readings.{ReadsAs};
 ghost use Rattle.rr_store.specs.Contents.{columns, object_values};
 ghost use Rattle.rr_store.specs.Maps.{AreApart, AreInOrder, IsObjectOf};
-ghost use Rattle.rr_store.specs.Opening.{IfStore};
-ghost use Rattle.rr_store.specs.ReadingParts.{IsRowOf, TellsNoVersion, by_key, is_below};
+ghost use Rattle.rr_store.specs.ReadingParts.{IsRowOf, by_key, is_below};
 ghost use Rattle.rr_store.specs.Versions.{form_of};
 ghost use Rattle.rr_store.specs.declared.store_fault.OpenFault.TheVariants.{BadRow};
+ghost use Rattle.rr_store.specs.ReadingParts.{IsRowFault};
 
 use crate::columns::{bytes_at, is_object_row};
 use crate::store_fault::OpenFault;
@@ -118,8 +118,7 @@ pub(crate) fn take_object(
     ensures bad_row { IfErr result (λ fault. fault ≡ BadRow → (object : Obj) →
         IsObjectOf source.now object → IsRowOf (form_of version) object (columns row.now)
         → ⊥) }
-    ensures no_store { IfErr result (IfStore (λ _. ⊥)) }
-    ensures no_other { IfErr result TellsNoVersion }
+    ensures row_fault { IfErr result IsRowFault }
 {
     let Some(object) = read_object(alloc, row, source, version)? else {
         return Err(OpenFault::BadRow);
@@ -183,8 +182,7 @@ pub(crate) fn in_order(objects: Vec<Object>) -> Result<Vec<Object>, OpenFault>
     ensures same { IfOk result (λ ordered. IsPermutation objects.items ordered.items) }
     ensures order { IfOk result (λ ordered. AreInOrder ordered.items) }
     ensures fault { IfErr result (λ fault. fault ≡ BadRow → AreApart objects.items → ⊥) }
-    ensures no_other { IfErr result TellsNoVersion }
-    ensures no_store { IfErr result (IfStore (λ _. ⊥)) }
+    ensures row_fault { IfErr result IsRowFault }
 {
     if are_in_order(&objects) {
         return Ok(objects);

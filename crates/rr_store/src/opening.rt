@@ -1,14 +1,14 @@
 //! The objects that the tables hold.
 
-ghost use Rattle.std.specs.Prelude.{◌≡◌, false, IfErr, IfOk};
-ghost use Rattle.rr_store.specs.Maps.{AreInOrder, HasVersion};
-ghost use Rattle.rr_store.specs.Calls.{FailsOverTidy, Looks, OnCleanDisk, database};
+ghost use Rattle.std.specs.Prelude.{◌≡◌, false, IfOk};
+ghost use Rattle.rr_store.specs.Maps.{HasVersion};
 ghost use Rattle.rr_store.specs.CheckParts.{HasNumberedMeta};
-ghost use Rattle.rr_store.specs.Opening.{AreObjectsOf, AreStoredAs, HoldNone, IfStore};
+ghost use Rattle.rr_store.specs.Opening.{AreStoredAs, HoldNone};
 ghost use Rattle.rr_store.specs.Opening.{RefusesTables};
-ghost use Rattle.rr_store.specs.ReadingParts.{TellsNoVersion};
 ghost use Rattle.rr_store.specs.Versions.{version_text};
-ghost use Rattle.rr_store.specs.declared.store_fault.OpenFault.TheVariants.{BadRow};
+ghost use Rattle.rr_store.specs.LookParts.{IsIdle};
+ghost use Rattle.rr_store.specs.Opening.{AreListed, Inspects};
+ghost use Rattle.rr_store.specs.CheckParts.{HasBadRow};
 
 use crate::checks::{check_named_table, check_objects, check_version};
 use crate::meta_check::check_meta;
@@ -27,18 +27,12 @@ fn checked_objects<S: Alter>(
     source: &Name,
     version: Version,
 ) -> Result<Vec<Object>, OpenFault>
-    requires autocommit { conn.old.in_transaction ≡ false }
-    requires meta { OnCleanDisk S.Store conn.old (HasNumberedMeta (database S.Store conn.old)) }
-    ensures looks { Looks S.Store conn.old conn.new result }
-    ensures stored { OnCleanDisk S.Store conn.new (IfOk result (λ objects.
-        HasVersion (version_text version) (database S.Store conn.old) →
-        AreStoredAs version source.now objects.items (database S.Store conn.old))) }
-    ensures in_order { IfOk result (λ objects. AreInOrder objects.items) }
-    ensures of_source { IfOk result (λ objects. AreObjectsOf source.now objects.items) }
-    ensures bad_row { OnCleanDisk S.Store conn.new (IfErr result (λ fault. fault ≡ BadRow →
-        HoldNone version source.now (database S.Store conn.old))) }
-    ensures no_other { IfErr result TellsNoVersion }
-    ensures cause { IfErr result (IfStore (FailsOverTidy S.Store conn.old conn.new)) }
+    requires { IsIdle S.Store HasNumberedMeta conn.old }
+    ensures inspects { Inspects S.Store conn.old conn.new result
+        (λ db objects. HasVersion (version_text version) db →
+        AreStoredAs version source.now objects.items db)
+        (HasBadRow (HoldNone version source.now)) }
+    ensures listed { IfOk result (λ objects. AreListed source.now objects.items) }
 {
     let objects = check_objects(conn, alloc, source, version)?;
     check_named_table(conn, alloc, &objects, version)?;
@@ -52,16 +46,11 @@ fn read_tables<S: Alter>(
     source: &Name,
     version: Version,
 ) -> Result<Vec<Object>, OpenFault>
-    requires autocommit { conn.old.in_transaction ≡ false }
-    requires meta { OnCleanDisk S.Store conn.old (HasNumberedMeta (database S.Store conn.old)) }
-    ensures looks { Looks S.Store conn.old conn.new result }
-    ensures stored { OnCleanDisk S.Store conn.new (IfOk result (λ objects.
-        AreStoredAs version source.now objects.items (database S.Store conn.old))) }
-    ensures in_order { IfOk result (λ objects. AreInOrder objects.items) }
-    ensures of_source { IfOk result (λ objects. AreObjectsOf source.now objects.items) }
-    ensures why { OnCleanDisk S.Store conn.new (IfErr result
-        (RefusesTables version source.now (database S.Store conn.old))) }
-    ensures cause { IfErr result (IfStore (FailsOverTidy S.Store conn.old conn.new)) }
+    requires { IsIdle S.Store HasNumberedMeta conn.old }
+    ensures inspects { Inspects S.Store conn.old conn.new result
+        (λ db objects. AreStoredAs version source.now objects.items db)
+        (RefusesTables version source.now) }
+    ensures listed { IfOk result (λ objects. AreListed source.now objects.items) }
 {
     check_version(conn, version)?;
     checked_objects(conn, alloc, source, version)
@@ -75,14 +64,10 @@ pub(crate) fn stored_objects<S: Alter>(
     version: Version,
 ) -> Result<Vec<Object>, OpenFault>
     requires autocommit { conn.old.in_transaction ≡ false }
-    ensures looks { Looks S.Store conn.old conn.new result }
-    ensures stored { OnCleanDisk S.Store conn.new (IfOk result (λ objects.
-        AreStoredAs version source.now objects.items (database S.Store conn.old))) }
-    ensures in_order { IfOk result (λ objects. AreInOrder objects.items) }
-    ensures of_source { IfOk result (λ objects. AreObjectsOf source.now objects.items) }
-    ensures why { OnCleanDisk S.Store conn.new (IfErr result
-        (RefusesTables version source.now (database S.Store conn.old))) }
-    ensures cause { IfErr result (IfStore (FailsOverTidy S.Store conn.old conn.new)) }
+    ensures inspects { Inspects S.Store conn.old conn.new result
+        (λ db objects. AreStoredAs version source.now objects.items db)
+        (RefusesTables version source.now) }
+    ensures listed { IfOk result (λ objects. AreListed source.now objects.items) }
 {
     check_meta(conn)?;
     read_tables(conn, alloc, source, version)

@@ -1,23 +1,24 @@
 //! Queries on the three tables.
 
-ghost use Rattle.std.specs.Prelude.{◌≡◌, [], false, length, map, IfErr, IfOk};
+ghost use Rattle.std.specs.Prelude.{◌≡◌, [], false, map, IfErr, IfOk};
 ghost use Rattle.std.specs.Prelude.{IsTrue};
-ghost use Rattle.std.specs.Prelude.{OnOk};
 ghost use Rattle.sqlite.specs.Given.{IsPlain};
 ghost use Rattle.sqlite.specs.Held.{state};
 ghost use Rattle.sqlite.specs.Listing.{understood};
 ghost use Rattle.sqlite.specs.State.{FailsToQuery, IsUnchanged, Shown};
 ghost use Rattle.sqlite.specs.Values.{bound};
-ghost use Rattle.rr_store.specs.Contents.{AreNumbered, IsInRank, by_three, by_two, contents};
+ghost use Rattle.rr_store.specs.Contents.{IsInRank, by_three, by_two, contents};
 ghost use Rattle.rr_store.specs.Contents.{number};
 ghost use Rattle.rr_store.specs.Contents.{by_one, meta_rows};
-ghost use Rattle.rr_store.specs.Tables.{HasTables, meta_tree, named_tree, object_tree};
-ghost use Rattle.rr_store.specs.Calls.{FailsFor, FailsOverTidy, Looks, OnCleanDisk, database};
+ghost use Rattle.rr_store.specs.Tables.{meta_tree, named_tree, object_tree};
+ghost use Rattle.rr_store.specs.Calls.{Looks, OnCleanDisk};
 ghost use Rattle.rr_store.specs.CheckParts.{NamedPointsTo, NamedPointsToNone, NamesAre};
-ghost use Rattle.rr_store.specs.CheckParts.{TableHolds, TableHoldsInTurn, TableHoldsNone};
-ghost use Rattle.rr_store.specs.Opening.{AreObjectsOf, IfStore};
-ghost use Rattle.rr_store.specs.ReadingParts.{TellsNoVersion};
-ghost use Rattle.rr_store.specs.declared.store_fault.OpenFault.TheVariants.{BadRow, Memory};
+ghost use Rattle.rr_store.specs.CheckParts.{TableHoldsNone};
+ghost use Rattle.rr_store.specs.Opening.{AreObjectsOf};
+ghost use Rattle.rr_store.specs.declared.store_fault.OpenFault.TheVariants.{Memory};
+ghost use Rattle.rr_store.specs.LookParts.{Counts, IsIdle, IsTabled, Selects};
+ghost use Rattle.rr_store.specs.Opening.{Inspects};
+ghost use Rattle.rr_store.specs.CheckParts.{HasBadRow, TableGives};
 
 use crate::committed::note_committed;
 use crate::row_streams::{count_numbered, take_all_names, take_objects};
@@ -49,12 +50,9 @@ fn look<S: Alter>(
 
 /// The names and values of the rows of `meta`, in order of the names.
 pub(crate) fn meta_rows<S: Alter>(conn: &mut Connection<S>) -> Result<Vec<Row>, Error>
-    requires autocommit { conn.old.in_transaction ≡ false }
-    requires tables { OnCleanDisk S.Store conn.old (HasTables conn.old.schema) }
-    ensures looks { Looks S.Store conn.old conn.new result }
-    ensures rows { OnCleanDisk S.Store conn.new (IfOk result (λ rows. IsInRank by_two
-        (meta_rows ((database S.Store conn.old).trees meta_tree)) rows.items)) }
-    ensures cause { IfErr result (FailsFor S.Store conn.old conn.new) }
+    requires { IsIdle S.Store IsTabled conn.old }
+    ensures { Selects S.Store conn.old conn.new result (λ db rows.
+        IsInRank by_two (meta_rows (db.trees meta_tree)) rows.items) }
 {
     look(
         conn,
@@ -65,12 +63,9 @@ pub(crate) fn meta_rows<S: Alter>(conn: &mut Connection<S>) -> Result<Vec<Row>, 
 
 /// The rows of `named` without their numbers, by maintainer, class and key.
 pub(crate) fn sorted_named_rows<S: Alter>(conn: &mut Connection<S>) -> Result<Vec<Row>, Error>
-    requires autocommit { conn.old.in_transaction ≡ false }
-    requires tables { OnCleanDisk S.Store conn.old (HasTables conn.old.schema) }
-    ensures looks { Looks S.Store conn.old conn.new result }
-    ensures rows { OnCleanDisk S.Store conn.new (IfOk result (λ rows. IsInRank by_three
-        (contents ((database S.Store conn.old).trees named_tree)) rows.items)) }
-    ensures cause { IfErr result (FailsFor S.Store conn.old conn.new) }
+    requires { IsIdle S.Store IsTabled conn.old }
+    ensures { Selects S.Store conn.old conn.new result (λ db rows.
+        IsInRank by_three (contents (db.trees named_tree)) rows.items) }
 {
     look(
         conn,
@@ -81,50 +76,35 @@ pub(crate) fn sorted_named_rows<S: Alter>(conn: &mut Connection<S>) -> Result<Ve
 
 /// The numbers of the rows of `meta`, in order.
 pub(crate) fn meta_numbers<S: Alter>(conn: &mut Connection<S>) -> Result<Vec<Row>, Error>
-    requires autocommit { conn.old.in_transaction ≡ false }
-    requires tables { OnCleanDisk S.Store conn.old (HasTables conn.old.schema) }
-    ensures looks { Looks S.Store conn.old conn.new result }
-    ensures rows { OnCleanDisk S.Store conn.new (IfOk result (λ rows. IsInRank by_one
-        (map number ((database S.Store conn.old).trees meta_tree)) rows.items)) }
-    ensures cause { IfErr result (FailsFor S.Store conn.old conn.new) }
+    requires { IsIdle S.Store IsTabled conn.old }
+    ensures { Selects S.Store conn.old conn.new result (λ db rows.
+        IsInRank by_one (map number (db.trees meta_tree)) rows.items) }
 {
     look(conn, "SELECT rowid FROM meta ORDER BY rowid", &[])
 }
 
 /// The numbers of the rows of `object`, in order.
 pub(crate) fn object_numbers<S: Alter>(conn: &mut Connection<S>) -> Result<Vec<Row>, Error>
-    requires autocommit { conn.old.in_transaction ≡ false }
-    requires tables { OnCleanDisk S.Store conn.old (HasTables conn.old.schema) }
-    ensures looks { Looks S.Store conn.old conn.new result }
-    ensures rows { OnCleanDisk S.Store conn.new (IfOk result (λ rows. IsInRank by_one
-        (map number ((database S.Store conn.old).trees object_tree)) rows.items)) }
-    ensures cause { IfErr result (FailsFor S.Store conn.old conn.new) }
+    requires { IsIdle S.Store IsTabled conn.old }
+    ensures { Selects S.Store conn.old conn.new result (λ db rows.
+        IsInRank by_one (map number (db.trees object_tree)) rows.items) }
 {
     look(conn, "SELECT rowid FROM object ORDER BY rowid", &[])
 }
 
 /// The numbers of the rows of `named`, in order.
 pub(crate) fn named_numbers<S: Alter>(conn: &mut Connection<S>) -> Result<Vec<Row>, Error>
-    requires autocommit { conn.old.in_transaction ≡ false }
-    requires tables { OnCleanDisk S.Store conn.old (HasTables conn.old.schema) }
-    ensures looks { Looks S.Store conn.old conn.new result }
-    ensures rows { OnCleanDisk S.Store conn.new (IfOk result (λ rows. IsInRank by_one
-        (map number ((database S.Store conn.old).trees named_tree)) rows.items)) }
-    ensures cause { IfErr result (FailsFor S.Store conn.old conn.new) }
+    requires { IsIdle S.Store IsTabled conn.old }
+    ensures { Selects S.Store conn.old conn.new result (λ db rows.
+        IsInRank by_one (map number (db.trees named_tree)) rows.items) }
 {
     look(conn, "SELECT rowid FROM named ORDER BY rowid", &[])
 }
 
 /// How many rows `meta` has, which have to have numbers of their own.
 pub(crate) fn count_meta<S: Alter>(conn: &mut Connection<S>) -> Result<usize, Error>
-    requires autocommit { conn.old.in_transaction ≡ false }
-    requires tables { OnCleanDisk S.Store conn.old (HasTables conn.old.schema) }
-    ensures looks { Looks S.Store conn.old conn.new result }
-    ensures numbered { OnCleanDisk S.Store conn.new (OnOk result
-        (AreNumbered ((database S.Store conn.old).trees meta_tree))) }
-    ensures count { OnCleanDisk S.Store conn.new (IfOk result (λ count.
-        count ≡ length ((database S.Store conn.old).trees meta_tree))) }
-    ensures cause { IfErr result (FailsOverTidy S.Store conn.old conn.new) }
+    requires { IsIdle S.Store IsTabled conn.old }
+    ensures { Counts S.Store meta_tree conn.old conn.new result }
 {
     note_committed(conn);
     let mut rows = conn.query("SELECT rowid FROM meta ORDER BY rowid", &[])?;
@@ -133,14 +113,8 @@ pub(crate) fn count_meta<S: Alter>(conn: &mut Connection<S>) -> Result<usize, Er
 
 /// How many rows `object` has, which have to have numbers of their own.
 pub(crate) fn count_object<S: Alter>(conn: &mut Connection<S>) -> Result<usize, Error>
-    requires autocommit { conn.old.in_transaction ≡ false }
-    requires tables { OnCleanDisk S.Store conn.old (HasTables conn.old.schema) }
-    ensures looks { Looks S.Store conn.old conn.new result }
-    ensures numbered { OnCleanDisk S.Store conn.new (OnOk result
-        (AreNumbered ((database S.Store conn.old).trees object_tree))) }
-    ensures count { OnCleanDisk S.Store conn.new (IfOk result (λ count.
-        count ≡ length ((database S.Store conn.old).trees object_tree))) }
-    ensures cause { IfErr result (FailsOverTidy S.Store conn.old conn.new) }
+    requires { IsIdle S.Store IsTabled conn.old }
+    ensures { Counts S.Store object_tree conn.old conn.new result }
 {
     note_committed(conn);
     let mut rows = conn.query("SELECT rowid FROM object ORDER BY rowid", &[])?;
@@ -149,14 +123,8 @@ pub(crate) fn count_object<S: Alter>(conn: &mut Connection<S>) -> Result<usize, 
 
 /// How many rows `named` has, which have to have numbers of their own.
 pub(crate) fn count_named<S: Alter>(conn: &mut Connection<S>) -> Result<usize, Error>
-    requires autocommit { conn.old.in_transaction ≡ false }
-    requires tables { OnCleanDisk S.Store conn.old (HasTables conn.old.schema) }
-    ensures looks { Looks S.Store conn.old conn.new result }
-    ensures numbered { OnCleanDisk S.Store conn.new (OnOk result
-        (AreNumbered ((database S.Store conn.old).trees named_tree))) }
-    ensures count { OnCleanDisk S.Store conn.new (IfOk result (λ count.
-        count ≡ length ((database S.Store conn.old).trees named_tree))) }
-    ensures cause { IfErr result (FailsOverTidy S.Store conn.old conn.new) }
+    requires { IsIdle S.Store IsTabled conn.old }
+    ensures { Counts S.Store named_tree conn.old conn.new result }
 {
     note_committed(conn);
     let mut rows = conn.query("SELECT rowid FROM named ORDER BY rowid", &[])?;
@@ -172,18 +140,11 @@ pub(crate) fn read_objects<S: Alter>(
     source: &Name,
     version: Version,
 ) -> Result<Vec<Object>, OpenFault>
-    requires autocommit { conn.old.in_transaction ≡ false }
-    requires tables { OnCleanDisk S.Store conn.old (HasTables conn.old.schema) }
-    ensures looks { Looks S.Store conn.old conn.new result }
-    ensures read { OnCleanDisk S.Store conn.new (IfOk result (λ objects.
-        TableHolds version source.now objects.items (database S.Store conn.old))) }
-    ensures in_turn { OnCleanDisk S.Store conn.new (IfOk result (λ objects.
-        TableHoldsInTurn version source.now objects.items (database S.Store conn.old))) }
+    requires { IsIdle S.Store IsTabled conn.old }
+    ensures inspects { Inspects S.Store conn.old conn.new result
+        (λ db objects. TableGives version source.now objects.items db)
+        (HasBadRow (TableHoldsNone version source.now)) }
     ensures of_source { IfOk result (λ objects. AreObjectsOf source.now objects.items) }
-    ensures bad_row { OnCleanDisk S.Store conn.new (IfErr result (λ fault. fault ≡ BadRow →
-        TableHoldsNone version source.now (database S.Store conn.old))) }
-    ensures no_other { IfErr result TellsNoVersion }
-    ensures cause { IfErr result (IfStore (FailsOverTidy S.Store conn.old conn.new)) }
 {
     note_committed(conn);
     let mut rows = conn.query(
@@ -200,14 +161,9 @@ pub(crate) fn names_in_turn<S: Alter>(
     objects: &[Object],
     version: Version,
 ) -> Result<bool, OpenFault>
-    requires autocommit { conn.old.in_transaction ≡ false }
-    requires tables { OnCleanDisk S.Store conn.old (HasTables conn.old.schema) }
-    ensures looks { Looks S.Store conn.old conn.new result }
-    ensures are { OnCleanDisk S.Store conn.new (IfOk result (λ are. IsTrue are →
-        NamesAre version objects.now (database S.Store conn.old))) }
-    ensures no_bad_row { IfErr result (λ fault. fault ≡ BadRow → ⊥) }
-    ensures no_other { IfErr result TellsNoVersion }
-    ensures cause { IfErr result (IfStore (FailsOverTidy S.Store conn.old conn.new)) }
+    requires { IsIdle S.Store IsTabled conn.old }
+    ensures { Inspects S.Store conn.old conn.new result
+        (λ db are. IsTrue are → NamesAre version objects.now db) (HasBadRow (λ _. ⊥)) }
 {
     note_committed(conn);
     let mut rows = conn.query(
@@ -224,16 +180,11 @@ pub(crate) fn read_naming<S: Alter>(
     source: &Name,
     name: &[u8],
 ) -> Result<Vec<Object>, OpenFault>
-    requires autocommit { conn.old.in_transaction ≡ false }
-    requires tables { OnCleanDisk S.Store conn.old (HasTables conn.old.schema) }
-    ensures looks { Looks S.Store conn.old conn.new result }
-    ensures read { OnCleanDisk S.Store conn.new (IfOk result (λ objects.
-        NamedPointsTo source.now name.now objects.items (database S.Store conn.old))) }
+    requires { IsIdle S.Store IsTabled conn.old }
+    ensures inspects { Inspects S.Store conn.old conn.new result
+        (λ db objects. NamedPointsTo source.now name.now objects.items db)
+        (HasBadRow (NamedPointsToNone source.now name.now)) }
     ensures of_source { IfOk result (λ objects. AreObjectsOf source.now objects.items) }
-    ensures bad_row { OnCleanDisk S.Store conn.new (IfErr result (λ fault. fault ≡ BadRow →
-        NamedPointsToNone source.now name.now (database S.Store conn.old))) }
-    ensures no_other { IfErr result TellsNoVersion }
-    ensures cause { IfErr result (IfStore (FailsOverTidy S.Store conn.old conn.new)) }
     ensures memory { OnCleanDisk S.Store conn.new (IfErr result (λ fault. fault ≡ Memory →
         IsUnchanged (state S.Store conn.old) (state S.Store conn.new))) }
 {

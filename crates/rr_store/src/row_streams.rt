@@ -1,9 +1,7 @@
 //! Rows that are read one at a time, so that only what is made of them takes memory.
 
-ghost use Rattle.std.specs.Prelude.{◌≡◌, ◌++◌, List, IfErr, IfOk, IsTrue, length, map};
+ghost use Rattle.std.specs.Prelude.{◌≡◌, List, IfErr, IfOk, IsTrue, length, map};
 ghost use Rattle.std.specs.List.{flat_map};
-ghost use Rattle.sqlite.specs.State.{IsUnchanged};
-ghost use Rattle.sqlite.specs.Held.{state};
 ghost use Rattle.sqlite_value.specs.declared.value.Value.TheVariants.{Int};
 ghost use Rattle.sqlite_value.specs.Order.{Row as Values};
 ghost use Rattle.sqlite_trees.specs.Tree.{rowid};
@@ -11,12 +9,13 @@ ghost use Rattle.rr_store.specs.Contents.{AreNumbered, IsPast, contents, named_v
 ghost use Rattle.rr_store.specs.Entries.{named_rows};
 ghost use Rattle.rr_store.specs.Maps.{entry_in};
 ghost use Rattle.rr_store.specs.Calls.{IsOpen, OnCleanDisk};
-ghost use Rattle.rr_store.specs.Opening.{AreObjectsOf, IfStore};
-ghost use Rattle.rr_store.specs.ReadingParts.{AreNone, AreRead, TellsNoVersion};
+ghost use Rattle.rr_store.specs.Opening.{AreObjectsOf};
+ghost use Rattle.rr_store.specs.ReadingParts.{AreRead};
 ghost use Rattle.rr_store.specs.StreamParts.{FailsAfterRows, FailsToCount, GivesMore, GivesRest};
 ghost use Rattle.rr_store.specs.StreamParts.{IsNotNext, Streams};
 ghost use Rattle.rr_store.specs.Versions.{form_of};
 ghost use Rattle.rr_store.specs.declared.store_fault.OpenFault.TheVariants.{BadRow};
+ghost use Rattle.rr_store.specs.StreamParts.{FailsToTake, RefusesRows};
 
 use crate::columns::is_named_row;
 use crate::names::maintainers_of;
@@ -51,8 +50,7 @@ fn next_number(row: &Row, last: Option<i64>) -> Result<i64, Error>
 /// How many rows are to come, whose first values are numbers that rise.
 pub(crate) fn count_numbered<S: Alter>(rows: &mut Rows<'_, S>) -> Result<usize, Error>
     requires { IsOpen S.Store rows.old.conn.now }
-    ensures same_reference { rows.new.conn.ghost_name ≡ rows.old.conn.ghost_name }
-    ensures streams { Streams S.Store rows.old.conn.now rows.new.conn.now result }
+    ensures streams { Streams S.Store rows.old rows.new result }
     ensures numbered { OnCleanDisk S.Store rows.new.conn.now (IfOk result (λ count.
         (rest : List Values) × GivesRest S.Store rows.old.conn.now rows.new.conn.now rest ×
         AreNumbered rest × (count ≡ length rest))) }
@@ -79,22 +77,14 @@ pub(crate) fn take_objects<S: Alter>(
     version: Version,
 ) -> Result<Vec<Object>, OpenFault>
     requires { IsOpen S.Store rows.old.conn.now }
-    ensures same_reference { rows.new.conn.ghost_name ≡ rows.old.conn.ghost_name }
-    ensures streams { Streams S.Store rows.old.conn.now rows.new.conn.now result }
+    ensures streams { Streams S.Store rows.old rows.new result }
     ensures read { OnCleanDisk S.Store rows.new.conn.now (IfOk result (λ objects.
         (rest : List Values) × GivesRest S.Store rows.old.conn.now rows.new.conn.now rest ×
         AreRead (form_of version) source.now (contents rest) objects.items)) }
     ensures of_source { IfOk result (λ objects. AreObjectsOf source.now objects.items) }
-    ensures bad_row { OnCleanDisk S.Store rows.new.conn.now (IfErr result (λ fault.
-        fault ≡ BadRow → (more : List Values) ×
-        GivesMore S.Store rows.old.conn.now rows.new.conn.now more × ((rest : List Values) →
-        AreNone (form_of version) source.now (contents (more ++ rest))))) }
-    ensures unchanged { OnCleanDisk S.Store rows.new.conn.now (IfErr result (λ fault.
-        IfStore (λ _. ⊥) fault →
-        IsUnchanged (state S.Store rows.old.conn.now) (state S.Store rows.new.conn.now))) }
-    ensures no_other { IfErr result TellsNoVersion }
-    ensures fails { OnCleanDisk S.Store rows.new.conn.now (IfErr result (IfStore
-        (FailsAfterRows S.Store rows.old.conn.now rows.new.conn.now))) }
+    ensures refuses { OnCleanDisk S.Store rows.new.conn.now (IfErr result (RefusesRows S.Store
+        (form_of version) source.now rows.old.conn.now rows.new.conn.now)) }
+    ensures fails { IfErr result (FailsToTake S.Store rows.old rows.new) }
 {
     let mut objects = Vec::with_capacity(alloc, count)?;
     'rows: for _ in 0..u64::MAX {
@@ -115,8 +105,7 @@ fn take_names<S: Alter>(
     key: &[u8],
 ) -> Result<bool, Error>
     requires { IsOpen S.Store rows.old.conn.now }
-    ensures same_reference { rows.new.conn.ghost_name ≡ rows.old.conn.ghost_name }
-    ensures streams { Streams S.Store rows.old.conn.now rows.new.conn.now result }
+    ensures streams { Streams S.Store rows.old rows.new result }
     ensures are { OnCleanDisk S.Store rows.new.conn.now (IfOk result (λ are. IsTrue are →
         (more : List Values) × GivesMore S.Store rows.old.conn.now rows.new.conn.now more ×
         (contents more ≡ map (λ name. named_values name class key.now) names.now))) }
@@ -143,15 +132,12 @@ fn take_names_of<S: Alter>(
     version: Version,
 ) -> Result<bool, OpenFault>
     requires { IsOpen S.Store rows.old.conn.now }
-    ensures same_reference { rows.new.conn.ghost_name ≡ rows.old.conn.ghost_name }
-    ensures streams { Streams S.Store rows.old.conn.now rows.new.conn.now result }
+    ensures streams { Streams S.Store rows.old rows.new result }
     ensures are { OnCleanDisk S.Store rows.new.conn.now (IfOk result (λ are. IsTrue are →
         (more : List Values) × GivesMore S.Store rows.old.conn.now rows.new.conn.now more ×
         (contents more ≡ named_rows (entry_in (form_of version) object.now)))) }
     ensures no_bad_row { IfErr result (λ fault. fault ≡ BadRow → ⊥) }
-    ensures no_other { IfErr result TellsNoVersion }
-    ensures fails { OnCleanDisk S.Store rows.new.conn.now (IfErr result (IfStore
-        (FailsAfterRows S.Store rows.old.conn.now rows.new.conn.now))) }
+    ensures fails { IfErr result (FailsToTake S.Store rows.old rows.new) }
 {
     let names = maintainers_of(alloc, object)?;
     let key = key_text(alloc, object.key(), version)?;
@@ -167,15 +153,12 @@ pub(crate) fn take_all_names<S: Alter>(
     version: Version,
 ) -> Result<bool, OpenFault>
     requires { IsOpen S.Store rows.old.conn.now }
-    ensures same_reference { rows.new.conn.ghost_name ≡ rows.old.conn.ghost_name }
-    ensures streams { Streams S.Store rows.old.conn.now rows.new.conn.now result }
+    ensures streams { Streams S.Store rows.old rows.new result }
     ensures are { OnCleanDisk S.Store rows.new.conn.now (IfOk result (λ are. IsTrue are →
         (rest : List Values) × GivesRest S.Store rows.old.conn.now rows.new.conn.now rest ×
         (contents rest ≡ flat_map named_rows (map (entry_in (form_of version)) objects.now)))) }
     ensures no_bad_row { IfErr result (λ fault. fault ≡ BadRow → ⊥) }
-    ensures no_other { IfErr result TellsNoVersion }
-    ensures fails { OnCleanDisk S.Store rows.new.conn.now (IfErr result (IfStore
-        (FailsAfterRows S.Store rows.old.conn.now rows.new.conn.now))) }
+    ensures fails { IfErr result (FailsToTake S.Store rows.old rows.new) }
 {
     for object in objects {
         if !take_names_of(rows, alloc, object, version)? {

@@ -6,8 +6,9 @@ ghost use Rattle.rr_store.specs.Contents.{Adds, Alters, IsTidy, Removes, content
 ghost use Rattle.rr_store.specs.Contents.{is_name_of, is_object_of, meta_values, named_values};
 ghost use Rattle.rr_store.specs.Contents.{object_values};
 ghost use Rattle.rr_store.specs.Tables.{meta_tree, named_tree, object_tree};
-ghost use Rattle.rr_store.specs.Calls.{OnCleanDisk, WhileOpen, database};
+ghost use Rattle.rr_store.specs.Calls.{OnCleanDisk, database};
 ghost use Rattle.rr_store.specs.StepParts.{Steps};
+ghost use Rattle.rr_store.specs.StepParts.{IsOver};
 
 use sqlite::{Alter, Error, Row, Transaction};
 use sqlite_value::value::ValueRef;
@@ -18,11 +19,10 @@ pub(crate) fn add_meta_row<'x, S: Alter>(
     name: &'x [u8],
     value: &'x [u8],
 ) -> Result<usize, Error>
-    requires { WhileOpen S.Store tx.old.conn.now (IsTidy (database S.Store tx.old.conn.now)) }
-    ensures same_reference { tx.new.conn.ghost_name ≡ tx.old.conn.ghost_name }
-    ensures steps { Steps S.Store
+    requires { IsOver S.Store IsTidy tx.old }
+    ensures { Steps S.Store
         (λ old new. Alters old new meta_tree (Adds (meta_values name.now value.now ∷ [])))
-        tx.old.conn.now tx.new.conn.now result }
+        tx.old tx.new result }
 {
     tx.execute(
         "INSERT INTO meta (name, value) VALUES (?1, ?2)",
@@ -37,11 +37,10 @@ pub(crate) fn add_object<'x, S: Alter>(
     key: &'x [u8],
     body: &'x [u8],
 ) -> Result<usize, Error>
-    requires { WhileOpen S.Store tx.old.conn.now (IsTidy (database S.Store tx.old.conn.now)) }
-    ensures same_reference { tx.new.conn.ghost_name ≡ tx.old.conn.ghost_name }
-    ensures steps { Steps S.Store
+    requires { IsOver S.Store IsTidy tx.old }
+    ensures { Steps S.Store
         (λ old new. Alters old new object_tree (Adds (object_values class key.now body.now ∷ [])))
-        tx.old.conn.now tx.new.conn.now result }
+        tx.old tx.new result }
 {
     tx.execute(
         "INSERT INTO object (class, okey, body) VALUES (?1, ?2, ?3)",
@@ -60,11 +59,10 @@ pub(crate) fn add_name<'x, S: Alter>(
     class: u8,
     key: &'x [u8],
 ) -> Result<usize, Error>
-    requires { WhileOpen S.Store tx.old.conn.now (IsTidy (database S.Store tx.old.conn.now)) }
-    ensures same_reference { tx.new.conn.ghost_name ≡ tx.old.conn.ghost_name }
-    ensures steps { Steps S.Store
+    requires { IsOver S.Store IsTidy tx.old }
+    ensures { Steps S.Store
         (λ old new. Alters old new named_tree (Adds (named_values name.now class key.now ∷ [])))
-        tx.old.conn.now tx.new.conn.now result }
+        tx.old tx.new result }
 {
     tx.execute(
         "INSERT INTO named (maintainer, class, okey) VALUES (?1, ?2, ?3)",
@@ -82,11 +80,10 @@ pub(crate) fn remove_object<S: Alter>(
     class: u8,
     key: &[u8],
 ) -> Result<usize, Error>
-    requires { WhileOpen S.Store tx.old.conn.now (IsTidy (database S.Store tx.old.conn.now)) }
-    ensures same_reference { tx.new.conn.ghost_name ≡ tx.old.conn.ghost_name }
-    ensures steps { Steps S.Store
+    requires { IsOver S.Store IsTidy tx.old }
+    ensures { Steps S.Store
         (λ old new. Alters old new object_tree (Removes (is_object_of class key.now)))
-        tx.old.conn.now tx.new.conn.now result }
+        tx.old tx.new result }
 {
     tx.execute(
         "DELETE FROM object WHERE class = ?1 AND okey = ?2",
@@ -101,11 +98,10 @@ pub(crate) fn remove_name<'x, S: Alter>(
     class: u8,
     key: &'x [u8],
 ) -> Result<usize, Error>
-    requires { WhileOpen S.Store tx.old.conn.now (IsTidy (database S.Store tx.old.conn.now)) }
-    ensures same_reference { tx.new.conn.ghost_name ≡ tx.old.conn.ghost_name }
-    ensures steps { Steps S.Store
+    requires { IsOver S.Store IsTidy tx.old }
+    ensures { Steps S.Store
         (λ old new. Alters old new named_tree (Removes (is_name_of class key.now name.now)))
-        tx.old.conn.now tx.new.conn.now result }
+        tx.old tx.new result }
 {
     tx.execute(
         "DELETE FROM named WHERE maintainer = ?1 AND class = ?2 AND okey = ?3",
@@ -123,12 +119,11 @@ pub(crate) fn rows_of_key<S: Alter>(
     class: u8,
     key: &[u8],
 ) -> Result<Vec<Row>, Error>
-    requires { WhileOpen S.Store tx.old.conn.now (IsTidy (database S.Store tx.old.conn.now)) }
-    ensures same_reference { tx.new.conn.ghost_name ≡ tx.old.conn.ghost_name }
+    requires { IsOver S.Store IsTidy tx.old }
     ensures rows { OnCleanDisk S.Store tx.new.conn.now (IfOk result (λ rows. IsPermutation
         (filter (is_object_of class key.now)
         (contents ((database S.Store tx.old.conn.now).trees object_tree))) rows.items)) }
-    ensures steps { Steps S.Store (λ old new. new ≡ old) tx.old.conn.now tx.new.conn.now result }
+    ensures steps { Steps S.Store (λ old new. new ≡ old) tx.old tx.new result }
 {
     tx.query_all(
         "SELECT class, okey, body FROM object WHERE class = ?1 AND okey = ?2",
@@ -138,30 +133,27 @@ pub(crate) fn rows_of_key<S: Alter>(
 
 /// Takes out all rows of `meta`.
 pub(crate) fn clear_meta<S: Alter>(tx: &mut Transaction<'_, S>) -> Result<usize, Error>
-    requires { WhileOpen S.Store tx.old.conn.now (IsTidy (database S.Store tx.old.conn.now)) }
-    ensures same_reference { tx.new.conn.ghost_name ≡ tx.old.conn.ghost_name }
-    ensures steps { Steps S.Store (λ old new. Alters old new meta_tree (Removes (λ _. true)))
-        tx.old.conn.now tx.new.conn.now result }
+    requires { IsOver S.Store IsTidy tx.old }
+    ensures { Steps S.Store (λ old new. Alters old new meta_tree (Removes (λ _. true)))
+        tx.old tx.new result }
 {
     tx.execute("DELETE FROM meta", &[])
 }
 
 /// Takes out all rows of `object`.
 pub(crate) fn clear_objects<S: Alter>(tx: &mut Transaction<'_, S>) -> Result<usize, Error>
-    requires { WhileOpen S.Store tx.old.conn.now (IsTidy (database S.Store tx.old.conn.now)) }
-    ensures same_reference { tx.new.conn.ghost_name ≡ tx.old.conn.ghost_name }
-    ensures steps { Steps S.Store (λ old new. Alters old new object_tree (Removes (λ _. true)))
-        tx.old.conn.now tx.new.conn.now result }
+    requires { IsOver S.Store IsTidy tx.old }
+    ensures { Steps S.Store (λ old new. Alters old new object_tree (Removes (λ _. true)))
+        tx.old tx.new result }
 {
     tx.execute("DELETE FROM object", &[])
 }
 
 /// Takes out all rows of `named`.
 pub(crate) fn clear_names<S: Alter>(tx: &mut Transaction<'_, S>) -> Result<usize, Error>
-    requires { WhileOpen S.Store tx.old.conn.now (IsTidy (database S.Store tx.old.conn.now)) }
-    ensures same_reference { tx.new.conn.ghost_name ≡ tx.old.conn.ghost_name }
-    ensures steps { Steps S.Store (λ old new. Alters old new named_tree (Removes (λ _. true)))
-        tx.old.conn.now tx.new.conn.now result }
+    requires { IsOver S.Store IsTidy tx.old }
+    ensures { Steps S.Store (λ old new. Alters old new named_tree (Removes (λ _. true)))
+        tx.old tx.new result }
 {
     tx.execute("DELETE FROM named", &[])
 }

@@ -9,18 +9,19 @@ ghost use Rattle.rr_object.specs.KeyOrders.{HasKeyParts, IsKeyValue};
 ghost use Rattle.rr_object.specs.KeyTexts.{key_bytes};
 ghost use Rattle.rr_object.specs.Objects.{Obj, lent};
 ghost use Rattle.rr_store.specs.Entries.{IsAdded, IsPut, IsTakenOut, entry_of};
-ghost use Rattle.rr_store.specs.Maps.{AreInOrder, AreOldStored, IsObject};
+ghost use Rattle.rr_store.specs.Maps.{AreOldStored, IsObject};
 ghost use Rattle.rr_store.specs.Maps.{Puts, TakesOut};
 ghost use Rattle.rr_store.specs.Adding.{AddsTo};
-ghost use Rattle.rr_store.specs.Calls.{FailsOverTidy, IsSettled, Looks, OnCleanDisk, Transacts};
+ghost use Rattle.rr_store.specs.Calls.{IsSettled, Looks, OnCleanDisk, Transacts};
 ghost use Rattle.rr_store.specs.Calls.{database};
 ghost use Rattle.rr_store.specs.Creating.{FailsToMake, MakesStore};
 ghost use Rattle.rr_store.specs.Listing.{AreAll, AreNaming, FailsToList};
 ghost use Rattle.rr_store.specs.Migrating.{FailsToMigrate, MigratesStore};
-ghost use Rattle.rr_store.specs.Opening.{AreObjectsOf, FailsToOpen, IfStore, OpensStore};
+ghost use Rattle.rr_store.specs.Opening.{AreObjectsOf, FailsToOpen, OpensStore};
 ghost use Rattle.rr_store.specs.Opening.{RefusesTables};
 ghost use Rattle.rr_store.specs.declared.version.Version.TheVariants.{Old};
 ghost use Rattle.rr_store.specs.declared.store_fault.StoreFault.TheVariants.{Memory};
+ghost use Rattle.rr_store.specs.Opening.{AreListed, Inspects};
 
 use crate::checks::{all_objects, naming_objects};
 use crate::committed::note_committed;
@@ -133,14 +134,10 @@ impl<S: Alter> Store<S> {
         source: &Name,
     ) -> Result<Vec<Object>, OpenFault>
         requires autocommit { conn.old.in_transaction ≡ false }
-        ensures looks { Looks S.Store conn.old conn.new result }
-        ensures stored { OnCleanDisk S.Store conn.new (IfOk result (λ objects.
-            AreOldStored source.now objects.items (database S.Store conn.old))) }
-        ensures in_order { IfOk result (λ objects. AreInOrder objects.items) }
-        ensures of_source { IfOk result (λ objects. AreObjectsOf source.now objects.items) }
-        ensures why { OnCleanDisk S.Store conn.new (IfErr result
-            (RefusesTables Old source.now (database S.Store conn.old))) }
-        ensures store { IfErr result (IfStore (FailsOverTidy S.Store conn.old conn.new)) }
+        ensures inspects { Inspects S.Store conn.old conn.new result
+            (λ db objects. AreOldStored source.now objects.items db)
+            (RefusesTables Old source.now) }
+        ensures listed { IfOk result (λ objects. AreListed source.now objects.items) }
     {
         stored_objects(conn, alloc, source, Version::Old)
     }

@@ -1,10 +1,11 @@
 //! Whether a database has room for a new store.
 
-ghost use Rattle.std.specs.Prelude.{◌≡◌, false, IfErr, IfOk, IsTrue};
-ghost use Rattle.rr_store.specs.Made.{HasSomeRow, IsBare, no_schema};
-ghost use Rattle.rr_store.specs.Tables.{HasTables, meta_tree, named_tree, object_tree};
-ghost use Rattle.rr_store.specs.Calls.{FailsFor, Looks, OnCleanDisk, database};
+ghost use Rattle.std.specs.Prelude.{◌≡◌, IsTrue};
+ghost use Rattle.rr_store.specs.Made.{no_schema};
+ghost use Rattle.rr_store.specs.Tables.{meta_tree, named_tree, object_tree};
 ghost use Rattle.rr_store.specs.VacancyParts.{SaysEmpty};
+ghost use Rattle.rr_store.specs.LookParts.{IsIdle, IsTabled, Selects};
+ghost use Rattle.rr_store.specs.VacancyParts.{SaysBare};
 
 use crate::row_reading::{meta_numbers, named_numbers, object_numbers};
 use sqlite::{Alter, Connection, Error};
@@ -20,12 +21,9 @@ pub(crate) fn is_blank(schema: &Schema) -> bool
 
 /// Whether `meta` has no row.
 fn meta_is_empty<S: Alter>(conn: &mut Connection<S>) -> Result<bool, Error>
-    requires autocommit { conn.old.in_transaction ≡ false }
-    requires tables { OnCleanDisk S.Store conn.old (HasTables conn.old.schema) }
-    ensures looks { Looks S.Store conn.old conn.new result }
-    ensures empty { OnCleanDisk S.Store conn.new (IfOk result
-        (SaysEmpty ((database S.Store conn.old).trees meta_tree))) }
-    ensures cause { IfErr result (FailsFor S.Store conn.old conn.new) }
+    requires { IsIdle S.Store IsTabled conn.old }
+    ensures { Selects S.Store conn.old conn.new result
+        (λ db is. SaysEmpty (db.trees meta_tree) is) }
 {
     let rows = meta_numbers(conn)?;
     Ok(rows.as_slice().is_empty())
@@ -33,12 +31,9 @@ fn meta_is_empty<S: Alter>(conn: &mut Connection<S>) -> Result<bool, Error>
 
 /// Whether `object` has no row.
 fn object_is_empty<S: Alter>(conn: &mut Connection<S>) -> Result<bool, Error>
-    requires autocommit { conn.old.in_transaction ≡ false }
-    requires tables { OnCleanDisk S.Store conn.old (HasTables conn.old.schema) }
-    ensures looks { Looks S.Store conn.old conn.new result }
-    ensures empty { OnCleanDisk S.Store conn.new (IfOk result
-        (SaysEmpty ((database S.Store conn.old).trees object_tree))) }
-    ensures cause { IfErr result (FailsFor S.Store conn.old conn.new) }
+    requires { IsIdle S.Store IsTabled conn.old }
+    ensures { Selects S.Store conn.old conn.new result
+        (λ db is. SaysEmpty (db.trees object_tree) is) }
 {
     let rows = object_numbers(conn)?;
     Ok(rows.as_slice().is_empty())
@@ -46,12 +41,9 @@ fn object_is_empty<S: Alter>(conn: &mut Connection<S>) -> Result<bool, Error>
 
 /// Whether `named` has no row.
 fn named_is_empty<S: Alter>(conn: &mut Connection<S>) -> Result<bool, Error>
-    requires autocommit { conn.old.in_transaction ≡ false }
-    requires tables { OnCleanDisk S.Store conn.old (HasTables conn.old.schema) }
-    ensures looks { Looks S.Store conn.old conn.new result }
-    ensures empty { OnCleanDisk S.Store conn.new (IfOk result
-        (SaysEmpty ((database S.Store conn.old).trees named_tree))) }
-    ensures cause { IfErr result (FailsFor S.Store conn.old conn.new) }
+    requires { IsIdle S.Store IsTabled conn.old }
+    ensures { Selects S.Store conn.old conn.new result
+        (λ db is. SaysEmpty (db.trees named_tree) is) }
 {
     let rows = named_numbers(conn)?;
     Ok(rows.as_slice().is_empty())
@@ -59,14 +51,8 @@ fn named_is_empty<S: Alter>(conn: &mut Connection<S>) -> Result<bool, Error>
 
 /// Whether the three tables have no row.
 pub(crate) fn is_bare<S: Alter>(conn: &mut Connection<S>) -> Result<bool, Error>
-    requires autocommit { conn.old.in_transaction ≡ false }
-    requires tables { OnCleanDisk S.Store conn.old (HasTables conn.old.schema) }
-    ensures looks { Looks S.Store conn.old conn.new result }
-    ensures bare { OnCleanDisk S.Store conn.new (IfOk result (λ is. IsTrue is →
-        IsBare (database S.Store conn.old))) }
-    ensures filled { OnCleanDisk S.Store conn.new (IfOk result (λ is. is ≡ false →
-        HasSomeRow (database S.Store conn.old))) }
-    ensures cause { IfErr result (FailsFor S.Store conn.old conn.new) }
+    requires { IsIdle S.Store IsTabled conn.old }
+    ensures { Selects S.Store conn.old conn.new result SaysBare }
 {
     let meta = meta_is_empty(conn)?;
     let object = object_is_empty(conn)?;

@@ -1,10 +1,9 @@
 //! The writes of a store, each one transaction.
 
-ghost use Rattle.std.specs.Prelude.{◌≡◌, [], ◌∷◌, false};
-ghost use Rattle.rr_store.specs.Contents.{IsTidy};
+ghost use Rattle.std.specs.Prelude.{[], ◌∷◌};
 ghost use Rattle.rr_store.specs.Entries.{IsAdded, IsPut, IsTakenOut};
-ghost use Rattle.rr_store.specs.Maps.{AreOfObjects};
-ghost use Rattle.rr_store.specs.Calls.{Transacts, WhileOpen, database};
+ghost use Rattle.rr_store.specs.Calls.{Transacts};
+ghost use Rattle.rr_store.specs.Kept.{IsKept};
 
 use crate::bodies::{add_rows, put_rows, remove_rows};
 use crate::committed::note_committed;
@@ -22,8 +21,7 @@ pub(crate) fn put_entry<S: Alter>(
     alloc: Global,
     entry: &Entry,
 ) -> Result<(), StoreFault>
-    requires autocommit { conn.old.in_transaction ≡ false }
-    requires held { WhileOpen S.Store conn.old (AreOfObjects (database S.Store conn.old)) }
+    requires { IsKept S.Store conn.old }
     ensures { Transacts S.Store (IsPut entry.now) conn.old conn.new result }
 {
     note_committed(conn);
@@ -38,8 +36,7 @@ pub(crate) fn insert_entry<S: Alter>(
     conn: &mut Connection<S>,
     entry: &Entry,
 ) -> Result<(), StoreFault>
-    requires autocommit { conn.old.in_transaction ≡ false }
-    requires tidy { WhileOpen S.Store conn.old (IsTidy (database S.Store conn.old)) }
+    requires { IsKept S.Store conn.old }
     ensures { Transacts S.Store (IsAdded (entry.now ∷ [])) conn.old conn.new result }
 {
     note_committed(conn);
@@ -57,8 +54,7 @@ pub(crate) fn remove_entry<S: Alter>(
     class: u8,
     key: &[u8],
 ) -> Result<(), StoreFault>
-    requires autocommit { conn.old.in_transaction ≡ false }
-    requires held { WhileOpen S.Store conn.old (AreOfObjects (database S.Store conn.old)) }
+    requires { IsKept S.Store conn.old }
     ensures { Transacts S.Store (IsTakenOut class key.now) conn.old conn.new result }
 {
     note_committed(conn);

@@ -1,7 +1,7 @@
 //! The plain book and the indexed one, which answer alike.
 use crate::books::{answered, dumped, item, taken};
 use crate::texts::OPENING;
-use crate::worked::expect_text;
+use crate::told::expect_text;
 use rand_core::utils::NextWord;
 use rand_pcg::Pcg32;
 use rr_auth::{Item, Secrets};

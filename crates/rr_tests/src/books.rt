@@ -5,7 +5,7 @@ use rr_auth::Item;
 use rr_io::{Counted, Cut, Source};
 use rr_number::Name;
 use rr_object::Object;
-use rr_registry::{Keeper, LoadFault, Registry};
+use rr_registry::{Keeper, Registry};
 use rr_submission::submit;
 use rr_text::next_paragraph;
 use std::alloc::Global;
@@ -50,17 +50,9 @@ pub fn item(alloc: Global, deletes: bool, text: &str) -> Result<Item, Fail> {
     }
 }
 
-/// The registry of a text's objects, or why there is none.
-pub fn loaded<B: Keeper>(
-    alloc: Global,
-    text: &[u8],
-) -> Result<Result<Registry<B>, LoadFault>, Fail> {
-    Ok(Registry::from_objects(alloc, objects(alloc, text)?))
-}
-
 /// The registry of a text's objects.
 pub fn taken<B: Keeper>(alloc: Global, text: &[u8]) -> Result<Registry<B>, Fail> {
-    match loaded(alloc, text)? {
+    match Registry::from_objects(alloc, objects(alloc, text)?) {
         Ok(registry) => Ok(registry),
         Err(_) => Err("no registry".into()),
     }

@@ -1,12 +1,11 @@
-//! Calls below the desk, each with ample memory: verdicts, runs, names for routes, and the lists of
-//! a book.
+//! Calls below the desk, each with ample memory: runs, names for routes, and the lists of a book.
 use crate::books::{item, objects, taken};
-use rr_auth::{Book, Known, Secrets, Verdict, judge, route_names};
+use rr_auth::{Book, Secrets, route_names};
 use rr_index::IndexedBook;
 use rr_io::{Counted, write_all};
 use rr_number::{AsNumber, Prefix, SetName};
 use rr_object::{Code, Object};
-use rr_registry::{Keeper, Outcome, PlainBook, Registry, Submitted};
+use rr_registry::{Keeper, Outcome, PlainBook, Submitted};
 use rr_sets::SetBook;
 use std::alloc::Global;
 use std::fmt::Write;
@@ -71,65 +70,9 @@ fn secrets(alloc: Global, list: &[&str]) -> Result<Secrets, Fail> {
 
 const ALONE: &str = "route-set: RS-C\nmnt-by: A-MNT\nsource: TEST\n";
 
-const KNOWN: &str = "route-set: RS-A\nmnt-by: A-MNT\nsource: TEST\n";
-
 const OTHER: &str = "route-set: RS-A\nmembers: AS2\nmnt-by: A-MNT\nsource: TEST\n";
 
-const BELOW: &str = "route-set: RS-A:RS-C\nmnt-by: A-MNT\nsource: TEST\n";
-
 const DEEPER: &str = "route-set: RS-A:RS-B:RS-C\nmnt-by: A-MNT\nsource: TEST\n";
-
-const NOWHERE: &str = "route-set: RS-C:RS-D\nmnt-by: A-MNT\nsource: TEST\n";
-
-const BY_NOBODY: &str = "route-set: RS-C\nmnt-by: C-MNT\nsource: TEST\n";
-
-const TAKING: &str = "route-set: RS-C\nmbrs-by-ref: C-MNT\nmnt-by: A-MNT\nsource: TEST\n";
-
-/// The verdict on an object or its deletion, with this secret.
-fn verdict<B: Keeper>(
-    alloc: Global,
-    registry: &Registry<B>,
-    secret: &str,
-    deletes: bool,
-    text: &str,
-) -> Result<Verdict, Fail> {
-    let mut secrets = secrets(alloc, &[secret])?;
-    let item = item(alloc, deletes, text)?;
-    let mut known = Known::new(alloc);
-    Ok(judge(alloc, registry.book(), &mut secrets, &mut known, &item)?)
-}
-
-/// A secret, whether the object or its deletion is asked for, the object, and the verdict.
-const VERDICTS: &[(&str, bool, &str, Verdict)] = &[
-    ("c", false, ALONE, Verdict::Add),
-    ("abc", false, ALONE, Verdict::Refuse(Code::E11)),
-    ("c", false, KNOWN, Verdict::Unchanged),
-    ("c", false, OTHER, Verdict::Change),
-    ("abc", false, OTHER, Verdict::Refuse(Code::E11)),
-    ("c", false, BELOW, Verdict::Add),
-    ("c", false, DEEPER, Verdict::Refuse(Code::E13)),
-    ("c", false, NOWHERE, Verdict::Refuse(Code::E12)),
-    ("c", false, BY_NOBODY, Verdict::Refuse(Code::E10)),
-    ("c", false, TAKING, Verdict::Refuse(Code::E10)),
-    ("c", true, KNOWN, Verdict::Delete),
-    ("abc", true, KNOWN, Verdict::Refuse(Code::E11)),
-    ("c", true, ALONE, Verdict::Refuse(Code::E18)),
-];
-
-fn expect_verdicts<B: Keeper + Drop, R: Abort + AllocGlobal>(rt: &R) -> Result<(), Fail> {
-    let registry = taken::<B>(rt.alloc(), HELD_SETS.as_bytes())?;
-    for (secret, deletes, text, wanted) in VERDICTS {
-        let verdict = verdict(rt.alloc(), &registry, secret, *deletes, text)?;
-        assert_eq!(rt; verdict, *wanted, "{secret} {text}");
-    }
-    Ok(())
-}
-
-#[test]
-fn route_sets_are_judged_by_their_place(rt: HostRuntime) -> Result<(), Fail> {
-    expect_verdicts::<PlainBook, HostRuntime>(&rt)?;
-    expect_verdicts::<IndexedBook, HostRuntime>(&rt)
-}
 
 /// What is submitted with these secrets: an object or its deletion.
 fn given(

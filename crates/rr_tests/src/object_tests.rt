@@ -1,4 +1,6 @@
 //! Outside examples of objects, keys and their faults.
+use crate::books::source;
+use crate::text_tests::{CANONICAL, FOLDED};
 use rr_number::Name;
 use rr_object::{Class, Key, Member, Object, ObjectFault, key_of, public, read_auth};
 use rr_text::{Paragraph, Text, next_paragraph, print};
@@ -6,23 +8,7 @@ use std::alloc::{AllocError, Global};
 use std::process::Abort;
 use std::test::Fail;
 
-const MAINTAINER: &str = "\
-Mntner: A-MNT\r\ndescr: first # note\r\n\tsecond\r\n+\r\n% skipped\r\n+third\r\n\
-auth: SHA256-PW\r\n ab:ba7816bf8f01cfea414140de5dae2223b00361a396177a9cb410ff61f20015ad\r\n\
-mnt-by: A-MNT\r\nsource: test";
-
-const CANONICAL: &str = "\
-mntner:         A-MNT
-descr:          first # note
-                second
-+
-                third
-auth:           SHA256-PW
-                ab:ba7816bf8f01cfea414140de5dae2223b00361a396177a9cb410ff61f20015ad
-mnt-by:         A-MNT
-source:         test
-";
-
+/// What is shown of the folded maintainer.
 const SHOWN: &str = "\
 mntner:         A-MNT
 descr:          first # note
@@ -40,11 +26,6 @@ fn paragraph(alloc: Global, text: &str) -> Result<Paragraph, Fail> {
     Ok(paragraph)
 }
 
-/// The name of the registry TEST.
-fn source(alloc: Global) -> Result<Name, Fail> {
-    Ok(Name::read(alloc, b"TEST")?.ok_or("no name")?)
-}
-
 /// What the text is read as in the registry TEST.
 fn read(alloc: Global, text: &str) -> Result<Result<Object, ObjectFault>, Fail> {
     let paragraph = paragraph(alloc, text)?;
@@ -59,112 +40,8 @@ fn code_of(read: Result<Object, ObjectFault>) -> &'static str {
     }
 }
 
-/// The code of the text's fault, or `ok`.
-pub(crate) fn code(alloc: Global, text: &str) -> Result<&'static str, Fail> {
-    Ok(code_of(read(alloc, text)?))
-}
-
-/// Asserts the code of a text in three parts.
-pub(crate) fn expect_code<R: Abort + AllocGlobal>(
-    rt: &R,
-    before: &str,
-    text: &str,
-    after: &str,
-    wanted: &str,
-) -> Result<(), Fail> {
-    let whole = format!(in rt.alloc(); "{before}{text}{after}")?;
-    assert_eq!(rt; code(rt.alloc(), whole.as_str())?, wanted, "{whole}");
-    Ok(())
-}
-
-/// Asserts the code of each text, put between two others.
-pub(crate) fn expect_codes<R: Abort + AllocGlobal>(
-    rt: &R,
-    before: &str,
-    cases: &[(&str, &str)],
-    after: &str,
-) -> Result<(), Fail> {
-    for (text, wanted) in cases {
-        expect_code(rt, before, text, after, wanted)?;
-    }
-    Ok(())
-}
-
-const ORDER: &[(&str, &str)] = &[
-    ("person: X\nmnt-by: any\n", "E02"),
-    ("inetnum: 10.0.0.0/40\nmnt-by: any\n", "E03"),
-    ("mntner: any\nauth: x\nmnt-by: A-MNT\nsource: TEST\n", "E03"),
-    ("as-set: AS-ANY\nmnt-by: A-MNT\nsource: TEST\n", "E03"),
-    (
-        "inetnum: 10.1.0.9 - 10.1.0.3\nmnt-by: A-MNT\nsource: TEST\n",
-        "E03",
-    ),
-    (
-        "inetnum: 10.1.0.3 - 10.1.0.9\nmnt-by: A-MNT\nsource: TEST\n",
-        "ok",
-    ),
-    ("aut-num: AS3\nmnt-by: any\n", "E04"),
-    ("mnt-by: A-MNT\naut-num: AS3\nsource: TEST\n", "E02"),
-    ("aut-num: AS3\nmnt-by: any\nsource: OTHER\n", "E05"),
-    ("aut-num: AS3\nmnt-by: A-MNT\nsource: a b\n", "E05"),
-    ("aut-num: AS3\nmnt-by: A-MNT\nsource: OTHER\n", "E06"),
-    ("aut-num: AS3\nmnt-by: A-MNT\nsource: tesT\n", "ok"),
-];
-
-#[test]
-fn faults_are_found_in_order(rt: HostRuntime) -> Result<(), Fail> {
-    expect_codes(&rt, "", ORDER, "")
-}
-
-const COUNTED: &[(&str, &str)] = &[
-    ("aut-num: AS3\nmnt-by: A-MNT\n", "E04"),
-    ("aut-num: AS3\nmnt-by: A-MNT\nsource:\n", "E04"),
-    ("aut-num: AS3\nmnt-by: A-MNT\nsource: # none\n", "E04"),
-    (
-        "aut-num: AS3\nmnt-by: A-MNT\nsource: TEST\nsource: TEST\n",
-        "E04",
-    ),
-    ("aut-num: AS3\nsource: TEST\n", "E04"),
-    ("aut-num: AS3\nmnt-by: , ,# A-MNT\nsource: TEST\n", "E04"),
-    (
-        "aut-num: AS3\nmnt-by:\nmnt-by: A-MNT,B-MNT\nsource: TEST\n",
-        "ok",
-    ),
-    (
-        "aut-num: AS3\naut-num: AS3\nmnt-by: A-MNT\nsource: TEST\n",
-        "E04",
-    ),
-    (
-        "aut-num: AS3\nmntner: ?\nmnt-by: A-MNT\nsource: TEST\n",
-        "ok",
-    ),
-    ("mntner: A-MNT\nmnt-by: A-MNT\nsource: TEST\n", "E04"),
-    ("mntner: A-MNT\nauth:\nmnt-by: A-MNT\nsource: TEST\n", "E05"),
-    (
-        "mntner: A-MNT\nauth: CRYPT-PW x\nmnt-by: A-MNT\nsource: TEST\n",
-        "ok",
-    ),
-    ("route: 10.0.0.0/8\nmnt-by: A-MNT\nsource: TEST\n", "E03"),
-    (
-        "route: 10.0.0.0/8\norigin: AS1\norigin: AS1\nmnt-by: A-MNT\nsource: TEST\n",
-        "E03",
-    ),
-    (
-        "route: 10.0.0.0/8\norigin: 1\nmnt-by: A-MNT\nsource: TEST\n",
-        "E03",
-    ),
-    (
-        "route: 10.0.0.0/8\norigin: as1 # ours\nmnt-by: A-MNT\nsource: TEST\n",
-        "ok",
-    ),
-];
-
-#[test]
-fn needed_attributes_are_counted(rt: HostRuntime) -> Result<(), Fail> {
-    expect_codes(&rt, "", COUNTED, "")
-}
-
-/// Lines beside those that an aut-num needs.
+/// Lines beside those that an aut-num needs, and the codes of their faults, or `ok`. In submissions
+/// `password` and `delete` are taken out of an object.
 const VALUES: &[(&str, &str)] = &[
     ("mnt-lower: B-MNT AS-X", "E05"),
     ("mnt-lower:", "ok"),
@@ -186,34 +63,22 @@ const VALUES: &[(&str, &str)] = &[
     ("delete: x", "E05"),
 ];
 
-#[test]
-fn values_are_read_in_their_classes(rt: HostRuntime) -> Result<(), Fail> {
-    expect_codes(
-        &rt,
-        "aut-num: AS3\nmnt-by: A-MNT\nsource: TEST\n",
-        VALUES,
-        "\n",
-    )
+/// The lines that it needs.
+const NEEDED: &str = "aut-num: AS3\nmnt-by: A-MNT\nsource: TEST\n";
+
+/// Asserts the code of an aut-num with this line.
+fn expect_code<R: Abort + AllocGlobal>(rt: &R, line: &str, wanted: &str) -> Result<(), Fail> {
+    let text = format!(in rt.alloc(); "{NEEDED}{line}\n")?;
+    assert_eq!(rt; code_of(read(rt.alloc(), &text)?), wanted, "{line}");
+    Ok(())
 }
 
-/// The first lines of sets, with their members.
-const MEMBERS: &[(&str, &str)] = &[
-    ("as-set: AS-A\nmembers: AS1, as-b AS-ANY", "ok"),
-    ("as-set: AS-A\nmembers: RS-ANY", "E05"),
-    ("as-set: AS-A\nmembers: AS1^+", "E05"),
-    ("as-set: AS-A\nmembers: 10.0.0.0/8", "E05"),
-    (
-        "route-set: RS-A\nmembers: 10.0.0.0/8^+, RS-B^-, AS1^24, AS-ANY^8-32 RS-ANY",
-        "ok",
-    ),
-    ("route-set: RS-A\nmembers: 30.0.0.0/8^24-28^+", "E05"),
-    ("route-set: RS-A\nmembers: RS-B^-^+", "E05"),
-    ("route-set: AS-A\nmembers: RS-B", "E03"),
-];
-
 #[test]
-fn members_are_those_of_the_class(rt: HostRuntime) -> Result<(), Fail> {
-    expect_codes(&rt, "", MEMBERS, "\nmnt-by: A-MNT\nsource: TEST\n")
+fn values_are_read_in_their_classes(rt: HostRuntime) -> Result<(), Fail> {
+    for (line, wanted) in VALUES {
+        expect_code(&rt, line, wanted)?;
+    }
+    Ok(())
 }
 
 /// Whether the text's object has one member, a range.
@@ -227,24 +92,6 @@ fn dropped_ranges_stand_for_nothing(rt: HostRuntime) -> Result<(), Fail> {
     let text = "route-set: RS-A\nmembers: 192.0.2.1/32^- 10.0.0.0/16^8, 10.0.0.0/8\nmnt-by: A-MNT\n\
          source: TEST\n";
     assert!(rt; has_one_range(rt.alloc(), text)?);
-    Ok(())
-}
-
-/// Words that no maintainer is named by.
-const RESERVED: &[&str] = &[
-    "any", "as-any", "rs-any", "peeras", "and", "or", "not", "atomic", "from", "to", "at",
-    "action", "accept", "announce", "except", "refine", "networks", "into", "inbound", "outbound",
-    "AS-X", "rs-x",
-];
-
-#[test]
-fn reserved_words_are_no_maintainers(rt: HostRuntime) -> Result<(), Fail> {
-    let named = "aut-num: AS3\nmnt-by: A-MNT\nsource: TEST\nmnt-by: ";
-    let needed = "\nauth: x\nmnt-by: A-MNT\nsource: TEST\n";
-    for word in RESERVED {
-        expect_code(&rt, named, word, "\n", "E05")?;
-        expect_code(&rt, "mntner: ", word, needed, "E03")?;
-    }
     Ok(())
 }
 
@@ -274,7 +121,7 @@ fn printed(alloc: Global, text: &str, is_public: bool) -> Result<Text, Fail> {
 #[test]
 fn a_copy_prints_the_same_text(rt: HostRuntime) -> Result<(), Fail> {
     for (is_public, wanted) in [(false, CANONICAL), (true, SHOWN)] {
-        let printed = printed(rt.alloc(), MAINTAINER, is_public)?;
+        let printed = printed(rt.alloc(), FOLDED, is_public)?;
         assert_eq!(rt; printed.as_slice(), wanted.as_bytes());
     }
     Ok(())

@@ -1,14 +1,12 @@
-//! Published digests as lines of a maintainer.
+//! Secrets that come one by one or together, and published digests as lines of maintainers.
+use crate::books::object;
 use rr_auth::{Secrets, passes};
-use rr_number::Name;
 use rr_object::Object;
-use rr_text::next_paragraph;
 use std::alloc::Global;
 use std::test::Fail;
 
 /// A maintainer with these salts and digests.
 fn maintainer(alloc: Global, lines: &[&str]) -> Result<Object, Fail> {
-    let source = Name::read(alloc, b"TEST")?.ok_or("no name")?;
     let mut text = String::from_str(alloc, "mntner: A-MNT\n")?;
     for line in lines {
         text.push_str("auth: SHA256-PW ")?;
@@ -16,16 +14,7 @@ fn maintainer(alloc: Global, lines: &[&str]) -> Result<Object, Fail> {
         text.push_str("\n")?;
     }
     text.push_str("mnt-by: A-MNT\nsource: TEST\n")?;
-    let (paragraph, _) = next_paragraph(alloc, text.as_bytes(), 0)?.ok_or("no paragraph")?;
-    Ok(Object::read(alloc, paragraph, &source)?)
-}
-
-/// Whether a maintainer with the line passes with the secret alone.
-fn passes_alone(alloc: Global, line: &str, secret: &str) -> Result<bool, Fail> {
-    let maintainer = maintainer(alloc, &[line])?;
-    let mut secrets = Secrets::new(alloc);
-    secrets.add(alloc, secret.as_bytes())?;
-    Ok(passes(&maintainer, &mut secrets))
+    object(alloc, &text)
 }
 
 /// The digest of the empty message, which is published beside the examples of FIPS 180-4.
@@ -39,32 +28,6 @@ const SALTED_C: &str = "ab:BA7816BF8F01CFEA414140DE5DAE2223B00361A396177A9CB410F
 
 /// The digest of the second example of FIPS 180-4.
 const LONGER: &str = ":248d6a61d20638b8e5c026930c3e6039a33ce45964ff2167f6ecedd419db06c1";
-
-/// The messages of the examples of FIPS 180-4 with their digests, and the second one cut into salt
-/// and secret.
-const PUBLISHED: [(&str, &str); 5] = [
-    (EMPTY, ""),
-    (ABC, "abc"),
-    (SALTED_C, "c"),
-    (
-        LONGER,
-        "abcdbcdecdefdefgefghfghighijhijkijkljklmklmnlmnomnopnopq",
-    ),
-    (
-        ":cf5b16a778af8380036ce59e7b0492370b249b11e8f07a51afac45037afee9d1",
-        "abcdefghbcdefghicdefghijdefghijkefghijklfghijklmghijklmnhijklmno\
-         ijklmnopjklmnopqklmnopqrlmnopqrsmnopqrstnopqrstu",
-    ),
-];
-
-#[test]
-fn published_digests_fit_their_messages_alone(rt: HostRuntime) -> Result<(), Fail> {
-    for (line, message) in &PUBLISHED {
-        assert!(rt; passes_alone(rt.alloc(), line, message)?, "{line}");
-        assert!(rt; !passes_alone(rt.alloc(), line, "bc")?, "{line}");
-    }
-    Ok(())
-}
 
 /// Secrets in the order in which they come, with whether by then a maintainer passes whose digest
 /// of `abc` is salted, and one whose digest of it is not.

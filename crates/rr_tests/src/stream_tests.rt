@@ -1,12 +1,12 @@
-//! Submissions whose reader or writer fails in mid-stream, and paragraphs at their greatest size.
-use crate::books::{cut_report, source, taken};
+//! Submissions whose reader or writer fails in mid-stream.
+use crate::books::{source, taken};
 use crate::texts::OPENING;
-use crate::worked::expect_text;
+use crate::told::expect_text;
 use rr_index::IndexedBook;
 use rr_io::{Counted, Cut, Sink};
 use rr_registry::{Keeper, Registry};
 use rr_submission::{DeskFault, Done, submit};
-use std::alloc::{AllocError, Global};
+use std::alloc::Global;
 use std::io;
 use std::process::Abort;
 use std::test::Fail;
@@ -199,56 +199,4 @@ fn expect_lines<B: Keeper + Drop, R: Abort + AllocGlobal>(rt: &R) -> Result<(), 
 #[test]
 fn each_line_is_written_in_one_call(rt: HostRuntime) -> Result<(), Fail> {
     expect_lines::<IndexedBook, HostRuntime>(&rt)
-}
-
-/// The root's secret, then this text lengthened to so many bytes, then an inetnum of the root.
-fn lengthened(alloc: Global, text: &str, size: usize) -> Result<Vec<u8>, AllocError> {
-    let mut whole = Vec::from_slice(alloc, b"password: bc\n\n")?;
-    whole.extend_from_slice(text.as_bytes())?;
-    for _byte in text.len()..size {
-        whole.push(b'x')?;
-    }
-    whole.extend_from_slice(b"\n\ninetnum: 11.0.0.0/8\nmnt-by: ROOT-MNT\nsource: TEST\n")?;
-    Ok(whole)
-}
-
-const BEFORE: &str = "inetnum: 10.0.0.0/8\nmnt-by: ROOT-MNT\nsource: TEST\ndescr: ";
-
-/// Texts with their sizes without the line end after them, the bytes a read, and the first line of
-/// the report.
-const SIZES: &[(&str, usize, usize, &str)] = &[
-    (
-        BEFORE,
-        65_535,
-        4_096,
-        "1 inetnum 10.0.0.0 - 10.255.255.255: added\n",
-    ),
-    (BEFORE, 65_536, 4_096, "1 -: refused E07\n"),
-    (" ", 65_535, 4_096, "1 -: refused E01\n"),
-    (" ", 65_536, 4_096, "1 -: refused E07\n"),
-    ("x", 1_000_000, 1, "1 -: refused E07\n"),
-    ("x", 1_000_000, 4_096, "1 -: refused E07\n"),
-];
-
-/// Asserts the report on this text lengthened to a size.
-fn expect_size<B: Keeper + Drop, R: Abort + AllocGlobal>(
-    rt: &R,
-    (text, size, step, first): (&str, usize, usize, &str),
-) -> Result<(), Fail> {
-    let text = lengthened(rt.alloc(), text, size)?;
-    let mut registry = taken::<B>(rt.alloc(), OPENING.as_bytes())?;
-    let found = cut_report(rt.alloc(), &mut registry, &text, step)?;
-    let wanted = format!(in rt.alloc(); "{first}{BEHIND}")?;
-    expect_text(rt, &found, &wanted, "the size decides")
-}
-
-/// The lines after the first one.
-const BEHIND: &str = "2 inetnum 11.0.0.0 - 11.255.255.255: added\n% items 2\n";
-
-#[test]
-fn a_paragraph_has_at_most_65536_bytes(rt: HostRuntime) -> Result<(), Fail> {
-    for case in SIZES {
-        expect_size::<IndexedBook, HostRuntime>(&rt, *case)?;
-    }
-    Ok(())
 }

@@ -14,11 +14,15 @@ migrate_tables-requires-clause-grown g c = λ clean.
     subst (λ db. IsGrown c.args.settings.now db c.in-Ok.registry)
     (sym (c.in-Ok.ensures.looks.same clean).0.now_is) (c.in-Ok.ensures.grown clean)
 
-pub returns-in-Ok-clause-of_source : goal.returns-in-Ok-clause-of_source
-returns-in-Ok-clause-of_source g c =
+pub returns-in-Ok-clause-stock : goal.returns-in-Ok-clause-stock
+returns-in-Ok-clause-stock g c =
     IfOk-weaker c.migrate_tables.result _ _
-    (λ s same. subst (IsRegistryOf c.args.settings.now.source) (sym same)
-    c.in-Ok.ensures.of_source) c.migrate_tables.ensures.registry
+    (λ s stock. record {
+      of_source = subst (IsRegistryOf c.args.settings.now.source) (sym stock.registry)
+          c.in-Ok.ensures.of_source;
+      running = stock.running;
+      holds = stock.holds;
+    }) c.migrate_tables.ensures.stock
 
 pub returns-in-Ok-clause-migrates : goal.returns-in-Ok-clause-migrates
 returns-in-Ok-clause-migrates g c =

@@ -18,20 +18,14 @@ of-requires-clause-rows g c = λ clean.
     migrated_rows c.args.settings.now c.args.registry _ _ (c.requires.grown (omega (arith, kept)))
     (rw (c.root.ensures.root, c.source.ensures.source) at (c.in-Ok.ensures.migrates.migrated clean))
 
-pub returns-in-Ok-clause-running : goal.returns-in-Ok-clause-running
-returns-in-Ok-clause-running g c = c.of.ensures.running
-
-pub returns-in-Ok-clause-registry : goal.returns-in-Ok-clause-registry
-returns-in-Ok-clause-registry g c = c.of.ensures.registry
-
-pub returns-in-Ok-clause-holds : goal.returns-in-Ok-clause-holds
-returns-in-Ok-clause-holds g c = c.of.ensures.held
+pub returns-in-Ok-clause-stock : goal.returns-in-Ok-clause-stock
+returns-in-Ok-clause-stock g c = c.of.ensures.stock
 
 pub returns-in-Ok-clause-migrates : goal.returns-in-Ok-clause-migrates
 returns-in-Ok-clause-migrates g c =
     let kept = c.in-Ok.ensures.migrates.crash.clean in record {
       was_open = rw c.of.ensures.store c.in-Ok.ensures.migrates.was_open;
-      grown = rw (c.of.ensures.registry, c.of.ensures.store)
+      grown = rw (c.of.ensures.stock.registry, c.of.ensures.store)
           (λ clean. c.requires.grown (omega (arith, kept)));
       migrated = rw (c.of.ensures.store, ← c.root.ensures.root, ← c.source.ensures.source)
           c.in-Ok.ensures.migrates.migrated;

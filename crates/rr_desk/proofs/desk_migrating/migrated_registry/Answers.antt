@@ -12,7 +12,7 @@ use Rattle.rr_desk.proofs.desk_migrating.migrated_registry.Goals as goal
 
 pub returns-clause-looks : goal.returns-clause-looks
 returns-clause-looks g c =
-    let looks = c.in_ok-objects.ensures.looks in
+    let looks = c.in_ok-objects.ensures.inspects.looks in
     record { rests = looks.rests; same = λ clean. always_ok c.grow.result _ (looks.same clean) }
 
 pub returns-clause-grown : goal.returns-clause-grown
@@ -23,7 +23,7 @@ returns-clause-grown g c clean =
     (λ r sound grown. record {
       objects = os;
       before = rw c.source.ensures.source at
-          (c.in_ok-objects.ensures.stored clean);
+          (c.in_ok-objects.ensures.inspects.read clean);
       sound = sound;
       grown = grown;
     })
@@ -32,13 +32,13 @@ pub returns-clause-of_source : goal.returns-clause-of_source
 returns-clause-of_source g c =
     each_ok c.grow.result _ _ _ c.grow.ensures.grown c.grow.ensures.sound
     (λ r grown sound. grown_of_source c.args.settings.now c.in_ok-objects.objects.items r
-    c.source.ensures.good (rw c.source.ensures.source at c.in_ok-objects.ensures.of_source)
+    c.source.ensures.good (rw c.source.ensures.source at c.in_ok-objects.ensures.listed.of_source)
     grown sound)
 
 pub returns-clause-why : goal.returns-clause-why
 returns-clause-why g c clean =
     let os = c.in_ok-objects.objects.items in
-    let stored = rw c.source.ensures.source at (c.in_ok-objects.ensures.stored clean) in
+    let stored = rw c.source.ensures.source at (c.in_ok-objects.ensures.inspects.read clean) in
     let says : SaysNoOther Old (database g.S.Store c.args.conn.now) =
     stored_says_it _ c.args.settings.now.source os _ stored in
     IfErr-weaker c.grow.result _ _ (λ fault h. record {
@@ -55,14 +55,14 @@ returns-clause-why g c clean =
 pub returns-in_err-objects-clause-looks : goal.returns-in_err-objects-clause-looks
 returns-in_err-objects-clause-looks g c =
     let exit = err_from_is_err_and c.from_residual.result c.from_residual.ensures.1 in
-    rw exit.1 (record { rests = c.in_err-objects.ensures.looks.rests; same = λ clean. tt })
+    rw exit.1 (record { rests = c.in_err-objects.ensures.inspects.looks.rests; same = λ clean. tt })
 
 pub returns-in_err-objects-clause-why : goal.returns-in_err-objects-clause-why
 returns-in_err-objects-clause-why g c =
     let exit = err_from_is_err_and c.from_residual.result c.from_residual.ensures.1 in
     rw (exit.1, exit.2) (λ clean.
     refused_old c.args.settings.now _ _
-    (rw c.source.ensures.source at (c.in_err-objects.ensures.why clean)))
+    (rw c.source.ensures.source at (c.in_err-objects.ensures.inspects.why clean)))
 
 pub returns-clause-store : goal.returns-clause-store
 returns-clause-store g c =
@@ -74,4 +74,4 @@ pub returns-in_err-objects-clause-store : goal.returns-in_err-objects-clause-sto
 returns-in_err-objects-clause-store g c =
     let exit = err_from_is_err_and c.from_residual.result c.from_residual.ensures.1 in
     rw (exit.1, exit.2) (λ error is tidy clean.
-    inl (c.in_err-objects.ensures.store error (unread_of_store _ error is) tidy clean))
+    inl (c.in_err-objects.ensures.inspects.cause error (unread_of_store _ error is) tidy clean))

@@ -12,14 +12,8 @@ of-requires-clause-settled g c = c.in-Ok.ensures.settled
 pub of-requires-clause-rows : goal.of-requires-clause-rows
 of-requires-clause-rows g c = c.in-Ok.ensures.rows
 
-pub returns-in-Ok-clause-running : goal.returns-in-Ok-clause-running
-returns-in-Ok-clause-running g c = c.of.ensures.running
-
-pub returns-in-Ok-clause-registry : goal.returns-in-Ok-clause-registry
-returns-in-Ok-clause-registry g c = c.of.ensures.registry
-
-pub returns-in-Ok-clause-holds : goal.returns-in-Ok-clause-holds
-returns-in-Ok-clause-holds g c = c.of.ensures.held
+pub returns-in-Ok-clause-stock : goal.returns-in-Ok-clause-stock
+returns-in-Ok-clause-stock g c = c.of.ensures.stock
 
 pub returns-in-Ok-clause-makes : goal.returns-in-Ok-clause-makes
 returns-in-Ok-clause-makes g c = rw c.of.ensures.store c.in-Ok.ensures.makes

@@ -19,23 +19,20 @@ pub of-requires-clause-rows : goal.of-requires-clause-rows
 of-requires-clause-rows g c = λ clean. opened_rows c.args.source.now _ _ _
     (c.in-Ok.ensures.opens.stored clean) c.in-Ok-from_objects.ensures.taken
 
-pub returns-in-Ok-from_objects-clause-running : goal.returns-in-Ok-from_objects-clause-running
-returns-in-Ok-from_objects-clause-running g c = c.of.ensures.running
-
-pub returns-in-Ok-from_objects-clause-of_source : goal.returns-in-Ok-from_objects-clause-of_source
-returns-in-Ok-from_objects-clause-of_source g c =
-    rw c.of.ensures.registry (taken_of_source c.args.source.now _ _
-    c.in-Ok-from_objects.ensures.taken c.in-Ok-from_objects.ensures.sound
-    c.in-Ok.ensures.opens.of_source)
-
-pub returns-in-Ok-from_objects-clause-holds : goal.returns-in-Ok-from_objects-clause-holds
-returns-in-Ok-from_objects-clause-holds g c = c.of.ensures.held
+pub returns-in-Ok-from_objects-clause-stock : goal.returns-in-Ok-from_objects-clause-stock
+returns-in-Ok-from_objects-clause-stock g c = record {
+  of_source = rw c.of.ensures.stock.registry (taken_of_source c.args.source.now _ _
+      c.in-Ok-from_objects.ensures.taken c.in-Ok-from_objects.ensures.sound
+      c.in-Ok.ensures.opens.of_source);
+  running = c.of.ensures.stock.running;
+  holds = c.of.ensures.stock.holds;
+}
 
 pub returns-in-Ok-from_objects-clause-opens : goal.returns-in-Ok-from_objects-clause-opens
 returns-in-Ok-from_objects-clause-opens g c =
     let opens = c.in-Ok.ensures.opens in record {
       was_open = rw c.of.ensures.store opens.was_open;
-      rows = rw (c.of.ensures.registry, c.of.ensures.store)
+      rows = rw (c.of.ensures.stock.registry, c.of.ensures.store)
           (λ clean. subst (HasRows c.in-Ok-from_objects.registry) (opens.same clean)
           (opened_rows c.args.source.now _ _ _ (opens.stored clean)
           c.in-Ok-from_objects.ensures.taken));

@@ -27,23 +27,26 @@ loop-name-preserved g c =
           (added_more g.S.Store c.args.tx.now.conn.now c.loop-name.tx.conn.now
           c.add_name.new.tx.conn.now (map row (take at names)) (row name)
           c.loop-name.invariant.1
-          (λ clean. rw c.as_bytes.ensures.value at (c.in_ok-_count.ensures.steps.made clean))
-          c.in_ok-_count.ensures.steps.goes_on c.in_ok-_count.ensures.steps.kept
-          c.in_ok-_count.ensures.steps.survives),
+          (λ clean. rw c.as_bytes.ensures.value at (c.in_ok-_count.ensures.step.made clean))
+          c.in_ok-_count.ensures.step.goes_on c.in_ok-_count.ensures.step.kept
+          c.in_ok-_count.ensures.step.survives),
     )
 
-pub returns-clause-steps : goal.returns-clause-steps
-returns-clause-steps g c =
-    let names = c.args.names.now in
-    let last : c.loop-name.name-index ≡ length names =
-    omega (arith, c.loop-name-test.false, c.loop-name.auto.name-index-end) in
-    let all = ap (λ n. take n names) last ∙ take-length names in
-    record {
-      made = λ clean on. subst (λ xs. Alters (state g.S.Store c.args.tx.now.conn.now).now
-          (state g.S.Store c.loop-name.tx.conn.now).now 4
-          (Adds (map (λ name. named_values name c.args.class c.args.key.now) xs))) all
-          (c.loop-name.invariant.1.done clean on);
-      goes_on = c.loop-name.invariant.1.step;
-      kept = c.loop-name.invariant.1.kept;
-      survives = c.loop-name.invariant.1.survives;
-    }
+pub returns : goal.returns
+returns g c = record {
+  same_reference = c.loop-name.invariant.0;
+  step =
+      let names = c.args.names.now in
+      let last : c.loop-name.name-index ≡ length names =
+      omega (arith, c.loop-name-test.false, c.loop-name.auto.name-index-end) in
+      let all = ap (λ n. take n names) last ∙ take-length names in
+      record {
+        made = λ clean on. subst (λ xs. Alters (state g.S.Store c.args.tx.now.conn.now).now
+            (state g.S.Store c.loop-name.tx.conn.now).now 4
+            (Adds (map (λ name. named_values name c.args.class c.args.key.now) xs))) all
+            (c.loop-name.invariant.1.done clean on);
+        goes_on = c.loop-name.invariant.1.step;
+        kept = c.loop-name.invariant.1.kept;
+        survives = c.loop-name.invariant.1.survives;
+      };
+}

@@ -1,60 +1,30 @@
-use Rattle.std.proofs.Common.{◌≡◌, IfErr, OnOk, IsPermutation, flat_map, map, subst, arith}
-use Rattle.sqlite.specs.Effect.{Database}
-use Rattle.rr_store.specs.Contents.{contents}
-use Rattle.rr_store.specs.Entries.{named_rows}
-use Rattle.rr_store.specs.Maps.{entry_in}
-use Rattle.rr_store.specs.Versions.{form_of}
-use Rattle.rr_store.specs.declared.store_fault.OpenFault.TheVariants.{BadRow}
-use Rattle.rr_store.proofs.StreamLemmas.{on_any}
-use Rattle.sqlite.specs.Held.{state}
-use Rattle.sqlite.specs.State.{HasCleanDisk}
-use Rattle.rr_store.proofs.LookLemmas.{looks_failed, looks_then, tables_then}
-use Rattle.rr_store.proofs.FailureLemmas.{second_reads}
+use Rattle.std.proofs.Common.{arith}
+use Rattle.std.proofs.lemmas.Result.{err_from_is_err_and}
+use Rattle.rr_store.specs.LookParts.{IsTabled}
+use Rattle.rr_store.proofs.InspectLemmas.{idle_then, inspects_as, inspects_then, no_bad_row}
+use Rattle.rr_store.proofs.InspectLemmas.{uncounted}
 use Rattle.rr_store.proofs.checks.check_named_table.Goals as goal
 
-pub check_maintainers-requires-clause-tables : goal.check_maintainers-requires-clause-tables
-check_maintainers-requires-clause-tables g c clean = tables_then g.S.Store c.args.conn.now
-    c.count_named.new.conn c.count_named.new.conn c.in_ok-_count.ensures.looks.rests
-    c.in_ok-_count.ensures.looks.same c.requires.tables clean
+pub check_maintainers-requires : goal.check_maintainers-requires
+check_maintainers-requires g c =
+    idle_then g.S.Store c.args.conn.now c.count_named.new.conn c.in_ok-_count.ensures.looks.rests
+    c.in_ok-_count.ensures.looks.same IsTabled c.requires
 
-pub returns-clause-looks : goal.returns-clause-looks
-returns-clause-looks g c = looks_then g.S.Store c.args.conn.now c.count_named.new.conn
-    c.check_maintainers.new.conn c.in_ok-_count.ensures.looks.rests
-    c.in_ok-_count.ensures.looks.same c.check_maintainers.result c.check_maintainers.ensures.looks
+pub returns : goal.returns
+returns g c =
+    inspects_as g.S.Store c.args.conn.now c.check_maintainers.new.conn c.check_maintainers.result
+    _ _ _ _
+    (inspects_then g.S.Store c.args.conn.now c.count_named.new.conn
+    c.in_ok-_count.ensures.looks.rests c.in_ok-_count.ensures.looks.same
+    c.check_maintainers.new.conn c.check_maintainers.result _ _ c.check_maintainers.ensures)
+    (λ clean _ named. (
+      c.in_ok-_count.ensures.numbered
+          (omega (arith, clean, c.check_maintainers.ensures.looks.rests.crash.clean)),
+      named,
+    )) (λ clean fault why. why)
 
-pub returns-in_err-_count-clause-looks : goal.returns-in_err-_count-clause-looks
-returns-in_err-_count-clause-looks g c = looks_failed g.S.Store c.args.conn.now
-    c.count_named.new.conn c.from_residual.result c.from_residual.ensures.0
-    c.in_err-_count.ensures.looks.rests
-
-pub returns-clause-numbered : goal.returns-clause-numbered
-returns-clause-numbered g c clean = on_any c.check_maintainers.result
-    (c.in_ok-_count.ensures.numbered
-    (omega (arith, clean, c.check_maintainers.ensures.looks.rests.crash.clean)))
-
-pub returns-clause-ok : goal.returns-clause-ok
-returns-clause-ok g c clean =
-    let before : HasCleanDisk (state g.S.Store c.count_named.new.conn) =
-    omega (arith, clean, c.check_maintainers.ensures.looks.rests.crash.clean) in
-    subst (λ (d : Database). OnOk c.check_maintainers.result
-    (IsPermutation
-    (flat_map named_rows (map (entry_in (form_of c.args.version)) c.args.objects.now))
-    (contents (d.trees 4)))) (c.in_ok-_count.ensures.looks.same before).0.now_is
-    (c.check_maintainers.ensures.ok clean)
-
-pub returns-clause-bad_row : goal.returns-clause-bad_row
-returns-clause-bad_row g c clean =
-    let before : HasCleanDisk (state g.S.Store c.count_named.new.conn) =
-    omega (arith, clean, c.check_maintainers.ensures.looks.rests.crash.clean) in
-    subst (λ (d : Database). IfErr c.check_maintainers.result (λ fault. fault ≡ BadRow →
-    IsPermutation
-    (flat_map named_rows (map (entry_in (form_of c.args.version)) c.args.objects.now))
-    (contents (d.trees 4)) → ⊥)) (c.in_ok-_count.ensures.looks.same before).0.now_is
-    (c.check_maintainers.ensures.bad_row clean)
-
-pub returns-clause-cause : goal.returns-clause-cause
-returns-clause-cause g c =
-    second_reads g.S.Store c.args.conn.now c.count_named.new.conn c.check_maintainers.new.conn
-    c.in_ok-_count.ensures.looks.same c.in_ok-_count.ensures.looks.rests.crash
-    c.check_maintainers.ensures.looks.rests.crash c.check_maintainers.result
-    c.check_maintainers.ensures.cause
+pub returns-in_err-_count : goal.returns-in_err-_count
+returns-in_err-_count g c =
+    let exit = err_from_is_err_and c.from_residual.result c.from_residual.ensures.1 in
+    rw (exit.1, exit.2) (uncounted g.S.Store c.args.conn.now c.count_named.new.conn _
+    c.in_err-_count.field-0.0 _ _ (no_bad_row _ _ _) c.in_err-_count.ensures)

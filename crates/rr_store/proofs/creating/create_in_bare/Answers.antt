@@ -20,19 +20,20 @@ returns g c =
     let bare : HasCleanDisk (state g.S.Store c.transaction-tx.result.conn.now) →
     IsBare (database g.S.Store c.transaction-tx.result.conn.now) =
     subst (λ h. HasCleanDisk (state g.S.Store h) → IsBare (database g.S.Store h))
-    (sym c.transaction-tx.ensures.begun) c.requires.bare in
+    (sym c.transaction-tx.ensures.begun) c.requires.over in
     let made : Transacts g.S.Store (IsMadeWith (IsStoreOf (lent c.args.objects.now))) old
     c.end.new.tx.0 c.end.result =
     ended_writes g.S.Store old c.transaction-tx.result.conn.now work.new.tx.conn.now c.end.new.tx.0
     work.result c.end.result (IsMadeWith (IsStoreOf (lent c.args.objects.now)))
     c.transaction-tx.ensures.begun
-    (λ clean. both_ok work.result (work.ensures.steps.made clean) (work.ensures.others clean)
+    (λ clean. both_ok work.result (work.ensures.steps.step.made clean) (work.ensures.others clean)
     (λ store others. record {
-      vacant = inr (bare (omega (arith, clean, work.ensures.steps.survives.clean)));
+      vacant = inr (bare (omega (arith, clean, work.ensures.steps.step.survives.clean)));
       tables = tables_stand (map entry_of (lent c.args.objects.now)) _ _ store.filled others;
       rows = store;
     })) c.end.ensures.survives
-    work.ensures.steps.survives work.ensures.steps.kept work.ensures.steps.goes_on settled
+    work.ensures.steps.step.survives work.ensures.steps.step.kept work.ensures.steps.step.goes_on
+    settled
     c.end.ensures.autocommit c.end.ensures.done c.end.ensures.ok c.end.ensures.is_open
     c.end.ensures.was_open c.end.ensures.err in
     search rules

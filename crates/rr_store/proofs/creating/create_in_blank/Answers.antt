@@ -19,7 +19,7 @@ returns g c =
     ended_writes g.S.Store old c.transaction-tx.result.conn.now work.new.tx.conn.now c.end.new.tx.0
     work.result c.end.result (IsMadeWith (IsStoreOf (lent c.args.objects.now)))
     c.transaction-tx.ensures.begun
-    (λ clean. both_ok work.result (work.ensures.steps.made clean) (work.ensures.tables clean)
+    (λ clean. both_ok work.result (work.ensures.steps.step.made clean) (work.ensures.tables clean)
     (λ store tables.
     record {
       vacant = inl (ap (λ h. h.schema) c.transaction-tx.ensures.begun
@@ -27,7 +27,8 @@ returns g c =
       tables = tables;
       rows = store;
     })) c.end.ensures.survives
-    work.ensures.steps.survives work.ensures.steps.kept work.ensures.steps.goes_on settled
+    work.ensures.steps.step.survives work.ensures.steps.step.kept work.ensures.steps.step.goes_on
+    settled
     c.end.ensures.autocommit c.end.ensures.done c.end.ensures.ok c.end.ensures.is_open
     c.end.ensures.was_open c.end.ensures.err in
     search rules

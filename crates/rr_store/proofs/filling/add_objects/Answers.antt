@@ -28,27 +28,30 @@ loop-object-preserved g c =
           (object_filled g.S.Store c.args.tx.now.conn.now c.loop-object.tx.conn.now
           c.add_rows.new.tx.conn.now (lent (take at objects)) object.now
           c.in_ok-entry.ensures.object c.loop-object.invariant.1
-          (λ clean. rw c.in_ok-entry.ensures.entry at (c.in_ok-add_rows.ensures.steps.made clean))
-          c.in_ok-add_rows.ensures.steps.goes_on c.in_ok-add_rows.ensures.steps.kept
-          c.in_ok-add_rows.ensures.steps.survives),
+          (λ clean. rw c.in_ok-entry.ensures.entry at (c.in_ok-add_rows.ensures.step.made clean))
+          c.in_ok-add_rows.ensures.step.goes_on c.in_ok-add_rows.ensures.step.kept
+          c.in_ok-add_rows.ensures.step.survives),
     )
 
 pub returns-clause-steps : goal.returns-clause-steps
-returns-clause-steps g c =
-    let objects = c.args.objects.now in
-    let last : c.loop-object.object-index ≡ length objects =
-    omega (arith, c.loop-object-test.false, c.loop-object.auto.object-index-end) in
-    let all = ap (λ n. take n objects) last ∙ take-length objects in
-    record {
-      made = λ clean on.
-          subst (λ xs. IsAdded (map entry_of (lent xs))
-          (state g.S.Store c.args.tx.now.conn.now).now
-          (state g.S.Store c.loop-object.tx.conn.now).now) all
-          (c.loop-object.invariant.1.filled.done clean on);
-      goes_on = c.loop-object.invariant.1.filled.step;
-      kept = c.loop-object.invariant.1.filled.kept;
-      survives = c.loop-object.invariant.1.filled.survives;
-    }
+returns-clause-steps g c = record {
+  same_reference = c.loop-object.invariant.0;
+  step =
+      let objects = c.args.objects.now in
+      let last : c.loop-object.object-index ≡ length objects =
+      omega (arith, c.loop-object-test.false, c.loop-object.auto.object-index-end) in
+      let all = ap (λ n. take n objects) last ∙ take-length objects in
+      record {
+        made = λ clean on.
+            subst (λ xs. IsAdded (map entry_of (lent xs))
+            (state g.S.Store c.args.tx.now.conn.now).now
+            (state g.S.Store c.loop-object.tx.conn.now).now) all
+            (c.loop-object.invariant.1.filled.done clean on);
+        goes_on = c.loop-object.invariant.1.filled.step;
+        kept = c.loop-object.invariant.1.filled.kept;
+        survives = c.loop-object.invariant.1.filled.survives;
+      };
+}
 
 pub returns-clause-read : goal.returns-clause-read
 returns-clause-read g c =

@@ -5,11 +5,14 @@ use Rattle.rr_store.proofs.CreateLemmas.{creates_object}
 use Rattle.rr_store.proofs.StepLemmas.{statement_steps}
 use Rattle.rr_store.proofs.making.create_object.Goals as goal
 
-pub returns-clause-steps : goal.returns-clause-steps
-returns-clause-steps g c =
-    let old = c.args.tx.now.conn.now in
-    let new = c.execute.new.self.conn.now in
-    statement_steps g.S.Store old new create_object [] c.execute.result c.execute.ensures.ended
-    c.execute.ensures.runs c.execute.ensures.survives _
-    (λ clean count ran on. creates_object (state g.S.Store old) (state g.S.Store new)
-    (c.requires (omega (arith, clean, c.execute.ensures.survives.clean)) on) count ran)
+pub returns : goal.returns
+returns g c = record {
+  same_reference = c.execute.ensures.same_reference;
+  step =
+      let old = c.args.tx.now.conn.now in
+      let new = c.execute.new.self.conn.now in
+      statement_steps g.S.Store old new create_object [] c.execute.result c.execute.ensures.ended
+      c.execute.ensures.runs c.execute.ensures.survives _
+      (λ clean count ran on. creates_object (state g.S.Store old) (state g.S.Store new)
+      (c.requires (omega (arith, clean, c.execute.ensures.survives.clean)) on) count ran);
+}

@@ -1,79 +1,51 @@
-use Rattle.std.proofs.Common.{◌≡◌, IfErr, IfOk, subst, sym, arith}
-use Rattle.std.proofs.lemmas.Result.{IfOk-weaker, err_from_is_err_and}
-use Rattle.sqlite.specs.Effect.{Database}
+use Rattle.std.proofs.Common.{arith}
+use Rattle.std.proofs.lemmas.Result.{err_from_is_err_and}
 use Rattle.sqlite.specs.Held.{state}
 use Rattle.sqlite.specs.State.{HasCleanDisk}
-use Rattle.rr_store.specs.Maps.{HasVersion}
 use Rattle.rr_store.specs.CheckParts.{HasNumberedMeta}
-use Rattle.rr_store.specs.Opening.{AreStoredAs, HoldNone}
-use Rattle.rr_store.specs.Versions.{version_text}
-use Rattle.rr_store.specs.declared.store_fault.OpenFault.TheVariants.{BadRow}
-use Rattle.rr_store.proofs.CheckLemmas.{both_err}
-use Rattle.rr_store.proofs.LookLemmas.{looks_failed, looks_then}
+use Rattle.rr_store.proofs.InspectLemmas.{idle_then, inspects_as, inspects_then, refused_as}
 use Rattle.rr_store.proofs.StoredLemmas.{rows_refuse, version_refuses}
-use Rattle.rr_store.proofs.FailureLemmas.{second_reads}
 use Rattle.rr_store.proofs.opening.read_tables.Goals as goal
 
-pub check_version-requires-clause-tables : goal.check_version-requires-clause-tables
-check_version-requires-clause-tables g c clean = (c.requires.meta clean).tables
+pub check_version-requires : goal.check_version-requires
+check_version-requires g c = record {
+  autocommit = c.requires.autocommit;
+  over = λ clean. (c.requires.over clean).tables;
+}
 
-pub checked_objects-requires-clause-meta : goal.checked_objects-requires-clause-meta
-checked_objects-requires-clause-meta g c clean =
-    subst HasNumberedMeta (sym (c.in_ok-check_version.ensures.looks.same clean).0.now_is)
-    (c.requires.meta
-    (omega (arith, clean, c.in_ok-check_version.ensures.looks.rests.crash.clean)))
-
-pub returns-clause-looks : goal.returns-clause-looks
-returns-clause-looks g c =
-    looks_then g.S.Store c.args.conn.now c.check_version.new.conn c.checked_objects.new.conn
+pub checked_objects-requires : goal.checked_objects-requires
+checked_objects-requires g c =
+    idle_then g.S.Store c.args.conn.now c.check_version.new.conn
     c.in_ok-check_version.ensures.looks.rests c.in_ok-check_version.ensures.looks.same
-    c.checked_objects.result c.checked_objects.ensures.looks
+    HasNumberedMeta c.requires
 
-pub returns-in_err-check_version-clause-looks : goal.returns-in_err-check_version-clause-looks
-returns-in_err-check_version-clause-looks g c = looks_failed g.S.Store c.args.conn.now
-    c.check_version.new.conn c.from_residual.result c.from_residual.ensures.0
-    c.in_err-check_version.ensures.looks.rests
+pub returns-clause-inspects : goal.returns-clause-inspects
+returns-clause-inspects g c =
+    let old = c.args.conn.now in
+    let mid = c.check_version.new.conn in
+    let new = c.checked_objects.new.conn in
+    let said = c.in_ok-check_version.ensures in
+    let before : HasCleanDisk (state g.S.Store new) → HasCleanDisk (state g.S.Store mid) = λ clean.
+    omega (arith, clean, c.checked_objects.ensures.inspects.looks.rests.crash.clean) in
+    let first : HasCleanDisk (state g.S.Store new) → HasCleanDisk (state g.S.Store old) = λ clean.
+    let mid_clean = before clean in omega (arith, mid_clean, said.looks.rests.crash.clean) in
+    inspects_as g.S.Store old new c.checked_objects.result _ _ _ _
+    (inspects_then g.S.Store old mid said.looks.rests said.looks.same new c.checked_objects.result
+    _ _ c.checked_objects.ensures.inspects)
+    (λ clean objects stored. stored (said.read (before clean)))
+    (λ clean fault why. rows_refuse c.args.version c.args.source.now (state g.S.Store old).now fault
+    (c.requires.over (first clean)).tables (said.read (before clean)) why.no_other why.bad_row)
 
-pub returns-clause-stored : goal.returns-clause-stored
-returns-clause-stored g c clean =
-    let before : HasCleanDisk (state g.S.Store c.check_version.new.conn) =
-    omega (arith, clean, c.checked_objects.ensures.looks.rests.crash.clean) in
-    let told =
-    subst (λ (d : Database). IfOk c.checked_objects.result
-    (λ objects. HasVersion (version_text c.args.version) d → AreStoredAs c.args.version
-    c.args.source.now objects.items d))
-    (c.in_ok-check_version.ensures.looks.same before).0.now_is
-    (c.checked_objects.ensures.stored clean) in
-    IfOk-weaker c.checked_objects.result _ _
-    (λ objects stored. stored (c.in_ok-check_version.ensures.ok before)) told
-
-pub returns-clause-why : goal.returns-clause-why
-returns-clause-why g c clean =
-    let before : HasCleanDisk (state g.S.Store c.check_version.new.conn) =
-    omega (arith, clean, c.checked_objects.ensures.looks.rests.crash.clean) in
-    let first : HasCleanDisk (state g.S.Store c.args.conn.now) =
-    omega (arith, before, c.in_ok-check_version.ensures.looks.rests.crash.clean) in
-    let none = subst (λ (d : Database). IfErr c.checked_objects.result (λ fault. fault ≡ BadRow →
-    HoldNone c.args.version c.args.source.now d))
-    (c.in_ok-check_version.ensures.looks.same before).0.now_is
-    (c.checked_objects.ensures.bad_row clean) in
-    both_err c.checked_objects.result _ _ _ c.checked_objects.ensures.no_other none
-    (λ fault no_other bad. rows_refuse c.args.version c.args.source.now
-    (state g.S.Store c.args.conn.now).now fault (c.requires.meta first).tables
-    (c.in_ok-check_version.ensures.ok before) no_other bad)
-
-pub returns-in_err-check_version-clause-why : goal.returns-in_err-check_version-clause-why
-returns-in_err-check_version-clause-why g c clean =
+pub returns-in_err-check_version-clause-inspects :
+    goal.returns-in_err-check_version-clause-inspects
+returns-in_err-check_version-clause-inspects g c =
     let exit = err_from_is_err_and c.from_residual.result c.from_residual.ensures.1 in
-    let first : HasCleanDisk (state g.S.Store c.args.conn.now) =
-    omega (arith, clean, c.in_err-check_version.ensures.looks.rests.crash.clean) in
-    rw (exit.1, exit.2) (version_refuses c.args.version c.args.source.now
-    (state g.S.Store c.args.conn.now).now c.in_err-check_version.field-0.0
-    (c.requires.meta first).tables (c.in_err-check_version.ensures.fault clean))
-
-pub returns-clause-cause : goal.returns-clause-cause
-returns-clause-cause g c =
-    second_reads g.S.Store c.args.conn.now c.check_version.new.conn c.checked_objects.new.conn
-    c.in_ok-check_version.ensures.looks.same c.in_ok-check_version.ensures.looks.rests.crash
-    c.checked_objects.ensures.looks.rests.crash c.checked_objects.result
-    c.checked_objects.ensures.cause
+    rw (exit.1, exit.2) (refused_as g.S.Store c.args.conn.now c.check_version.new.conn
+    c.in_err-check_version.field-0.0 _ _ _ _ c.in_err-check_version.ensures
+    (λ clean why. version_refuses c.args.version
+    c.args.source.now (state g.S.Store c.args.conn.now).now c.in_err-check_version.field-0.0
+    (c.requires.over (omega (
+      arith,
+      clean,
+      c.in_err-check_version.ensures.looks.rests.crash.clean,
+    ))).tables why))

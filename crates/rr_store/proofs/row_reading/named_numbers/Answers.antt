@@ -10,17 +10,20 @@ use Rattle.rr_store.proofs.row_reading.named_numbers.Goals as goal
 
 pub look-requires-clause-plain : goal.look-requires-clause-plain
 look-requires-clause-plain g c clean = plain_of c.args.conn.now.schema named_numbers _
-    named_numbers_is (c.requires.tables clean)
+    named_numbers_is (c.requires.over clean)
 
-pub returns-clause-rows : goal.returns-clause-rows
-returns-clause-rows g c clean =
+pub returns : goal.returns
+returns g c =
     let old = state g.S.Store c.args.conn.now in
     let new = state g.S.Store c.look.new.conn in
-    let tables = c.requires.tables (omega (arith, clean, c.look.ensures.looks.rests.crash.clean)) in
-    shown_of c.look.result _ _ _ old new _ (c.look.ensures.shown clean)
-    (λ rows h. numbers_named old new tables rows.items h)
-
-pub returns-clause-cause : goal.returns-clause-cause
-returns-clause-cause g c = asks_fail g.S.Store named_numbers [] named_numbers_told c.args.conn.now
-    c.look.new.conn c.look.result c.requires.tables c.look.ensures.looks.rests.crash
-    c.look.ensures.refused
+    record {
+      looks = c.look.ensures.looks;
+      found = λ clean.
+          let tables =
+          c.requires.over (omega (arith, clean, c.look.ensures.looks.rests.crash.clean)) in
+          shown_of c.look.result _ _ _ old new _ (c.look.ensures.shown clean)
+          (λ rows h. numbers_named old new tables rows.items h);
+      cause = asks_fail g.S.Store named_numbers [] named_numbers_told c.args.conn.now
+          c.look.new.conn c.look.result c.requires.over c.look.ensures.looks.rests.crash
+          c.look.ensures.refused;
+    }

@@ -31,15 +31,15 @@ loop-object-preserved g c =
     ∙ (flat_map-append named_rows (map entry (take at objects)) (entry object ∷ [])
     ∙ ap (λ l. flat_map named_rows (map entry (take at objects)) ++ l)
     (append_none (named_rows (entry object))))) in (
-      c.in_ok-take_names_of.ensures.same_reference ∙ c.loop-object.invariant.0,
+      c.in_ok-take_names_of.ensures.streams.same_reference ∙ c.loop-object.invariant.0,
       read_then g.S.Store c.args.rows.now.conn.now c.loop-object.rows.conn.now
           c.take_names_of.new.rows.conn.now (λ rows. contents rows ≡ flat_map named_rows
           (map entry (take at objects))) c.loop-object.invariant.1
-          c.in_ok-take_names_of.ensures.streams.autocommit
-          c.in_ok-take_names_of.ensures.streams.survives
+          c.in_ok-take_names_of.ensures.streams.left.autocommit
+          c.in_ok-take_names_of.ensures.streams.left.survives
           (λ more. contents more ≡ named_rows (entry object))
           (λ rows. contents rows ≡ flat_map named_rows (map entry (take (at + 1) objects)))
-          c.in_ok-take_names_of.ensures.streams.same
+          c.in_ok-take_names_of.ensures.streams.left.same
           (λ clean. c.in_ok-take_names_of.ensures.are clean c.if-not-branch.false)
           (λ rows more told last. map-append columns rows more
           ∙ ((λ i. told i ++ last i) ∙ sym grown)),
@@ -66,24 +66,30 @@ returns-in-None-clause-are g c clean on =
     )
 
 pub returns-in_err-take_names_of-clause-fails : goal.returns-in_err-take_names_of-clause-fails
-returns-in_err-take_names_of-clause-fails g c clean =
+returns-in_err-take_names_of-clause-fails g c =
     let exit = err_from_is_err_and c.from_residual.result c.from_residual.ensures.1 in
-    rw (exit.1, exit.2) (λ error is. failed_within g.S.Store c.args.rows.now.conn.now
-    c.loop-object.rows.conn.now c.take_names_of.new.rows.conn.now
-    (λ rows. contents rows ≡ flat_map named_rows (map (entry_in (form_of c.args.version))
-    (take c.loop-object.object-index c.args.objects.now))) c.loop-object.invariant.1
-    (omega (arith, clean, c.in_err-take_names_of.ensures.streams.survives.clean)) error
-    (c.in_err-take_names_of.ensures.fails clean error is))
+    rw (exit.1, exit.2) (record {
+      no_other = c.in_err-take_names_of.ensures.fails.no_other;
+      fails = λ clean error is. failed_within g.S.Store c.args.rows.now.conn.now
+          c.loop-object.rows.conn.now c.take_names_of.new.rows.conn.now
+          (λ rows. contents rows ≡ flat_map named_rows (map (entry_in (form_of c.args.version))
+          (take c.loop-object.object-index c.args.objects.now))) c.loop-object.invariant.1
+          (omega (arith, clean, c.in_err-take_names_of.ensures.streams.left.survives.clean)) error
+          (c.in_err-take_names_of.ensures.fails.fails clean error is);
+    })
 
 pub returns-in_err-advance-clause-fails : goal.returns-in_err-advance-clause-fails
-returns-in_err-advance-clause-fails g c clean =
+returns-in_err-advance-clause-fails g c =
     let old = c.args.rows.now.conn.now in
     let new = c.advance.new.self.conn.now in
     let exit = err_from_is_err_and c.from_residual-in_err-advance.result
     c.from_residual-in_err-advance.ensures.1 in
-    rw (exit.1, exit.2) (is_store (FailsAfterRows g.S.Store old new) c.in_err-advance.field-0.0
-    (failed_after g.S.Store old c.loop-object.rows.conn.now new
-    (λ rows. contents rows ≡ flat_map named_rows (map (entry_in (form_of c.args.version))
-    (take c.loop-object.object-index c.args.objects.now))) c.loop-object.invariant.1
-    (omega (arith, clean, c.advance.ensures.survives.clean)) c.in_err-advance.field-0.0
-    (c.in_err-advance.ensures.err clean)))
+    rw (exit.1, exit.2) (record {
+      no_other = λ n is. absurd (cc);
+      fails = λ clean. is_store (FailsAfterRows g.S.Store old new) c.in_err-advance.field-0.0
+          (failed_after g.S.Store old c.loop-object.rows.conn.now new
+          (λ rows. contents rows ≡ flat_map named_rows (map (entry_in (form_of c.args.version))
+          (take c.loop-object.object-index c.args.objects.now))) c.loop-object.invariant.1
+          (omega (arith, clean, c.advance.ensures.survives.clean)) c.in_err-advance.field-0.0
+          (c.in_err-advance.ensures.err clean));
+    })

@@ -61,8 +61,8 @@ returns-in_default-clause-read g c clean =
     (subst (Advances g.S.Store c.rows.rows.conn.now c.advance.new.self.conn.now) none
     (c.in_ok-advance.ensures.ok clean))
 
-pub returns-in_err-take_object-clause-bad_row : goal.returns-in_err-take_object-clause-bad_row
-returns-in_err-take_object-clause-bad_row g c clean =
+pub returns-in_err-take_object-clause-refuses : goal.returns-in_err-take_object-clause-refuses
+returns-in_err-take_object-clause-refuses g c clean =
     let form = form_of c.args.version in
     let source = c.args.source.now in
     let values = c.in-Some.row.now in
@@ -80,28 +80,44 @@ returns-in_err-take_object-clause-bad_row g c clean =
     (λ clean. subst (Advances g.S.Store c.rows.rows.conn.now c.advance.new.self.conn.now) row
     (c.in_ok-advance.ensures.ok clean)) (λ rows read. (rows, refl)) in
     let given = now.rows clean in
-    rw (exit.1, exit.2) (λ bad. (
-      given.0,
-      given.1,
-      λ rest others read.
-          let whole : contents (given.0 ++ rest) ≡ contents given.2.0 ++ columns values ∷ contents
-          rest =
-          ap (λ xs. contents (xs ++ rest)) given.2.1
-          ∙ (ap contents (append_assoc given.2.0 (values ∷ []) rest) ∙ map-append columns
-          given.2.0 (values ∷ rest)) in
-          let it = objects.read_between form source (contents given.2.0) (columns values)
-          (contents rest) others (subst (λ xs. AreRead form source xs others) whole read) in
-          c.in_err-take_object.ensures.bad_row bad it.0 it.1 it.2,
-    ))
+    rw (exit.1, exit.2) (record {
+      bad_row = λ bad. (
+        given.0,
+        given.1,
+        λ rest others read.
+            let whole : contents (given.0 ++ rest) ≡ contents given.2.0 ++ columns values
+            ∷ contents rest =
+            ap (λ xs. contents (xs ++ rest)) given.2.1
+            ∙ (ap contents (append_assoc given.2.0 (values ∷ []) rest) ∙ map-append columns
+            given.2.0 (values ∷ rest)) in
+            let it = objects.read_between form source (contents given.2.0) (columns values)
+            (contents rest) others (subst (λ xs. AreRead form source xs others) whole read) in
+            c.in_err-take_object.ensures.bad_row bad it.0 it.1 it.2,
+      );
+      unchanged = λ none. now.same clean;
+    })
+
+pub returns-in_err-advance-clause-refuses : goal.returns-in_err-advance-clause-refuses
+returns-in_err-advance-clause-refuses g c clean =
+    let exit = err_from_is_err_and c.from_residual-in_err-advance.result
+    c.from_residual-in_err-advance.ensures.1 in
+    rw (exit.1, exit.2) (record {
+      bad_row = λ bad. absurd (cc);
+      unchanged = λ none. absurd (none c.in_err-advance.field-0.0 refl);
+    })
 
 pub returns-in_err-advance-clause-fails : goal.returns-in_err-advance-clause-fails
-returns-in_err-advance-clause-fails g c clean =
+returns-in_err-advance-clause-fails g c =
     let old = c.args.rows.now.conn.now in
     let new = c.advance.new.self.conn.now in
     let exit = err_from_is_err_and c.from_residual-in_err-advance.result
     c.from_residual-in_err-advance.ensures.1 in
-    rw (exit.1, exit.2) (is_store (FailsAfterRows g.S.Store old new) c.in_err-advance.field-0.0
-    (failed_after g.S.Store old c.rows.rows.conn.now new (λ rows. AreRead (form_of c.args.version)
-    c.args.source.now (contents rows) c.rows.objects.items) c.rows.invariant.1
-    (omega (arith, clean, c.advance.ensures.survives.clean)) c.in_err-advance.field-0.0
-    (c.in_err-advance.ensures.err clean)))
+    rw (exit.1, exit.2) (record {
+      no_other = λ n is. absurd (cc);
+      fails = λ clean. is_store (FailsAfterRows g.S.Store old new) c.in_err-advance.field-0.0
+          (failed_after g.S.Store old c.rows.rows.conn.now new
+          (λ rows. AreRead (form_of c.args.version) c.args.source.now (contents rows)
+          c.rows.objects.items) c.rows.invariant.1
+          (omega (arith, clean, c.advance.ensures.survives.clean)) c.in_err-advance.field-0.0
+          (c.in_err-advance.ensures.err clean));
+    })

@@ -27,20 +27,23 @@ returns-clause-rows g c clean =
     (c.requires (omega (arith, c.query_all.ensures.survives.clean)) on).has rows.items h)
 
 pub returns-clause-steps : goal.returns-clause-steps
-returns-clause-steps g c =
-    let old = state g.S.Store c.args.tx.now.conn.now in
-    let new = state g.S.Store c.query_all.new.self.conn.now in
-    let plain : HasCleanDisk new → IsTrue old.is_open →
-    IsPlain (understood old.now.schema select_of_key) = λ clean on.
-    plain_of old.now.schema select_of_key _ select_of_key_is
-    (c.requires (omega (arith, clean, c.query_all.ensures.survives.clean)) on).has in
-    record {
-      made = λ clean. then_ok c.query_all.result (asked_same (λ rows. rows.items) select_of_key _
-          old new (plain clean) c.query_all.result (c.query_all.ensures.ok clean))
-          (λ same. same.0.now_is);
-      goes_on = λ clean. asked_step (λ rows. rows.items) select_of_key _ old new (plain clean)
-          c.query_all.result (c.query_all.ensures.ok clean);
-      kept = λ clean. asked_keeps (λ rows. rows.items) select_of_key _ old new (plain clean)
-          c.query_all.result (c.query_all.ensures.ok clean) (c.query_all.ensures.err clean);
-      survives = c.query_all.ensures.survives;
-    }
+returns-clause-steps g c = record {
+  same_reference = c.query_all.ensures.same_reference;
+  step =
+      let old = state g.S.Store c.args.tx.now.conn.now in
+      let new = state g.S.Store c.query_all.new.self.conn.now in
+      let plain : HasCleanDisk new → IsTrue old.is_open →
+      IsPlain (understood old.now.schema select_of_key) = λ clean on.
+      plain_of old.now.schema select_of_key _ select_of_key_is
+      (c.requires (omega (arith, clean, c.query_all.ensures.survives.clean)) on).has in
+      record {
+        made = λ clean. then_ok c.query_all.result (asked_same (λ rows. rows.items) select_of_key _
+            old new (plain clean) c.query_all.result (c.query_all.ensures.ok clean))
+            (λ same. same.0.now_is);
+        goes_on = λ clean. asked_step (λ rows. rows.items) select_of_key _ old new (plain clean)
+            c.query_all.result (c.query_all.ensures.ok clean);
+        kept = λ clean. asked_keeps (λ rows. rows.items) select_of_key _ old new (plain clean)
+            c.query_all.result (c.query_all.ensures.ok clean) (c.query_all.ensures.err clean);
+        survives = c.query_all.ensures.survives;
+      };
+}

@@ -1,20 +1,15 @@
-use Rattle.std.proofs.Common.{◌≡◌, IsTrue, rules}
-use Rattle.sqlite.specs.Held.{state}
+use Rattle.std.proofs.Common.{rules}
 use Rattle.rr_store.specs.Calls.{Transacts}
 use Rattle.rr_store.specs.Entries.{IsPut}
-use Rattle.rr_store.proofs.CommitLemmas.{ended_writes}
+use Rattle.rr_store.proofs.CommitLemmas.{transacted}
 use Rattle.rr_store.proofs.writes.put_entry.Goals as goal
 
 pub returns : goal.returns
 returns g c =
-    let old = c.args.conn.now in
-    let settled : IsTrue (state g.S.Store old).is_open → (state g.S.Store old).now
-    ≡ (state g.S.Store old).committed = c.note_committed.ensures c.requires.autocommit in
-    let made : Transacts g.S.Store (IsPut c.args.entry.now) old c.end.new.tx.0 c.end.result =
-    ended_writes g.S.Store old c.transaction-tx.result.conn.now c.put_rows-work.new.tx.conn.now
-    c.end.new.tx.0 c.put_rows-work.result c.end.result (IsPut c.args.entry.now)
-    c.transaction-tx.ensures.begun c.put_rows-work.ensures.steps.made c.end.ensures.survives
-    c.put_rows-work.ensures.steps.survives c.put_rows-work.ensures.steps.kept
-    c.put_rows-work.ensures.steps.goes_on settled c.end.ensures.autocommit c.end.ensures.done
-    c.end.ensures.ok c.end.ensures.is_open c.end.ensures.was_open c.end.ensures.err in
+    let made : Transacts g.S.Store (IsPut c.args.entry.now) c.args.conn.now c.end.new.tx.0
+    c.end.result =
+    transacted g.S.Store c.args.conn.now c.transaction-tx.result.conn.now
+    c.put_rows-work.new.tx.conn.now c.end.new.tx.0 c.put_rows-work.result c.end.result
+    (IsPut c.args.entry.now) c.transaction-tx.ensures.begun c.put_rows-work.ensures.step
+    c.end.ensures (c.note_committed.ensures c.requires.autocommit) in
     search rules

@@ -19,14 +19,14 @@ same-settings g c = refl
 
 pub returns-in-Ok-create_stored-clause-runs : goal.returns-in-Ok-create_stored-clause-runs
 returns-in-Ok-create_stored-clause-runs g c = record {
-  running = c.in-Ok-create_stored.ensures.running;
+  running = c.in-Ok-create_stored.ensures.stock.running;
   settings = refl;
-  of_source = rw c.in-Ok-create_stored.ensures.registry c.in-Ok.ensures.of_source;
-  holds = c.in-Ok-create_stored.ensures.holds;
+  of_source = rw c.in-Ok-create_stored.ensures.stock.registry c.in-Ok.ensures.of_source;
+  holds = c.in-Ok-create_stored.ensures.stock.holds;
 }
 
 pub returns-in-Ok-create_stored-clause-opening : goal.returns-in-Ok-create_stored-clause-opening
-returns-in-Ok-create_stored-clause-opening g c = rw c.in-Ok-create_stored.ensures.registry
+returns-in-Ok-create_stored-clause-opening g c = rw c.in-Ok-create_stored.ensures.stock.registry
     c.in-Ok.ensures.opening
 
 pub returns-in-Ok-create_stored-clause-makes : goal.returns-in-Ok-create_stored-clause-makes

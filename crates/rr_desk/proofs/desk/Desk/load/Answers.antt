@@ -7,11 +7,11 @@ use Rattle.rr_desk.proofs.desk.Desk.load.Goals as goal
 
 pub returns-in-Ok-create_stored-clause-runs : goal.returns-in-Ok-create_stored-clause-runs
 returns-in-Ok-create_stored-clause-runs g c = record {
-  running = c.in-Ok-create_stored.ensures.running;
+  running = c.in-Ok-create_stored.ensures.stock.running;
   settings = refl;
-  of_source = rw (c.in-Ok-create_stored.ensures.registry, ← c.source.ensures.source)
+  of_source = rw (c.in-Ok-create_stored.ensures.stock.registry, ← c.source.ensures.source)
       c.in-Ok.ensures.of_source;
-  holds = c.in-Ok-create_stored.ensures.holds;
+  holds = c.in-Ok-create_stored.ensures.stock.holds;
 }
 
 pub returns-in-Ok-create_stored-clause-makes : goal.returns-in-Ok-create_stored-clause-makes
@@ -56,7 +56,7 @@ returns-in-Err-clause-fails g c = record {
 pub returns-in-Ok-create_stored-clause-event : goal.returns-in-Ok-create_stored-clause-event
 returns-in-Ok-create_stored-clause-event g c =
     making _ _ _ _ (returns-in-Ok-create_stored-clause-runs g c)
-    (rw (c.in-Ok-create_stored.ensures.registry, ← c.source.ensures.source)
+    (rw (c.in-Ok-create_stored.ensures.stock.registry, ← c.source.ensures.source)
     c.in-Ok.ensures.loaded) (returns-in-Ok-create_stored-clause-makes g c)
 
 pub returns-in-Err-create_stored-clause-event : goal.returns-in-Err-create_stored-clause-event

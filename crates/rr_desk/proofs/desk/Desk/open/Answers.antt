@@ -10,10 +10,10 @@ same-settings g c = refl
 
 pub returns-in-Ok-clause-runs : goal.returns-in-Ok-clause-runs
 returns-in-Ok-clause-runs g c = record {
-  running = c.in-Ok.ensures.running;
+  running = c.in-Ok.ensures.stock.running;
   settings = refl;
-  of_source = rw (← c.source.ensures.source) c.in-Ok.ensures.of_source;
-  holds = c.in-Ok.ensures.holds;
+  of_source = rw (← c.source.ensures.source) c.in-Ok.ensures.stock.of_source;
+  holds = c.in-Ok.ensures.stock.holds;
 }
 
 pub returns-in-Ok-clause-opens : goal.returns-in-Ok-clause-opens

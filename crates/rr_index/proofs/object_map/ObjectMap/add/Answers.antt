@@ -3,7 +3,6 @@ use Rattle.std.specs.BTreeMap.{Updates}
 use Rattle.std.specs.FinMap.{insert}
 use Rattle.rr_object.specs.contracts.key.KeyOrd.TheImpl as derived
 use Rattle.rr_object.specs.declared.key.Key.{Key}
-use Rattle.rr_object.specs.Objects.{Obj}
 use Rattle.rr_index.proofs.Kept.{registry_inserted, rising}
 use Rattle.rr_index.proofs.object_map.ObjectMap.add.Goals as goal
 
@@ -13,11 +12,9 @@ invariant_of-self c = rising c.insert.new.self c.insert.ensures.ordered
 pub returns-in-Ok-insert-clause-ok : goal.returns-in-Ok-insert-clause-ok
 returns-in-Ok-insert-clause-ok c =
     let o = c.args.object in
-    let placed = subst (λ (p : Obj). Updates (derived.ghosts).cmp c.self.inside.entries
-    c.insert.new.self c.in-Ok.key (Some p)) c.in_ok-placed.ensures.ok
-    c.in-Ok-insert.ensures.updates in
     let update = subst (λ (k : Key). Updates (derived.ghosts).cmp c.self.inside.entries
-    c.insert.new.self k (Some o)) (c.in-Ok.ensures ∙ c.key.ensures.value) placed in
+    c.insert.new.self k (Some o)) (c.in-Ok.ensures ∙ c.key.ensures.value)
+    c.in-Ok-insert.ensures.updates in
     registry_inserted c.self.inside.entries c.insert.new.self o.key o c.self.invariant
     (rising c.insert.new.self c.insert.ensures.ordered) update
     ∙ ap (λ r. insert r o.key o) c.self.view_is

@@ -4,6 +4,6 @@ use Rattle.std.specs.Map.{values_of}
 use Rattle.rr_auth.specs.Closest.{origins_among}
 use Rattle.rr_index.proofs.object_map.ObjectMap.origins.Given as goal
 
-abbrev pub invariant-loop-placed : goal.invariant-loop-placed
-invariant-loop-placed l = l.origins.items ++ origins_among (values_of l.placed-iterator) l.prefix
+abbrev pub invariant-loop-object : goal.invariant-loop-object
+invariant-loop-object l = l.origins.items ++ origins_among (values_of l.object-iterator) l.prefix
     ≡ origins_among (values l.self) l.prefix

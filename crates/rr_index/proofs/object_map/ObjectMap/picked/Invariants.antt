@@ -8,8 +8,8 @@ use Rattle.rr_index.specs.KeyRangeParts.{lies_between}
 use Rattle.rr_index.proofs.object_map.ObjectMap.picked.Given as goal
 
 -- the objects found and those to come that lie in the span are all that do
-abbrev pub invariant-loop-placed : goal.invariant-loop-placed
-invariant-loop-placed l =
-    lent l.found.items ++ filter (lies_in l.fn.span) (values_of l.placed-iterator)
+abbrev pub invariant-loop-object : goal.invariant-loop-object
+invariant-loop-object l =
+    lent l.found.items ++ filter (lies_in l.fn.span) (values_of l.object-iterator)
     ≡ filter (lies_in l.fn.span)
     (values_of (filter (λ e. lies_between l.fn.first l.fn.last e.0) (entries l.self)))

@@ -16,8 +16,8 @@ pub invariant_of-self : goal.invariant_of-self
 invariant_of-self c = elim c.match-get_mut.branch [
   | in-Some w ↦
       ap (λ (x : Inside). is_sorted key_cmp x.entries.entries) w.self-inside-is
-      ∙ rising (c.get_mut.follows.lender w.replace.new.self)
-      (c.get_mut.follows.holds w.replace.new.self).4
+      ∙ rising (c.get_mut.follows.lender w.replace.new.dest)
+      (c.get_mut.follows.holds w.replace.new.dest).4
   | in-None w ↦
       ap (λ (x : Inside). is_sorted key_cmp x.entries.entries) w.self-inside-is
       ∙ ap (λ (m : BTreeMap Key Obj). is_sorted key_cmp m.entries) c.get_mut.follows.holds-at-none
@@ -28,13 +28,13 @@ pub returns-clause-ok : goal.returns-clause-ok
 returns-clause-ok c = elim c.match-get_mut.branch [
   | in-Some w ↦
       let o = c.args.object in
-      let after = c.get_mut.follows.lender w.replace.new.self in
+      let after = c.get_mut.follows.lender w.replace.new.dest in
       subst (λ (r : Result Obj Obj). OnOk r (registry_of c.match-get_mut.self-inside.entries
       ≡ insert c.args.self.now o.key o)) (sym w.result-is)
       (ap (λ (x : Inside). registry_of x.entries) w.self-inside-is
-      ∙ registry_replaced c.self.inside.entries after c.key.result.now o.key w.replace.new.self o
-      c.self.invariant (rising after (c.get_mut.follows.holds w.replace.new.self).4)
-      c.key.ensures.value w.replace.ensures.after ((c.get_mut.follows.holds w.replace.new.self).3
+      ∙ registry_replaced c.self.inside.entries after c.key.result.now o.key w.replace.new.dest o
+      c.self.invariant (rising after (c.get_mut.follows.holds w.replace.new.dest).4)
+      c.key.ensures.value w.replace.ensures.after ((c.get_mut.follows.holds w.replace.new.dest).3
       (subst IsSome w.in-Some.ensures.value refl)).0
       ∙ ap (λ r. insert r o.key o) c.self.view_is)
   | in-None w ↦
@@ -54,7 +54,7 @@ returns-clause-old c = elim c.match-get_mut.branch [
       ∙ sym (ap (λ (k : Key). at_key (derived.ghosts).cmp c.self.inside.entries k)
       c.key.ensures.value)
       ∙ sym w.in-Some.ensures.value
-      ∙ ap Some (sym w.replace.ensures.old))
+      ∙ ap Some (sym w.replace.ensures.value))
   | in-None w ↦
       let o = c.args.object in
       subst (λ (r : Result Obj Obj). IfOk r (λ old. get c.args.self.now o.key ≡ Some old))

@@ -7,22 +7,23 @@ use Rattle.rr_store.proofs.store.Store.all.Goals as goal
 pub returns-clause-all : goal.returns-clause-all
 returns-clause-all g c clean objects has =
     all_told c.args.source.now c.in_ok-objects.field-0.items objects _ has
-    (rw c.self.view_is at (c.in_ok-objects.ensures.read clean)) c.in_ok-objects.ensures.in_order
+    (rw c.self.view_is at (c.in_ok-objects.ensures.inspects.read clean))
+    c.in_ok-objects.ensures.listed.in_order
 
 pub returns-clause-settled : goal.returns-clause-settled
 returns-clause-settled g c =
     settles g.S.Store g.met.S.Store.settled c.all_objects-objects.new.conn
-    (c.note_committed.ensures c.all_objects-objects.ensures.looks.rests.autocommit)
+    (c.note_committed.ensures c.all_objects-objects.ensures.inspects.looks.rests.autocommit)
 
 pub returns-in_err-objects-clause-settled : goal.returns-in_err-objects-clause-settled
 returns-in_err-objects-clause-settled g c =
     settles g.S.Store g.met.S.Store.settled c.all_objects-objects.new.conn
-    (c.note_committed.ensures c.all_objects-objects.ensures.looks.rests.autocommit)
+    (c.note_committed.ensures c.all_objects-objects.ensures.inspects.looks.rests.autocommit)
 
 pub returns-in_err-objects-clause-cause : goal.returns-in_err-objects-clause-cause
 returns-in_err-objects-clause-cause g c =
     let exit = err_from_is_err_and c.from_residual.result c.from_residual.ensures.1 in
     rw (exit.1, exit.2) (lists_fail g.S.Store c.args.source.now c.args.self.now
-    c.all_objects-objects.new.conn c.in_err-objects.field-0.0 c.in_err-objects.ensures.no_other
-    (λ clean. rw c.self.view_is at (c.in_err-objects.ensures.bad_row clean))
-    (rw c.self.view_is at c.in_err-objects.ensures.cause))
+    c.all_objects-objects.new.conn c.in_err-objects.field-0.0
+    (λ clean. rw c.self.view_is at (c.in_err-objects.ensures.inspects.why clean))
+    (rw c.self.view_is at c.in_err-objects.ensures.inspects.cause))

@@ -177,8 +177,8 @@ export const CODES = {
     E16: [
         "The range overlaps another one of its class, and neither is inside the " +
             "other.",
-        "Ask `less` for the first and for the last address: what contains exactly one" +
-            " of them overlaps. Cut the range there.",
+        "Query `less` for the first and for the last address: a range that contains " +
+            "only one of them overlaps. Cut the range there.",
     ],
     E17: [
         "Other objects still name the maintainer that is to be deleted.",

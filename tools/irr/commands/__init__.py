@@ -30,7 +30,7 @@ class Command(NamedTuple):
 
 
 TABLE = (
-    Command("query", ASK, "query", "ask a registry"),
+    Command("query", ASK, "query", "query a registry"),
     Command("dump", ASK, "dump", "print the public dump"),
     Command("tree", ASK, "tree", "print who holds what below a prefix"),
     Command(

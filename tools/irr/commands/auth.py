@@ -17,7 +17,7 @@ irr auth                              an `auth` line of a new password, which th
 irr auth --ask                        one of a password that you type
 irr auth --save my.password EXAMPLE-MNT > mntner.rpsl
 irr submit my.password mntner.rpsl    make a new maintainer, and register it
-irr auth ROOT-MNT                     beside the settings of a registry that is not served yet
+irr auth ROOT-MNT                     in the folder of irr.toml, before the registry is served
 
 The registry keeps one SHA-256 hash of the salt and the password. Anybody who obtains it can try
 billions of passwords a second. A random password of 96 bits withstands that; a short one does not.

@@ -27,7 +27,7 @@ def arguments(parser: argparse.ArgumentParser) -> None:
         "--as",
         dest="holder",
         metavar="MNT",
-        help="hand over in this maintainer's name, by default that of one who may add the object",
+        help="hand over in the name of this maintainer, by default of one that may add the objects",
     )
     proof = parser.add_mutually_exclusive_group()
     proof.add_argument(

@@ -36,7 +36,6 @@ def arguments(parser: argparse.ArgumentParser) -> None:
     parser.add_argument(
         "--widest",
         metavar="LENGTH",
-        default=str(WIDEST),
         help="accept prefixes, and prefixes of ranges, of at least this length, "
         f"by default {WIDEST}; 0 allows 0.0.0.0/0",
     )
@@ -46,8 +45,8 @@ def arguments(parser: argparse.ArgumentParser) -> None:
     parser.add_argument(
         "--accept",
         action="store_true",
-        help="with --settings, also accept a list that lacks more of the old one than `shrink`"
-        " allows, or whose old one can't be read",
+        help="with --settings, also accept a list that lacks more of the old list than `shrink`"
+        " allows, or that replaces a list that can't be read",
     )
     parser.add_argument("format", metavar="FORMAT", nargs="?", help="bird or frr")
     parser.add_argument(
@@ -75,6 +74,14 @@ def run(options: argparse.Namespace) -> int:
             raise Failure(
                 options.format, "with --settings there is nothing else; take it away", ARGUMENTS
             )
+        for name in "missing", "widest", "server", "plain":
+            if getattr(options, name):
+                raise Failure(
+                    f"--{name}",
+                    "it does not go with --settings, whose commands have their own options; "
+                    "write it in `make`",
+                    ARGUMENTS,
+                )
         return settings.make_all(options.settings, options.accept)
     if options.accept:
         raise Failure("--accept", "it goes with --settings alone; take it away", ARGUMENTS)
@@ -139,7 +146,8 @@ def read_words(options: argparse.Namespace) -> int:
             "this is not a set or an AS number; write it as AS64496:AS-CUSTOMERS or AS64496",
             ARGUMENTS,
         )
-    widest = keys.read_number(options.widest, 0, 32)
+    given = str(WIDEST) if options.widest is None else options.widest
+    widest = keys.read_number(given, 0, 32)
     if widest is None:
         raise Failure(
             options.widest,

@@ -24,8 +24,9 @@ irr history at 2026-11-26T12:00Z closest 192.0.2.1     what the registry answere
 git -C /var/lib/irrdesk-history log --stat             the commits, with a file for each object
 
 `show` and `at` read the folder of --folder, or of IRR_HISTORY, or /var/lib/irrdesk-history. A
-change has the time of the fetch that saw it. Of several changes between two fetches only the last
-is seen. New passwords are not seen, because hashes are not public. `irr log` says who changed what.
+change has the time of the fetch that saw it. Of several changes of an object between two fetches
+only the last is seen. New passwords are not seen, because hashes are not public. `irr log` says who
+changed what.
 """
 
 

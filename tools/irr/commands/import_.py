@@ -45,7 +45,9 @@ def arguments(parser: argparse.ArgumentParser) -> None:
     parser.add_argument(
         "--source", required=True, metavar="NAME", help="give the registry this name"
     )
-    parser.add_argument("--root", required=True, metavar="MNT", help="give it this root maintainer")
+    parser.add_argument(
+        "--root", required=True, metavar="MNT", help="give the registry this root maintainer"
+    )
     parser.add_argument(
         "--auth",
         action="append",

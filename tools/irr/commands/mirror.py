@@ -12,10 +12,10 @@ EXAMPLES = """
 irr mirror replicas                    one replica of the registry of IRR_SERVER, at port 4345
 irr mirror -s https://irr.example.net --port 4345 --port 4346 --agent 4340 /var/lib/irrdesk-mirror
 
-A replica gives the same answers as the registry, even while that is stopped. It has no password
-hashes, so nobody can change objects there. New maintainers can still register at it: let the door
-send submissions to the registry. Give at least two ports: each replica in turn is restarted on new
-objects, so that one always answers. The door learns of them from the agent.
+A replica gives the same answers as the registry, even while the registry is stopped. It has no
+password hashes, so nobody can change objects there. New maintainers can still register at it: let
+the door send submissions to the registry. Give at least two ports: each replica in turn is
+restarted on new objects, so that one always answers. The agent tells the door which replicas exist.
 """
 
 

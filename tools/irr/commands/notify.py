@@ -23,9 +23,10 @@ irr notify /var/lib/irrdesk-notify --from irr@example.net
 irr notify /var/lib/irrdesk-notify --from irr@example.net --log /var/log/irrdesk-door/items.log
 irr notify /var/lib/irrdesk-notify --from irr@example.net --dry-run
 
-Each state that `irr history` saw is mailed once, one mail per address: to `notify` of each object
-before and after the change, and to `mnt-nfy` of its maintainers. The first run sends nothing. With
---log or --journal, what was refused through the door is mailed to `upd-to` of the maintainers.
+What changed in each state that `irr history` recorded is mailed once, one mail per address: to
+`notify` of each object before and after the change, and to `mnt-nfy` of its maintainers. The first
+run sends nothing. With --log or --journal, what was refused through the door is mailed to `upd-to`
+of the maintainers.
 """
 HOUR = 3_600
 FOOT = (

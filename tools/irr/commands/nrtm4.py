@@ -10,7 +10,7 @@ from irr.terminal import texts
 EXAMPLES = """
 irr nrtm4 /var/lib/irrdesk-nrtm4          print the public key, and the next one
 irr nrtm4 --new /var/lib/irrdesk-nrtm4    make the next key, and announce it to mirrors
-irr nrtm4 --roll /var/lib/irrdesk-nrtm4   sign with it from now on
+irr nrtm4 --roll /var/lib/irrdesk-nrtm4   sign with the next key from now on
 
 `irr export --nrtm4` makes the first key. Give mirrors the public key over another channel than the
 files. Run --new and --roll as the user of the unit: runuser -u irrdesk-public -- irr nrtm4 ...

@@ -20,8 +20,9 @@ EXAMPLES = """
 irr restore /var/lib/irrdesk-backup/20261128T031502Z       the service's registry, as root
 irr restore --settings irr.toml backups/20261128T031502Z   one whose server you have stopped
 
-The backup is tested first: a copy of it is opened, and its dump compared. The replaced database is
-kept in a folder beside the new one. If there are no settings, those of the backup are restored.
+The backup is tested first: a copy of it is opened, and its dump compared. A replaced database that
+had other objects is kept in a folder beside the new one. If there are no settings, those of the
+backup are restored.
 """
 # Where the package has the database, for a backup whose settings have a path without a folder.
 STORE = "/var/lib/irrdesk/irr.db"

@@ -14,7 +14,7 @@ from irr.views import roas
 EXAMPLES = """
 rpki-client -j /var/lib/rpki-client && irr rov /var/lib/rpki-client/json
 routinator vrps --format json | irr rov -
-irr rov --invalid vrps.json                  only the routes that networks drop
+irr rov --invalid vrps.json                  only the invalid routes, which many networks drop
 """
 
 

@@ -46,7 +46,9 @@ def arguments(parser: argparse.ArgumentParser) -> None:
     )
     parser.add_argument("--source", metavar="NAME", help="give the registry this name")
     parser.add_argument(
-        "--root", metavar="NAME", help="give it this root maintainer, by default ROOT-MNT"
+        "--root",
+        metavar="NAME",
+        help="give the registry this root maintainer, by default ROOT-MNT",
     )
     parser.add_argument(
         "--save",

@@ -15,9 +15,10 @@ EXAMPLES = """
 irr view /etc/irrdesk/views/routes.toml            serve it at the ports of the settings
 irr view --every 60 routes.toml                    check the sources each minute
 
-A view has the objects of several registries. If two have the same key, that of the first source is
-used. Each names its origin on its `source` line: `source: ROUTES # RIPE`. A source that can't be
-read, or lost too much at once, stays as it was; `irr view` says which, and since when.
+A view has the objects of several registries. If two objects have the same key, that of the first
+source is used. Each object names its source in a comment: `source: ROUTES # RIPE`. A source that
+can't be read, or that lost too many objects at once, stays as it was; `irr view` says which, and
+since when.
 """
 
 

@@ -12,7 +12,7 @@ from irr.terminal import texts
 
 EXAMPLES = """
 irr why 192.0.2.0/24 AS64496:RS-CUSTOMERS       each chain from the set to the prefix
-irr why 192.0.2.0/24 AS64496                    the same of the routes of an AS
+irr why 192.0.2.0/24 AS64496                    the same for the routes of an AS
 irr why --json 192.0.2.0/24 AS64496:AS-CUSTOMERS | jq .chains
 """
 

@@ -131,15 +131,18 @@ class Journal:
         self.open(path)
 
     def rotate(self, path: Path) -> None:
-        """Moves this file to those before it, and removes what is over their number. Where that
-        fails, this one goes on for as long again."""
+        """Moves this file to those before it, and removes what is over their number; what a day
+        began before it was full counts for its size. If that fails, this one goes on for as long
+        again."""
         self.size = 0
         try:
             if self.file is not None and is_at(path, self.file):
                 os.rename(path, path.with_name(f"{path.name}.{self.stamp(path)}"))
-            old = files_of(path)[:-1]
-            for one in old[: max(0, len(old) - self.settings.log_files)]:
-                one.unlink(missing_ok=True)
+            room = self.settings.log_files * self.settings.log_size
+            for one in reversed(files_of(path)[:-1]):
+                room -= min(one.stat().st_size, self.settings.log_size)
+                if room < 0:
+                    one.unlink(missing_ok=True)
         except OSError as error:
             self.complain(error, "no new file is begun")
 

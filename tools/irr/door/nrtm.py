@@ -90,7 +90,7 @@ class Mirrors:
             raise Bad(405, f"syntax error: version {version} is not known here, and 3 is")
         first, is_open = int(begin), end.upper() == "LAST"
         last = found.last if is_open else int(end)
-        self.note(address, first)
+        self.note(address, first, is_open)
         if is_open and first == found.last + 1:
             return NO_NEWER
         if not found.first <= first <= last <= found.last:
@@ -120,10 +120,11 @@ class Mirrors:
                 break
         return parts
 
-    def note(self, address: str, first: int) -> None:
-        """Remembers what a mirror asked for."""
-        self.asked.pop(address, None)
-        self.asked[address] = first, time.monotonic()
+    def note(self, address: str, first: int, is_open: bool) -> None:
+        """Remembers what a mirror asked for. One that asks for a range of old changes, to compare
+        them with what it has, is as far as it was."""
+        before, _ = self.asked.pop(address, (0, 0.0))
+        self.asked[address] = first if is_open else max(first, before), time.monotonic()
         if len(self.asked) > MOST:
             del self.asked[next(iter(self.asked))]
 

@@ -195,7 +195,7 @@ class Pool:
         self.agent: Optional[Place] = place(settings.agent) if settings.agent else None
         self.clients = Clients(settings.refill, settings.burst)
         self.scheduler = Scheduler(self.loop, self.clients)
-        self.mirrors = Mirrors(settings)
+        self.mirrors, self.changes = Mirrors(settings), upstreams.Changes()
         self.turns = Queue(self.clients)
         self.running: dict[bytes, Request] = {}
         self.costs, self.ledger = Costs(), Ledger(settings.answers)
@@ -339,8 +339,11 @@ class Pool:
         return self.surprise > 0 and client.cheap >= TRUSTED and not client.left < 0
 
     def chosen(self, free: list[Upstream], request: Request) -> Upstream:
-        """One that has not failed at it, if there is one; of these the one that was asked least of
-        late."""
+        """One that has what its client has changed, if it is cheap, and that has not failed at it,
+        if there is one; of these the one that was asked least of late."""
+        may_be_asked = not (self.is_held or request.is_dear or request.is_guess)
+        registry = self.registry if may_be_asked else None
+        free = self.changes.had_by(free, request.client.name, registry)
         if len(free) == 1:
             return free[0]
         fresh = [one for one in free if one.name not in request.tried] or free
@@ -585,6 +588,8 @@ class Pool:
                 one = Upstream(at)
                 one.is_up = False
                 self.replicas.append(one)
+                # It was not asked yet, so who asks now waits for it.
+                self.since_down = None
         for one in self.replicas:
             if one.place in entries:
                 one.is_draining, one.state, seen = entries[one.place]

@@ -80,6 +80,28 @@ def bound(at: Place) -> socket.socket:
     return opened
 
 
+def sockets_of(given: list[socket.socket], places: list[Place], name: str) -> list[socket.socket]:
+    """The sockets that were handed on, and those of the places at which none of them listens. The
+    door may not open the ports of whois itself, so these are as they were handed on."""
+    if not given:
+        return [bound(at) for at in places]
+    found = list(given)
+    for at in places if name != "whois" else ():
+        if not any(listens_at(one, at) for one in given):
+            try:
+                found.append(bound(at))
+            except Failure as failure:
+                texts.note(f"irr door: {failure}, or have irrdesk-door.socket open it")
+    return found
+
+
+def listens_at(opened: socket.socket, at: Place) -> bool:
+    """Whether a socket has the connections to a place."""
+    host, port = opened.getsockname()[:2]
+    is_any = host == "::" or host == "0.0.0.0" and ":" not in at.host
+    return bool(port == at.port) and (is_any or host == at.host)
+
+
 class Service:
     """A door that is open."""
 
@@ -183,7 +205,7 @@ class Service:
         return [
             (opened, make)
             for name, places, make in wanted
-            for opened in given.get(name) or [bound(place(text)) for text in places]
+            for opened in sockets_of(given.get(name, []), [place(text) for text in places], name)
         ]
 
 

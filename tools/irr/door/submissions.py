@@ -246,6 +246,7 @@ class Submissions:
             self.running = None
             if report.has_changed:
                 self.pool.cache.renew()
+                self.pool.changes.add(submission.who.client, now)
             if fault == "ECONNREFUSED" and not exchange.size:
                 # Nothing was sent.
                 registry.fall("nobody listens there", now)

@@ -5,6 +5,7 @@ import json
 import time
 from typing import Any, Callable, Optional
 
+from irr.door.budget import REMEMBERED
 from irr.door.exchange import Exchange
 from irr.door.settings import Place
 from irr.door.sockets import Watch
@@ -132,6 +133,31 @@ class Upstream:
         exchange = Exchange(watch, self.place, request, take, over)
         if not exchange.is_over:
             self.exchange = exchange
+
+
+class Changes:
+    """When the submissions of each client last changed something: replicas of an earlier state lack
+    that. One of which nobody tells the age is taken to have it."""
+
+    def __init__(self) -> None:
+        self.at: dict[str, float] = {}
+
+    def add(self, client: str, now: float) -> None:
+        self.at.pop(client, None)
+        self.at[client] = now
+        if len(self.at) > REMEMBERED:
+            del self.at[next(iter(self.at))]
+
+    def had_by(
+        self, free: list[Upstream], client: str, registry: Optional[Upstream]
+    ) -> list[Upstream]:
+        """Of the upstreams that are free those that have what a client has changed; where none has,
+        the registry, if it is free too."""
+        changed = self.at.get(client, 0.0)
+        found = [one for one in free if not one.seen or one.since >= changed]
+        if found or registry is None or registry.exchange is not None or not registry.is_up:
+            return found or free
+        return [registry]
 
 
 def first_of_dump(answer: bytes) -> bytes:

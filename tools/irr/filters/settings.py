@@ -140,7 +140,11 @@ def is_text(value: object) -> bool:
 def make(one: Filter, shrink: float) -> str:
     """Makes a filter, and puts it in place; Shrunk where an old list lost over `shrink` percent of
     its entries. The words say whether it is another one."""
-    text = printed(one.make)
+    if os.path.exists(one.file) and not os.path.isfile(one.file):
+        raise files.not_replaced(one.file)
+    text, reported = printed(one.make)
+    if reported:
+        texts.note(f"irr filter: {one.file}: {one.make[0]} reports: {reported}")
     if not lists.meaning(one.router, text.decode("latin-1")):
         raise Failure(one.make[0], "it printed nothing but comments; look at `make`")
     read_by(one.router, text, "new")
@@ -195,8 +199,8 @@ def need_kept(one: Filter, old: bytes, new: bytes, shrink: float) -> None:
         )
 
 
-def printed(words: list[str]) -> bytes:
-    """What a command prints that ends well."""
+def printed(words: list[str]) -> tuple[bytes, str]:
+    """What a command prints that ends well, and what it reports, on one line."""
     with tempfile.TemporaryFile() as out, tempfile.TemporaryFile() as errors:
         try:
             done = subprocess.run(
@@ -230,7 +234,8 @@ def printed(words: list[str]) -> bytes:
                 f"it printed {'nothing' if not size else f'over {MOST:,} bytes'}; look at `make`",
             )
         out.seek(0)
-        return out.read()
+        errors.seek(0)
+        return out.read(), line_of(errors.read(4_096))
 
 
 def fault_line(stream: IO[bytes], pattern: re.Pattern[bytes]) -> bytes:
@@ -289,7 +294,13 @@ def look(router: str, new: Path) -> None:
 
 def reported_line(reported: bytes) -> str:
     """What a program reported, on one line that is not long."""
-    return "; ".join(texts.text_of(reported).split("\n")).strip("; ")[:400] or "it says nothing"
+    return line_of(reported) or "it says nothing"
+
+
+def line_of(reported: bytes) -> str:
+    """The same; nothing where it reported nothing."""
+    lines = (line.strip() for line in texts.text_of(reported).split("\n"))
+    return "; ".join(filter(None, lines)).strip("; ")[:400]
 
 
 def age(path: str, hours: float) -> str:

@@ -13,7 +13,7 @@ KINDS = {
     kind.name: kind
     for kind in (
         Kind("part", "a paragraph is split where a class line directly follows `source`"),
-        Kind("source", "`source` is set to the registry's name, also where there is none"),
+        Kind("source", "`source` is set to the registry's name, or added where it is missing"),
         Kind("mp-members", "`mp-members` of a route-set becomes `members`, without IPv6"),
         Kind("member-of", "names of as-sets are dropped from `member-of` of routes"),
         Kind("ipv6", "IPv6 items are dropped from lists of IPv4"),

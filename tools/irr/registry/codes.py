@@ -112,8 +112,8 @@ TABLE = (
         "E16",
         "The range overlaps another one of its class, and neither is inside the other.",
         "An inetnum or as-block that begins inside another one and ends outside it.",
-        "Ask `less` for the first and for the last address: what contains exactly one of them "
-        "overlaps. Cut the range there.",
+        "Query `less` for the first and for the last address: a range that contains only one of "
+        "them overlaps. Cut the range there.",
     ),
     Code(
         "E17",

@@ -86,7 +86,7 @@ def add_options(parser: argparse.ArgumentParser) -> None:
         "-s",
         "--server",
         metavar="URL",
-        help=f"ask the registry at this address, by default that of IRR_SERVER, or {DEFAULT}",
+        help=f"use the registry at this address, by default that of IRR_SERVER, or {DEFAULT}",
     )
     parser.add_argument(
         "--plain", action="store_true", help="allow http to another machine, which is not encrypted"

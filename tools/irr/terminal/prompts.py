@@ -13,7 +13,7 @@ def add_short(parser: argparse.ArgumentParser) -> None:
     parser.add_argument(
         "--short",
         action="store_true",
-        help=f"accept one of fewer than {LEAST} characters with --ask",
+        help=f"with --ask, accept a password of fewer than {LEAST} characters",
     )
 
 

@@ -135,4 +135,7 @@ def copied(path: str, stamp: str, part: Path, most: int) -> str:
             raise Unchanged
         with open(part, "wb") as out:
             written(file, out, path, most)
+        after = os.fstat(file.fileno())
+        if (after.st_size, after.st_mtime_ns) != (found.st_size, found.st_mtime_ns):
+            raise Failure(path, "it changed while it was read; it is asked again")
     return new

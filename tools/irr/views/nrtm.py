@@ -30,13 +30,18 @@ AGAIN = (100, 10, 1)
 Told = dict[str, str]
 
 
+class Unread(Failure):
+    """An answer that can't be taken, however often it is asked for."""
+
+
 class Behind(Exception):
     """The changes after a serial are not told any more: a dump has to be taken. The last serial
-    that is told, if that is said; why it is so, where it is for another reason."""
+    that is told, and the first one, if that is said; why it is so, where it is for another
+    reason."""
 
-    def __init__(self, last: int | None = None, why: str = "") -> None:
+    def __init__(self, last: int | None = None, why: str = "", first: int = 0) -> None:
         super().__init__(last)
-        self.last, self.why = last, why
+        self.last, self.why, self.first = last, why, first
 
     def is_anew(self, serial: int) -> bool:
         """Whether serials began anew since one."""
@@ -68,25 +73,38 @@ def follow(
 
 def told_before(place: tuple[str, int], name: str, serial: int) -> Told:
     """The last changes up to a serial; none where they are not told."""
-    for count in AGAIN:
-        told: Told = {}
-        with contextlib.suppress(Behind, Failure):
-            follow(place, name, max(serial - count, 0), io.BytesIO(), told, serial)
-            return told
+    with contextlib.suppress(Failure):
+        return told_from(place, name, [max(serial - count, 0) + 1 for count in AGAIN], serial)[1]
     return {}
+
+
+def told_from(
+    place: tuple[str, int], name: str, begins: list[int], serial: int
+) -> tuple[int | None, Told]:
+    """The changes up to a serial, and from which one on they are told: from the first one of some
+    that is told, or where the answer says so, from the first one of all. None where none is."""
+    first = 0
+    for begin in begins:
+        begin, first = first or begin, 0
+        told: Told = {}
+        try:
+            if follow(place, name, begin - 1, io.BytesIO(), told, serial) == serial:
+                return begin, told
+        except Behind as behind:
+            if begin < behind.first <= serial:
+                first = behind.first
+    return None, {}
 
 
 def is_same(place: tuple[str, int], name: str, serial: int, known: Told) -> bool | None:
     """Whether the last changes up to a serial are told as they were before; None where they are
     not told any more. After a restored backup others come by the same serials."""
-    for count in AGAIN:
-        wanted: Told = dict(list(known.items())[-count:])
-        told: Told = {}
-        for first in list(wanted)[:1]:
-            with contextlib.suppress(Behind):
-                follow(place, name, int(first) - 1, io.BytesIO(), told, serial)
-                return told == wanted
-    return None
+    serials = list(map(int, known))
+    begins = [serials[-count:][0] for count in AGAIN if serials]
+    begin, told = told_from(place, name, begins, serial)
+    if begin is None:
+        return None
+    return told == {one: known[one] for one in known if int(one) >= begin}
 
 
 def last_of(told: Told) -> Told:
@@ -100,9 +118,10 @@ def lines(answer: BinaryIO, thing: str, begun: float) -> Iterator[bytes]:
     while line := answer.readline(LONGEST):
         size += len(line)
         if not line.endswith(b"\n"):
-            raise Failure(thing, "its answer is cut off, or has a line without an end")
+            kind = Unread if len(line) == LONGEST else Failure
+            raise kind(thing, "its answer is cut off, or has a line without an end")
         if size > MOST or time.monotonic() > begun + ANSWERING:
-            raise Failure(thing, "its answer does not end; look at `nrtm`")
+            raise Unread(thing, "its answer does not end; look at `nrtm`")
         yield line.rstrip(b"\r\n")
 
 
@@ -122,11 +141,11 @@ def taken(
             return last
         change = CHANGE.fullmatch(line)
         if not change or not before < int(change[2]) <= last:
-            raise Failure(thing, f"after serial {before} it tells no change")
+            raise Unread(thing, f"after serial {before} it tells no change")
         before = int(change[2])
         text = syntax.one_block(object_lines(answer, thing, before))
         if not put(out, change[1], text):
-            raise Failure(thing, f"serial {before} has no whole object")
+            raise Unread(thing, f"serial {before} has no whole object")
         told[str(before)] = hashlib.sha256(change[1] + b"\n" + text).hexdigest()[:16]
     raise Failure(thing, "its answer is cut off; it is asked again")
 
@@ -136,7 +155,7 @@ def object_lines(answer: Iterator[bytes], thing: str, serial: int) -> Iterator[b
     is_begun = False
     for line in answer:
         if CHANGE.fullmatch(line):
-            raise Failure(thing, f"serial {serial} has no whole object")
+            raise Unread(thing, f"serial {serial} has no whole object")
         if is_begun and not line:
             return
         is_begun = is_begun or bool(line.strip(syntax.BLANKS))
@@ -163,7 +182,9 @@ def start(answer: Iterator[bytes], thing: str, name: str, serial: int) -> int:
             if error[1] == b"401" and within and int(within[2]) == serial:
                 return serial
             if error[1] == b"401":
-                raise Behind(int(within[2]) if within else None)
+                if within:
+                    raise Behind(int(within[2]), first=int(within[1]))
+                raise Behind
             raise Failure(thing, f"it answers `{line.decode('latin-1')}`")
         if found := START.fullmatch(line):
             first, last = int(found[2]), int(found[3])

@@ -27,6 +27,8 @@ TRIES = 3
 # What tells of a dump that it is whole, in words for people: in so many bytes at its end.
 LINE_END, EOF, TAIL = "line end", "`# EOF`", 200
 EOF_LINE = re.compile(rb"[#%]+ *EOF", re.I)
+# That serials were seen to go back; and that a dump was seen since.
+BACK, PAST = 1, 2
 
 
 class State(NamedTuple):
@@ -37,7 +39,8 @@ class State(NamedTuple):
     hashes that were named. It is left where the source told of no changes after it. Of the dumps
     from which nothing led on it has the short names: they are refused, whatever is told later. It
     has what tells of each dump that it is whole, and the last changes that were told up to its
-    serial; and why it may be other than the source, where that was known as it was taken."""
+    serial; why it may be other than the source, where that was known as it was taken; and whether
+    serials were seen to go back since, and a dump after that."""
 
     folder: Path
     origin: str
@@ -54,6 +57,7 @@ class State(NamedTuple):
     ends: list[list[str]] = []
     told: nrtm.Told = {}
     doubt: str = ""
+    back: int = 0
 
     @property
     def file(self) -> Path:
@@ -95,6 +99,10 @@ class State(NamedTuple):
 
     def put(self) -> None:
         fields = {**self._asdict(), "folder": ""}
+        # An older version can't read a field that it does not know.
+        for name, value in self._field_defaults.items():
+            if fields[name] == value:
+                del fields[name]
         files.put(self.file, json.dumps(fields).encode(), files.PRIVATE)
 
     def note(self, **fields: Any) -> None:
@@ -106,7 +114,8 @@ class State(NamedTuple):
     def leave(self, dump: "State | None" = None) -> None:
         """Keeps that nothing leads on from it, nor from a dump."""
         names = {*self.refused, *(dump.names(self.serial) if dump else [])}
-        self.note(is_left=True, refused=sorted(names))
+        back = PAST if dump and self.back else self.back
+        self.note(is_left=True, refused=sorted(names), back=back)
 
     def at(self, serial: int, told: nrtm.Told | None = None) -> "State":
         """The same with the changes up to a serial, which are written."""
@@ -170,32 +179,30 @@ def renewed(
         return published(source, old, work)
     state: State | None = None
     gap: nrtm.Behind | None = None
-    if old and source.nrtm and old.serial is not None and not is_refused:
+    if old and source.nrtm and old.serial is not None:
         try:
-            if not old.has_room():
-                raise nrtm.Behind(why=f"over {MOST_CHANGES >> 20} MiB of changes are kept")
-            is_same = nrtm.is_same(source.place(), source.name, old.serial, old.told)
-            if is_same is False:
-                raise nrtm.Behind(why=f"it tells other changes up to {old.serial} than before")
-            if is_same is None and all(old.stamps) and serial_of(source) == old.serial:
-                # What is told no more may be other than before, which a dump of that serial shows.
-                # One that nothing tells from the one before is not fetched for its serial alone.
-                state = newer(source, old, work)
-                if state:
+            is_same = need_same(source, old, old.serial)
+            if not is_refused and not old.has_room():
+                gap = nrtm.Behind(why=f"over {MOST_CHANGES >> 20} MiB of changes are kept")
+            elif not is_refused:
+                state = led_to(source, old, old.serial, work, is_same)
+                if not old.is_left:
                     return state
-                empty(work)
-            state = followed(source, old, old.serial, work)
-            if not old.is_left:
-                return state
-            # Serials went back, so these changes may be of another state.
-            gap = nrtm.Behind()
+                # Serials went back, so these changes may be of another state.
+                gap = nrtm.Behind()
         except nrtm.Behind as behind:
-            gap = behind
-            if behind.why or behind.is_anew(old.serial):
-                # A dump that is there already may be from before.
-                if old.has_room():
-                    old.leave()
+            is_back = bool(behind.why) or behind.is_anew(old.serial)
+            if is_back or not is_refused:
+                gap = behind
+            if is_back:
+                # A dump that is there already may be from before, but for new serials after a gap.
+                back = BACK if behind.why or not old.refused else PAST
+                old.note(is_left=True, back=old.back or back)
                 old = noted(old)
+        except Failure:
+            # Where it is refused, a dump is looked at in any case.
+            if not is_refused:
+                raise
         empty(work)
     state = taken(source, old, work, gap)
     if state is None or not source.nrtm or state.serial is None:
@@ -206,21 +213,57 @@ def renewed(
     except nrtm.Behind as behind:
         # Serials may have begun anew. Otherwise the dump has to be newer than what there was, and
         # not ahead of what is told.
-        is_ahead = behind.last is not None and behind.last < now
-        if old and (is_ahead or now < before and not behind.is_anew(before)):
+        if old and (behind.is_anew(now) or now < before and not behind.is_anew(before)):
             raise unfollowed(source, old, state) from None
         state.changes.unlink()
-        state = state._replace(doubt=f"nrtm://{source.nrtm}: it tells no changes after {now}")
-        if gap:
-            # Serials went back behind it too, and may pass it with others.
-            state = state._replace(is_left=True, refused=sorted(state.names(now)))
+        # Serials may have gone back behind it too, and pass it with others.
+        doubt = f"nrtm://{source.nrtm}: it tells no changes after {now}"
+        state = state._replace(doubt=doubt, is_left=True, refused=sorted(state.names(now)))
     except Failure as failure:
+        if old and gap and gap.is_anew(now):
+            # It is ahead of what was told just now.
+            raise unfollowed(source, old, state) from None
         if now < before:
             raise
         state.changes.unlink()
         state = state._replace(doubt=str(failure))
     state.put()
     return state
+
+
+def need_same(source: Source, old: State, serial: int) -> bool | None:
+    """Whether the last changes up to a state are told as before; None where they are told no more.
+    Behind where others are, or where serials went back: that is known before a fault of the dump
+    or of its serial."""
+    is_same = nrtm.is_same(source.place(), source.name, serial, old.told)
+    if is_same is False:
+        raise nrtm.Behind(why=f"it tells other changes up to {serial} than before")
+    if is_same is None:
+        with contextlib.suppress(nrtm.Unread), open(os.devnull, "wb") as out:
+            nrtm.follow(source.place(), source.name, serial, out, {})
+    return is_same
+
+
+def led_to(
+    source: Source, old: State, serial: int, work: Path, is_same: bool | None
+) -> State | None:
+    """What the changes since a state lead to, or those since a dump of now."""
+    if is_same is None and all(old.stamps) and serial_of(source) == serial:
+        # What is told no more may be other than before, which a dump of that serial shows. One that
+        # nothing tells from the one before is not fetched for its serial alone.
+        state = newer(source, old, work)
+        if state:
+            return state
+        empty(work)
+    try:
+        return followed(source, old, serial, work)
+    except nrtm.Unread:
+        # So it is however often it is asked, until a dump is of after it.
+        empty(work)
+        state = newer(source, old, work) if serial_of(source) > serial else None
+        if state is None:
+            raise
+        return state
 
 
 def newer(source: Source, old: State, work: Path) -> State | None:
@@ -302,15 +345,24 @@ def published(source: Source, old: State | None, work: Path) -> State | None:
     it names is no longer there."""
     follower = Follower(source, work.parent / "trusted.json")
     notification = follower.notification(old.session if old else "")
-    for _ in range(TRIES - 1):
-        try:
-            return noticed(source, old, work, follower, notification)
-        except Gone:
-            before, notification = notification, follower.notification(old.session if old else "")
-            if notification == before:
-                raise
-            empty(work)
-    return noticed(source, old, work, follower, notification)
+    try:
+        for _ in range(TRIES - 1):
+            try:
+                return noticed(source, old, work, follower, notification)
+            except Gone:
+                before = notification
+                notification = follower.notification(old.session if old else "")
+                if notification == before:
+                    raise
+                empty(work)
+        return noticed(source, old, work, follower, notification)
+    except Failure:
+        # A snapshot of a later version makes up for changes that can't be taken.
+        is_later = old and notification.snapshot.version > (old.serial or 0)
+        if not old or not is_later or old.session != notification.session:
+            raise
+        empty(work)
+        return noticed(source, None, work, follower, notification)
 
 
 def noticed(
@@ -383,9 +435,12 @@ def taken(source: Source, old: State | None, work: Path, gap: nrtm.Behind | None
     if old and source.nrtm:
         # The first dump that is seen after serials went back may be from before. One that was there
         # is of its serial of then, whatever serial is told now.
-        is_first = old.is_left and not old.refused
+        is_first = old.back == BACK
+        # Where others are told up to a serial, a dump of an earlier one may be from before too.
+        is_before = old.back and gap and gap.why and (serial or 0) < (old.serial or 0)
         is_known = gap and old.digests == digests
-        if is_first or is_known or {state.digest(), *state.names(serial)} & {*old.refused}:
+        names = {state.digest(), *state.names(serial)}
+        if is_first or is_before or is_known or names & {*old.refused}:
             raise unfollowed(source, old, state, gap)
     if old and old.digests == digests and not gap and (source.nrtm or old.serial == serial):
         old.note(stamps=stamps, ends=ends)

@@ -49,6 +49,7 @@ class View:
     def make(self, work: Path, known: str) -> Made | None:
         """Takes what is new of each source, and makes a registry of all; None if it is as it was.
         Of a source that can't be read, or shrank, what was taken before stays."""
+        self.next = None
         for one in self.settings.sources:
             self.renew(one)
         self.roas = self.read_roas()
@@ -178,11 +179,13 @@ class View:
                 state.folder.rename(now)
                 shutil.rmtree(before, ignore_errors=True)
                 self.states[one.name] = state._replace(folder=now)
-            if one.name in self.outcomes and one.name in self.states:
+            # With what was noted of it since it was read.
+            kept = sources.noted(self.states.get(one.name))
+            if kept and self.next and one.name in self.outcomes:
                 counts = self.outcomes[one.name].counts
-                if counts != self.states[one.name].counts:
-                    self.states[one.name] = self.states[one.name]._replace(counts=counts)
-                    self.states[one.name].put()
+                if counts != kept.counts:
+                    kept.note(counts=counts)
+                self.states[one.name] = kept._replace(counts=counts)
         files.sync_folder(self.folder)
         self.marks = self.mark()
         self.label, self.next = self.next or self.label, None

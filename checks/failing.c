@@ -3,7 +3,8 @@
    or lets each read give one byte, or lets NUMBER bytes pass in all and then fails. FAILING is
    KIND:HOW:NUMBER, and FAILING_COUNT a file for the count. Calls of the kind `room` fail as on a
    disk that is full. Under `clock:fast:NUMBER` none fails: the clock runs so many times as fast,
-   and a connection holds few bytes that its peer has not taken. */
+   a call waits for a peer as long by that clock, and a connection holds few bytes that its peer
+   has not taken. */
 #define _GNU_SOURCE
 #include <errno.h>
 #include <fcntl.h>
@@ -13,6 +14,7 @@
 #include <string.h>
 #include <sys/socket.h>
 #include <sys/syscall.h>
+#include <sys/time.h>
 #include <sys/types.h>
 #include <time.h>
 #include <unistd.h>
@@ -128,6 +130,23 @@ ssize_t __write(int file, const void *bytes, size_t size) { return write(file, b
 int socket(int domain, int type, int protocol)
 {
     return fails("socket") ? failed(EMFILE) : syscall(SYS_socket, domain, type, protocol);
+}
+
+int setsockopt(int file, int level, int name, const void *value, socklen_t size)
+{
+    struct timeval wait;
+    long micros;
+    if (strcmp(kind, "clock") == 0 && level == SOL_SOCKET && size == sizeof wait
+        && (name == SO_RCVTIMEO || name == SO_SNDTIMEO)) {
+        memcpy(&wait, value, sizeof wait);
+        micros = wait.tv_sec * 1000000 + wait.tv_usec;
+        /* A wait of none would last for ever. */
+        micros = micros && micros < wanted ? 1 : micros / wanted;
+        wait.tv_sec = micros / 1000000;
+        wait.tv_usec = micros % 1000000;
+        value = &wait;
+    }
+    return syscall(SYS_setsockopt, file, level, name, value, size);
 }
 
 int accept4(int file, struct sockaddr *address, socklen_t *length, int flags)

@@ -9,6 +9,7 @@ import socket
 import subprocess
 import threading
 import time
+import urllib.request
 from collections import Counter
 from collections.abc import Callable, Iterator
 
@@ -233,6 +234,35 @@ def test_who_was_let_in_may_still_ask(ports: Ports, sent: str) -> None:
         wait_until("that nobody is let in", WAIT, lambda: not ports.lets_in(process))
         peer.sendall(rest)
         expect(read_all(peer)[-len(wanted) :], wanted, "the answer")
+
+
+def test_places_that_were_not_handed_on_are_opened_as_well(trial: Trial, ports: Ports) -> None:
+    """That the door answers where its settings say, beside what systemd has open; a place that
+    another process has is reported, and keeps nobody else from being answered."""
+    door, words = ports.door, list(ports.door.words)
+    taken = socket.create_server(("127.0.0.3", door.http_port))
+    door.words += [f"--http=127.0.0.{last}:{door.http_port}" for last in (2, 3)]
+    door.words.append(f"--status=127.0.0.2:{door.status_port}")
+    with contextlib.closing(taken):
+        with ports.served():
+            wait_until("that it is open", WAIT, lambda: answers(f"127.0.0.1:{door.http_port}"))
+            expect(answers(f"127.0.0.2:{door.http_port}"), True, "a place for HTTP beside one")
+            for host in "127.0.0.1", "127.0.0.2":
+                expect(answers(f"{host}:{door.status_port}", "/status"), True, f"{host}: status")
+    door.words = words
+    with open(door.reported, encoding="utf-8") as reported:
+        line = f"irr door: 127.0.0.3:{door.http_port}: the door cannot listen there: "
+        expect(line in reported.read(), True, f"whether it reports {line!r}")
+
+
+def answers(place: str, path: str = "/query/AS1") -> bool:
+    """Whether a place answers a request over HTTP."""
+    with contextlib.suppress(OSError):
+        with urllib.request.build_opener(urllib.request.ProxyHandler({})).open(
+            f"http://{place}{path}", timeout=WAIT
+        ) as answer:
+            return answer.status == 200
+    return False
 
 
 def test_who_asks_nothing_holds_no_door(ports: Ports) -> None:

@@ -5,6 +5,7 @@ import json
 import shutil
 import socket
 import subprocess
+import time
 from types import SimpleNamespace
 from typing import Any
 
@@ -13,7 +14,8 @@ import pytest
 from checks.door import inside, worlds
 from checks.door.opened import Opened, Registries, read_all
 from checks.running import Each, Trial, expect
-from irr.door import irrd
+from checks.serving import free_port
+from irr.door import irrd, pool
 from irr.door.cache import Answer, Cache, Ledger
 from irr.door.queries import Asker
 
@@ -184,6 +186,28 @@ def test_a_view_that_was_made_with_roas_is_not_answered_without_them() -> None:
     wanted = b"C\nF the view ALL was made with ROAs, and no query can change that\n"
     wanted += REPLIES["!fno-scope-filter"] + b"C\n" + REPLIES["!fno-rpki-filter"]
     expect(inside.run(ask()), wanted, "the replies")
+
+
+def test_a_view_answers_as_soon_as_the_door_has_heard_of_its_replicas() -> None:
+    """However long there were none before."""
+    view = {"name": "ALL", "sources": [{"name": "A"}, {"name": "B"}]}
+
+    async def answer(line: bytes, writer: asyncio.StreamWriter) -> None:
+        writer.write((worlds.ALL if line == inside.LOOK else worlds.AS1) + b"\n")
+
+    async def ask() -> bytes:
+        async with inside.answering(answer) as replica, asyncio.timeout(SECONDS):
+            agent, port = f"127.0.0.1:{free_port()}", int(replica.rpartition(":")[2])
+            async with inside.opened(lambda _: b"", view=[agent]) as (door, _):
+                one = door.pool.views.pools[0]
+                await inside.until(lambda: one.since_down)
+                assert one.since_down
+                one.since_down -= pool.DOWN
+                entry = {"port": port, "ready": True, "state": "", "seen": time.time()}
+                one.heard({"replicas": [entry], "view": view})
+                return await inside.asked(door.settings.whois[0], b"!!\n!sALL\n!maut-num,AS1\n!q")
+
+    expect(inside.run(ask()), b"C\n" + joined(worlds.AS1), "the replies")
 
 
 def test_a_strict_door_refuses_what_lacks_a_set(trial: Trial, registries: Registries) -> None:

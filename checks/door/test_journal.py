@@ -146,6 +146,16 @@ def test_a_clock_that_was_ahead_costs_no_lines(trial: Trial, clock: SimpleNamesp
     expect(len(journal.files_of(kept.path)) <= 8, True, "files")
 
 
+def test_files_that_a_day_ended_are_kept_for_the_days(trial: Trial, clock: SimpleNamespace) -> None:
+    kept = Kept(trial, "daily", log_files=3, log_days=100.0)
+    for _ in range(40):
+        kept.write()
+        clock.wall, clock.steady = clock.wall + 1.1 * DAY, clock.steady + 1.1 * DAY
+        kept.journal.look()
+    expect(len(journal.files_of(kept.path)) > 30, True, "whether each day has a file")
+    expect(kept.numbers(), list(range(1, 41)), "lines")
+
+
 def test_lines_are_removed_in_time_though_nobody_submits(
     trial: Trial, clock: SimpleNamespace
 ) -> None:

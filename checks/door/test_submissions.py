@@ -20,6 +20,7 @@ import pytest
 from checks.door import worlds
 from checks.door.opened import PYTHON, Opened, Registries, read_all, wait_until
 from checks.running import TOP, Each, Trial, expect
+from checks.worlds import answering
 
 ITEM = "password: bc\n\nas-set: {}\nmnt-by: ROOT-MNT\nsource: TEST\n"
 
@@ -359,6 +360,28 @@ def test_a_change_is_seen_at_once(door: Opened) -> None:
     expect(door.whois("AS-NEW"), b"% no entries\n", "before")
     door.submit(ITEM.format("AS-NEW"))
     expect(door.whois("AS-NEW")[:7], b"as-set:", "after")
+
+
+def test_who_changes_something_sees_it_before_the_replicas_have_it(trial: Trial) -> None:
+    """That who submitted is answered by nobody of an earlier state, and others are as before."""
+    with contextlib.ExitStack() as stack:
+        made = stack.enter_context(Registries(trial, "older", worlds.DUMP, replicas=2))
+        seen = time.time()
+        replicas = [
+            {"port": port, "ready": True, "state": "a", "seen": seen} for port in made.ports[1:]
+        ]
+        told = stack.enter_context(answering(json.dumps({"replicas": replicas}).encode()))
+        words = [made.words[0], f"--agent={told.removeprefix('http://')}"]
+        door = stack.enter_context(Opened(trial, "older-door", words))
+        known = "that it knows the replicas"
+        wait_until(known, 20, lambda: sum(one["serves"] for one in door.status()["upstreams"]) > 2)
+        door.submit(ITEM.format("AS-SOON"), last=2)
+        for _ in range(4):
+            expect(door.whois("AS-SOON", last=2)[:7], b"as-set:", "who submitted, by whois")
+            found = door.http("GET", "/query/AS-SOON", last=2)[2]
+            expect(found[:7], b"as-set:", "who submitted, over HTTP")
+            expect(door.whois("AS-SOON", last=3), b"% no entries\n", "another client")
+            expect(door.whois("AS1", last=2), worlds.AS1 + b"\n", "another object")
 
 
 def irr(door: Opened, *words: str, stdin: bytes = b"") -> tuple[int, bytes, bytes]:

@@ -39,6 +39,11 @@ LARGE, SIZE = 60, 60_000
 LIBC, PIDFD_GETFD = ctypes.CDLL(None), 438
 # How many times as fast the clock runs: 60 seconds of it are two here, or three.
 FAST, SLOWER = 30, 20
+# A posted body of the greatest size, which has no item, and how many bytes a read takes.
+BODY, BLOCK = (b"%%%s\n" % (b"x" * 62)) * 16_384, 4_096
+# A reader that takes so many bytes at once, and then none for so many seconds, again and again. It
+# takes 10 KiB a second, and is to take 16.
+AT_ONCE, PAUSE = 410 * 1_024, 41
 
 
 @pytest.fixture(scope="module")
@@ -150,19 +155,45 @@ def test_probe_says_why_it_could_not_be_accepted(failing: Failing, folder: str) 
 # How it reads.
 
 
-def test_a_request_that_came_whole_is_read_in_few_calls(
-    trial: Trial, failing: Failing, folder: str
+@pytest.mark.parametrize(
+    "sent, reply, least, most",
+    [
+        pytest.param(
+            b"GET /query/root-mnt HTTP/1.1\r\nA: %s\r\n\r\n" % (b"x" * 8_000),
+            GIVEN + ROOT,
+            1,
+            100,
+            id="a head of 8,000 bytes",
+        ),
+        # Some reads give less than a block, since no more has come yet.
+        pytest.param(
+            b"POST /submissions HTTP/1.1\r\nContent-Length: %d\r\n\r\n%s" % (len(BODY), BODY),
+            GIVEN + b"% items 0\n",
+            len(BODY) // BLOCK,
+            4 * len(BODY) // BLOCK,
+            id="a body of 1 MiB",
+        ),
+    ],
+)
+def test_a_request_is_read_in_few_calls(
+    trial: Trial,
+    failing: Failing,
+    folder: str,
+    sent: bytes,
+    reply: bytes,
+    least: int,
+    most: int,
 ) -> None:
-    """Not a call for each byte: a head of 8,000 bytes that comes at once, and its reply."""
+    """Not a call for each byte: a request that is sent at once, and its reply."""
     counted = os.path.join(trial.work, "calls")
     words = failing_words(failing, "peer", "once", NONE, counted)
     with Serving(words, folder, 1) as server, connected(server.port) as peer:
-        peer.sendall(b"GET /query/root-mnt HTTP/1.1\r\nA: %s\r\n\r\n" % (b"x" * 8_000))
-        expect(read_all(peer), GIVEN + ROOT, "the reply")
+        peer.sendall(sent)
+        expect(read_all(peer), reply, "the reply")
         peer.close()
         expect(server.process.communicate(timeout=LONGEST)[0], b"served 1, failed 0\n", "its end")
     calls = number_in(counted)
-    expect(1 < calls < 100, True, f"whether {calls} calls are few")
+    expect(least < calls < most, True, f"whether {calls} calls are few, above {least}")
 
 
 # How long a peer is given.
@@ -230,6 +261,21 @@ def test_a_reader_that_drips_is_cut_off_after_its_time(failing: Failing, folder:
 
         wait_until(is_cut_off, 6)
         expect(server.process.communicate()[0], b"served 0, failed 1\n", "its end")
+
+
+def test_a_reader_of_10_kib_a_second_is_cut_off(failing: Failing, folder: str) -> None:
+    """It is given 60 seconds and one for each 16 KiB: 160, in which it takes 1.6 MB of the dump.
+    Most of them pass in calls that wait for 10 seconds in vain, and are made again."""
+    words = failing_words(failing, "clock", "fast", FAST)
+    with Serving(words, folder, 1) as server, connected(server.port, 65_536) as peer:
+        peer.sendall(b"GET /dump HTTP/1.1\r\n\r\n")
+        taken = 0
+        while part := peer.recv(AT_ONCE - taken % AT_ONCE):
+            taken += len(part)
+            if taken % AT_ONCE == 0:
+                time.sleep(PAUSE / FAST)
+        expect(server.process.communicate(timeout=LONGEST)[0], b"served 0, failed 1\n", "its end")
+    expect(taken < 3_000_000, True, f"whether the {taken} bytes that it took are a part of it")
 
 
 def test_a_steady_reader_is_given_longer_for_a_long_reply(failing: Failing, folder: str) -> None:

@@ -26,6 +26,15 @@ BEGUN = (
     f"{AS_OWNER} irrdesk init {SETTINGS} && systemctl enable --now irrdesk.service"
     " irrdesk-check.timer"
 )
+# A view of the registry alone, at ports 4445 and 4446.
+VIEW = b"""name = "ALL"
+folder = "/var/lib/irrdesk-view/all"
+[[source]]
+name = "TEST"
+registry = "http://127.0.0.1:4343"
+"""
+VIEWED = "install -D -m 644 /run/given/view.toml /etc/irrdesk/views/all.toml && systemctl enable"
+VIEWED += " --now irrdesk-view@all"
 ASKED = f"curl --silent --fail {URL}/query/ROOT-MNT"
 # Whether a timer has had its unit run.
 TRIGGERED = "systemctl show --property=LastTriggerUSec --value {}.timer | grep -q ."
@@ -81,6 +90,7 @@ class Service:
             "before.deb": older_package(package, self.folder),
             "first.rpsl": self.first,
             "clients": CLIENTS.encode(),
+            "view.toml": VIEW,
             "items.rpsl": b"\n".join(self.texts),
         }
 
@@ -247,9 +257,8 @@ class Service:
         guest.done(f"{EDITED}; {BEGUN}")
         self.serves("the older package")
         expect(self.show("irrdesk", "Description"), "as it was before", "the older unit")
-        settings, before = guest.done(f"cat {SETTINGS}; stat -c '%U:%G %a' {SETTINGS}"), self.show(
-            "irrdesk", "MainPID"
-        )
+        settings = guest.done(f"cat {SETTINGS}; stat -c '%U:%G %a' {SETTINGS}")
+        before = self.show("irrdesk", "MainPID")
         expect(
             guest.ended("cmp /proc/{0}/exe /usr/bin/irrdesk".format(before)).status,
             0,
@@ -287,6 +296,7 @@ class Service:
         """That a removal keeps settings and registry, a purge the registry, and that a new
         installation serves it again."""
         guest, dump = self.guest, self.dump()
+        guest.done(VIEWED)
         guest.done("apt-get remove --yes irrdesk")
         expect(guest.ended(ASKED).status, 7, "whether the port answers")
         expect(
@@ -295,10 +305,9 @@ class Service:
         guest.done(
             f"test -f {SETTINGS} && test -f /var/lib/irrdesk/irr.db && ! test -e /usr/bin/irrdesk"
         )
-        guest.done("apt-get purge --yes irrdesk")
-        guest.done(
-            "! test -e /etc/irrdesk && test -f /var/lib/irrdesk/irr.db && getent passwd irrdesk"
-        )
+        guest.done("rm -r /etc/irrdesk/views; apt-get purge --yes irrdesk")
+        guest.done("! test -e /etc/irrdesk && getent passwd irrdesk")
+        guest.done("test -f /var/lib/irrdesk/irr.db")
         expect(
             guest.done("find /etc/systemd -name 'irrdesk*'"), "", "which links of units are left"
         )

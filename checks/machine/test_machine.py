@@ -50,6 +50,7 @@ STEPS = [
     pytest.param("timers", "restored", id="a restored backup", marks=LONG),
     pytest.param("timers", "history", id="the history by its timer", marks=LONG),
     pytest.param("timers", "mirror", id="replicas", marks=LONG),
+    pytest.param("timers", "view", id="a view", marks=LONG),
     pytest.param("timers", "moved", id="a move to a second machine", marks=LONG),
     pytest.param("timers", "filters", id="filters by their timer", marks=LONG),
     pytest.param("timers", "mirrors", id="the dump and the serials for mirrors", marks=LONG),

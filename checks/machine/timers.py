@@ -5,7 +5,7 @@ import re
 from pathlib import Path
 
 from checks.machine.guest import found
-from checks.machine.service import AS_OWNER, ASKED, SETTINGS, TRIGGERED, Service
+from checks.machine.service import AS_OWNER, ASKED, SETTINGS, TRIGGERED, VIEWED, Service
 from checks.package import packages
 from checks.pages.text import text_of
 from checks.running import AUTH, TOP, expect
@@ -198,6 +198,24 @@ class Timers:
         guest.done("systemctl start irrdesk-mirror irrdesk")
         service.serves("after the replicas")
         return f"ports {' and '.join(ports)}"
+
+    def view(self) -> str:
+        """A view by its unit, with its settings where docs/VIEWS.md puts them; it sees nothing else
+        of the folder in which the registry's hashes are. An upgrade restarts it."""
+        guest, unit = self.service.guest, "irrdesk-view@all"
+        guest.done(VIEWED)
+        asked = "curl --silent --fail http://127.0.0.1:4445/query/ROOT-MNT"
+        guest.until(asked, f"the view: {self.service.journal(unit)[-400:]}")
+        main = self.service.show(unit, "MainPID")
+        inside = guest.done(f"ls /proc/{main}/root/etc/irrdesk").split()
+        expect(inside, ["views"], "what the unit sees of /etc/irrdesk")
+        guest.done("apt-get install --reinstall --yes /run/given/irrdesk.deb")
+        guest.until(asked, "the view after an upgrade")
+        expect(self.service.show(unit, "MainPID") != main, True, "whether the view was restarted")
+        guest.done(f"systemctl disable --now {unit}; rm -r /etc/irrdesk/views")
+        left = "/var/lib/irrdesk-view /var/lib/private/irrdesk-view"
+        guest.done(f"rm -r {left}; test -d /etc/irrdesk")
+        return "by irrdesk-view@all"
 
     def filters(self) -> str:
         """Filters by bgpq4, through the door, while the replicas are there too."""

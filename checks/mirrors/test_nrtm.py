@@ -114,6 +114,11 @@ def test_it_answers_mirrors_and_nobody_else(world: Changing, each: Each, trial: 
         expect("serials went back" in " ".join(door.status()["faults"]), True, "one that is ahead")
         ask(port, f"-g TEST:3:{last + 1}-LAST")
         expect(door.status()["faults"], [], "one that is not")
+        # Views compare the last changes, and those before their dump, with what they were.
+        for first in begun - 100, begun + 1:
+            ask(port, f"-g TEST:3:{first}-{begun + 1}")
+            mirror = door.status()["serials"]["mirrors"]["127.0.0.1"]
+            expect(mirror["serial"], last, f"one that asks again from {first} on")
     with each("clients that a proxy names"):
         mirrors = 'mirrors = ["192.0.2.9", "2001:db8::/64"]\nproxied = true\n'
         config = f'history = "{world.history}"\n{mirrors}'

@@ -13,8 +13,10 @@ DIST = os.path.join(TOP, "dist")
 
 
 def record(path: str) -> dict[str, str]:
+    """What dist/PROOF says under each key; a line that begins with blanks continues another."""
     with open(path, encoding="utf-8") as opened:
-        return dict(line.rstrip("\n").split(": ", 1) for line in opened)
+        text = opened.read().replace("\n  ", " ")
+    return dict(line.split(": ", 1) for line in text.splitlines())
 
 
 def package_of(folder: str) -> str:

@@ -349,6 +349,19 @@ def test_each_unit_is_bounded_and_may_be_stopped() -> None:
             expect(lines.get("StartLimitBurst"), "100", f"the starts of {path.name}")
 
 
+def test_each_unit_may_read_its_settings() -> None:
+    """That what a unit reads of /etc/irrdesk, which only the registry's user may enter, is bound
+    into the sandbox of each unit of another user."""
+    for path in sorted(Path(UNITS).glob("*.service")):
+        lines = unit_lines(path.name)
+        if lines.get("User") != "irrdesk":
+            bound = [word.lstrip("-") for word in lines.get("BindReadOnlyPaths", "").split()]
+            for named in re.findall(r"/etc/irrdesk/\S+", lines["ExecStart"]):
+                held = [folder for folder in bound if named.startswith(f"{folder}/")]
+                expect(len(held), 1, f"{path.name}: whether {named} is bound, of {bound}")
+                expect("TemporaryFileSystem" in lines, True, f"whether {path.name} may enter it")
+
+
 def packed(trial: Trial) -> str:
     """The path of the tool, packed as it is installed."""
     path = os.path.join(trial.work, "irr")

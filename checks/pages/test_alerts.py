@@ -91,6 +91,14 @@ def test_prometheus_reads_the_alerts() -> None:
     promtool("check", "rules", ALERTS)
 
 
+def test_prometheus_reads_the_settings_of_the_page(tmp_path: Path) -> None:
+    (tmp_path / "prometheus.yml").write_text(
+        text_of("docs/WATCHING.md").partition("```yaml\n")[2].partition("```")[0], "utf-8"
+    )
+    shutil.copy(ALERTS, tmp_path)
+    promtool("check", "config", tmp_path / "prometheus.yml")
+
+
 def test_prometheus_reads_the_figures_of_the_door_and_of_the_check() -> None:
     promtool("check", "metrics", given=door_metrics())
     promtool("check", "metrics", given=Health(Places(), Bounds(), {}).metrics())

@@ -32,6 +32,9 @@ PATIENCE = 200
 # third.
 PATHS = f"{os.environ['PATH']}:/usr/sbin:/usr/lib/frr"
 MARK = re.compile(r"<!-- (not run|needs): (.*?) -->")
+# A loop that waits for something, in a line of commands, and what ends it where that never comes.
+WAIT = re.compile(r"^.*\buntil .*; do sleep .*$", re.M)
+BOUND = re.compile(r"\btimeout \d+ sh -c 'until |\|\| ! kill -0 ")
 COPIED = [
     "README.md",
     "CONTRIBUTING.md",
@@ -201,3 +204,12 @@ def test_commands_of_a_page_print_what_it_says(program: str, page: Path, subtest
             assert is_as_printed(
                 lines, block.printed
             ), f"it printed {lines} and not {block.printed}"
+
+
+@pytest.mark.parametrize(
+    "name", ["CONTRIBUTING.md", *(str(page.relative_to(TOP)) for page in PAGES)]
+)
+def test_a_loop_that_waits_has_a_bound(name: str) -> None:
+    """That what a page waits for may fail to come without holding the reader's shell for ever."""
+    waits = WAIT.findall((TOP / name).read_text())
+    assert not [line for line in waits if not BOUND.search(line)]

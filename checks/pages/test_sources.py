@@ -9,6 +9,7 @@ from pathlib import Path
 
 import pytest
 
+from checks.package.packages import record
 from checks.running import TOP as FOLDER, Tell
 
 TOP = Path(FOLDER)
@@ -277,9 +278,7 @@ def test_a_version_is_released_once() -> None:
 def test_the_release_is_whole_and_in_the_changelog() -> None:
     """dist/ has one package, its sums fit, and CHANGELOG has a section of its version. What no
     version has yet is above all of them."""
-    proof = dict(
-        line.split(": ", 1) for line in (TOP / "dist/PROOF").read_text("utf-8").splitlines()
-    )
+    proof = record(str(TOP / "dist/PROOF"))
     packages = [path.name for path in TOP.glob("dist/*.deb")]
     assert packages == [f"irrdesk_{proof['Version']}_amd64.deb"]
     assert not judged("sh", "-c", "cd dist && sha256sum --check --quiet SHA256SUMS")

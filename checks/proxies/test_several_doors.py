@@ -18,30 +18,38 @@ FRONT = """defaults
     timeout connect 5s
     timeout client 60s
     timeout server 60s
-frontend http
+frontend web
     bind 127.0.0.1:{http}
-    default_backend doors
-frontend port43
-    mode tcp
-    bind 127.0.0.1:{whois}
-    default_backend whois
+    acl submits path /submissions
 """
 # What each of two registries alone has.
 NAMES = ["AS-ONE", "AS-TWO"]
 
 
-def backends(doors: list[Opened]) -> str:
+def backends(doors: list[Opened], whois: int) -> str:
     """The lines of the page, with the ports of these doors."""
     page = Path(TOP, "docs", "OPERATING.md").read_text(encoding="utf-8")
-    front, mark, rest = page.partition("```text\nbackend doors\n")
-    text = mark.removeprefix("```text\n") + rest.partition("```")[0]
-    changes = []
+    text = ""
+    for first in "    use_backend first", "frontend whois":
+        front, mark, rest = page.partition(f"```text\n{first}")
+        text += mark.removeprefix("```text\n") + rest.partition("```")[0]
+    changes = [("bind :::43 v4v6\n", f"bind 127.0.0.1:{whois}\n")]
     for number, door in enumerate(doors, 1):
         for port, own in (4380, door.http_port), (43, door.whois_port):
             changes.append(
                 (f"192.0.2.{number}:{port}\n", f"127.0.0.1:{own} port {door.status_port}\n")
             )
+    first = f"127.0.0.1:{doors[0].http_port} check port {doors[0].status_port} inter"
+    changes.append(("192.0.2.1:4380 check port 4381 inter", first))
     return replaced(text, changes)
+
+
+def asked(port: int, method: str, path: str, body: bytes = b"") -> tuple[int, bytes]:
+    """What HAProxy answers: the status, and the body."""
+    with contextlib.closing(http.client.HTTPConnection("127.0.0.1", port, timeout=30)) as peer:
+        peer.request(method, path, body)
+        answer = peer.getresponse()
+        return answer.status, answer.read()
 
 
 def answering(http_port: int, whois_port: int) -> tuple[set[str], set[str]]:
@@ -75,7 +83,7 @@ def test_a_door_whose_registry_is_down_is_left_out(trial: Trial) -> None:
             door = Opened(trial, f"door-{name}", made.words, "proxied = true\n")
             doors.append(stack.enter_context(door))
         ports = free_port(), free_port()
-        text = FRONT.format(http=ports[0], whois=ports[1]) + backends(doors)
+        text = FRONT.format(http=ports[0]) + backends(doors, ports[1])
         config = write(trial.place("before-doors"), "haproxy.cfg", text.encode())
         haproxy = shutil.which("haproxy", path=os.environ["PATH"] + ":/usr/sbin")
         assert haproxy
@@ -84,11 +92,20 @@ def test_a_door_whose_registry_is_down_is_left_out(trial: Trial) -> None:
         stack.callback(process.terminate)
         both, second = set(NAMES), {"AS-TWO"}
         wait_until("both", 60, lambda: answering(*ports) == (both, both))
+        for number in range(4):
+            item = f"as-set: AS-NEW{number}\nmnt-by: ROOT-MNT\nsource: TEST\n".encode()
+            status, body = asked(ports[0], "POST", "/submissions", b"password: bc\n\n" + item)
+            expect((status, b": added\n" in body), (200, True), f"a submission: {body!r}")
+            status, body = asked(ports[0], "GET", "/dump")
+            found = b"AS-TWO" in body, f"AS-NEW{number}\n".encode() in body
+            expect((status, *found), (200, False, True), "the dump: that of the first")
         registries[0].kill(0)
         wait_until("the second alone", 60, lambda: answering(*ports) == (second, second))
         for _ in range(10):
             with socket.create_connection(("127.0.0.1", ports[1]), 30) as peer:
                 peer.sendall(b"AS-TWO\r\n")
                 expect(read_all(peer)[:7], b"as-set:", "an answer while one is left out")
+        for method, path in ("POST", "/submissions"), ("GET", "/dump"):
+            expect(asked(ports[0], method, path, b"x")[0], 503, f"{path} without the first")
         registries[0].start(0)
         wait_until("both again", 60, lambda: answering(*ports) == (both, both))

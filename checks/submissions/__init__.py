@@ -1,1 +1,1 @@
-"""Submissions: what `irr` says of them beside what the program decides."""
+"""Submissions: worked cases, and what `irr` says of them beside what the program decides."""

@@ -192,3 +192,110 @@ def test_lengths_of_frr(text: str, takes: str) -> None:
 )
 def test_lengths_of_openbgpd(text: str, takes: str) -> None:
     assert list(entries("openbgpd", text)) == list(entries("bird", takes))
+
+
+CUSTOMERS = ", ".join(f"10.0.{number}.0/24" for number in range(10))
+LENGTHS = "if net ~ [ 0.0.0.0/0{8,24} ] then "
+
+
+@pytest.mark.parametrize(
+    ("text", "name", "others"),
+    [
+        # The list of a length takes whatever the list of customers has lost.
+        ("define C = [ %s ];\nfilter f { " + LENGTHS + "accept; }\n", "C", ["1 of f"]),
+        ("function f() { " + LENGTHS + "return net ~ [ %s ]; }\n", "2 of f", ["1 of f"]),
+        ("filter f { " + LENGTHS + "if net ~ [ %s ] then accept; }\n", "2 of f", ["1 of f"]),
+        ("B = [ 0.0.0.0/0{8,24} ];\nC = [ %s ];\n", "C", ["B"]),
+        ("function f() { C = [ %s ]; B = [ 0.0.0.0/0+ ]; }\n", "C of f", ["B of f"]),
+    ],
+)
+def test_lists_of_functions_are_judged_each(text: str, name: str, others: list[str]) -> None:
+    """A command may print a whole filter of BIRD, with other lists than that of a set."""
+    old, new = text % CUSTOMERS, text % "10.0.0.0/24"
+    kept = [(other, 0, 1) for other in others]
+    assert sorted(loss("bird", old, old)) == sorted([(name, 0, 10), *kept])
+    assert sorted(loss("bird", old, new)) == sorted([(name, 9, 10), *kept])
+
+
+def test_rules_are_no_part_of_the_set_before_them() -> None:
+    rules = (
+        "deny from any\nallow from any prefix-set C\nmatch from any prefix 0.0.0.0/0 or-longer\n"
+    )
+    old, new = (f"prefix-set C {{ {text} }}\n{rules}" for text in (CUSTOMERS, "10.0.0.0/24"))
+    assert loss("openbgpd", old, old) == [("C", 0, 10), ("", 0, 1)]
+    assert loss("openbgpd", old, new) == [("C", 9, 10), ("", 0, 1)]
+    list_of_frr = "".join(f"ip prefix-list C permit {text}\n" for text in CUSTOMERS.split(", "))
+    other = "access-list X permit 10.0.0.0/8\n"
+    assert loss("frr", list_of_frr + other, list_of_frr[:36] + other)[1] == ("C", 9, 10)
+
+
+OLD_LINES = [
+    "seq 5 permit 10.0.0.0/24",
+    "seq 10 permit 10.0.1.0/24",
+    "seq 15 permit 10.0.2.0/24 le 26",
+]
+
+
+def lines_of_frr(lines: list[str]) -> str:
+    """The lines of a list, but those that remove it or one of them, which have its name."""
+    named = (line if line.startswith("no ") else f"ip prefix-list C {line}" for line in lines)
+    return "".join(line + "\n" for line in named)
+
+
+@pytest.mark.parametrize(
+    ("new", "lost"),
+    [
+        (["seq 1 deny 0.0.0.0/0 le 32", *OLD_LINES], 3),
+        ([*OLD_LINES, "seq 1 deny any"], 3),
+        ([*OLD_LINES, "seq 99 deny any"], 0),
+        ([*OLD_LINES, "deny any"], 0),
+        (["seq 1 deny 10.0.1.0/24", *OLD_LINES], 1),
+        # Nothing of the first two is as long.
+        (["seq 1 deny 10.0.0.0/8 ge 26 le 27", *OLD_LINES], 1),
+        ([*OLD_LINES, "no ip prefix-list C"], 3),
+        (["no ip prefix-list C", *OLD_LINES], 0),
+        ([*OLD_LINES, "no ip prefix-list C", OLD_LINES[1]], 2),
+        ([*OLD_LINES, "no ip prefix-list C seq 10 permit 10.0.1.0/24"], 1),
+        # A number is that of one line.
+        ([*OLD_LINES, "seq 10 permit 10.0.0.0/24"], 1),
+        (["description permit 10.0.0.0/8 le 32", OLD_LINES[1]], 2),
+        (["permit any"], 0),
+    ],
+)
+def test_lines_of_frr_are_looked_at_by_their_numbers(new: list[str], lost: int) -> None:
+    """The first one that fits decides, and a line can remove others."""
+    assert loss("frr", lines_of_frr(OLD_LINES), lines_of_frr(new)) == [("C", lost, 3)]
+
+
+def test_what_an_old_list_of_frr_refused_is_not_lost() -> None:
+    refused = "ip prefix-list C deny 10.0.0.0/8 le 32\n"
+    old = refused + "ip prefix-list C permit 0.0.0.0/0 le 24\nip prefix-list C permit 10.1.0.0/16\n"
+    assert loss("frr", old, old) == [("C", 0, 1)]
+    assert loss("frr", old, old.replace("le 24", "le 23")) == [("C", 1, 1)]
+
+
+def test_a_range_of_numbers_is_of_all_of_them() -> None:
+    old = "define O = [ 64496..64500, 64510 .. 64520, 65000 ];"
+    assert loss("bird", old, old) == [("O", 0, 3)]
+    assert loss("bird", old, "define O = [ 64490..65000 ];") == [("O", 0, 3)]
+    assert loss("bird", old, "define O = [ 64496, 64500, 64510..64512, 65000 ];") == [("O", 2, 3)]
+    old = "ip as-path access-list O permit _(64497|64498)$\n"
+    assert loss("frr", old, old.replace("permit", "deny")) == [("O", 2, 2)]
+
+
+@pytest.mark.parametrize(
+    ("router", "text", "takes"),
+    [
+        ("bird", "10.0.0.0/8 { 9 , 24 }", "10.0.0.0/8{9,24}"),
+        ("bird", "10.0.0.0/8\n  {9,24}", "10.0.0.0/8{9,24}"),
+        ("frr", "permit 10.0.0.0/8  ge  9  le  24", "10.0.0.0/8{9,24}"),
+        ("frr", "permit 10.0.0.0/8 le 24 ge 9", "10.0.0.0/8{9,24}"),
+        ("frr", "permit any", "0.0.0.0/0{0,32}"),
+        ("openbgpd", "10/8", "10.0.0.0/8"),
+        ("openbgpd", "10.1/16\tprefixlen\t17 - 24", "10.1.0.0/16{17,24}"),
+        ("openbgpd", "10.0.0.0/8 prefixlen =24", "10.0.0.0/8{24,24}"),
+    ],
+)
+def test_spellings_that_routers_read(router: str, text: str, takes: str) -> None:
+    """A range that is taken for its prefix alone would be kept by that prefix."""
+    assert list(entries(router, text)) == list(entries("bird", takes))

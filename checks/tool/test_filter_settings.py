@@ -10,9 +10,10 @@ from pathlib import Path
 
 import pytest
 
-from irr.errors import DONE, REFUSED, SETTINGS, Failure
+from irr.errors import ARGUMENTS, DONE, REFUSED, SETTINGS, Failure
 from irr.filters import settings
 from irr.filters.settings import SHRUNK
+from irr.main import do
 
 LIST = "define X = [\n" + ",\n".join(f"    10.0.{n}.0/24" for n in range(10)) + "\n];\n"
 SHORTER = "define X = [\n" + ",\n".join(f"    10.0.{n}.0/24" for n in range(6)) + "\n];\n"
@@ -214,3 +215,46 @@ def test_bad_shrink(tmp_path: Path, value: str) -> None:
     with pytest.raises(Failure, match="`shrink`") as raised:
         made(tmp_path, command(LIST), more=f"shrink = {value}\n")
     assert raised.value.status == SETTINGS
+
+
+def test_what_a_command_reports_of_a_good_filter_is_told(
+    tmp_path: Path, capsys: pytest.CaptureFixture[str]
+) -> None:
+    """`irr filter -m` says so which sets are missing in its filter."""
+    missing = "made without sets that are not registered: AS1:AS-GONE"
+    assert made(tmp_path, command(LIST, f"irr filter: X: {missing}\n")) == DONE
+    assert made(tmp_path, command(LIST, "\x1b[31m\n\nsecond\n~" + "\n" * 9)) == DONE
+    first, second = capsys.readouterr().err.splitlines()
+    assert f"{tmp_path}/0" in first and missing in first
+    assert "\x1b" not in second and "second" in second and len(second) < 800
+    assert made(tmp_path, command(LIST, " \n")) == DONE
+    assert capsys.readouterr().err == ""
+
+
+def test_what_is_no_file_is_not_read(tmp_path: Path, capsys: pytest.CaptureFixture[str]) -> None:
+    """A pipe or a device may never end. The other filters are made."""
+    os.mkfifo(tmp_path / "0")
+    (tmp_path / "1").symlink_to("/dev/zero")
+    (tmp_path / "2").mkdir()
+    assert made(tmp_path, *[command(LIST)] * 4) == REFUSED
+    assert (tmp_path / "3").read_text() == LIST
+    reported = capsys.readouterr().err.splitlines()
+    assert len(reported) == 3 and all("not a file that can be replaced" in one for one in reported)
+
+
+@pytest.mark.parametrize(
+    ("words", "name"),
+    [
+        ("-m", "--missing"),
+        ("--widest 24", "--widest"),
+        ("-s http://127.0.0.1:1", "--server"),
+        ("--plain", "--plain"),
+    ],
+)
+def test_options_of_one_filter_do_not_go_with_settings(
+    tmp_path: Path, words: str, name: str
+) -> None:
+    """The commands of the settings have their own ones."""
+    with pytest.raises(Failure, match="--settings") as raised:
+        do(["filter", *words.split(), "--settings", str(tmp_path / "none")])
+    assert (raised.value.status, raised.value.thing) == (ARGUMENTS, name)

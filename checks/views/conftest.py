@@ -6,7 +6,9 @@ from pathlib import Path
 
 import pytest
 
+from checks.views import registry
 from checks.views.following import Followed
+from checks.views.registry import Quick
 from checks.views.test_merge import Few, ViewOf, made, several_of, written
 from checks.views.test_sources import World
 from irr.views import settings
@@ -40,6 +42,13 @@ def mirror(tmp_path: Path) -> Iterator[Followed]:
     one = Followed(tmp_path)
     with one.files:
         yield one
+
+
+@pytest.fixture
+def one(monkeypatch: pytest.MonkeyPatch) -> Iterator[Quick]:
+    """A registry in this process, and a view of it."""
+    with registry.quick(monkeypatch) as found:
+        yield found
 
 
 @pytest.fixture

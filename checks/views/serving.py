@@ -73,8 +73,9 @@ class Nrtm(Served):
     def __init__(self, name: str, first: int) -> None:
         self.name, self.first = name, first
         self.changes: list[tuple[str, str]] = []
-        # How much of an answer is handed out.
+        # How much of an answer is handed out; a part of what is asked for which there is none.
         self.most: int | None = None
+        self.fails = ""
         self.asked: list[str] = []
         nrtm = self
 
@@ -94,12 +95,19 @@ class Nrtm(Served):
     def publish(self, changes: Sequence[tuple[str, str]]) -> None:
         self.changes += changes
 
+    def shorten(self, first: int) -> None:
+        """Keeps the changes from a serial on."""
+        del self.changes[: first - self.first]
+        self.first = first
+
     def forget(self) -> None:
         """Keeps no change of before."""
-        self.first, self.changes = self.last + 1, []
+        self.shorten(self.last + 1)
 
     def answer(self, line: str) -> str:
         """What RIPE's server says, with a remark before it."""
+        if self.fails and self.fails in line:
+            return ""
         remark = "% The objects are in RPSL format.\n%\n\n"
         found = re.fullmatch(rf"-g {self.name}:3:([0-9]+)-(LAST|[0-9]+)", line)
         assert found, line

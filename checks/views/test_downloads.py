@@ -5,11 +5,13 @@ import os
 import time
 from collections.abc import Iterator
 from pathlib import Path
+from typing import Any, BinaryIO
 
 import pytest
 
 from checks.running import expect
 from checks.views.serving import Files
+from irr.errors import Failure
 from irr.views import downloads
 
 IN_MEMORY = True
@@ -84,3 +86,21 @@ def test_a_file_of_the_same_time_and_size_is_another(tmp_path: Path) -> None:
         file.write(b"early")
     os.utime(path, (LATE, LATE))
     expect(one.again(), b"early", "another text")
+
+
+def test_a_file_that_is_written_while_it_is_copied_is_not_taken(
+    tmp_path: Path, monkeypatch: pytest.MonkeyPatch
+) -> None:
+    path, written = tmp_path / "a.db", downloads.written
+    path.write_bytes(b"a" * 9)
+
+    def half(source: BinaryIO, *more: Any) -> int:
+        size = written(source, *more)
+        path.write_bytes(b"b" * 9)
+        return size
+
+    monkeypatch.setattr(downloads, "written", half)
+    with pytest.raises(Failure, match="it changed while it was read"):
+        Taken(str(path), tmp_path / "part").again()
+    monkeypatch.undo()
+    expect(Taken(str(path), tmp_path / "part").again(), b"b" * 9, "the next time")

@@ -2,134 +2,18 @@
 has what the source has, or its status says what is wrong; and once a dump of now is there, which
 nobody has seen before, it has that."""
 
-import contextlib
 import gzip
 import hashlib
-import io
-import os
 import random
-import socket
-import tempfile
-from collections.abc import Callable, Iterator
-from pathlib import Path
-from typing import BinaryIO
+from collections.abc import Callable
 
 import pytest
 
 from checks.running import Failure, Tell, Trial
-from checks.views.test_merge import made
-from checks.views.test_passed import DUMP, SERIAL, Registry
-from irr.errors import Failure as Fault
-from irr.local import tables
-from irr.rpsl import keys
-from irr.views import settings, view
-from irr.views.merge import Outcome
-from irr.views.sources import State
+from checks.views.registry import DUMP, SERIAL, Registry, quick
 
 IN_MEMORY = True
 SECONDS = 60
-ROUTE = keys.CLASSES.index("route") + 1
-
-
-class Peer(io.BytesIO):
-    """A connection to a registry in this process."""
-
-    def __init__(self, registry: Registry) -> None:
-        super().__init__()
-        self.registry = registry
-
-    def sendall(self, line: bytes) -> None:
-        self.answer = self.registry.nrtm.answer(line.decode().strip()).encode()
-
-    def makefile(self, _: str) -> io.BytesIO:
-        return io.BytesIO(self.answer)
-
-
-class Spool:
-    def close(self) -> None:
-        pass
-
-
-class Merged:
-    """What is merged of one source whose objects can all be read: its dump, and the changes in
-    their order. It stands in for a merge, which takes far longer."""
-
-    def __init__(self, *_: object) -> None:
-        self.routes: dict[str, str] = {}
-        self.spool = Spool()
-
-    def read_states(self, states: dict[str, State]) -> None:
-        for state in states.values():
-            for part in state.parts:
-                for text in gzip.decompress(part.read_bytes()).decode().split("\n\n"):
-                    if text.startswith("route:"):
-                        self.routes[text.partition("\n")[0]] = text.strip("\n")
-            changes = state.changes.read_text() if state.changes.exists() else ""
-            blocks = changes.strip("\n").split("\n\n") if changes else []
-            for word, text in zip(blocks[::2], blocks[1::2], strict=True):
-                self.routes.pop(text.partition("\n")[0], None)
-                if word == "ADD":
-                    self.routes[text.partition("\n")[0]] = text
-
-    def outcomes(self) -> dict[str, Outcome]:
-        counts = [0] * (len(keys.CLASSES) + 1)
-        counts[ROUTE] = len(self.routes)
-        return {"RIPE": Outcome(counts, len(self.routes), 0, {}, {})}
-
-    def write(self, out: BinaryIO) -> None:
-        out.write("\n\n".join(self.routes.values()).encode())
-
-    def rows(self) -> None:
-        pass
-
-
-class Quick(Registry):
-    """A registry in this process, whose files are on a disk, and a view of it that is merged
-    quickly."""
-
-    def __init__(self, folder: Path) -> None:
-        self.folder = folder
-        super().__init__(folder)
-        text = (folder / "view.toml").read_text()
-        (folder / "view.toml").write_text(text.replace(self.files.url, str(folder)))
-        self.begin()
-        self.files.server.server_close()
-        self.nrtm.server.server_close()
-
-    def begin(self) -> None:
-        """The view after a start."""
-        self.view = view.View(settings.read(str(self.folder / "view.toml")))
-
-    def look(self) -> str:
-        for name, text in self.files.texts.items():
-            path = Path(f"{self.folder}{name}")
-            assert isinstance(text, bytes)
-            if not path.exists() or path.read_bytes() != text:
-                path.with_suffix(".new").write_bytes(text)
-                path.with_suffix(".new").rename(path)
-        try:
-            work = made(self.view)
-        except Fault as fault:
-            return str(fault)
-        self.view.commit()
-        self.known = (work / "dump.rpsl").read_text()
-        return self.view.faults.get("RIPE", "")
-
-    def is_same(self) -> bool:
-        wanted = sorted(text.strip("\n") for text in self.routes.values())
-        return sorted(filter(None, self.known.split("\n\n"))) == wanted
-
-
-@contextlib.contextmanager
-def quick(monkeypatch: pytest.MonkeyPatch) -> Iterator[Quick]:
-    with tempfile.TemporaryDirectory() as folder, monkeypatch.context() as patched:
-        one = Quick(Path(folder))
-        patched.setattr(socket, "create_connection", lambda *_: Peer(one))
-        patched.setattr(view, "Merge", Merged)
-        patched.setattr(tables, "write", lambda *_: None)
-        patched.setattr(view, "Copy", lambda *_: None)
-        patched.setattr(os, "fsync", lambda _: None)
-        yield one
 
 
 class Operator:
@@ -140,6 +24,7 @@ class Operator:
         # Of each serial so far what there was; the dumps that were published, with their serials.
         self.states = {registry.nrtm.last: dict(registry.routes)}
         self.dumps = [self.served()]
+        self.whole = self.dumps[0][0]
         self.count = 0
         # The serial of a dump that was published alone.
         self.ahead: int | None = None
@@ -180,6 +65,7 @@ class Operator:
         self.one.publish()
         self.ahead, self.is_restored = None, False
         self.dumps.append(self.served())
+        self.whole = self.dumps[-1][0]
         return f"dump of {self.one.nrtm.last}"
 
     def publish_serial(self) -> str:
@@ -198,6 +84,8 @@ class Operator:
         return f"dump alone of {self.one.nrtm.last}"
 
     def publish_old(self) -> str:
+        if not self.dumps:
+            return "nothing"
         dump, serial = self.chance.choice(self.dumps)
         self.one.files.texts |= {DUMP: dump, SERIAL: serial}
         self.ahead = None
@@ -212,6 +100,8 @@ class Operator:
             # Of a dump alone, whose serial is an earlier one, nothing could tell.
             return "nothing"
         self.one.restore(serial, self.states[serial])
+        # Of a dump from before it that is published again, and that was not there, nothing tells.
+        self.dumps = [one for one in self.dumps if int(one[1]) <= serial]
         self.is_restored = True
         for later in [one for one in self.states if one > serial]:
             del self.states[later]
@@ -222,20 +112,19 @@ class Operator:
         if self.is_restored:
             # Neither its changes nor a dump may tell what it has by the same serial.
             return "nothing"
-        first = self.chance.randrange(nrtm.first, nrtm.last + 2)
-        del nrtm.changes[: first - nrtm.first]
-        nrtm.first = first
-        return f"journal from {first} to {nrtm.last}"
+        nrtm.shorten(self.chance.randrange(nrtm.first, nrtm.last + 2))
+        return f"journal from {nrtm.first} to {nrtm.last}"
 
     def begin_anew(self) -> str:
         nrtm = self.one.nrtm
         self.count += 1
         nrtm.first, nrtm.changes = self.chance.choice([1 + self.count, nrtm.last + 50]), []
         self.states = {nrtm.last: dict(self.one.routes)}
+        self.dumps = []
         return f"serials begin at {nrtm.first}"
 
     def cut(self) -> str:
-        dump = self.dumps[-1][0]
+        dump = self.whole
         text = gzip.decompress(dump)
         self.one.files.texts[DUMP] = self.chance.choice(
             [dump[:-9], gzip.compress(text[: self.chance.randrange(len(text))], mtime=0)]
@@ -253,10 +142,8 @@ class Operator:
     def trim(self) -> str:
         """The journal begins after the last dump, or before."""
         nrtm, dump = self.one.nrtm, int(self.served()[1])
-        first = self.chance.randrange(nrtm.first, max(dump + 1, nrtm.first) + 1)
-        del nrtm.changes[: first - nrtm.first]
-        nrtm.first = first
-        return f"journal from {first} to {nrtm.last}"
+        nrtm.shorten(self.chance.randrange(nrtm.first, max(dump + 1, nrtm.first) + 1))
+        return f"journal from {nrtm.first} to {nrtm.last}"
 
     def settle(self) -> None:
         """Publishes what there is now."""

@@ -2,91 +2,20 @@
 again, what was taken of it between two looks."""
 
 import gzip
+import re
 from collections.abc import Iterator
 from pathlib import Path
 
 import pytest
 
 from checks.running import Trial, expect
-from checks.views.following import shaped
-from checks.views.serving import Files, Nrtm
-from checks.views.test_merge import made
+from checks.views.registry import DUMP, SERIAL, Quick, Registry
 from checks.views.test_sources import route
-from irr.views import settings
+from irr.views import nrtm, settings, sources
 from irr.views.view import View
 
 IN_MEMORY = True
 OTHER = "it tells other changes up to "
-DUMP, SERIAL = "/ripe.db.gz", "/RIPE.CURRENTSERIAL"
-
-
-class Registry:
-    """A registry with its dump, its serial and its changes, and a view that follows it."""
-
-    def __init__(self, folder: Path) -> None:
-        self.files, self.nrtm = Files(), Nrtm("RIPE", 101)
-        self.routes = {number: route(number) for number in range(5)}
-        self.publish()
-        (folder / "view.toml").write_text(
-            f"""
-name = "ALL"
-folder = "{folder}/view"
-[[source]]
-name = "RIPE"
-dump = "{self.files.url}{DUMP}"
-serial = "{self.files.url}{SERIAL}"
-nrtm = "{self.nrtm.place}"
-shrink = 100
-"""
-        )
-        self.view = View(settings.read(str(folder / "view.toml")))
-        self.known = ""
-
-    def publish(self) -> None:
-        self.put_serial()
-        self.put_dump()
-
-    def put_serial(self) -> None:
-        self.files.texts[SERIAL] = f"{self.nrtm.last}\n".encode()
-
-    def put_dump(self) -> None:
-        text = "\n".join([*self.routes.values(), "# EOF\n"])
-        self.files.texts[DUMP] = gzip.compress(text.encode(), mtime=0)
-
-    def add(self, *numbers: int, words: str = "x") -> None:
-        for number in numbers:
-            self.routes[number] = route(number, 2, words)
-            self.nrtm.publish([("ADD", self.routes[number])])
-
-    def remove(self, *numbers: int) -> None:
-        for number in numbers:
-            self.nrtm.publish([("DEL", self.routes.pop(number))])
-
-    def restore(self, serial: int, routes: dict[int, str]) -> None:
-        """What it was at a serial."""
-        del self.nrtm.changes[serial - self.nrtm.first + 1 :]
-        self.routes = dict(routes)
-
-    def look(self) -> str:
-        """What is wrong after a renewal."""
-        work = made(self.view)
-        self.view.commit()
-        self.known = (work / "dump.rpsl").read_text()
-        return self.view.faults.get("RIPE", "")
-
-    def is_same(self) -> bool:
-        """Whether the view has what the registry has."""
-        found = {one for one in self.known.split("\n\n") if one.startswith("route:")}
-        wanted = {shaped(one) for one in self.routes.values()}
-        return {one.replace("ALL # RIPE", "RIPE").strip("\n") for one in found} == wanted
-
-    def need(self, words: str, what: str) -> None:
-        """That the view is the registry's, or the status has these words."""
-        fault = self.look()
-        if words:
-            expect(words in fault, True, f"{what}: {fault}")
-        else:
-            expect((fault, self.is_same()), ("", True), what)
 
 
 @pytest.fixture
@@ -208,6 +137,232 @@ def test_a_short_journal_costs_no_dump(registry: Registry) -> None:
         one.need("", "nothing new")
     taken = [path for path, status in one.files.asked if (path, status) == (DUMP, 200)]
     expect(len(taken), 1, "how often a dump was taken")
+
+
+def test_a_dump_of_before_is_not_taken_where_a_restore_brings_the_journal_back(one: Quick) -> None:
+    """After a gap, for which the dump of then was refused."""
+    one.need("", "the first time")
+    one.add(10, 11, 12)
+    before, journal = dict(one.routes), list(one.nrtm.changes)
+    one.add(13, 14)
+    one.need("", "what is followed")
+    one.add(15, 16, 17, 18, 19)
+    one.nrtm.shorten(108)
+    one.need("it tells no changes after 105", "a gap")
+    one.publish()
+    one.nrtm.first, one.nrtm.changes, one.routes = 101, journal, before
+    one.add(*range(20, 29))
+    one.need(OTHER, "with the dump of 110")
+
+
+def test_a_restore_is_seen_while_a_cut_dump_is_refused(one: Quick) -> None:
+    one.need("", "the first time")
+    one.add(10)
+    one.nrtm.forget()
+    one.publish()
+    dump = one.files.texts[DUMP]
+    assert isinstance(dump, bytes)
+    one.files.texts[DUMP] = gzip.compress(gzip.decompress(dump)[:-8], mtime=0)
+    one.add(11)
+    before = dict(one.routes)
+    one.add(12, 13)
+    one.need("ends without", "a cut dump of 101, with the changes up to 104")
+    one.publish()
+    one.restore(102, before)
+    one.add(20, 21, 22)
+    one.need(OTHER, "with the dump of 104")
+    one.add(23)
+    one.publish()
+    one.need("", "with a dump of now")
+
+
+def test_a_restore_is_seen_while_no_more_changes_are_kept(
+    one: Quick, monkeypatch: pytest.MonkeyPatch
+) -> None:
+    monkeypatch.setattr(sources, "MOST_CHANGES", 1)
+    one.need("", "the first time")
+    one.add(10)
+    before = dict(one.routes)
+    one.add(11, 12)
+    one.need("", "what is followed")
+    one.add(13)
+    one.publish()
+    one.restore(101, before)
+    one.add(20, 21, 22, 23)
+    one.need(OTHER, "with the dump of 104")
+    one.add(24)
+    one.publish()
+    one.need("", "with a dump of now")
+
+
+@pytest.mark.parametrize("words", ["RIPE's", "IRRd's"])
+def test_a_first_dump_that_was_ahead_is_not_followed_once_serials_pass_it(
+    one: Quick, words: str, monkeypatch: pytest.MonkeyPatch
+) -> None:
+    if words == "IRRd's":
+        monkeypatch.setattr(nrtm, "WITHIN", re.compile(rb"no words"))
+    one.add(10)
+    before = dict(one.routes)
+    one.add(11, 12)
+    one.publish()
+    one.restore(101, before)
+    one.need("it tells no changes after 103", "the first time")
+    one.add(20, 21, 22)
+    one.need("the dump has serial 103 still", "once serials pass it")
+    one.add(23)
+    one.publish()
+    one.need("", "with a dump of now")
+
+
+def test_all_changes_that_a_short_journal_has_are_compared(one: Quick) -> None:
+    """The last one is as before, and those before it are not."""
+    one.need("", "the first time")
+    one.add(10, 11)
+    before = dict(one.routes)
+    one.add(12, 13)
+    one.remove(0)
+    one.need("", "what is followed")
+    one.restore(102, before)
+    one.nrtm.shorten(103)
+    one.add(20, 21)
+    one.remove(0)
+    one.add(22)
+    one.need(OTHER, "after it was restored")
+
+
+def test_all_changes_that_a_short_journal_has_before_a_dump_are_noted(one: Quick) -> None:
+    one.add(10, 11)
+    before = dict(one.routes)
+    one.add(12, 13)
+    one.remove(0)
+    one.nrtm.shorten(103)
+    one.publish()
+    one.need("", "the first time")
+    one.nrtm.changes, one.routes = [], before
+    one.add(20, 21)
+    one.remove(0)
+    one.add(22)
+    one.need(OTHER, "after it was restored")
+
+
+def test_serials_that_went_back_are_seen_while_that_of_the_dump_is_not_there(one: Quick) -> None:
+    one.need("", "the first time")
+    serial = one.files.texts[SERIAL]
+    one.files.texts[SERIAL] = b"<html>503</html>"
+    one.nrtm.first, one.nrtm.changes = 99, []
+    one.add(10)
+    one.need("it has no serial", "without it")
+    one.files.texts[SERIAL] = serial
+    one.add(11, 12)
+    one.need("the dump has serial 100 still", "once serials pass")
+
+
+def test_a_dump_of_an_earlier_serial_is_not_taken_once_others_are_told(one: Quick) -> None:
+    """One of before, which was not there when they were seen."""
+    one.need("", "the first time")
+    one.add(10, 11, 12)
+    before = dict(one.routes)
+    one.add(13, 14)
+    one.publish()
+    old = {name: one.files.texts[name] for name in (DUMP, SERIAL)}
+    one.add(15)
+    one.publish()
+    one.need("", "what is followed")
+    one.restore(103, before)
+    one.add(20, 21, 22, 23, 24)
+    one.need(OTHER, "with the dump of 106")
+    one.files.texts |= old
+    one.need("the dump has serial 105 still", "with that of 105")
+    one.publish()
+    one.need("", "with a dump of now")
+
+
+def test_a_dump_of_now_is_taken_though_serials_were_seen_before_they_passed(one: Quick) -> None:
+    one.need("", "the first time")
+    before = dict(one.routes)
+    one.add(10, 11, 12)
+    one.publish()
+    one.add(13)
+    one.need("", "what is followed")
+    one.restore(100, before)
+    one.add(20)
+    one.need("the dump has serial 103 still", "with the dump of before")
+    one.add(21, 22)
+    one.publish()
+    one.need("the dump has serial 103 still", "with another one of that serial")
+    one.add(23)
+    one.publish()
+    one.need("", "with a dump of now")
+
+
+def test_a_dump_that_is_ahead_after_a_gap_is_refused_though_its_changes_fail(one: Quick) -> None:
+    one.need("", "the first time")
+    one.add(10, 11, 12)
+    before = dict(one.routes)
+    one.nrtm.shorten(103)
+    one.need("it tells no changes after 100", "a gap")
+    one.add(13)
+    one.publish()
+    one.restore(103, before)
+    one.nrtm.fails = "105"
+    one.need("the dump has serial 104 still", "while they fail")
+    one.nrtm.fails = ""
+    one.add(20, 21)
+    one.need("the dump has serial 104 still", "once serials pass")
+    one.publish()
+    one.need("", "with a dump of now")
+
+
+# What no source tells, as docs/VIEWS.md lists it.
+
+
+def need_unseen(one: Quick, numbers: set[int], what: str) -> None:
+    """That a view has other routes without a word."""
+    fault = one.look()
+    found = set(one.known.split("\n\n")) ^ {text.strip("\n") for text in one.routes.values()}
+    expect((fault, found), ("", {route(number, 2).strip("\n") for number in numbers}), what)
+
+
+def test_a_dump_of_before_a_restore_is_taken_after_a_gap(one: Quick) -> None:
+    one.need("", "the first time")
+    one.add(10, 11)
+    one.nrtm.shorten(102)
+    before = dict(one.routes)
+    one.need("it tells no changes after 100", "a gap")
+    one.add(12)
+    one.publish()
+    one.restore(102, before)
+    one.add(20, 21)
+    need_unseen(one, {12, 20}, "with the dump of 103")
+
+
+def test_a_dump_that_neither_a_tag_nor_a_date_tells_is_not_taken_for_its_serial(
+    one: Quick,
+) -> None:
+    one.need("", "the first time")
+    before = dict(one.routes)
+    one.add(10)
+    one.need("", "what is followed")
+    one.view.states["RIPE"]._replace(stamps=[""]).put()
+    one.restore(100, before)
+    one.add(20)
+    one.nrtm.forget()
+    one.publish()
+    need_unseen(one, {10, 20}, "with a dump of 101")
+
+
+def test_a_dump_of_a_later_serial_is_not_taken_while_changes_lead_on(one: Quick) -> None:
+    """Though those before are told no more, and were others."""
+    one.need("", "the first time")
+    before = dict(one.routes)
+    one.add(10)
+    one.need("", "what is followed")
+    one.restore(100, before)
+    one.add(20)
+    one.nrtm.forget()
+    one.add(21)
+    one.publish()
+    need_unseen(one, {10, 20}, "with a dump of 102")
 
 
 ODD = "as-set: AS-X (old)\nmembers: AS2\nmnt-by: B-MNT\nsource: RIPE\n"

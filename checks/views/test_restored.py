@@ -6,7 +6,7 @@ import shutil
 import pytest
 
 from checks.running import expect
-from checks.views.following import Followed, named
+from checks.views.following import Followed, named, shaped
 from checks.views.test_nrtm4 import add, back
 from checks.views.test_sources import route
 
@@ -97,6 +97,28 @@ def test_a_registry_that_was_restored_is_known_by_all_that_it_names(
     expect(mirror.renew(), "", "after it was restored")
     mirror.need_same("what it has then")
     expect(mirror.asked("snapshot"), 2, "how often a snapshot was taken")
+
+
+def test_a_last_version_that_is_made_again_hides_that_an_earlier_one_is_another(
+    mirror: Followed,
+) -> None:
+    """Where none before it is named: nothing tells that is published, as docs/VIEWS.md says."""
+    writer, gone = mirror.writer, [("DEL", route(0))]
+    writer.publish(add(20))
+    version, deltas, objects = writer.version, list(writer.deltas), dict(writer.objects)
+    writer.publish(add(21))
+    writer.publish(gone)
+    expect(mirror.renew(), "", "the first time")
+    writer.version, writer.deltas, writer.objects = version, deltas, objects
+    writer.publish(add(22))
+    writer.publish(gone)
+    writer.publish(add(23))
+    writer.take_snapshot()
+    del writer.deltas[:2]
+    writer.notify()
+    expect(mirror.renew(), "", "after it was restored")
+    others = mirror.objects() ^ set(map(shaped, writer.objects.values()))
+    expect(others, {shaped(route(21)), shaped(route(22))}, "what differs")
 
 
 def test_a_state_that_is_removed_by_hand_is_taken_anew(mirror: Followed) -> None:

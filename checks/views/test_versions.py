@@ -17,7 +17,7 @@ from checks.mirrors import writer4
 from checks.mirrors.client4 import NOTIFICATION
 from checks.running import Failure, Tell, Trial
 from checks.views.following import PATH, World, named
-from checks.views.test_histories import Merged
+from checks.views.registry import Merged
 from checks.views.test_sources import route
 from irr.errors import Failure as Fault
 from irr.local import tables

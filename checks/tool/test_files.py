@@ -1,6 +1,7 @@
 """Files put in place, folders held, dumps made loadable, and maps drawn."""
 
 import fcntl
+import hashlib
 import os
 import shutil
 import tempfile
@@ -11,12 +12,14 @@ from types import SimpleNamespace
 from typing import Any
 from unittest import mock
 
+from checks.tool.stores import limited
+from irr.commands import export
 from irr.errors import Failure
 from irr.local import program, temporary_registry
 from irr.local.temporary_registry import TemporaryRegistry
 from irr.registry import hilbert
 from irr.registry.server import Server, shown_url
-from irr.rpsl import hashes, syntax
+from irr.rpsl import hashes, keys, syntax
 from irr.rpsl.keys import Prefix
 from irr.system import files
 
@@ -38,6 +41,23 @@ class Files(unittest.TestCase):
         self.assertEqual((path.read_bytes(), path.stat().st_mode & 0o777), (b"c", 0o600))
         files.put(self.folder / "other", b"d")
         self.assertEqual((self.folder / "other").stat().st_mode & 0o777, 0o644)
+
+    def test_an_export_without_room_puts_no_file_in_place(self) -> None:
+        """Sets of today beside routes of yesterday are no state that the registry ever had."""
+        texts = [
+            b"route: 10.0.%d.0/24\norigin: AS1\nremarks: %s\nmnt-by: A-MNT\nsource: TEST\n"
+            % (number, hashlib.sha512(b"%d" % number).hexdigest().encode())
+            for number in range(60)
+        ] + [b"as-set: AS-A\nmnt-by: A-MNT\nsource: TEST\n"]
+        dump = [syntax.read(text).text() + b"\n" for text in texts] + [b"% end 61\n"]
+        for kind in keys.CLASSES:
+            files.put(self.folder / f"test.db.{kind}.gz", b"old")
+        with limited(2_048), self.assertRaisesRegex(Failure, "it cannot be written"):
+            export.written(dump, "a dump", self.folder, False)
+        self.assertEqual({path.read_bytes() for path in self.folder.iterdir()}, {b"old"})
+        counts = export.written(dump, "a dump", self.folder, False)
+        self.assertEqual((counts["route"], counts["as-set"]), (60, 1))
+        self.assertEqual(len(list(self.folder.iterdir())), len(keys.CLASSES))
 
     def test_what_fails_leaves_the_file_as_it_was(self) -> None:
         path = self.folder / "file"

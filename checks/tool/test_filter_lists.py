@@ -222,8 +222,8 @@ def test_rules_are_no_part_of_the_set_before_them() -> None:
         "deny from any\nallow from any prefix-set C\nmatch from any prefix 0.0.0.0/0 or-longer\n"
     )
     old, new = (f"prefix-set C {{ {text} }}\n{rules}" for text in (CUSTOMERS, "10.0.0.0/24"))
-    assert loss("openbgpd", old, old) == [("C", 0, 10), ("", 0, 1)]
-    assert loss("openbgpd", old, new) == [("C", 9, 10), ("", 0, 1)]
+    assert loss("openbgpd", old, old) == [("C", 0, 10), ("match from any", 0, 1)]
+    assert loss("openbgpd", old, new) == [("C", 9, 10), ("match from any", 0, 1)]
     list_of_frr = "".join(f"ip prefix-list C permit {text}\n" for text in CUSTOMERS.split(", "))
     other = "access-list X permit 10.0.0.0/8\n"
     assert loss("frr", list_of_frr + other, list_of_frr[:36] + other)[1] == ("C", 9, 10)
@@ -299,3 +299,44 @@ def test_a_range_of_numbers_is_of_all_of_them() -> None:
 def test_spellings_that_routers_read(router: str, text: str, takes: str) -> None:
     """A range that is taken for its prefix alone would be kept by that prefix."""
     assert list(entries(router, text)) == list(entries("bird", takes))
+
+
+@pytest.mark.parametrize(
+    ("router", "text"),
+    [
+        ("bird", 'filter f { print "AS# "; if net ~ [ %s ] then accept; }\n'),
+        ("bird", 'filter f { print " /* "; if net ~ [ %s ] then accept; }\n/* the end */\n'),
+        ("bird", 'filter f { print "[;"; if net ~ [ %s ] then accept; }\n'),
+        ("openbgpd", 'allow from group "peer #1" prefix { %s }\n'),
+    ],
+)
+def test_what_is_quoted_begins_no_comment(router: str, text: str) -> None:
+    """The list after it would be lost unseen."""
+    old, new = text % CUSTOMERS, text % "10.0.0.0/24"
+    assert [one[1:] for one in loss(router, old, old)] == [(0, 10)]
+    assert [one[1:] for one in loss(router, old, new)] == [(9, 10)]
+    # In a comment a quotation mark begins nothing.
+    assert [one[1:] for one in loss(router, '# "\n' + old, '# "\n' + new)] == [(9, 10)]
+
+
+def test_rules_of_openbgpd_are_judged_each() -> None:
+    """A command may print a whole set of rules, some of which refuse, or take for another peer."""
+    others = (
+        "deny from any prefix 10.0.0.0/8 prefixlen > 24\n"
+        "deny quick from any \\\n  prefix { 10.0.0.0/8 or-longer }\n"
+        "allow from { 192.0.2.2, 192.0.2.3 } prefix { 10.0.0.0/16 maxlen 24 }\n"
+    )
+    kept = [
+        ("deny from any", 0, 1),
+        ("deny quick from any", 0, 1),
+        ("allow from { 192.0.2.2, 192.0.2.3 }", 0, 1),
+    ]
+    rule = "allow from 192.0.2.1"
+    whole = rule + " prefix {\n %s\n} set localpref 5\n"
+    line_each = "".join(f"{rule}  prefix {text}\n" for text in CUSTOMERS.split(", "))
+    for old, new in [
+        (whole % CUSTOMERS, whole % "10.0.0.0/24"),
+        (line_each, line_each.partition("\n")[0] + "\n"),
+    ]:
+        assert loss("openbgpd", others + old, others + old) == [*kept, (rule, 0, 10)]
+        assert loss("openbgpd", others + old, others + new) == [*kept, (rule, 9, 10)]

@@ -135,18 +135,19 @@ def serial_of(path: Path) -> int | None:
 
 def written(dump: Iterable[bytes], name: str, folder: Path, is_one: bool) -> dict[str, int]:
     """Writes the files of a dump, and counts its objects by class. All are put in place after the
-    last piece, if the dump is whole."""
+    last piece, if the dump is whole and there is room for each of them."""
     counts = dict.fromkeys(keys.CLASSES, 0)
-    with contextlib.ExitStack() as put:
+    with contextlib.ExitStack() as put, contextlib.ExitStack() as packed:
         outs: dict[str, gzip.GzipFile] = {}
         one: gzip.GzipFile | None = None
         for key, paragraph in answers.dumped(dump, name):
             if not outs:
                 source = keys.as_text(paragraph.value(b"source")).lower()
                 outs = {
-                    kind: opened(put, folder / f"{source}.db.{kind}.gz") for kind in keys.CLASSES
+                    kind: opened(put, packed, folder / f"{source}.db.{kind}.gz")
+                    for kind in keys.CLASSES
                 }
-                one = opened(put, folder / f"{source}.db.gz") if is_one else None
+                one = opened(put, packed, folder / f"{source}.db.gz") if is_one else None
             text = paragraph.text() + b"\n"
             outs[key.kind].write(text)
             if one:
@@ -158,8 +159,9 @@ def written(dump: Iterable[bytes], name: str, folder: Path, is_one: bool) -> dic
     return counts
 
 
-def opened(put: contextlib.ExitStack, path: Path) -> gzip.GzipFile:
-    """A gzip'd file that is put in place when the stack is left without a fault. The same objects
-    give the same bytes."""
+def opened(put: contextlib.ExitStack, packed: contextlib.ExitStack, path: Path) -> gzip.GzipFile:
+    """A gzip'd file that is whole when one stack is left, and put in place when the other one is
+    left without a fault. The same objects give the same bytes."""
     out: BinaryIO = put.enter_context(files.written(path))
-    return put.enter_context(gzip.GzipFile(filename="", mode="wb", fileobj=out, mtime=0))
+    packed.callback(out.flush)
+    return packed.enter_context(gzip.GzipFile(filename="", mode="wb", fileobj=out, mtime=0))

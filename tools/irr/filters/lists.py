@@ -5,11 +5,12 @@ import re
 import socket
 from typing import Iterable, Iterator, NamedTuple
 
-# What a router does not read in a file, and lines that only take away.
+# What a router does not read in a file, or what is quoted, in which no comment begins; and lines
+# that only take away.
 COMMENTS = {
-    "bird": re.compile(r"/\*.*?\*/|#[^\n]*", re.S),
-    "frr": re.compile(r"^[ \t]*[!#][^\n]*", re.M),
-    "openbgpd": re.compile(r"#[^\n]*"),
+    "bird": re.compile(r"(\"[^\"\n]*\")|/\*.*?\*/|#[^\n]*", re.S),
+    "frr": re.compile(r"()^[ \t]*[!#][^\n]*", re.M),
+    "openbgpd": re.compile(r"(\"[^\"]*\")|#[^\n]*"),
 }
 REMOVALS = re.compile(r"^[ \t]*no[ \t][^\n]*", re.M)
 PREFIX = r"(?<![\w.:])([0-9A-Fa-f:.]+)/([0-9]{1,3})(?![0-9.])"
@@ -42,14 +43,16 @@ FRR_LINE = re.compile(
     re.M,
 )
 FRR_ENTRY = re.compile(r"^[ \t]*(?:seq[ \t]+([0-9]+)\s+)?(permit|deny)\b(.*)", re.M)
-# A macro of OpenBGPD has no kind.
+# A macro of OpenBGPD has no kind, nor has a rule, which is told by the words before its prefixes.
 OPENBGPD_LIST = re.compile(
     r"\b(?P<kind>prefix-set|as-set|origin-set|roa-set)[ \t]+\"?(?P<name>[^\s\"{=]+)\"?\s*"
-    r"\{(?P<list>[^}]*)\}|^[ \t]*(?P<macro>\w+)[ \t]*=[ \t]*\"(?P<value>[^\"]*)\"",
+    r"\{(?P<list>[^}]*)\}|^[ \t]*(?P<macro>\w+)[ \t]*=[ \t]*\"(?P<value>[^\"]*)\""
+    r"|^[ \t]*(?P<rule>(?:allow|deny|match)\b(?:[^\\\n]|\\\n?)*?)\bprefix[ \t]+"
+    r"(?:\{(?P<own>[^}]*)\}|(?P<one>[^{\n]*))",
     re.M,
 )
 # Those that have no AS numbers.
-PREFIX_LISTS = ("prefix-list", "ip prefix-list", "ipv6 prefix-list", "prefix-set")
+PREFIX_LISTS = ("prefix-list", "ip prefix-list", "ipv6 prefix-list", "prefix-set", "rule")
 # What is no AS number in a list of these: what stands for any one in a pattern.
 NO_NUMBER = re.compile(r"\[0-9\]|\bseq[ \t]+[0-9]+")
 # One, or several from a first to a last one.
@@ -98,10 +101,16 @@ class Loss(NamedTuple):
     size: int
 
 
+def uncommented(router: str, text: str) -> str:
+    """A filter without its comments, and in BIRD without what is quoted, which is in no list."""
+    kept = r'""' if router == "bird" else r"\1"
+    return COMMENTS[router].sub(lambda one: one.expand(kept) if one[1] else "", text)
+
+
 def meaning(router: str, text: str) -> str:
     """A filter without its comments, and without lines that only remove; blank where nothing is
     left."""
-    text = COMMENTS[router].sub("", text)
+    text = uncommented(router, text)
     return (REMOVALS.sub("", text) if router == "frr" else text).strip()
 
 
@@ -193,7 +202,7 @@ class Spans:
 
 def parted(router: str, text: str) -> dict[List, list[Words]]:
     """What stands in each list of a filter, in the order in which its router looks at it."""
-    text = COMMENTS[router].sub("", text)
+    text = uncommented(router, text)
     if router == "frr":
         return parted_frr(text)
     found = parted_bird(text) if router == "bird" else parted_openbgpd(text)
@@ -228,15 +237,18 @@ def parted_bird(text: str) -> Iterator[tuple[List, str]]:
 
 
 def parted_openbgpd(text: str) -> Iterator[tuple[List, str]]:
-    """The same of OpenBGPD: a set, or a macro."""
+    """The same of OpenBGPD: a set, a macro, or a rule."""
     end = 0
     for one in OPENBGPD_LIST.finditer(text):
         yield List("", ""), text[end : one.start()]
         end = one.end()
         if one["kind"]:
             yield List(one["kind"], one["name"]), one["list"]
-        else:
+        elif one["macro"]:
             yield List("macro", one["macro"]), one["value"]
+        else:
+            words = " ".join(one["rule"].replace("\\\n", " ").split())
+            yield List("rule", words), one["own"] or one["one"] or ""
     yield List("", ""), text[end:]
 
 

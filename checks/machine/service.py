@@ -233,7 +233,6 @@ class Service:
         signed = "irr submit /root/root.password /root/ops.password -"
         printed = guest.done(signed, given=text)
         expect("added" in printed, True, f"what both sign: {printed}")
-        guest.done("systemctl start irrdesk-backup irrdesk-history", seconds=600)
         # The door looks at the registry again after a moment.
         guest.until("systemctl start irrdesk-check", "that the check finds nothing wrong")
         reported = self.journal("irrdesk-check")

@@ -420,6 +420,7 @@ def test_the_package_is_taken_away_to_the_last_file(
     # What the units and the operator make.
     again = ["/var/cache/irrdesk/dump", "/var/lib/private/irrdesk-mirror/irr.db"]
     again += ["/etc/irrdesk/setup.json", "/etc/irrdesk/submitters.conf"]
+    again += ["/etc/irrdesk/submitters.acl"]
     again += ["/var/lib/systemd/timers/stamp-irrdesk-backup.timer"]
     own = [
         "/etc/systemd/system/irrdesk-mirror.service.d/override.conf",

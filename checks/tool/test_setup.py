@@ -23,7 +23,7 @@ INETNUM = b"\ninetnum: 192.0.2.0/24\nmnt-by: ROOT-MNT\nsource: TEST\n"
 # It notes what it is asked, and fails once for the unit whose name is in the file `fails`.
 SYSTEMCTL = """#!/bin/sh
 cd "$(dirname "$0")" && echo "$*" >>asked
-[ "$3" != "$(cat fails 2>/dev/null)" ] || { rm fails; echo 'Job failed.' >&2; exit 1; }
+[ "${3:-$2}" != "$(cat fails 2>/dev/null)" ] || { rm fails; echo 'Job failed.' >&2; exit 1; }
 """
 # The program, but for one run of the command in the file `fails`, which ends before it or after it,
 # or does it and then waits to be ended.
@@ -48,6 +48,18 @@ UNITS = [
     "irrdesk-backup.timer",
     "irrdesk-history.timer",
 ]
+FIRST = ["start irrdesk-backup.service", "start irrdesk-history.service"]
+# What haproxy.cfg says with the file of those who may submit.
+HAPROXY = """defaults
+    mode http
+    timeout connect 5s
+    timeout client 5s
+    timeout server 5s
+frontend web
+    bind 127.0.0.1:1
+    acl may_submit src -f {}
+    http-request deny unless may_submit
+"""
 WORDS = ["--source", "TEST", "--maintainer", "OPS-MNT", "--history", "--save", "root.password"]
 WORDS += ["--maintainer-save", "ops.password"]
 
@@ -224,10 +236,11 @@ class Service:
         expect(dump.count(b"auth:           SHA256-PW"), 2, "passwords")
         lets_sign(trial, str(self.settings), place, (self.place / "root.password").read_bytes())
         names = sorted(path.name for path in self.etc.iterdir())
-        expect(names, ["door.toml", "irr.toml", "submitters.conf"], "what is beside the settings")
+        made = ["door.toml", "irr.toml", "submitters.acl", "submitters.conf"]
+        expect(names, made, "what is beside the settings")
         found = self.settings.stat()
         expect((found.st_gid, stat.S_IMODE(found.st_mode)), (OWNER, 0o640), "who reads them")
-        for name in "door.toml", "submitters.conf":
+        for name in made[0], *made[2:]:
             mode = stat.S_IMODE((self.etc / name).stat().st_mode)
             expect(f"{mode:o}", "644", f"who reads {name}")
         expect((self.store / "irr.db").stat().st_uid, OWNER, "whose the database is")
@@ -235,8 +248,8 @@ class Service:
 
 @AS_ROOT
 def test_a_service_is_made_of_the_files_of_the_package(trial: Trial, tool: Tool) -> None:
-    """That the settings keep their comments, that the units are enabled in their order, and that
-    who may submit is said in nginx's words."""
+    """That the settings keep their comments, that the units are enabled in their order and what
+    timers start runs once, and that who may submit is said in the words of each proxy."""
     service = Service(trial, tool, "service")
     before = service.settings.read_text(encoding="ascii").splitlines()
     words = ["--submit", "users", "--submit", "198.51.100.0/24", "--mirror", "192.0.2.10"]
@@ -245,6 +258,7 @@ def test_a_service_is_made_of_the_files_of_the_package(trial: Trial, tool: Tool)
     for word in b"apache2-utils", b"MIRRORING.md":
         expect(word in ran.printed, True, f"what is next: {ran.printed!r}")
     wanted = [f"enable --now {unit}" for unit in [*UNITS, "irrdesk-export.timer"]]
+    wanted += [*FIRST, "start irrdesk-export.service"]
     expect(service.asked(), wanted, "the units")
     service.made(trial)
     after = service.settings.read_text(encoding="ascii").splitlines()
@@ -266,6 +280,12 @@ def test_a_service_is_made_of_the_files_of_the_package(trial: Trial, tool: Tool)
         ],
         "who may submit",
     )
+    told = (service.etc / "submitters.acl").read_text(encoding="ascii").splitlines()[1:]
+    expect(told, ["127.0.0.1", "198.51.100.0/24"], "who may submit through HAProxy")
+    text = HAPROXY.format(service.etc / "submitters.acl")
+    config = write(str(service.place), "haproxy.cfg", text.encode())
+    read = subprocess.run(["haproxy", "-c", "-f", config], capture_output=True, check=False)
+    expect(read.returncode, 0, f"whether HAProxy reads them: {read.stderr.decode()}")
     expect_line(service.full(), 4, ".*a registry is here; .*", "a second one")
     expect(service.asked(), [], "what a second one asks of systemd")
     example = Path(TOP, "examples", "nginx.conf").read_text(encoding="ascii")
@@ -331,6 +351,7 @@ STOPS = [
     ("submit", "interrupt"),
     ("irrdesk.service", "before"),
     ("irrdesk-history.timer", "before"),
+    ("irrdesk-history.service", "before"),
 ]
 
 
@@ -358,7 +379,7 @@ def test_a_run_that_was_stopped_is_gone_on_with(
     service.asked()
     ran = service.setup()
     expect(ran.status, 0, f"the run after it: {ran.reported!r}")
-    expect(service.asked(), [f"enable --now {unit}" for unit in UNITS], "the units")
+    expect(service.asked(), [*(f"enable --now {unit}" for unit in UNITS), *FIRST], "the units")
     service.made(trial)
 
 

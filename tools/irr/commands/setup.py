@@ -77,7 +77,7 @@ def arguments(parser: argparse.ArgumentParser) -> None:
         "--submit",
         metavar="WHO",
         action="append",
-        help="let these submit through nginx: nobody (the default), users, anybody, or an address"
+        help="let these submit through a proxy: nobody (the default), users, anybody, or an address"
         " or prefix; may be given several times",
     )
     parser.add_argument(
@@ -216,7 +216,7 @@ class Asker:
         if plan.door:
             plan.submit = self.list(
                 "submit",
-                "Who may submit through nginx: nobody, users, anybody, or addresses",
+                "Who may submit through the proxy: nobody, users, anybody, or addresses",
                 "nobody",
                 read_who,
             )
@@ -386,11 +386,15 @@ def next_steps(plan: Plan) -> list[str]:
         f"  irr submit {plan.save or f'--as {plan.root}'} FILE        what the root signs",
     ]
     if plan.door and plan.is_service:
+        nginx, haproxy = plan.submitters
         lines += [
-            f"  TLS and the page for people: {examples()}/nginx.conf; who may submit:",
-            f"    include {plan.submitters};",
-            "    in its `location = /submissions`, in place of the lines from `satisfy` to",
-            "    `auth_basic_user_file`",
+            f"  TLS and the page for people: {examples()}/nginx.conf or haproxy.cfg;",
+            "  who may submit:",
+            f"    include {nginx};",
+            "    in `location = /submissions` of nginx.conf, in place of the lines from `satisfy`",
+            "    to `auth_basic_user_file`, or",
+            f"    acl may_submit src -f {haproxy}",
+            "    in haproxy.cfg, in place of its line `acl may_submit`",
             *[f"    htpasswd -B -c {setups.USERS} USER        of Debian's apache2-utils"]
             * ("users" in plan.submit),
         ]

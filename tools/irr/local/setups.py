@@ -32,6 +32,8 @@ PACKAGED_DOOR: dict[str, Any] = {
 HEAD = "# Settings of a registry, made by irr setup. Each key has to be there; see irr.toml(5).\n"
 DOOR_HEAD = "# Settings of the door, made by irr setup. All of them are in irr-door(1).\n"
 USERS = "/etc/nginx/irrdesk.users"
+# What timers start, in the order in which it first runs: serials come of the history.
+FIRST = ["irrdesk-backup", "irrdesk-history", "irrdesk-export"]
 
 
 @dataclasses.dataclass
@@ -67,8 +69,13 @@ class Plan:
         return str(self.folder / "door.toml")
 
     @property
-    def submitters(self) -> str:
-        return str(self.folder / "submitters.conf")
+    def submitters(self) -> dict[str, str]:
+        """Who may submit, in the words of nginx and of HAProxy: the text of each file."""
+        folder = self.folder
+        return {
+            str(folder / "submitters.conf"): for_nginx(self.submit),
+            str(folder / "submitters.acl"): for_haproxy(self.submit),
+        }
 
     @property
     def values(self) -> dict[str, Any]:
@@ -217,18 +224,18 @@ class Made:
             self.done("written", path)
 
     def put_door(self) -> None:
-        """door.toml, and who may submit through nginx."""
+        """door.toml, and who may submit through a proxy."""
         plan = self.plan
         if not plan.door:
             return
         text = tomls.text_of(plan.door_settings)
         self.put(plan.door_settings, text or DOOR_HEAD, plan.door_values, files.PUBLIC)
         if plan.is_service:
-            lines = submitters(plan.submit)
-            if lines != tomls.text_of(plan.submitters):
-                files.put(plan.submitters, lines.encode(), files.PUBLIC)
-                self.done("who may submit through nginx", plan.submitters)
-            for path in plan.door_settings, plan.submitters:
+            for path, made in plan.submitters.items():
+                if made != tomls.text_of(path):
+                    files.put(path, made.encode(), files.PUBLIC)
+                    self.done("who may submit through the proxy", path)
+            for path in plan.door_settings, *plan.submitters:
                 os.chmod(path, files.PUBLIC)
 
     # The registry.
@@ -301,21 +308,37 @@ class Made:
         return self.run("query", "object", "mntner", maintainer).stdout.startswith(b"mntner:")
 
     def enable(self) -> None:
-        """The units, now and at each start of the machine."""
+        """The units, now and at each start of the machine. What timers start runs once now: a
+        first backup, the first state of the history, and the first dump with serials."""
         for unit in self.plan.units:
-            done = services.systemctl("enable", "--now", unit)
-            if done.returncode:
-                raise Failure(
-                    unit,
-                    "it does not start: "
-                    f"{' '.join(done.stderr.split()) or 'nothing is reported'}; mend"
-                    f" what `journalctl --unit {unit.partition('.')[0]}` says",
-                    FAILED,
-                )
+            self.systemctl("enable", "--now", unit)
             self.done("enabled and started", unit)
+        for unit in FIRST:
+            if f"{unit}.timer" in self.plan.units:
+                self.systemctl("start", f"{unit}.service")
+                self.done("run once", f"{unit}.service")
+
+    def systemctl(self, *words: str) -> None:
+        done = services.systemctl(*words)
+        if done.returncode:
+            unit = words[-1]
+            raise Failure(
+                unit,
+                f"it does not start: {' '.join(done.stderr.split()) or 'nothing is reported'}; mend"
+                f" what `journalctl --unit {unit.partition('.')[0]}` says",
+                FAILED,
+            )
 
 
-def submitters(who: list[str]) -> str:
+def for_haproxy(who: list[str]) -> str:
+    """The addresses from which anybody may submit, one a line, for `acl may_submit src -f`."""
+    allowed = [one for one in who if one not in ("nobody", "users", "anybody")]
+    all_of_them = ["0.0.0.0/0", "::/0"] if "anybody" in who else []
+    head = "# Who may submit, made by irr setup: for `acl may_submit src -f` of haproxy.cfg."
+    return "\n".join([head, "127.0.0.1", *allowed, *all_of_them, ""])
+
+
+def for_nginx(who: list[str]) -> str:
     """Who may submit, in nginx's words for `location = /submissions`."""
     lines = ["# Who may submit, made by irr setup: for `location = /submissions` of nginx.conf."]
     if who != ["anybody"]:

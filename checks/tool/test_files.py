@@ -59,6 +59,14 @@ class Files(unittest.TestCase):
         self.assertEqual((counts["route"], counts["as-set"]), (60, 1))
         self.assertEqual(len(list(self.folder.iterdir())), len(keys.CLASSES))
 
+    def test_of_several_files_the_one_that_failed_is_named(self) -> None:
+        """Where room is made by removing the others, only one fails, and only once."""
+        with self.assertRaisesRegex(Failure, "first: it cannot be written: file too large"):
+            with files.written(self.folder / "first") as out, files.written(self.folder / "last"):
+                with limited(2_048):
+                    out.write(bytes(100_000))
+        self.assertEqual(list(self.folder.iterdir()), [])
+
     def test_what_fails_leaves_the_file_as_it_was(self) -> None:
         path = self.folder / "file"
         path.write_bytes(b"kept")

@@ -2,6 +2,7 @@
 many."""
 import contextlib
 import fcntl
+import io
 import os
 import re
 import shutil
@@ -9,7 +10,7 @@ import stat
 import sys
 import tempfile
 from pathlib import Path
-from typing import BinaryIO, Iterable, Iterator
+from typing import Any, BinaryIO, Iterable, Iterator
 
 from irr.errors import ARGUMENTS, FAILED, Failure, system_words
 
@@ -18,6 +19,18 @@ PUBLIC, PRIVATE = 0o644, 0o600
 MADE = re.compile("[a-z0-9_]{8}")
 # As many links as the system follows on the way to a file.
 MOST_LINKS = 40
+
+
+class Named(io.FileIO):
+    """A new file that is open, whose faults name it: several may be written at a time."""
+
+    def __init__(self, number: int, path: str) -> None:
+        super().__init__(number, "wb")
+        self.path = path
+
+    def write(self, piece: Any) -> int:
+        with named(self.path):
+            return super().write(piece)
 
 
 @contextlib.contextmanager
@@ -37,7 +50,7 @@ def written(path: str | os.PathLike[str], mode: int = PUBLIC) -> Iterator[Binary
             str(path), f"it cannot be written: {system_words(error)}; look at its folder"
         ) from None
     try:
-        with os.fdopen(number, "wb") as out:
+        with io.BufferedWriter(Named(number, name)) as out:
             yield out
             out.flush()
             os.fchmod(out.fileno(), mode & mode_of(target))

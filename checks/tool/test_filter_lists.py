@@ -2,7 +2,7 @@
 
 import pytest
 
-from irr.filters.lists import entries, losses
+from irr.filters.lists import Spans, entries, losses
 
 PREFIXES = {
     "bird": "define X = [ 10.0.0.0/24, 10.0.1.0/24{24,26}, 10.0.2.0/23+ ];",
@@ -50,7 +50,6 @@ def test_syntaxes_say_the_same() -> None:
     ("router", "text"),
     [
         ("bird", "define X = [ 10.0.0.0/24{26,25} ];"),
-        ("bird", "define X = [ 10.0.0.0/24{20,23} ];"),
         ("frr", "ip prefix-list X permit 10.0.0.0/24 ge 28 le 26\n"),
         ("openbgpd", "prefix-set X { 10.0.0.0/24 prefixlen 26 - 25 }"),
         ("openbgpd", "prefix-set X { 10.0.0.0/24 prefixlen = 23 }"),
@@ -87,8 +86,8 @@ def test_numbers_where_there_are_no_prefixes() -> None:
     old = "as-set O {\n\t64496 64497\n}\n"
     assert loss("openbgpd", old, old.replace(" 64497", "")) == [("O", 1, 2)]
     # There is no list.
-    rule = "allow from AS 64496 source-as { 64497 }\n"
-    assert loss("openbgpd", rule, rule.replace("7", "8")) == [("", 1, 2)]
+    rules = "allow from AS 64496\nallow from AS 64497\n"
+    assert loss("openbgpd", rules, rules.replace("7", "8")) == [("", 1, 2)]
 
 
 @pytest.mark.parametrize(
@@ -226,7 +225,7 @@ def test_rules_are_no_part_of_the_set_before_them() -> None:
     assert loss("openbgpd", old, new) == [("C", 9, 10), ("match from any", 0, 1)]
     list_of_frr = "".join(f"ip prefix-list C permit {text}\n" for text in CUSTOMERS.split(", "))
     other = "access-list X permit 10.0.0.0/8\n"
-    assert loss("frr", list_of_frr + other, list_of_frr[:36] + other)[1] == ("C", 9, 10)
+    assert loss("frr", list_of_frr + other, list_of_frr[:36] + other) == [("C", 9, 10), ("X", 0, 1)]
 
 
 OLD_LINES = [
@@ -288,12 +287,16 @@ def test_a_range_of_numbers_is_of_all_of_them() -> None:
     [
         ("bird", "10.0.0.0/8 { 9 , 24 }", "10.0.0.0/8{9,24}"),
         ("bird", "10.0.0.0/8\n  {9,24}", "10.0.0.0/8{9,24}"),
+        ("bird", "10.0.0.0/8 +", "10.0.0.0/8{8,32}"),
+        ("bird", "010.0.00.0/8 -", "10.0.0.0/8{0,8}"),
         ("frr", "permit 10.0.0.0/8  ge  9  le  24", "10.0.0.0/8{9,24}"),
         ("frr", "permit 10.0.0.0/8 le 24 ge 9", "10.0.0.0/8{9,24}"),
         ("frr", "permit any", "0.0.0.0/0{0,32}"),
         ("openbgpd", "10/8", "10.0.0.0/8"),
         ("openbgpd", "10.1/16\tprefixlen\t17 - 24", "10.1.0.0/16{17,24}"),
         ("openbgpd", "10.0.0.0/8 prefixlen =24", "10.0.0.0/8{24,24}"),
+        ("openbgpd", "10.0.0.0/8 prefixlen != 24", "10.0.0.0/8{8,23} 10.0.0.0/8{25,32}"),
+        ("openbgpd", "10.0.0.0/8 prefixlen 9 >< 24", "10.0.0.0/8{8,8} 10.0.0.0/8{25,32}"),
     ],
 )
 def test_spellings_that_routers_read(router: str, text: str, takes: str) -> None:
@@ -308,6 +311,8 @@ def test_spellings_that_routers_read(router: str, text: str, takes: str) -> None
         ("bird", 'filter f { print " /* "; if net ~ [ %s ] then accept; }\n/* the end */\n'),
         ("bird", 'filter f { print "[;"; if net ~ [ %s ] then accept; }\n'),
         ("openbgpd", 'allow from group "peer #1" prefix { %s }\n'),
+        ("openbgpd", "allow from group 'peer #1' prefix { %s }\n"),
+        ("openbgpd", 'descr = "a \\" # b"\nallow from any prefix { %s }\n'),
     ],
 )
 def test_what_is_quoted_begins_no_comment(router: str, text: str) -> None:
@@ -340,3 +345,168 @@ def test_rules_of_openbgpd_are_judged_each() -> None:
     ]:
         assert loss("openbgpd", others + old, others + old) == [*kept, (rule, 0, 10)]
         assert loss("openbgpd", others + old, others + new) == [*kept, (rule, 9, 10)]
+
+
+BITS = 4
+
+
+@pytest.mark.parametrize("length", range(BITS + 1))
+def test_patterns_of_bird(length: int) -> None:
+    """BIRD's manual: a prefix is taken if the bits that both have are the same, and if its length
+    is one of the pattern's. So it may cover that of the pattern."""
+    for low in range(BITS + 1):
+        for high in range(low, BITS + 1):
+            for first in range(0, 1 << BITS, 1 << BITS - length):
+                pattern = f"{first << 4}.0.0.0/{length}{{{low},{high}}}"
+                spans = Spans(span for one in entries("bird", pattern) for span in one.spans())
+                for size in range(BITS + 1):
+                    for other in range(0, 1 << BITS, 1 << BITS - size):
+                        shift = BITS - min(length, size)
+                        takes = low <= size <= high and first >> shift == other >> shift
+                        span = other << 28, other + (1 << BITS - size) << 28
+                        assert spans.has((32, size, ""), *span) == takes
+
+
+@pytest.mark.parametrize(
+    ("old", "new", "lost"),
+    [
+        ("10.0.1.0/24{16,28}", "10.0.1.0/24{24,28}", 1),
+        ("10.0.1.0/24{16,28}", "10.0.2.0/24{16,23}, 10.0.1.0/24{24,28}", 1),
+        ("10.0.1.0/24{16,28}", "10.0.0.0/16+", 0),
+        ("10.0.1.0/24-", "10.0.1.0/24", 1),
+        ("10.0.1.0/24-", "10.0.0.0/23-, 10.0.1.0/24", 0),
+        ("10.0.1.0/24", "10.0.1.128/25-", 0),
+        ("10.0.0.0/24{20,23}", "10.0.0.0/24", 1),
+    ],
+)
+def test_covering_prefixes_are_lost_too(old: str, new: str, lost: int) -> None:
+    assert loss("bird", f"define X = [ {old} ];", f"define X = [ {new} ];") == [("X", lost, 1)]
+
+
+@pytest.mark.parametrize(
+    ("old", "new", "lost"),
+    [
+        ("10.0.0.0 0.255.255.255", "10.0.0.0 0.255.255.255", 0),
+        ("10.0.0.0 0.255.255.255", "10.0.0.0 0.127.255.255", 1),
+        ("10.0.0.0 0.0.0.255", "10.0.0.0 0.0.255.255", 0),
+        ("10.0.0.0 0.255.255.255", "10.0.0.0/7", 0),
+        ("10.0.0.0/8", "10.0.0.0 0.255.255.255", 0),
+        ("10.0.0.0/8", "10.0.0.0/8 exact-match", 1),
+        ("10.0.0.0/8 exact-match", "10.0.0.0/8", 0),
+        ("10.1.0.0/16", "any", 0),
+        ("any", "10.1.0.0/16", 1),
+        # A network of this address, of any length.
+        ("10.1.0.0/16 exact-match", "host 10.1.0.0", 0),
+        ("10.1.1.0/24 exact-match", "host 10.1.0.0", 1),
+        ("0.0.0.0/0 exact-match", "0.0.0.0", 0),
+        # The second pattern is that of the mask.
+        ("10.0.0.0/8", "ip 10.0.0.0 0.255.255.255 any", 0),
+        ("10.0.0.0/8", "ip 10.0.0.0 0.255.255.255 255.255.0.0 0.0.255.255", 1),
+        ("10.0.0.0/16", "ip 10.0.0.0 0.255.255.255 255.255.0.0 0.0.255.255", 0),
+        ("10.0.0.0/16 exact-match", "ip any host 255.255.0.0", 0),
+        ("10.0.0.0/17 exact-match", "ip any host 255.255.0.0", 1),
+        # Bits that are not the last ones: only the same words take the same.
+        ("10.0.0.0 0.255.0.255", "10.0.0.0  0.255.0.255", 0),
+        ("10.0.0.0 0.255.0.255", "10.0.0.0 0.254.0.255", 1),
+    ],
+)
+def test_access_lists_of_frr(old: str, new: str, lost: int) -> None:
+    lists = [f"access-list X seq 5 permit {text}\n" for text in (old, new)]
+    assert loss("frr", lists[0], lists[1]) == [("X", lost, 1)]
+    refused = "access-list X seq 1 deny 10.0.0.0 0.255.255.255\naccess-list X seq 2 deny any\n"
+    assert loss("frr", lists[0], refused + lists[1]) == [("X", 1, 1)]
+
+
+def test_access_lists_of_ipv6() -> None:
+    old = "ipv6 access-list X permit 2001:db8::/32\naccess-list X permit 10.0.0.0/8\n"
+    assert loss("frr", old, old) == [("X", 0, 1), ("X", 0, 1)]
+    assert loss("frr", old, old.replace("/32", "/32 exact-match")) == [("X", 1, 1), ("X", 0, 1)]
+    assert loss("frr", old, old.replace("2001:db8::/32", "any")) == [("X", 0, 1), ("X", 0, 1)]
+
+
+@pytest.mark.parametrize(
+    ("line", "lost"),
+    [
+        ("permit 10.0.1.0/24", 1),
+        ("permit  10.0.2.0/24  le 26", 1),
+        ("deny 10.0.1.0/24", 0),
+        ("seq 10", 1),
+        ("description", 0),
+        ("", 3),
+    ],
+)
+def test_what_a_removal_of_frr_removes(line: str, lost: int) -> None:
+    """As FRR does it: a line by its number, or by its words; else the list."""
+    old = lines_of_frr(OLD_LINES)
+    new = old + f"no ip prefix-list C {line}\n"
+    assert loss("frr", old, new) == [("C", lost, 3)]
+    assert sum(one.size for one in losses("frr", new, "")) == 3 - lost
+
+
+def test_no_path_is_taken_after_a_line_that_refuses_any() -> None:
+    old = "".join(f"bgp as-path access-list P permit _{n}$\n" for n in (64496, 64497))
+    refuses = "bgp as-path access-list P seq 1 deny %s\n"
+    assert loss("frr", old, refuses % ".*" + old) == [("P", 2, 2)]
+    assert loss("frr", old, refuses % "^$" + old) == [("P", 0, 2)]
+    assert loss("frr", old, old + "bgp as-path access-list P deny .*\n") == [("P", 0, 2)]
+
+
+@pytest.mark.parametrize("kind", ["origin-set O", "roa-set"])
+def test_an_origin_is_a_part_of_an_entry(kind: str) -> None:
+    old = kind + " {\n10.0.0.0/8 maxlen 24 source-as 64496 10.0.0.0/8 source-as 64497\n}\n"
+    name = kind.split()[-1]
+    assert loss("openbgpd", old, old) == [(name, 0, 2)]
+    assert loss("openbgpd", old, old.replace("64497", "64498")) == [(name, 1, 2)]
+    assert loss("openbgpd", old, old.replace("64496 ", "64497 ")) == [(name, 1, 2)]
+    rules = "allow from any prefix 0.0.0.0/0 prefixlen 8 - 24\n"
+    assert loss("openbgpd", old + rules, rules)[0] == (name, 2, 2)
+
+
+def test_numbers_of_rules_are_judged_beside_sets() -> None:
+    """So a command may print both, and for several peers."""
+    sets = "prefix-set S { 10.0.0.0/8 }\n"
+    rules = "".join(
+        f"allow from {peer} source-as {number}\n"
+        for peer in ("AS 64511", "{ AS 64512, AS 64513 }")
+        for number in range(64496, 64500)
+    )
+    counts = [("S", 0, 1), ("allow from AS 64511 source-as", 0, 4)]
+    other = "allow from { AS 64512, AS 64513 } source-as"
+    assert loss("openbgpd", sets + rules, sets + rules) == [*counts, (other, 0, 4)]
+    new = sets + rules.rpartition("allow")[0]
+    assert loss("openbgpd", sets + rules, new) == [*counts, (other, 1, 4)]
+    rule = "match from any AS { 64496 - 64499 65000 } set localpref 5\n"
+    new = rule.replace(" - ", " ").replace("5\n", "6\n")
+    assert loss("openbgpd", rule, new) == [("match from any AS", 1, 2)]
+
+
+def test_words_after_the_prefixes_tell_rules_apart() -> None:
+    old = "".join(f"allow from any prefix{{10.0.0.0/8}} source-as {n}\n" for n in (1, 2))
+    assert [one[1:] for one in loss("openbgpd", old, old)] == [(0, 1), (0, 1)]
+    assert [one[1:] for one in loss("openbgpd", old, old[: len(old) // 2])] == [(0, 1), (1, 1)]
+    old = "".join(f"allow from any prefix 10.0.0.0/8 source-as {n}\n" for n in (1, 2))
+    assert loss("openbgpd", old, old[: len(old) // 2]) == [("allow from any", 1, 2)]
+    sets = "".join(f"allow from any prefix 10.0.0.0/8 source-as as-set {n}\n" for n in "XY")
+    assert loss("openbgpd", sets, sets[: len(sets) // 2]) == [("allow from any", 1, 2)]
+    # A rule of any path takes each.
+    new = "allow from any prefix 10.0.0.0/8 prefixlen 8 - 24\n"
+    assert loss("openbgpd", old, new) == [("allow from any", 0, 2)]
+    assert loss("openbgpd", new, old) == [("allow from any", 1, 1)]
+
+
+@pytest.mark.parametrize(
+    ("router", "old", "new", "lost"),
+    [
+        # Numbers in two halves.
+        ("openbgpd", "as-set X { 1.10 1.11 }", "as-set X { 1.10 1.12 }", 1),
+        ("openbgpd", "as-set X { 1.10 1.11 }", "as-set X { 65546 65547 }", 0),
+        # A line goes on after a backslash, also in a comment.
+        ("openbgpd", "as-set \\\n X \\\n { 1 2 }", "as-set X { 1 }", 1),
+        ("openbgpd", "as-set X { 1 2 }", "# \\\nas-set X { 1 2 }\nas-set X { 1 }", 1),
+        ("openbgpd", "X = '{ 1 2 }'", 'X = "{ 1 }"', 1),
+        ("bird", "function f() { X = [= [1, 2] 3 =]; }", "function f() { X = [= [1, 2] =]; }", 1),
+    ],
+)
+def test_spellings_of_numbers(router: str, old: str, new: str, lost: int) -> None:
+    beside = "prefix-set S { 10.0.0.0/8 }\n" if router == "openbgpd" else "define S = [ 1 ];\n"
+    assert [one.lost for one in losses(router, beside + old, beside + new)] == [0, lost]

@@ -1,6 +1,7 @@
 """The lists of filters in the syntax of each router: what they take, and what a new one lacks of an
 older one."""
 import bisect
+import ipaddress
 import re
 import socket
 from typing import Iterable, Iterator, NamedTuple
@@ -10,13 +11,18 @@ from typing import Iterable, Iterator, NamedTuple
 COMMENTS = {
     "bird": re.compile(r"(\"[^\"\n]*\")|/\*.*?\*/|#[^\n]*", re.S),
     "frr": re.compile(r"()^[ \t]*[!#][^\n]*", re.M),
-    "openbgpd": re.compile(r"(\"[^\"]*\")|#[^\n]*"),
+    # A quotation mark within a word is a part of it.
+    "openbgpd": re.compile(
+        r"(?<![^\s(){}<>!=/,])(\"[^\"\\]*(?:\\.[^\"\\]*)*\"|'[^'\\]*(?:\\.[^'\\]*)*')|#[^\n]*",
+        re.S,
+    ),
 }
 REMOVALS = re.compile(r"^[ \t]*no[ \t][^\n]*", re.M)
 PREFIX = r"(?<![\w.:])([0-9A-Fa-f:.]+)/([0-9]{1,3})(?![0-9.])"
 LENGTHS = {
     "bird": re.compile(
-        PREFIX + r"(?:\s*\{\s*(?P<low>[0-9]+)\s*,\s*(?P<high>[0-9]+)\s*\}|(?P<up>\+))?"
+        PREFIX + r"(?:\s*(?:\{\s*(?P<low>[0-9]+)\s*,\s*(?P<high>[0-9]+)\s*\}"
+        r"|(?P<up>\+)|(?P<down>-)))?"
     ),
     "frr": re.compile(
         r"permit[ \t]+(?:any\b|" + PREFIX + r")"
@@ -25,7 +31,9 @@ LENGTHS = {
     "openbgpd": re.compile(
         PREFIX + r"(?:\s+(?:(?P<up>or-longer)|maxlen\s+(?P<le>[0-9]+)"
         r"|prefixlen\s+(?:=\s*(?P<only>[0-9]+)|(?P<low>[0-9]+)\s+-\s+(?P<high>[0-9]+)"
+        r"|!=\s*(?P<never>[0-9]+)|(?P<below>[0-9]+)\s+><\s+(?P<above>[0-9]+)"
         r"|(?P<sign>[<>]=?)\s*(?P<bound>[0-9]+))))?"
+        r"(?:\s+(?P<path>(?:AS|(?:source|transit|peer)-as)\s+(?:as-set\s+\S+|\{[^}]*\}|[0-9.]+)))?"
     ),
 }
 SLASHED = re.compile(PREFIX)
@@ -33,9 +41,13 @@ SLASHED = re.compile(PREFIX)
 # whose lists are told by their variables, or by their places.
 BIRD_LIST = re.compile(
     r"\b(?P<kind>define|function|filter)\s+(?P<name>\w+|'[^'\n]+')"
-    r"|(?:(?P<variable>\w+|'[^'\n]+')\s*=\s*)?\[(?P<list>[^\]]*)\]|(?P<end>;)"
+    r"|(?:(?P<variable>\w+|'[^'\n]+')\s*=\s*)?"
+    r"\[(?P<list>[^\[\]]*(?:\[[^\[\]]*\][^\[\]]*)*)\]|(?P<end>;)"
 )
-FRR_KIND = r"(?:ip(?:v6)?[ \t]+)?prefix-list|(?:(?:ip|bgp)[ \t]+)?as-path[ \t]+access-list"
+FRR_KIND = (
+    r"(?:ip(?:v6)?[ \t]+)?prefix-list|(?:(?:ip|bgp)[ \t]+)?as-path[ \t]+access-list"
+    r"|(?:ipv6[ \t]+)?access-list"
+)
 # A line, with those after it that begin with blanks and are no others.
 FRR_LINE = re.compile(
     rf"^[ \t]*(?P<no>no[ \t]+)?(?P<kind>{FRR_KIND})[ \t]+(?P<name>\S+)"
@@ -43,39 +55,61 @@ FRR_LINE = re.compile(
     re.M,
 )
 FRR_ENTRY = re.compile(r"^[ \t]*(?:seq[ \t]+([0-9]+)\s+)?(permit|deny)\b(.*)", re.M)
-# A macro of OpenBGPD has no kind, nor has a rule, which is told by the words before its prefixes.
+# What a removal has that is of one line, or of none.
+FRR_NUMBER = re.compile(r"[ \t]*seq[ \t]+([0-9]+)")
+FRR_REMARK = re.compile(r"[ \t]*(?:description|remark)\b")
+# What is of no path but an empty one; other lines of a path that have no numbers are of any.
+EMPTY_PATH = "^$"
+# A macro of OpenBGPD has no kind, nor has a rule.
 OPENBGPD_LIST = re.compile(
-    r"\b(?P<kind>prefix-set|as-set|origin-set|roa-set)[ \t]+\"?(?P<name>[^\s\"{=]+)\"?\s*"
-    r"\{(?P<list>[^}]*)\}|^[ \t]*(?P<macro>\w+)[ \t]*=[ \t]*\"(?P<value>[^\"]*)\""
-    r"|^[ \t]*(?P<rule>(?:allow|deny|match)\b(?:[^\\\n]|\\\n?)*?)\bprefix[ \t]+"
-    r"(?:\{(?P<own>[^}]*)\}|(?P<one>[^{\n]*))",
+    r"\b(?P<kind>prefix-set|as-set|origin-set|roa-set)(?:[ \t]+[\"']?(?P<name>[^\s\"'{=]+)[\"']?)?"
+    r"\s*\{(?P<list>[^}]*)\}|^[ \t]*(?P<macro>\w+)[ \t]*=[ \t]*"
+    r"(?:\"(?P<value>[^\"]*)\"|'(?P<other>[^']*)')"
+    r"|^[ \t]*(?P<rule>(?:allow|deny|match)\b[^\n{]*(?:\{[^}]*\}[^\n{]*)*)",
     re.M,
 )
+# The peers of a rule, and what it takes of them. The other words tell it from other rules.
+OPENBGPD_PEERS = re.compile(r".*?\b(?:from|to) (?:\{[^}]*\}|(?:AS |group )?\S+)")
+OPENBGPD_TAKEN = {
+    "rule": re.compile(r"\bprefix(?![\w-]) ?(?:\{([^}]*)\}|(.*?)(?= set |$))"),
+    "rule of numbers": re.compile(r"(?<=AS|as) ?(?:\{([^}]*)\}|((?<= )[0-9.]+(?: - [0-9.]+)?))"),
+}
 # Those that have no AS numbers.
-PREFIX_LISTS = ("prefix-list", "ip prefix-list", "ipv6 prefix-list", "prefix-set", "rule")
+PREFIX_LISTS = (
+    *("prefix-list", "ip prefix-list", "ipv6 prefix-list", "access-list", "ipv6 access-list"),
+    *("prefix-set", "origin-set", "roa-set", "rule"),
+)
 # What is no AS number in a list of these: what stands for any one in a pattern.
 NO_NUMBER = re.compile(r"\[0-9\]|\bseq[ \t]+[0-9]+")
-# One, or several from a first to a last one.
-NUMBER = re.compile(r"(?<![0-9.])([0-9]+)(?:\s*\.\.\s*([0-9]+))?(?![0-9.])")
+# One, or several from a first to a last one; OpenBGPD may write one as two halves.
+AS = r"((?:[0-9]+\.)?[0-9]+)"
+NUMBER = re.compile(rf"(?<![0-9.]){AS}(?:(?:\s*\.\.\s*|\s+-\s+){AS})?(?![0-9.])")
 FAMILIES = {32: socket.AF_INET, 128: socket.AF_INET6}
-# Where a span is: the bits of a family and a length, or none for AS numbers.
-Where = tuple[int, int]
-NUMBERS: Where = (0, 0)
+# All bits of an address of IPv4.
+ANY = (1 << 32) - 1
+# Where a span is: the bits of a family, a length, and what a path has to be; or AS numbers.
+Where = tuple[int, int, str]
+NUMBERS: Where = (0, 0, "")
+Span = tuple[Where, int, int]
 
 
 class Entry(NamedTuple):
-    """An entry of a list: the bits of its family, a prefix, and the lengths that are taken inside
-    it."""
+    """An entry of a list: the bits of its family, a prefix, the lengths of the prefixes inside it,
+    or around it, that are taken, and the words that tell of which paths."""
 
     bits: int
     first: int
     length: int
     low: int
     high: int
+    path: str = ""
 
-    @property
-    def end(self) -> int:
-        return self.first + (1 << self.bits - self.length)
+    def spans(self) -> Iterator[Span]:
+        """The addresses whose prefixes are taken, of each length."""
+        for length in range(self.low, self.high + 1):
+            size = 1 << self.bits - min(length, self.length)
+            first = self.first & -size
+            yield (self.bits, length, self.path), first, first + size
 
 
 class List(NamedTuple):
@@ -103,6 +137,8 @@ class Loss(NamedTuple):
 
 def uncommented(router: str, text: str) -> str:
     """A filter without its comments, and in BIRD without what is quoted, which is in no list."""
+    if router == "openbgpd":
+        text = text.replace("\\\n", "")
     kept = r'""' if router == "bird" else r"\1"
     return COMMENTS[router].sub(lambda one: one.expand(kept) if one[1] else "", text)
 
@@ -118,42 +154,93 @@ def entries(router: str, text: str, bits: int = 32) -> Iterator[Entry]:
     """What the lists of a filter take, entry by entry; `any` is of a family. An address that cannot
     be read is no entry."""
     for found in LENGTHS[router].finditer(meaning(router, text)):
+        words = found.groupdict()
         if found[1] is None:
-            yield Entry(bits, 0, 0, *lengths(found.groupdict() | {"le": str(bits)}, 0, bits))
-            continue
-        own = 128 if ":" in found[1] else 32
-        address = found[1] if own == 128 else ".".join((found[1].split(".") + ["0"] * 3)[:4])
-        try:
-            first = int.from_bytes(socket.inet_pton(FAMILIES[own], address), "big")
-        except OSError:
-            continue
-        length = int(found[2])
-        low, high = lengths(found.groupdict(), length, own)
-        if length <= own and low <= high:
-            yield Entry(own, first >> own - length << own - length, length, low, min(high, own))
+            own, first, length = bits, 0, 0
+            words["le"] = str(bits)
+        else:
+            own, length = 128 if ":" in found[1] else 32, int(found[2])
+            try:
+                first = address(found[1], own)
+            except OSError:
+                continue
+        path = " ".join((words.get("path") or "").split())
+        for low, high in lengths(words, length, own):
+            if length <= own and low <= high:
+                yield Entry(
+                    own, first >> own - length << own - length, length, low, min(high, own), path
+                )
 
 
-def lengths(words: dict[str, str | None], length: int, bits: int) -> tuple[int, int]:
-    """The least and the greatest length that the words after a prefix mean."""
+def address(text: str, bits: int) -> int:
+    """An address as a number; of IPv4, bytes may lack at its end, or begin with noughts."""
+    if bits == 32:
+        parts = (text.split(".") + ["0"] * 3)[:4]
+        text = ".".join(part.lstrip("0") or part[:1] for part in parts)
+    return int.from_bytes(socket.inet_pton(FAMILIES[bits], text), "big")
+
+
+def lengths(words: dict[str, str | None], length: int, bits: int) -> list[tuple[int, int]]:
+    """The least and the greatest lengths that the words after a prefix mean."""
     given = {name: int(value) for name, value in words.items() if value and value.isdigit()}
     if "only" in given:
-        return max(given["only"], length), given["only"]
+        return [(max(given["only"], length), given["only"])]
+    if "never" in given or "below" in given:
+        below = given.get("below", given.get("never", 0))
+        return [(length, below - 1), (given.get("above", below) + 1, bits)]
     if "bound" in given:
         bound, sign = given["bound"], words["sign"] or ""
         if sign.startswith(">"):
-            return max(bound + (sign == ">"), length), bits
-        return length, bound - (sign == "<")
-    if words.get("up") or "ge" in given and "le" not in given:
-        return max(given.get("ge", length), length), bits
-    low = given.get("low", given.get("ge", length))
-    return max(low, length), given.get("high", given.get("le", length))
+            return [(max(bound + (sign == ">"), length), bits)]
+        return [(length, bound - (sign == "<"))]
+    if words.get("down"):
+        return [(0, length)]
+    if "low" in given:
+        return [(given["low"], given["high"])]
+    low = max(given.get("ge", length), length)
+    return [(low, given.get("le", bits if words.get("up") or "ge" in given else length))]
+
+
+def access(text: str) -> Entry | None:
+    """What a line of an access list of FRR takes, or refuses: networks by their addresses, and by
+    their masks, each with the bits that may differ. If these are not the last ones of an address,
+    it is a part of what they span, and told by its words. None if it is no such line."""
+    words = text.split()
+    if words[:1] == ["ip"]:
+        del words[0]
+    try:
+        first, loose = pattern(words)
+        mask, free = pattern(words) if words else (0, ANY)
+    except ValueError:
+        return None
+    masks = [n for n in range(33) if not ((ANY << 32 - n ^ mask) & ANY & ~free)]
+    if words or not masks:
+        return None
+    first &= ~loose
+    size = loose.bit_length()
+    if loose & loose + 1:
+        low = max(32 - size, masks[0])
+        return Entry(32, first >> size << size, 32 - size, low, masks[-1], " ".join(text.split()))
+    # A network of this address is not longer than its noughts allow.
+    least = 33 - (first & -first).bit_length() if first else 0
+    return Entry(32, first, 32 - size, max(least, masks[0]), masks[-1])
+
+
+def pattern(words: list[str]) -> tuple[int, int]:
+    """The address that the next words mean, and the bits of it that may differ."""
+    word = words.pop(0) if words else ""
+    if word == "any":
+        return 0, ANY
+    is_host = word == "host"
+    first = int(ipaddress.IPv4Address(words.pop(0) if is_host and words else word))
+    return first, 0 if is_host or not words else int(ipaddress.IPv4Address(words.pop(0)))
 
 
 class Spans:
     """For each length the addresses whose prefixes of this length are in a list, or AS numbers, as
     spans that do not touch."""
 
-    def __init__(self, found: Iterable[tuple[Where, int, int]] = ()) -> None:
+    def __init__(self, found: Iterable[Span] = ()) -> None:
         spans: dict[Where, list[tuple[int, int]]] = {}
         for where, first, end in found:
             spans.setdefault(where, []).append((first, end))
@@ -171,33 +258,38 @@ class Spans:
             self.firsts[where], self.ends[where] = firsts, ends
 
     def has(self, where: Where, first: int, end: int) -> bool:
-        """Whether all of a span is there."""
+        """Whether all of a span is there, for its path or for any."""
         before = bisect.bisect_right(self.firsts.get(where, []), first) - 1
-        return before >= 0 and self.ends[where][before] >= end
+        if before >= 0 and self.ends[where][before] >= end:
+            return True
+        return bool(where[2]) and self.has(any_path(where), first, end)
 
     def add(self, one: Entry) -> None:
         """Puts an entry to those that are there."""
-        for length in range(one.low, one.high + 1):
-            firsts = self.firsts.setdefault((one.bits, length), [])
-            ends = self.ends.setdefault((one.bits, length), [])
-            start = bisect.bisect_left(ends, one.first)
-            stop = bisect.bisect_right(firsts, one.end)
-            first = min([one.first, *firsts[start:stop][:1]])
-            end = max([one.end, *ends[start:stop][-1:]])
+        for where, first, end in one.spans():
+            firsts, ends = self.firsts.setdefault(where, []), self.ends.setdefault(where, [])
+            start = bisect.bisect_left(ends, first)
+            stop = bisect.bisect_right(firsts, end)
+            first = min([first, *firsts[start:stop][:1]])
+            end = max([end, *ends[start:stop][-1:]])
             firsts[start:stop], ends[start:stop] = [first], [end]
 
-    def gaps(self, one: Entry) -> Iterator[tuple[Where, int, int]]:
-        """What of an entry is not there."""
-        for length in range(one.low, one.high + 1):
-            where, first = (one.bits, length), one.first
-            firsts, ends = self.firsts.get(where, []), self.ends.get(where, [])
-            place = bisect.bisect_right(ends, first)
-            while first < one.end and place < len(firsts) and firsts[place] < one.end:
-                if first < firsts[place]:
-                    yield where, first, firsts[place]
-                first, place = ends[place], place + 1
-            if first < one.end:
-                yield where, first, one.end
+    def gaps(self, one: Entry) -> Iterator[Span]:
+        """What of an entry is not there, for any path."""
+        for where, first, end in one.spans():
+            place = any_path(where)
+            firsts, ends = self.firsts.get(place, []), self.ends.get(place, [])
+            after = bisect.bisect_right(ends, first)
+            while first < end and after < len(firsts) and firsts[after] < end:
+                if first < firsts[after]:
+                    yield where, first, firsts[after]
+                first, after = ends[after], after + 1
+            if first < end:
+                yield where, first, end
+
+
+def any_path(where: Where) -> Where:
+    return where[0], where[1], ""
 
 
 def parted(router: str, text: str) -> dict[List, list[Words]]:
@@ -243,13 +335,24 @@ def parted_openbgpd(text: str) -> Iterator[tuple[List, str]]:
         yield List("", ""), text[end : one.start()]
         end = one.end()
         if one["kind"]:
-            yield List(one["kind"], one["name"]), one["list"]
+            yield List(one["kind"], one["name"] or one["kind"]), one["list"]
         elif one["macro"]:
-            yield List("macro", one["macro"]), one["value"]
+            yield List("macro", one["macro"]), one["value"] or one["other"] or ""
         else:
-            words = " ".join(one["rule"].replace("\\\n", " ").split())
-            yield List("rule", words), one["own"] or one["one"] or ""
+            yield parted_rule(" ".join(one["rule"].split()))
     yield List("", ""), text[end:]
+
+
+def parted_rule(rule: str) -> tuple[List, str]:
+    """The prefixes that a rule of OpenBGPD has, or its AS numbers; no list if it has neither."""
+    peers = OPENBGPD_PEERS.match(rule)
+    start = peers.end() if peers else 0
+    for kind, taken_by in OPENBGPD_TAKEN.items():
+        if found := list(taken_by.finditer(rule, start)):
+            words = rule[:start] + taken_by.sub("", rule[start:]).partition(" set ")[0]
+            name = " ".join(words.split())
+            return List(kind, name), " ".join(one[1] or one[2] or "" for one in found)
+    return List("", ""), rule
 
 
 def parted_frr(text: str) -> dict[List, list[Words]]:
@@ -263,24 +366,57 @@ def parted_frr(text: str) -> dict[List, list[Words]]:
         kind = kind.removeprefix("bgp ") if "as-path" in kind else kind
         kind = kind.removeprefix("ip ") if "as-path" in kind else kind
         own = lists.setdefault(List(kind, one["name"]), {})
-        found = list(FRR_ENTRY.finditer(one["words"]))
         if one["no"]:
-            for number in [int(entry[1]) for entry in found if entry[1]] if found else list(own):
+            for number in removed(own, one["words"]):
                 own.pop(number, None)
-        else:
-            for entry in found:
-                number = int(entry[1]) if entry[1] else (max(own, default=0) // 5 + 1) * 5
-                own[number] = Words(entry[2] == "permit", entry[3])
-    kept = {place: [own[number] for number in sorted(own)] for place, own in lists.items()}
+            continue
+        for entry in FRR_ENTRY.finditer(one["words"]):
+            number = int(entry[1]) if entry[1] else (max(own, default=0) // 5 + 1) * 5
+            own[number] = Words(entry[2] == "permit", entry[3])
+    kept = {
+        place: reached(place, [own[number] for number in sorted(own)])
+        for place, own in lists.items()
+    }
     rest = meaning("frr", outside + text[end:])
     return ({List("", ""): [Words(True, rest)]} if rest else {}) | kept
 
 
-def said(router: str, place: List, words: Words) -> Iterator[Entry]:
-    """The entries of a list, or of one line of it."""
+def removed(own: dict[int, Words], words: str) -> list[int]:
+    """The numbers of the lines of a list of FRR that a line with these words removes."""
+    if one := FRR_NUMBER.match(words):
+        return [int(one[1])]
+    if FRR_REMARK.match(words):
+        return []
+    entry = FRR_ENTRY.match(words)
+    return [
+        number
+        for number, line in own.items()
+        if not entry
+        or line.takes == (entry[2] == "permit")
+        and line.text.split() == entry[3].split()
+    ]
+
+
+def reached(place: List, lines: list[Words]) -> list[Words]:
+    """The lines of a list of FRR before one that refuses any path."""
+    for end, words in enumerate(lines if "as-path" in place.kind else []):
+        if not words.takes and words.text.strip() != EMPTY_PATH and not numbers_in(words):
+            return lines[:end]
+    return lines
+
+
+def said(router: str, place: List, words: Words) -> Iterable[Entry]:
+    """The entries of a list, or of one line of it. A line of prefixes that can't be read is an
+    entry by its words."""
     bits = 128 if place.kind.startswith("ipv6") else 32
-    is_line = router == "frr" and bool(place.kind)
-    return entries(router, "permit" + words.text if is_line else words.text, bits)
+    if router != "frr" or place.kind not in PREFIX_LISTS:
+        return entries(router, words.text, bits)
+    found = list(entries(router, "permit" + words.text, bits))
+    if place.kind.endswith("access-list"):
+        if "exact-match" not in words.text:
+            found = [one._replace(high=one.bits) for one in found]
+        found = found or [one for one in [access(words.text)] if one]
+    return found or [Entry(bits, 0, 0, 0, 0, " ".join(words.text.split()))]
 
 
 def taken(router: str, place: List, listed: Iterable[Words]) -> Spans:
@@ -336,9 +472,17 @@ def has_numbers(place: List, listed: Iterable[Words]) -> bool:
 
 def numbers_of(listed: Iterable[Words]) -> set[tuple[int, int]]:
     """The AS numbers that a list takes, each from a first to a last one."""
-    return {
-        (int(one[1]), int(one[2] or one[1]))
-        for words in listed
-        if words.takes
+    return {one for words in listed if words.takes for one in numbers_in(words)}
+
+
+def numbers_in(words: Words) -> list[tuple[int, int]]:
+    return [
+        (number(one[1]), number(one[2] or one[1]))
         for one in NUMBER.finditer(NO_NUMBER.sub("", words.text))
-    }
+    ]
+
+
+def number(text: str) -> int:
+    """An AS number, also one in two halves."""
+    high, _, low = text.rpartition(".")
+    return (int(high or 0) << 16) + int(low)

@@ -486,6 +486,45 @@ def test_a_mirror_goes_on_where_its_folder_failed(
     expect(os.listdir(tmp_path), ["made"], "what is left")
 
 
+class Still(replicas.Replica):
+    """A replica without a process, which does not start once."""
+
+    has_ended, serves, fails = False, "", False
+
+    def __init__(self) -> None:
+        self.port, self.state, self.seen = 1, "", 0.0
+
+    def prepare(self, made: replicas.Made) -> None:
+        self.text, self.coming = made.dump.read_text(encoding="ascii"), (made.digest(), 0.0)
+
+    def start(self) -> None:
+        if self.fails:
+            self.fails = False
+            raise Failure("a replica does not start")
+        self.serves, self.state = self.text, self.coming[0]
+
+    def end(self, seconds: float = 0) -> None:
+        pass
+
+
+def test_no_replica_stays_with_what_is_no_longer_there(tmp_path: Path) -> None:
+    """Where another one did not start, and the next state is that of before."""
+    keeper = replicas.Keeper(tmp_path, [], None, 0)
+    ones = [Still(), Still()]
+    keeper.replicas = [*ones]
+    for texts, serve in (MADE, [MADE, MADE]), (NEXT, [NEXT, MADE]), (MADE, [MADE, MADE]):
+        ones[1].fails = texts == NEXT
+
+        def make(work: Path, known: str) -> replicas.Made | None:
+            made = made_in(work, texts)
+            return made if made.digest() != known else None
+
+        with contextlib.suppress(Failure):
+            keeper.renew(make)
+        found = [one.serves for one in ones]
+        expect(found, [one["dump.rpsl"] for one in serve], "what they serve")
+
+
 def test_a_registry_of_its_own_ends_with_it(program: str, monkeypatch: pytest.MonkeyPatch) -> None:
     monkeypatch.setenv("IRRDESK", program)
     reader, writer = os.pipe()

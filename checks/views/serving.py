@@ -76,6 +76,8 @@ class Nrtm(Served):
         # How much of an answer is handed out; a part of what is asked for which there is none.
         self.most: int | None = None
         self.fails = ""
+        # Whether it has the words of IRRd, version 4, where RIPE has others.
+        self.is_irrd = False
         self.asked: list[str] = []
         nrtm = self
 
@@ -105,7 +107,7 @@ class Nrtm(Served):
         self.shorten(self.last + 1)
 
     def answer(self, line: str) -> str:
-        """What RIPE's server says, with a remark before it."""
+        """What RIPE's server says, with a remark before it, or IRRd."""
         if self.fails and self.fails in line:
             return ""
         remark = "% The objects are in RPSL format.\n%\n\n"
@@ -114,6 +116,12 @@ class Nrtm(Served):
         begin, end = int(found[1]), self.last if found[2] == "LAST" else int(found[2])
         if begin == self.last + 1 and found[2] == "LAST":
             return remark + "% Warning: there are no newer updates available\n\n"
+        if self.is_irrd and end < begin <= self.last:
+            return "%% ERROR: Start of the serial range must be lower or equal to its end\n\n"
+        if self.is_irrd and begin < self.first:
+            return f"%% ERROR: Serials {begin} - {self.first} do not exist\n\n"
+        if self.is_irrd and max(begin, end) > self.last:
+            return f"%% ERROR: Serials {self.last} - {max(begin, end)} do not exist\n\n"
         if not self.first <= begin <= end <= self.last:
             return remark + f"%ERROR:401: invalid range: Not within {self.first}-{self.last}\n\n"
         parts = [f"%START Version: 3 {self.name} {begin}-{end}\n"]

@@ -202,6 +202,17 @@ def test_what_comes_after_the_object_of_a_change_is_counted(followed: World) -> 
     )
 
 
+def test_what_comes_after_the_object_of_a_change_hides_no_set(view_of: ViewOf) -> None:
+    """A stranger may write it, and a later source has that set."""
+    few = view_of({"RADB": "as-set: AS-Y|members: AS7|mnt-by: X-MNT"})
+    few.view.commit()
+    change = odd_set("AS-B") + odd_set("AS-Y")
+    few.view.states["RIPE"].changes.write_text(f"ADD\n\n{change}\n")
+    made(few.view)
+    expect(few.asked("expand", "AS-B"), "AS2\n", "the object of the change")
+    expect(few.asked("expand", "AS-Y"), "AS7\n", "that of the later source")
+
+
 @pytest.mark.parametrize("text", ["% a remark\n", "# a\n% b\n", "  \n\t\n"])
 def test_a_change_without_an_object_is_none(text: str) -> None:
     answer = f"%START Version: 3 RIPE 2-3\n\nADD 2\n\n{text}\nADD 3\n\n{route(1)}\n%END RIPE\n"

@@ -2,7 +2,6 @@
 again, what was taken of it between two looks."""
 
 import gzip
-import re
 from collections.abc import Iterator
 from pathlib import Path
 
@@ -11,7 +10,7 @@ import pytest
 from checks.running import Trial, expect
 from checks.views.registry import DUMP, SERIAL, Quick, Registry
 from checks.views.test_sources import route
-from irr.views import nrtm, settings, sources
+from irr.views import settings, sources
 from irr.views.view import View
 
 IN_MEMORY = True
@@ -195,12 +194,11 @@ def test_a_restore_is_seen_while_no_more_changes_are_kept(
     one.need("", "with a dump of now")
 
 
-@pytest.mark.parametrize("words", ["RIPE's", "IRRd's"])
+@pytest.mark.parametrize("is_irrd", [False, True])
 def test_a_first_dump_that_was_ahead_is_not_followed_once_serials_pass_it(
-    one: Quick, words: str, monkeypatch: pytest.MonkeyPatch
+    one: Quick, is_irrd: bool
 ) -> None:
-    if words == "IRRd's":
-        monkeypatch.setattr(nrtm, "WITHIN", re.compile(rb"no words"))
+    one.nrtm.is_irrd = is_irrd
     one.add(10)
     before = dict(one.routes)
     one.add(11, 12)
@@ -214,8 +212,10 @@ def test_a_first_dump_that_was_ahead_is_not_followed_once_serials_pass_it(
     one.need("", "with a dump of now")
 
 
-def test_all_changes_that_a_short_journal_has_are_compared(one: Quick) -> None:
+@pytest.mark.parametrize("is_irrd", [False, True])
+def test_all_changes_that_a_short_journal_has_are_compared(one: Quick, is_irrd: bool) -> None:
     """The last one is as before, and those before it are not."""
+    one.nrtm.is_irrd = is_irrd
     one.need("", "the first time")
     one.add(10, 11)
     before = dict(one.routes)
@@ -243,6 +243,46 @@ def test_all_changes_that_a_short_journal_has_before_a_dump_are_noted(one: Quick
     one.remove(0)
     one.add(22)
     one.need(OTHER, "after it was restored")
+
+
+def test_changes_after_one_that_cannot_be_read_are_noted(one: Quick) -> None:
+    """Which a dump made up for."""
+    one.need("", "the first time")
+    one.nrtm.publish([("ADD", "% gone\n")])
+    one.need("serial 101 has no whole object", "a change that can't be read")
+    before = dict(one.routes)
+    one.add(*range(10, 20))
+    one.publish()
+    one.need("", "with a dump of after it")
+    one.restore(101, before)
+    one.add(*range(20, 29), 19, 29)
+    one.need(OTHER, "after it was restored")
+
+
+def test_changes_before_a_dump_are_noted_later_if_they_fail(one: Quick) -> None:
+    one.add(10, 11)
+    before = dict(one.routes)
+    one.add(12, 13)
+    one.publish()
+    one.add(14)
+    # Those of before the dump.
+    one.nrtm.fails = "-104"
+    one.need("its answer is none of NRTM", "the first time")
+    one.nrtm.fails = ""
+    one.need("", "the next time")
+    one.restore(102, before)
+    one.add(20, 21, 14, 22)
+    one.need(OTHER, "after it was restored")
+
+
+def test_changes_are_followed_from_serial_0(one: Quick) -> None:
+    """Up to it there are none to ask for."""
+    one.nrtm.is_irrd, one.nrtm.first = True, 1
+    one.publish()
+    one.add(10)
+    one.need("", "the first time")
+    one.add(11)
+    one.need("", "a change")
 
 
 def test_serials_that_went_back_are_seen_while_that_of_the_dump_is_not_there(one: Quick) -> None:
@@ -275,6 +315,20 @@ def test_a_dump_of_an_earlier_serial_is_not_taken_once_others_are_told(one: Quic
     one.need("the dump has serial 105 still", "with that of 105")
     one.publish()
     one.need("", "with a dump of now")
+
+
+def test_serials_that_went_back_are_seen_in_the_words_of_irrd(one: Quick) -> None:
+    """The dump of before, which was there and was not taken, is not taken once they reach it."""
+    one.nrtm.is_irrd = True
+    one.need("", "the first time")
+    before = dict(one.routes)
+    one.add(10, 11, 12, 13, 14)
+    one.publish()
+    one.add(15, 16)
+    one.need("", "what is followed")
+    one.restore(100, before)
+    one.add(20, 21, 22, 23, 24)
+    one.need("it tells no changes after 107, and the dump has serial 105 still", "serials of 105")
 
 
 def test_a_dump_of_now_is_taken_though_serials_were_seen_before_they_passed(one: Quick) -> None:
@@ -334,6 +388,12 @@ def test_a_dump_of_before_a_restore_is_taken_after_a_gap(one: Quick) -> None:
     one.restore(102, before)
     one.add(20, 21)
     need_unseen(one, {12, 20}, "with the dump of 103")
+
+
+def test_a_dump_of_before_its_serial_is_taken_the_first_time(one: Quick) -> None:
+    one.add(10, 11)
+    one.put_serial()
+    need_unseen(one, {10, 11}, "with the dump of 100 and serial 102")
 
 
 def test_a_dump_that_neither_a_tag_nor_a_date_tells_is_not_taken_for_its_serial(

@@ -355,11 +355,13 @@ class Keeper:
             made = make(work, self.known)
             if made is None:
                 self.made.seen(now)
+                # What was made before may have failed at one of them, after others had it.
+                self.roll(self.made, [one for one in self.replicas if one.state != self.known])
                 for one in self.replicas:
-                    one.seen = now if one.state == self.known else one.seen
+                    one.seen = now
                 return False
             made.seen(now)
-            self.roll(made)
+            self.roll(made, self.replicas)
             if self.made.folder.exists():
                 os.rename(self.made.folder, self.old)
             os.rename(work, self.made.folder)
@@ -370,11 +372,11 @@ class Keeper:
         finally:
             shutil.rmtree(work, ignore_errors=True)
 
-    def roll(self, made: Made) -> None:
+    def roll(self, made: Made, wanted: list[Replica]) -> None:
         """Starts one replica after the other on what was made. If one fails, it goes back to what
         it served, and the others stay. Before the next one ends, a proxy has time to see that the
         one before answers again."""
-        for number, replica in enumerate(self.replicas):
+        for number, replica in enumerate(wanted):
             replica.prepare(made)
             if not replica.has_ended:
                 time.sleep(self.pause if number else 0)

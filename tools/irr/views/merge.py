@@ -83,7 +83,8 @@ class ViewMender(Mender):
         self.counts, self.invalid = [0] * (len(NUMBERS) + 1), 0
 
     def left(self, part: Part, cause: LeftOut | None = None) -> list[Name]:
-        if str(cause) == OTHER_SOURCE:
+        # What a change has after its object is none.
+        if str(cause) in (OTHER_SOURCE, FURTHER):
             return []
         own = self.names_in(part.block)
         found = own if self.is_one else super().left(part, cause)

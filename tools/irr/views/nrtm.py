@@ -22,7 +22,7 @@ CHANGE = re.compile(rb"(ADD|DEL) ([0-9]{1,18})")
 NONE_NEWER = re.compile(rb"% ?Warning:.*no newer", re.I)
 ERROR = re.compile(rb"%ERROR:([0-9]+):.*")
 # IRRd's words, version 4, where RIPE has number 401.
-GONE = re.compile(rb"%% ?ERROR: .*do not exist", re.I)
+GONE = re.compile(rb"%% ?ERROR: Serials ([0-9]{1,18}) - ([0-9]{1,18}) do not exist", re.I)
 WITHIN = re.compile(rb"([0-9]{1,18})-([0-9]{1,18})")
 # So many of the last changes are asked for once more; fewer where so many are no longer told.
 AGAIN = (100, 10, 1)
@@ -72,9 +72,14 @@ def follow(
 
 
 def told_before(place: tuple[str, int], name: str, serial: int) -> Told:
-    """The last changes up to a serial; none where they are not told."""
-    with contextlib.suppress(Failure):
-        return told_from(place, name, [max(serial - count, 0) + 1 for count in AGAIN], serial)[1]
+    """The last changes up to a serial that can be read; none where they are not told."""
+    begins = [max(serial - count, 0) + 1 for count in AGAIN if serial]
+    while begins:
+        try:
+            return told_from(place, name, begins, serial)[1]
+        except Unread:
+            # Fewer of them may be read.
+            del begins[0]
     return {}
 
 
@@ -175,8 +180,10 @@ def start(answer: Iterator[bytes], thing: str, name: str, serial: int) -> int:
     for line in answer:
         if NONE_NEWER.match(line):
             return serial
-        if GONE.match(line):
-            raise Behind
+        if gone := GONE.match(line):
+            # From the last one on, or up to the first one.
+            low, high = int(gone[1]), int(gone[2])
+            raise Behind(low) if low <= serial else Behind(first=high)
         if error := ERROR.match(line):
             within = WITHIN.search(line)
             if error[1] == b"401" and within and int(within[2]) == serial:

@@ -549,7 +549,7 @@ def test_settings_name_what_is_wrong(tmp_path: Path) -> None:
         ('"RIPE"', '"1"', "1 is not the name of a registry"),
         ('dump = "/x"\n', "", "give it one of `registry`, `dump` and `nrtm4`"),
         ('dump = "/x"', 'dump = "/x"\nnrtm4 = "/x"\nkey = "/x"', "give it one of"),
-        ('dump = "/x"', 'nrtm4 = "/x"', "`nrtm4` needs `key`"),
+        ('dump = "/x"', 'nrtm4 = "/x"', "`nrtm4` needs `key`, the file of the public key that"),
         ('dump = "/x"', 'dump = "/x"\nkey = "/x"', "`nrtm4` needs `key`"),
         ('dump = "/x"', 'nrtm4 = "/x"\nkey = "/x"\nserial = "/x"', "no `serial` and no `nrtm`"),
         ('dump = "/x"', 'nrtm4 = "http://192.0.2.1/x"\nkey = "/x"', "can be changed on the way"),

@@ -15,8 +15,8 @@ NRTM_PORT = 43
 class Source(NamedTuple):
     """A registry that a view has the objects of: its name; the address of an irrdesk, or dumps,
     each a file or an address; where the serial of these stands, and who tells the changes after it
-    by NRTM; or the notification file of NRTM, version 4, and the key that signs it; the percentage
-    of its objects that it may lose at once."""
+    by NRTM; or the notification file of NRTM, version 4, and its public key; the percentage of its
+    objects that it may lose at once."""
 
     name: str
     registry: str
@@ -133,7 +133,11 @@ def read_source(thing: str, table: dict[str, Any]) -> Source:
     if sum(map(bool, (one.registry, one.dump, one.nrtm4))) != 1:
         raise Failure(thing, "give it one of `registry`, `dump` and `nrtm4`", SETTINGS)
     if bool(one.nrtm4) != bool(one.key):
-        raise Failure(thing, "`nrtm4` needs `key`, the file of the key that signs it", SETTINGS)
+        raise Failure(
+            thing,
+            "`nrtm4` needs `key`, the file of the public key that verifies its signature",
+            SETTINGS,
+        )
     if one.nrtm4 and (one.serial or one.nrtm):
         raise Failure(thing, "`nrtm4` takes no `serial` and no `nrtm`; leave them out", SETTINGS)
     if one.nrtm and not one.serial:

@@ -211,6 +211,12 @@ def test_the_sources_are_chosen_by_name(served: Served, each: Each) -> None:
         steps = json.loads(one.door.http("GET", "/why/10.0.1.0/24/AS1:AS-ALL?view=all")[2])
         first, *_, last = steps["chains"][0]
         expect((first["source"], last["source"]), ("TEST", "RIPE"), f"{steps}")
+    with each("a door whose registry is a port of the view"):
+        place, config = f"http://127.0.0.1:{one.ports[0]}", f'view = ["127.0.0.1:{one.agent}"]\n'
+        with Opened(one.trial, "own-view", [f"--registry={place}"], config) as door:
+            wait_until("its state", PATIENCE, lambda: door.http("GET", STATE)[0] == 200)
+            said: bytes = door.whois(b"!!\n!sALL\n!s-lc\n!q\n")
+            expect(said.decode(), "C\n" + framed("TEST,RIPE"), "what is asked")
     with each("irr"):
         place = f"http://127.0.0.1:{one.door.http_port}/views/ALL"
         ran = one.tool("filter", "-s", place, "frr", "X", "AS1:AS-ALL", "-")

@@ -92,9 +92,10 @@ class Views:
         does."""
         words = [one.strip() for one in sources.upper().split(",")]
         names = ",".join(dict.fromkeys(filter(None, words)))
-        if names and names == self.main.source:
-            return self.main
-        return next((one for one in self.pools if names and names in (one.name, one.sources)), None)
+        # A view's name is first: the registry may be one of its ports.
+        served: list[tuple[str, Pool]] = [(one.name, one) for one in self.pools]
+        served += [(self.main.source, self.main), *((one.sources, one) for one in self.pools)]
+        return next((pool for name, pool in served if names and names == name), None)
 
     def at(self, path: str) -> tuple[Pool, str]:
         """What answers a path of HTTP, and the path there: below `/views/NAME` are `/query/..` and

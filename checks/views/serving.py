@@ -114,6 +114,8 @@ class Nrtm(Served):
         found = re.fullmatch(rf"-g {self.name}:3:([0-9]+)-(LAST|[0-9]+)", line)
         assert found, line
         begin, end = int(found[1]), self.last if found[2] == "LAST" else int(found[2])
+        if self.is_irrd and not self.changes:
+            return "%% ERROR: There are no journal entries for this source.\n\n"
         if begin == self.last + 1 and found[2] == "LAST":
             return remark + "% Warning: there are no newer updates available\n\n"
         if self.is_irrd and end < begin <= self.last:

@@ -140,9 +140,11 @@ class Operator:
         return fault
 
     def trim(self) -> str:
-        """The journal begins after the last dump, or before."""
+        """The journal begins after the last dump, or before; that of an IRRd which works is not
+        emptied."""
         nrtm, dump = self.one.nrtm, int(self.served()[1])
-        nrtm.shorten(self.chance.randrange(nrtm.first, max(dump + 1, nrtm.first) + 1))
+        latest = dump if nrtm.is_irrd else dump + 1
+        nrtm.shorten(self.chance.randrange(nrtm.first, max(latest, nrtm.first) + 1))
         return f"journal from {nrtm.first} to {nrtm.last}"
 
     def settle(self) -> None:
@@ -161,8 +163,9 @@ def test_a_registry_that_works_has_no_fault(
     """It changes, publishes dumps, and tells the changes since the last one, and some before."""
     chance = trial.chance("working")
     count = trial.count or trial.pick(100, 5_000)
-    for _ in range(count):
+    for number in range(count):
         with quick(monkeypatch) as one:
+            one.nrtm.is_irrd = bool(number % 2)
             operator = Operator(one, chance)
             operator.steps = [*[operator.change] * 3, operator.publish, operator.trim]
             for _ in range(10):
@@ -176,8 +179,9 @@ def test_a_registry_that_works_has_no_fault(
 def test_histories_of_serials(trial: Trial, monkeypatch: pytest.MonkeyPatch, tell: Tell) -> None:
     chance, faults, looks = trial.chance("histories"), 0, 0
     count = trial.count or trial.pick(300, 20_000)
-    for _ in range(count):
+    for number in range(count):
         with quick(monkeypatch) as one:
+            one.nrtm.is_irrd = bool(number % 2)
             operator = Operator(one, chance)
             operator.look()
             for _ in range(8):

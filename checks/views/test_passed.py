@@ -331,6 +331,41 @@ def test_serials_that_went_back_are_seen_in_the_words_of_irrd(one: Quick) -> Non
     one.need("it tells no changes after 107, and the dump has serial 105 still", "serials of 105")
 
 
+def test_a_source_without_any_change_is_followed_by_its_dumps(one: Quick) -> None:
+    one.nrtm.is_irrd = True
+    one.need("", "the first time")
+    one.need("", "nothing new")
+    one.routes[10] = route(10, 2)
+    one.put_dump()
+    one.need("", "a dump of another date")
+    one.nrtm.first = 103
+    one.routes[11] = route(11, 2)
+    one.put_serial()
+    one.need("it tells no changes after 100, and the dump is the one of before", "its serial")
+    one.put_dump()
+    one.need("", "a dump of another serial")
+    one.add(12)
+    one.need("", "the first change")
+
+
+def test_a_source_that_has_lost_all_changes_is_followed_from_another_dump(one: Quick) -> None:
+    """The one that is there then may be of before."""
+    one.nrtm.is_irrd = True
+    one.need("", "the first time")
+    before = dict(one.routes)
+    one.add(10, 11)
+    one.need("", "what is followed")
+    one.publish()
+    one.nrtm.first, one.nrtm.changes, one.routes = 101, [], before
+    for turn in range(2):
+        one.need("it tells no changes after 102, and the dump has serial 102 still", f"{turn}")
+    one.routes[20] = route(20, 2)
+    one.publish()
+    one.need("", "with a dump of now")
+    one.add(21)
+    one.need("", "the first change")
+
+
 def test_a_dump_of_now_is_taken_though_serials_were_seen_before_they_passed(one: Quick) -> None:
     one.need("", "the first time")
     before = dict(one.routes)

@@ -21,8 +21,9 @@ START = re.compile(
 CHANGE = re.compile(rb"(ADD|DEL) ([0-9]{1,18})")
 NONE_NEWER = re.compile(rb"% ?Warning:.*no newer", re.I)
 ERROR = re.compile(rb"%ERROR:([0-9]+):.*")
-# IRRd's words, version 4, where RIPE has number 401.
+# IRRd's words, version 4, where RIPE has number 401, and where there has been no change.
 GONE = re.compile(rb"%% ?ERROR: Serials ([0-9]{1,18}) - ([0-9]{1,18}) do not exist", re.I)
+NONE_AT_ALL = re.compile(rb"%% ?ERROR: There are no journal entries", re.I)
 WITHIN = re.compile(rb"([0-9]{1,18})-([0-9]{1,18})")
 # So many of the last changes are asked for once more; fewer where so many are no longer told.
 AGAIN = (100, 10, 1)
@@ -46,6 +47,13 @@ class Behind(Exception):
     def is_anew(self, serial: int) -> bool:
         """Whether serials began anew since one."""
         return self.last is not None and self.last < serial
+
+
+class Empty(Behind):
+    """No changes are told at all: there were none, or serials began anew."""
+
+    def __init__(self) -> None:
+        super().__init__(0)
 
 
 def follow(
@@ -180,6 +188,8 @@ def start(answer: Iterator[bytes], thing: str, name: str, serial: int) -> int:
     for line in answer:
         if NONE_NEWER.match(line):
             return serial
+        if NONE_AT_ALL.match(line):
+            raise Empty
         if gone := GONE.match(line):
             # From the last one on, or up to the first one.
             low, high = int(gone[1]), int(gone[2])

@@ -191,9 +191,11 @@ def renewed(
                 # Serials went back, so these changes may be of another state.
                 gap = nrtm.Behind()
         except nrtm.Behind as behind:
-            is_back = bool(behind.why) or behind.is_anew(old.serial)
+            # Before the first change there is none to miss, unless the serial tells of one.
+            is_new = isinstance(behind, nrtm.Empty) and not (old.told or old.is_left)
+            is_back = bool(behind.why) or behind.is_anew(old.serial) and not is_new
             if is_back or not is_refused:
-                gap = behind
+                gap = None if is_new and serial_of(source) == old.serial else behind
             if is_back:
                 # A dump that is there already may be from before, but for new serials after a gap.
                 back = BACK if behind.why or not old.refused else PAST
@@ -282,7 +284,8 @@ def begun(source: Source, dump: State, serial: int) -> State:
     """A dump with the changes after its serial; those before it are asked for so that they are
     known once more."""
     told: nrtm.Told = {}
-    with appended(dump.changes) as out:
+    last = serial
+    with appended(dump.changes) as out, contextlib.suppress(nrtm.Empty):
         last = nrtm.follow(source.place(), source.name, serial, out, told)
     before = nrtm.told_before(source.place(), source.name, serial)
     return dump.at(last, {**before, **told})

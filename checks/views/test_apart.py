@@ -220,6 +220,25 @@ def test_a_change_without_an_object_is_none(text: str) -> None:
         nrtm.taken(iter(answer.encode().splitlines()), "x", "RIPE", 1, io.BytesIO(), {})
 
 
+@pytest.mark.parametrize("line", ["%", "% a remark", "%% of IRRd"])
+def test_a_remark_between_two_changes_is_skipped(line: str) -> None:
+    changes = f"ADD 2\n\n{route(1)}\n{line}\n\nADD 3\n\n{route(2)}\n{line}\n"
+    answer = f"%START Version: 3 RIPE 2-3\n\n{line}\n\n{changes}%END RIPE\n"
+    out = io.BytesIO()
+    expect(nrtm.taken(iter(answer.encode().splitlines()), "x", "RIPE", 1, out, {}), 3, "the serial")
+    expect(out.getvalue().decode(), f"ADD\n\n{route(1)}\nADD\n\n{route(2)}\n", "the changes")
+
+
+@pytest.mark.parametrize(
+    "line", ["%ERROR:500: x", "%% ERROR: x", "% Warning: x", "%END RADB", "%START x", "#"]
+)
+def test_what_may_end_the_changes_is_no_remark(line: str) -> None:
+    changes = f"ADD 2\n\n{route(1)}\n{line}\n\nADD 3\n\n{route(2)}\n"
+    answer = f"%START Version: 3 RIPE 2-3\n\n{changes}%END RIPE\n"
+    with pytest.raises(Failure, match="after serial 2 it tells no change"):
+        nrtm.taken(iter(answer.encode().splitlines()), "x", "RIPE", 1, io.BytesIO(), {})
+
+
 def test_what_a_registry_filters_is_followed() -> None:
     """RIPE and IRRd say so in the first line."""
     answer = f"%START Version: 3 RIPE 2-2 FILTERED\n\nADD 2\n\n{route(1)}\n%END RIPE\n"

@@ -21,6 +21,8 @@ START = re.compile(
 CHANGE = re.compile(rb"(ADD|DEL) ([0-9]{1,18})")
 NONE_NEWER = re.compile(rb"% ?Warning:.*no newer", re.I)
 ERROR = re.compile(rb"%ERROR:([0-9]+):.*")
+# Between two changes. What tells of an error may be the end of them.
+REMARK = re.compile(rb"%+(?: (?!.*(?:error|warning)).*)?", re.I)
 # IRRd's words, version 4, where RIPE has number 401, and where there has been no change.
 GONE = re.compile(rb"%% ?ERROR: Serials ([0-9]{1,18}) - ([0-9]{1,18}) do not exist", re.I)
 NONE_AT_ALL = re.compile(rb"%% ?ERROR: There are no journal entries", re.I)
@@ -148,7 +150,7 @@ def taken(
         return last
     before = serial
     for line in answer:
-        if not line:
+        if not line or REMARK.fullmatch(line):
             continue
         if line.upper() == f"%END {name}".encode():
             return last

@@ -220,6 +220,21 @@ def test_a_change_without_an_object_is_none(text: str) -> None:
         nrtm.taken(iter(answer.encode().splitlines()), "x", "RIPE", 1, io.BytesIO(), {})
 
 
+@pytest.mark.parametrize("blank", [" ", "+", "\u00a0"])
+def test_sets_whose_odd_names_are_on_their_second_line_are_told_apart(
+    view_of: ViewOf, blank: str
+) -> None:
+    later = "as-set: AS-Y|members: AS7|mnt-by: X-MNT\nas-set: AS-Z|members: AS8|mnt-by: X-MNT"
+    few = view_of({"RADB": later})
+    few.view.commit()
+    one, other = (odd_set(f"\n# x\n{blank}{name} (old)") for name in ("AS-Y", "AS-Z"))
+    changes = f"ADD\n\n{one}\nADD\n\n{other}\nDEL\n\n{other.replace('# x', '% y')}\n"
+    few.view.states["RIPE"].changes.write_text(changes)
+    made(few.view)
+    expect(few.asked("expand", "AS-Y"), "% no entries\n", "the one that is there")
+    expect(few.asked("expand", "AS-Z"), "AS8\n", "the one that is deleted")
+
+
 @pytest.mark.parametrize("line", ["%", "% a remark", "%% of IRRd"])
 def test_a_remark_between_two_changes_is_skipped(line: str) -> None:
     changes = f"ADD 2\n\n{route(1)}\n{line}\n\nADD 3\n\n{route(2)}\n{line}\n"

@@ -248,10 +248,15 @@ def headed(text: bytes) -> bytes:
     text = text[found.end() :]
     if CR_INSIDE.search(text.partition(b"\n")[0]):
         text = CR_INSIDE.sub(b"\n", text)
+    end = key_end(text)
+    return found[1] + b":" + NOT_SHOWN.sub(b" ", text[:end]) + text[end:]
+
+
+def key_end(text: bytes) -> int:
+    """Where the first line of a text ends, with those that go on with it."""
     end = text.find(b"\n") + 1 or len(text)
     goes_on = KEY_GOES_ON.match(text, end)
-    end = goes_on.end() if goes_on else end
-    return found[1] + b":" + NOT_SHOWN.sub(b" ", text[:end]) + text[end:]
+    return goes_on.end() if goes_on else end
 
 
 def readable(text: bytes) -> bytes:

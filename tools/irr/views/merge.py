@@ -21,11 +21,11 @@ from irr.migrate.normalisation import (
     source_place,
     unscoped,
 )
-from irr.migrate.paragraphs import CLASS_AGAIN, Part, is_comment, part_of
+from irr.migrate.paragraphs import CLASS_AGAIN, Part, is_comment, key_end, part_of
 from irr.migrate.report import Listed, Place, Tally
 from irr.rpsl import keys, syntax
 from irr.rpsl.holders import VIEW_ROOT
-from irr.rpsl.syntax import ITEM, Attribute
+from irr.rpsl.syntax import ITEM, PASSED_OVER, Attribute
 from irr.views import roas
 from irr.views.settings import Settings
 from irr.views.sources import State
@@ -72,7 +72,7 @@ class ViewMender(Mender):
         # What is of before the changes of the source; how many objects it has of each class; how
         # many of its routes are invalid.
         self.superseded: Collection[tuple[int, int | str]] = ()
-        # The same by the first line of what has no key that can be read.
+        # The same by the headings of what has no key that can be read.
         self.headings: Collection[bytes] = ()
         self.counts = [0] * (len(NUMBERS) + 1)
         self.invalid = 0
@@ -100,8 +100,8 @@ class ViewMender(Mender):
         return not name.sources or not {"", self.own}.isdisjoint(name.sources)
 
     def mark_of(self, part: Part) -> bytes:
-        """What tells a change from others of which no key can be read: its first line, if that has
-        the name of a set or a maintainer of the source, with more around it; otherwise its text."""
+        """What tells a change from others of which no key can be read: its heading, if that has the
+        name of a set or a maintainer of the source, with more around it; otherwise its text."""
         is_read = self.name_in(part.block) is not None
         is_named = any(map(self.is_own, self.names_in(part.block)))
         return heading(part) if is_named and not is_read else part.block.text
@@ -171,8 +171,12 @@ class ViewMender(Mender):
 
 
 def heading(part: Part) -> bytes:
-    """The first line of a part, in whatever letter case and with whatever blanks it is."""
-    return b" ".join(part.block.text.partition(b"\n")[0].upper().replace(b":", b": ", 1).split())
+    """The first line of a part and those that go on with it, in whatever letter case and with
+    whatever blanks they are."""
+    text = part.block.text
+    first, *rest = text[: key_end(text)].split(b"\n")
+    text = b" ".join([first, *(line[1:] for line in rest if line[:1] not in PASSED_OVER)])
+    return b" ".join(text.upper().replace(b":", b": ", 1).split())
 
 
 class Outcome(NamedTuple):

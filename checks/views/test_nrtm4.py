@@ -16,6 +16,7 @@ from checks.mirrors.client4 import NOTIFICATION
 from checks.mirrors.writer4 import Record, Writer4, sequence, stamp
 from checks.running import Tell, Trial, expect
 from checks.views.following import PATH, Followed, World, named
+from checks.views.test_apart import odd_set
 from checks.views.test_sources import route
 from checks.worlds import Tool
 from irr.errors import Failure
@@ -400,6 +401,28 @@ def test_what_is_published_of_one_object_is_one(mirror: Followed) -> None:
         expect("\n\nas-set:         AS-S" in mirror.known, False, "a stranger's set")
     writer.publish([("ADD", odd[-1])])
     expect("is not a change" in mirror.renew(), True, "a remark alone")
+
+
+@pytest.mark.parametrize("is_replaced", [False, True])
+def test_a_set_with_odd_text_after_its_name_is_deleted_by_the_name(
+    mirror: Followed, is_replaced: bool
+) -> None:
+    """It keeps its name from later sources as long as it is there."""
+    folder, plain = mirror.folder, odd_set("AS-X")
+    (folder / "two.db").write_text(plain.replace("RIPE", "TWO"))
+    with open(folder / "view.toml", "a") as file:
+        file.write(f'[[source]]\nname = "TWO"\ndump = "{folder}/two.db"\n')
+    mirror.begin()
+    expect(mirror.renew(), "", "the first time")
+    expect("source:         ALL # TWO" in mirror.known, True, "what the later source has")
+    mirror.writer.publish([("ADD", odd_set("AS-X (old)"))])
+    expect(mirror.renew(), "", "the set")
+    expect("source:         ALL # TWO" in mirror.known, False, "while it is there")
+    mirror.writer.objects["as-set: AS-X"] = mirror.writer.objects.pop("as-set: AS-X (old)")
+    changes = [("DEL", plain)]
+    mirror.writer.publish([("ADD", plain), *changes] if is_replaced else changes)
+    expect(mirror.renew(), "", "its deletion")
+    expect("source:         ALL # TWO" in mirror.known, True, "once it is deleted")
 
 
 def test_a_file_of_this_machine_is_followed_too(tmp_path: Path) -> None:

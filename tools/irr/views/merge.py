@@ -1,6 +1,6 @@
 """Several sources made into one registry: of the objects with one key that of the first source
 stays."""
-from collections import Counter
+from collections import Counter, defaultdict
 from typing import Collection, Iterable, NamedTuple
 
 from irr.errors import reading
@@ -286,6 +286,7 @@ class Merge(conversion.Import):
         last: dict[tuple[int, int | str], list[Part]] = {}
         # Those without a key that can be read, by what tells them from others.
         unread: dict[bytes, list[Part]] = {}
+        marks: defaultdict[tuple[int, int | str], list[bytes]] = defaultdict(list)
         for is_there, block in state.changed():
             # A change is of one object, and what comes after that is none.
             found = self.parts(block)
@@ -295,8 +296,14 @@ class Merge(conversion.Import):
             key = self.own.key_changed(found[0])
             if key:
                 last[key] = found if is_there else []
+                # By NRTM, version 4, what is deleted is told by its name alone.
+                gone = marks.pop(key, []) if self.own.is_apart else []
+                unread.update((mark, []) for mark in gone)
             else:
-                unread[self.own.mark_of(found[0])] = found if is_there else []
+                mark = self.own.mark_of(found[0])
+                unread[mark] = found if is_there else []
+                for name in self.own.names_in(found[0].block):
+                    marks[name[:2]].append(mark)
         self.own.superseded, self.own.headings = last.keys(), unread.keys()
         # What can't be taken is counted once it is tried.
         return [part for found in (*last.values(), *unread.values()) for part in found]

@@ -102,6 +102,8 @@ def test_a_stranger_adds_no_object_by_the_text_of_another(
 UNREAD = [
     route(1).replace("B-MNT", "B-MNT (x)"),
     route(1).replace("descr: x", "descr: \x01"),
+    route(1).replace("AS2", "AS2\x01"),
+    route(1).replace("AS2", "\n+\x01AS2"),
     route(1).replace("descr: x", "no colon\n goes on"),
     route(1) + "source: RIPE\n",
     route(1).replace("descr: x", "person: Jo"),

@@ -1,5 +1,6 @@
 """Several sources made into one registry: of the objects with one key that of the first source
 stays."""
+import re
 from collections import Counter, defaultdict
 from typing import Collection, Iterable, NamedTuple
 
@@ -25,7 +26,7 @@ from irr.migrate.paragraphs import CLASS_AGAIN, Part, is_comment, key_end, part_
 from irr.migrate.report import Listed, Place, Tally
 from irr.rpsl import keys, syntax
 from irr.rpsl.holders import VIEW_ROOT
-from irr.rpsl.syntax import ITEM, PASSED_OVER, Attribute
+from irr.rpsl.syntax import BAD_BYTE, ITEM, PASSED_OVER, Attribute
 from irr.views import roas
 from irr.views.settings import Settings
 from irr.views.sources import State
@@ -36,6 +37,7 @@ FURTHER = "after the object of a change"
 CHANGED, INVALID = "changed since the dump", "invalid by ROAs"
 # Of how many objects of a class a source does not lose all at once.
 SOME = 10
+ORIGIN = re.compile(rb"\norigin[ \t\r]*:[^\n]*(?:\n[ \t\r+][^\n]*)*", re.I)
 
 
 class Counts(Tally):
@@ -115,7 +117,8 @@ class ViewMender(Mender):
         try:
             mended = super().mend(part)
         except LeftOut:
-            name = self.name_in(part.block)
+            text = ORIGIN.sub(lambda line: BAD_BYTE.sub(b" ", line[0]), part.block.text)
+            name = self.name_in(part.block._replace(text=text))
             return name[:2] if name and self.is_own(name) else None
         return mended.number, mended.key
 

@@ -5,6 +5,7 @@ import contextlib
 import os
 import socket
 import stat
+import statistics
 import subprocess
 import threading
 import time
@@ -13,12 +14,12 @@ from typing import Any
 
 from checks.hostile import attacks
 from checks.hostile.attacks import PASSWORD, Registry, made, owned
-from checks.pace import pace
+from checks.pace import Work, digesting, pace, sorting
 from checks.running import DIGEST, PATIENCE, TOP, Failure, Trial, expect, write, write_settings
 from checks.serving import read_all
 
 ROOT = f"mntner:ROOT-MNT\nauth:SHA256-PW a:{DIGEST}\nmnt-by:ROOT-MNT\nsource:TEST\n\n"
-TRIES = 5
+TRIES = 10
 CASES = []
 
 
@@ -37,17 +38,18 @@ def at_most(found: float, most: float, what: str, unit: str = "s") -> None:
         raise Failure(f"{what}: {found:.2f} {unit} and not at most {most:.2f}")
 
 
-def least(most: float, function: Callable[..., Any]) -> float:
-    """The least that a function gives of the processor's seconds, as they would be on the machine
-    of docs/OPEN.md: what else runs makes each try longer. It is called again only while that is
-    above the bound."""
-    found = []
+def judged(most: float, function: Callable[..., Any], work: Work = sorting) -> float:
+    """The processor's seconds that a function gives, as they would be on the machine of
+    docs/OPEN.md: those of the first call that is within the bound here, or else the mean of all
+    over the mean pace of the machine between them. A least one would be chance where that pace
+    changes within a call: the quickest call over the slowest pace."""
+    found, paces = [], [pace(work=work)]
     for _ in range(TRIES):
-        before = pace()
-        found.append(function() / min(before, pace()))
+        found.append(function())
         if found[-1] <= most:
-            break
-    return min(found)
+            return found[-1]
+        paces.append(pace(work=work))
+    return statistics.mean(found) / statistics.mean(paces)
 
 
 # The processor.
@@ -68,7 +70,7 @@ def secrets_times_salts(trial: Trial) -> str:
                 return seconds
 
             most = 0.1 + digests * 0.6e-6
-            seconds = least(most, once)
+            seconds = judged(most, once, digesting)
             at_most(seconds, most, f"{size} KB")
             table.append(f"{size} KB {seconds:.2f} s")
     return ", ".join(table)
@@ -90,7 +92,7 @@ def items_times_lines(trial: Trial) -> str:
                 expect(report.count(b"refused E11"), count, "how many items were refused")
                 return seconds / count * 1e3
 
-            return least(most, once)
+            return judged(most, once)
 
     one, many = cost("lines1", 1), cost("lines750", 750)
     at_most(
@@ -116,7 +118,7 @@ def walk(trial: Trial, sets: int, limit: int, most: float) -> str:
             )
             return seconds
 
-        seconds = least(most, once)
+        seconds = judged(most, once)
     at_most(
         seconds,
         most,
@@ -150,7 +152,7 @@ def gone(trial: Trial) -> str:
                     peer.sendall(b"prefixes RS-0\r\n")
             registry.whois("ROOT-MNT")
 
-        worked = least(0.5, lambda: registry.cost(asked)[1])
+        worked = judged(0.5, lambda: registry.cost(asked)[1])
     at_most(worked, 0.5, "what the registry works before the next one is answered")
     return (
         f"after 5 peers that asked for the dearest expansion the registry works {worked:.2f} s"

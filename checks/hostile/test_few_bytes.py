@@ -10,7 +10,7 @@ import pytest
 
 from checks.hostile import attacks
 from checks.hostile.attacks import PASSWORD, Registry, made, owned
-from checks.hostile.costs import at_most, least
+from checks.hostile.costs import at_most, judged
 from checks.running import Tell, Trial, expect
 
 # It looks at times.
@@ -32,7 +32,7 @@ def cost_of(
         answered(reply)
         return seconds
 
-    return least(most, once)
+    return judged(most, once)
 
 
 def cost_of_refused(registry: Registry, most: float, items: int, text: str) -> float:
@@ -43,7 +43,7 @@ def cost_of_refused(registry: Registry, most: float, items: int, text: str) -> f
         expect(report.count(b"refused E11"), items, "how many items were refused")
         return seconds
 
-    return least(most, once)
+    return judged(most, once)
 
 
 def is_answered(reply: bytes) -> None:

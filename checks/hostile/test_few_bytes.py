@@ -11,6 +11,7 @@ import pytest
 from checks.hostile import attacks
 from checks.hostile.attacks import PASSWORD, Registry, made, owned
 from checks.hostile.costs import at_most, judged
+from checks.pace import Work, digesting, sorting
 from checks.running import Tell, Trial, expect
 
 # It looks at times.
@@ -35,7 +36,9 @@ def cost_of(
     return judged(most, once)
 
 
-def cost_of_refused(registry: Registry, most: float, items: int, text: str) -> float:
+def cost_of_refused(
+    registry: Registry, most: float, items: int, text: str, work: Work = sorting
+) -> float:
     """The processor's seconds of a submission, each of whose items is refused with E11."""
 
     def once() -> float:
@@ -43,7 +46,7 @@ def cost_of_refused(registry: Registry, most: float, items: int, text: str) -> f
         expect(report.count(b"refused E11"), items, "how many items were refused")
         return seconds
 
-    return judged(most, once)
+    return judged(most, once, work)
 
 
 def is_answered(reply: bytes) -> None:
@@ -144,7 +147,7 @@ def test_passwords_and_salts_at_the_bound_of_the_door(trial: Trial, tell: Tell) 
 
         item = f"as-set:AS-T\nmnt-by:{names}\nsource:TEST\n\n"
         one, many = (
-            cost_of_refused(registry, most, items, f"{passwords}\n{item * items}")
+            cost_of_refused(registry, most, items, f"{passwords}\n{item * items}", digesting)
             for items in (1, 100)
         )
     at_most(one, most, f"32 passwords with {count} maintainers of 770 salts")

@@ -8,6 +8,7 @@ from typing import Any
 
 import pytest
 
+from checks.hostile.costs import at_most, judged
 from checks.running import AUTH, Failure, Ran, Tell, Trial, expect, short, write, write_settings
 from checks.serving import GIVEN, Server
 
@@ -136,7 +137,7 @@ ALIKE = ["", "^+", "^32"] + [f"^{length}-32" for length in range(32)]
 def ring(trial: Trial, folder: str, count: int, ranges: int, bound: float) -> list[Ran]:
     """Route-sets that each list so many ranges and all sets under 35 operators. The expansion of
     one takes at most so many seconds of the processor more than a query for a set that there is
-    not."""
+    not, on the machine of docs/OPEN.md."""
     references = ",".join(f"RS-S{n}{operator}" for n in range(count) for operator in ALIKE)
     sets = "".join(
         f"route-set: RS-S{n}\nmembers:"
@@ -144,17 +145,17 @@ def ring(trial: Trial, folder: str, count: int, ranges: int, bound: float) -> li
         f"{references}\n{OWNED}"
         for n in range(count)
     )
-    runs = [
-        loaded(trial, folder, sets),
-        asked(trial, folder, "RS-NONE"),
-        asked(trial, folder, "expand RS-S0", lines=count * ranges),
-    ]
-    spent = runs[2].seconds - runs[1].seconds
-    if spent > bound:
-        raise Failure(
-            f"{count} sets, {ranges} ranges each: the expansion took {spent:.2f} s, and may take"
-            f" {bound}"
-        )
+    runs = [loaded(trial, folder, sets)]
+
+    def once() -> float:
+        runs[1:] = [
+            asked(trial, folder, "RS-NONE"),
+            asked(trial, folder, "expand RS-S0", lines=count * ranges),
+        ]
+        return runs[2].seconds - runs[1].seconds
+
+    spent = judged(bound, once)
+    at_most(spent, bound, f"{count} sets, {ranges} ranges each: the expansion")
     return runs
 
 

@@ -14,6 +14,8 @@ IN_MEMORY = True
 # What a figure may take: a query beside a local server, and a submission beside that of the program
 # itself.
 QUERY_SECONDS, QUERY_TIMES, SUBMIT_TIMES, ITEM_TIMES = 0.15, 1.8, 1.2, 1 / 800
+# The most queries that are asked to see the least that one takes.
+QUERIES = 40
 
 
 def test_a_query_and_a_long_submission_take_no_longer_than_they_may(
@@ -29,10 +31,15 @@ def test_a_query_and_a_long_submission_take_no_longer_than_they_may(
         tell(measured(tool, trial, folder))
 
 
+def modules(folder: str) -> float:
+    """The processor's seconds of Python for the modules that a query can't do without."""
+    return run([sys.executable, "-c", "import argparse, http.client"], folder).seconds
+
+
 def measured(tool: Tool, trial: Trial, folder: str) -> str:
     with World(trial, tool, os.path.join(folder, "query")) as world:
         clock, processor, least = [], [], []
-        for _ in range(trial.pick(8, 40)):
+        for turn in range(1, QUERIES + 1):
             start = time.monotonic()
             ran = run(
                 [sys.executable, tool.path, "query", "AS64496"],
@@ -42,9 +49,10 @@ def measured(tool: Tool, trial: Trial, folder: str) -> str:
             expect((ran.status, ran.reported), (0, b""), "a query")
             clock.append(time.monotonic() - start)
             processor.append(ran.seconds)
-            least.append(
-                run([sys.executable, "-c", "import argparse, http.client"], world.folder).seconds
-            )
+            least.append(modules(folder))
+            is_cheap = min(processor) < QUERY_TIMES * min(least)
+            if is_cheap and turn >= trial.pick(8, QUERIES):
+                break
         if trial.long:
             expect(
                 min(clock) < QUERY_SECONDS,
@@ -52,32 +60,41 @@ def measured(tool: Tool, trial: Trial, folder: str) -> str:
                 f"whether a query takes {min(clock):.3f} s of {QUERY_SECONDS}",
             )
         expect(
-            min(processor) < QUERY_TIMES * min(least),
+            is_cheap,
             True,
             f"whether {min(processor):.3f} s are {QUERY_TIMES} times {min(least):.3f} s at most",
         )
     told = (
         f"a query takes {1_000 * min(clock):.0f} ms by the clock, {1_000 * min(processor):.0f} of"
-        " the processor"
+        f" the processor, {min(processor) / min(least):.2f} times what its modules take"
     )
     world = World(trial, tool, os.path.join(folder, "served"))
     plain_folder = world.copy(os.path.join(folder, "plain"))
-    text = b"password: bc\n\n" + b"\n".join(items(trial.pick(3_000, 100_000)))
-    path = write(world.folder, "long.rpsl", text)
-    start = time.monotonic()
-    wanted = trial.run(plain_folder, "submit", "s.toml", path, timeout=3_600)
-    alone_seconds = time.monotonic() - start
+    count, tries = trial.pick((3_000, 5), (100_000, 1))
+    paragraphs, submissions = items(count * tries), []
     with world:
-        start = time.monotonic()
-        ran = run(
-            [sys.executable, tool.path, "submit", path],
-            folder,
-            environment=world.tool.environment,
-            timeout=3_600,
-        )
-        seconds = time.monotonic() - start
-    expect((ran.status, ran.printed == wanted.printed), (0, True), "the report")
-    each = (ran.seconds - min(processor)) / text.count(b"source")
+        # Each try adds other items: the cheapest one counts, as what the modules take at their
+        # cheapest does.
+        for first in range(0, len(paragraphs), count):
+            text = b"password: bc\n\n" + b"\n".join(paragraphs[first : first + count])
+            path = write(world.folder, "long.rpsl", text)
+            start = time.monotonic()
+            wanted = trial.run(plain_folder, "submit", "s.toml", path, timeout=3_600)
+            alone_seconds = time.monotonic() - start
+            start = time.monotonic()
+            ran = run(
+                [sys.executable, tool.path, "submit", path],
+                folder,
+                environment=world.tool.environment,
+                timeout=3_600,
+            )
+            seconds = time.monotonic() - start
+            expect((ran.status, ran.printed == wanted.printed), (0, True), "the report")
+            submissions.append(ran.seconds)
+            least.append(modules(folder))
+            each = (min(submissions) - min(processor)) / count
+            if each < ITEM_TIMES * min(least):
+                break
     if not trial.long:
         expect(
             each < ITEM_TIMES * min(least),
@@ -91,6 +108,6 @@ def measured(tool: Tool, trial: Trial, folder: str) -> str:
             f"whether {seconds:.1f} s are {SUBMIT_TIMES} times {alone_seconds:.1f} s at most",
         )
     return (
-        f"{told}; {text.count(b'source'):,} items {seconds:.2f} s, {ran.seconds:.2f} of the"
-        f" processor; by irrdesk submit {alone_seconds:.2f} s"
+        f"{told}; {count:,} items {seconds:.2f} s, {min(submissions):.2f} of the processor, each"
+        f" 1/{min(least) / each:.0f} of the modules; by irrdesk submit {alone_seconds:.2f} s"
     )

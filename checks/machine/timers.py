@@ -265,7 +265,8 @@ class Timers:
         guest.done(f"set -e\n{lines}systemctl start irrdesk-history irrdesk-notify", seconds=300)
         door = "irr submit -s http://127.0.0.1:4380 -"
         guest.ended(door, given=MAILED)
-        guest.ended(door, given=MAILED.replace(b"password: bc", b"password: no"))
+        # The tool sees that this password does not fit, and sends it only so.
+        guest.ended(f"{door} --anyway", given=MAILED.replace(b"password: bc", b"password: no"))
         # The door writes a line once it has answered.
         guest.until("irr log --maintainer MAILED-MNT | grep -q E11", "the line of a refusal")
         told = guest.done("irr log --maintainer MAILED-MNT")

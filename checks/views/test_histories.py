@@ -112,11 +112,16 @@ class Operator:
         if self.is_restored:
             # Neither its changes nor a dump may tell what it has by the same serial.
             return "nothing"
-        nrtm.shorten(self.chance.randrange(nrtm.first, nrtm.last + 2))
+        # That of an IRRd is not emptied so.
+        end = nrtm.last + (1 if nrtm.is_irrd and nrtm.changes else 2)
+        nrtm.shorten(self.chance.randrange(nrtm.first, end))
         return f"journal from {nrtm.first} to {nrtm.last}"
 
     def begin_anew(self) -> str:
-        nrtm = self.one.nrtm
+        nrtm, state = self.one.nrtm, self.one.view.states.get("RIPE")
+        if nrtm.is_irrd and state and not state.told and int(self.served()[1]) == state.serial:
+            # Of first changes that are lost before a look nothing could tell.
+            return "nothing"
         self.count += 1
         nrtm.first, nrtm.changes = self.chance.choice([1 + self.count, nrtm.last + 50]), []
         self.states = {nrtm.last: dict(self.one.routes)}

@@ -431,6 +431,14 @@ def test_a_dump_of_before_its_serial_is_taken_the_first_time(one: Quick) -> None
     need_unseen(one, {10, 11}, "with the dump of 100 and serial 102")
 
 
+def test_first_changes_that_an_irrd_loses_before_a_look_are_missed(one: Quick) -> None:
+    one.nrtm.is_irrd = True
+    one.need("", "the first time")
+    one.add(10)
+    one.nrtm.changes = []
+    need_unseen(one, {10}, "without a journal")
+
+
 def test_a_dump_that_neither_a_tag_nor_a_date_tells_is_not_taken_for_its_serial(
     one: Quick,
 ) -> None:

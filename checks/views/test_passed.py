@@ -366,6 +366,24 @@ def test_a_source_that_has_lost_all_changes_is_followed_from_another_dump(one: Q
     one.need("", "the first change")
 
 
+def test_a_dump_with_the_serial_of_before_a_restore_is_not_taken(one: Quick) -> None:
+    """That serial was ahead of what was followed, and changes pass it."""
+    one.need("", "the first time")
+    one.add(10, 11)
+    before = dict(one.routes)
+    one.add(12)
+    one.need("", "what is followed")
+    one.add(13)
+    one.publish()
+    one.restore(102, before)
+    one.need("the dump has serial 104 still", "with the dump of before")
+    one.put_dump()
+    one.add(20, 21, 22, 23)
+    one.need("the dump has serial 104 still", "with that of 102 alone")
+    one.publish()
+    one.need("", "with a dump of now")
+
+
 def test_a_dump_of_now_is_taken_though_serials_were_seen_before_they_passed(one: Quick) -> None:
     one.need("", "the first time")
     before = dict(one.routes)

@@ -112,8 +112,10 @@ class State(NamedTuple):
         os.utime(self.file, ns=(seen, seen))
 
     def leave(self, dump: "State | None" = None) -> None:
-        """Keeps that nothing leads on from it, nor from a dump."""
-        names = {*self.refused, *(dump.names(self.serial) if dump else [])}
+        """Keeps that nothing leads on from it, nor from a dump. If serials went back, that of the
+        dump may be from before, whatever dump it stands beside."""
+        serial = dump.serial if dump and self.back == BACK else self.serial
+        names = {*self.refused, *(dump.names(serial) if dump else [])}
         back = PAST if dump and self.back else self.back
         self.note(is_left=True, refused=sorted(names), back=back)
 

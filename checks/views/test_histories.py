@@ -119,8 +119,9 @@ class Operator:
 
     def begin_anew(self) -> str:
         nrtm, state = self.one.nrtm, self.one.view.states.get("RIPE")
-        if nrtm.is_irrd and state and not state.told and int(self.served()[1]) == state.serial:
-            # Of first changes that are lost before a look nothing could tell.
+        seen = state.serial if state and state.told else None
+        if nrtm.is_irrd and nrtm.last not in (int(self.served()[1]), seen):
+            # Of changes that are lost before a look nothing could tell.
             return "nothing"
         self.count += 1
         nrtm.first, nrtm.changes = self.chance.choice([1 + self.count, nrtm.last + 50]), []

@@ -449,7 +449,7 @@ def test_a_dump_of_before_its_serial_is_taken_the_first_time(one: Quick) -> None
     need_unseen(one, {10, 11}, "with the dump of 100 and serial 102")
 
 
-def test_first_changes_that_an_irrd_loses_before_a_look_are_missed(one: Quick) -> None:
+def test_changes_that_an_irrd_loses_before_a_look_are_missed(one: Quick) -> None:
     one.nrtm.is_irrd = True
     one.need("", "the first time")
     one.add(10)

@@ -24,25 +24,27 @@ from irr.terminal import texts
 # What is to be done about each fault.
 REMEDIES = {
     "registry-down": "wait while the database is opened, or see `systemctl status irrdesk`",
-    "registry-failed": "the check starts it again; `journalctl --unit irrdesk` says why",
-    "registry-slow": "the check starts it again; look who submits so much",
-    "registry-other": "look at what listens there",
+    "registry-failed": "`irrdesk-check.service` restarts it; `journalctl --unit irrdesk` says why",
+    "registry-slow": "`irrdesk-check.service` restarts it; see in `irr log`, or in the proxy's log,"
+    " which clients keep it busy",
+    "registry-other": "see with `ss -ltnp`, as root, which program listens there",
     "mirror-down": "see `systemctl status irrdesk-mirror`",
-    "replicas-not-renewed": "mend that; the replicas answer meanwhile",
+    "replicas-not-renewed": "fix the cause; the replicas answer meanwhile",
     "replica-old": "see `systemctl status irrdesk-mirror`",
-    "door-down": "the check starts it again; `journalctl --unit irrdesk-door` says why",
+    "door-down": "`irrdesk-check.service` restarts it; `journalctl --unit irrdesk-door` says why",
     "door-in-part": "see http://127.0.0.1:4381/status",
-    "unit-failed": "mend what its journal says, and start it",
+    "unit-failed": "fix what its journal reports, and start it",
     "unit-stopped": "start it, or disable it",
-    "backup-old": "`journalctl --unit irrdesk-backup` says why; make one by hand",
+    "backup-old": "`journalctl --unit irrdesk-backup` says why; make a backup by hand",
     "history-old": "`journalctl --unit irrdesk-history` says why",
-    "mirror-behind": "tell its operator: it may need a new dump; if it has left, restart the door",
+    "mirror-behind": "tell its operator that it may need a new dump; if it no longer follows the"
+    " registry, restart the door",
     "certificate-ends": "renew it, and reload the proxy",
-    "certificate-bad": "correct the proxy's certificate, or the name; make an authority of your"
-    " own known by `update-ca-certificates`",
+    "certificate-bad": "correct the proxy's certificate, or the name; add a certificate authority"
+    " of your own with `update-ca-certificates`",
     "disk-full": "make room: a full disk stops the registry",
-    "clock-ahead": "correct the clock, and remove or rename what is of the future",
-    "memory-full": "remove junk, or give it more: see OPEN.md",
+    "clock-ahead": "correct the clock, and remove or rename what is dated in the future",
+    "memory-full": "remove unwanted objects, or raise its `MemoryMax`: see OPEN.md",
 }
 # What a start of a unit mends, by the fault.
 RESTARTED = {

@@ -502,9 +502,9 @@ class Service:
         return f"after {decided} items: {reported}"
 
     def checked(self) -> str:
-        """That the timer has the check run, and the check finds nothing wrong."""
+        """That the timer has the check run, and a look that begins now finds nothing wrong."""
         self.guest.until(TRIGGERED.format("irrdesk-check"), "that the timer runs the check")
-        self.guest.done("systemctl start irrdesk-check", seconds=600)
+        self.guest.done("systemctl restart irrdesk-check", seconds=600)
         expect(self.show("irrdesk-check", "Result"), "success", "the check")
         return self.guest.done("systemctl list-timers --no-legend irrdesk-check.timer").strip()
 
@@ -534,7 +534,7 @@ class Service:
         )
         expect(printed.split(), ["40", "1"], "answers while the door is started again")
         expect(self.show("irrdesk-door.service", "ActiveState"), "active", "the door")
-        guest.done("systemctl start irrdesk-check", seconds=600)
+        guest.done("systemctl restart irrdesk-check", seconds=600)
         return "64 answers from 16 addresses, and 40 while the door was started again"
 
     def past(self) -> str:

@@ -6,7 +6,7 @@ import tempfile
 import time
 
 from checks.running import Tell, Trial, expect, run, write
-from checks.worlds import Tool, World, items
+from checks.worlds import Tool, World, answering, items
 
 IN_MEMORY = True
 
@@ -111,3 +111,28 @@ def measured(tool: Tool, trial: Trial, folder: str) -> str:
         f"{told}; {count:,} items {seconds:.2f} s, {min(submissions):.2f} of the processor, each"
         f" 1/{min(least) / each:.0f} of the modules; by irrdesk submit {alone_seconds:.2f} s"
     )
+
+
+def test_a_report_in_chunks_is_read_as_it_comes(trial: Trial, tool: Tool, tell: Tell) -> None:
+    """The door sends each line as a chunk. A report that is there at once is not waited for line by
+    line, 20 ms each."""
+    folder, count = trial.place("chunks"), 2_000
+    with World(trial, tool, os.path.join(folder, "registry")) as world:
+        path = write(folder, "long.rpsl", b"password: bc\n\n" + b"\n".join(items(count)))
+        plain = run(
+            [sys.executable, tool.path, "submit", path], folder, environment=world.tool.environment
+        )
+    lines = plain.printed.splitlines(keepends=True)
+    chunks = b"".join(b"%x\r\n%s\r\n" % (len(line), line) for line in lines)
+    head = b"HTTP/1.1 200 OK\r\nTransfer-Encoding: chunked\r\nConnection: close\r\n\r\n"
+    with answering(head + chunks + b"0\r\n\r\n") as url:
+        start = time.monotonic()
+        ran = run(
+            [sys.executable, tool.path, "submit", "-s", url, path],
+            folder,
+            environment=tool.environment,
+        )
+        seconds = time.monotonic() - start
+    expect((ran.status, ran.printed == plain.printed), (0, True), f"the report: {ran.reported!r}")
+    expect(seconds < count * 0.01, True, f"whether {seconds:.1f} s are half of 20 ms each at most")
+    tell(f"{count:,} lines in {seconds:.2f} s")

@@ -211,12 +211,15 @@ class Server:
         except Lost as lost:
             raise Lost(lost.thing, f"{lost.what.partition(';')[0]}; {SENT}") from None
         with contextlib.suppress(Failure):
+            seen = 0
             for piece in self.body_of(reply):
                 yield piece
                 # The server sends a line as it decides an item: to wake up for each costs more than
-                # all else.
-                if len(piece) < GATHERED:
+                # all else. A piece may be a chunk of what came before.
+                came = reply.bounded.count - seen
+                if 0 < came < GATHERED:
                     time.sleep(GATHERING)
+                seen += came
 
     @reading("the server's answer")
     def dump(self) -> Iterator[bytes]:

@@ -53,7 +53,7 @@ def recorded(folder: Path, count: int) -> Path:
     repository = Repository(folder)
     for number in range(1, count + 1):
         blocks: Any = [Block(text) for text in state_of(number)]
-        repository.record(blocks, lambda: "0" * 64, 1_700_000_000 + number)
+        repository.record(blocks, f"{number:064}", 1_700_000_000 + number)
     return folder
 
 

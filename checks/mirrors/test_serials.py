@@ -44,7 +44,7 @@ class States:
         blocks = [f"{ROOT}source:         {source}\n", *objects]
         text = "".join(f"{block}\n" for block in blocks) + f"% end {len(blocks)}\n"
         digest = hashlib.sha256(text.encode()).hexdigest()
-        self.repository.record(syntax.blocks([text.encode()]), lambda: digest, now)
+        self.repository.record(syntax.blocks([text.encode()]), digest, now)
 
     def update(self, now: int = NOW) -> serials.Numbered:
         self.serials.update(self.repository, now)

@@ -188,7 +188,7 @@ def recorded(folder: Path, numbers: list[int]) -> None:
     """Commits a dump of so many aut-nums."""
     text = b"".join(ONE % number + b"\n" for number in numbers)
     digest = "-".join(map(str, numbers))
-    Repository(folder).record(syntax.blocks([text]), lambda: digest, 1_700_000_000)
+    Repository(folder).record(syntax.blocks([text]), digest, 1_700_000_000)
 
 
 def test_a_state_counts_from_its_second_on(tmp_path: Path) -> None:

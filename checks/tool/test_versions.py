@@ -1,5 +1,7 @@
 """The versions of objects that a history has, and the keys and times that ask for them."""
 
+import hashlib
+from collections.abc import Iterator
 from unittest import mock
 
 from checks.tool.stores import Folder
@@ -11,10 +13,17 @@ from irr.rpsl import syntax
 from irr.rpsl.keys import Key
 
 
+def unread() -> Iterator[syntax.Block]:
+    """A dump that must not be read."""
+    raise AssertionError("it was read")
+    yield
+
+
 class Past(Folder):
     def record(self, repository: Repository, texts: list[bytes], now: int) -> str:
         blocks = [syntax.Block(1, len(text), text) for text in texts]
-        return repository.record(iter(blocks), lambda: "digest", now)
+        digest = hashlib.sha256(b"".join(texts)).hexdigest()
+        return repository.record(iter(blocks), digest, now)
 
     def test_versions(self) -> None:
         first, second = (
@@ -25,6 +34,10 @@ class Past(Folder):
         repository, key = history.Repository(self.folder), Key("aut-num", "AS64496")
         self.assertEqual(self.record(repository, [first], 1_000), "1 added, 0 changed, 0 deleted")
         self.assertEqual(self.record(repository, [first], 1_100), "")
+        # A dump that is the last one is not read.
+        same = hashlib.sha256(first).hexdigest()
+        self.assertEqual(repository.record(unread(), same, 1_150), "")
+        self.assertEqual(repository.looked.stat().st_mtime, 1_150)
         self.assertEqual(
             self.record(repository, [second, other], 1_200), "1 added, 1 changed, 0 deleted"
         )

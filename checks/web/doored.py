@@ -93,7 +93,7 @@ def recorded(folder: Path, states: list[list[bytes]]) -> Path:
     repository = Repository(folder)
     for number, texts in enumerate(states, 1):
         blocks: Any = [Block(text) for text in texts]
-        repository.record(blocks, lambda: "0" * 64, TIME + number)
+        repository.record(blocks, f"{number:064}", TIME + number)
     return folder
 
 

@@ -5,7 +5,7 @@ import hashlib
 import os
 import time
 from pathlib import Path
-from typing import Iterable, Iterator
+from typing import Iterator
 
 from irr.errors import ARGUMENTS, DONE, REFUSED, Failure
 from irr.local.temporary_registry import TemporaryRegistry
@@ -83,31 +83,21 @@ def record(place: Path, source: server.Server) -> int:
     files.folder(place)
     with files.locked(place) as lock:
         # The dump comes whole or not at all, before anything is looked at.
-        dump, digest = place / "fetched", hashlib.sha256()
-        now = int(time.time())
+        dump, now = place / "fetched", int(time.time())
         files.put(dump, source.dump())
         try:
             with open(dump, "rb") as file:
+                digest = hashlib.file_digest(file, "sha256").hexdigest()
+                file.seek(0)
                 repository = Repository(place, [lock])
-                counts = repository.record(
-                    syntax.blocks(digested(syntax.chunks(file), digest)),
-                    digest.hexdigest,
-                    now,
-                    source.url,
-                )
+                blocks = syntax.blocks(syntax.chunks(file))
+                counts = repository.record(blocks, digest, now, source.url)
             Serials(place).update(repository, now)
         finally:
             dump.unlink()
     if counts:
         print(texts.shown_line(f"{place}: {counts}"))
     return DONE
-
-
-def digested(pieces: Iterable[bytes], digest: "hashlib._Hash") -> Iterator[bytes]:
-    """The pieces, each of which has gone into the digest."""
-    for piece in pieces:
-        digest.update(piece)
-        yield piece
 
 
 def show(repository: Repository, words: list[str]) -> int:

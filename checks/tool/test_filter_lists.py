@@ -295,7 +295,11 @@ def test_a_range_of_numbers_is_of_all_of_them() -> None:
         ("openbgpd", "10/8", "10.0.0.0/8"),
         ("openbgpd", "10.1/16\tprefixlen\t17 - 24", "10.1.0.0/16{17,24}"),
         ("openbgpd", "10.0.0.0/8 prefixlen =24", "10.0.0.0/8{24,24}"),
+        ("openbgpd", "10.0.0.0/8 prefixlen>=24", "10.0.0.0/8{24,32}"),
+        ("openbgpd", "10.0.0.0/8 prefixlen<24", "10.0.0.0/8{8,23}"),
+        ("openbgpd", "10.0.0.0 / 8 or-longer", "10.0.0.0/8{8,32}"),
         ("openbgpd", "10.0.0.0/8 prefixlen != 24", "10.0.0.0/8{8,23} 10.0.0.0/8{25,32}"),
+        ("openbgpd", "10.0.0.0/8 prefixlen 9 ><24", "10.0.0.0/8{8,8} 10.0.0.0/8{25,32}"),
         ("openbgpd", "10.0.0.0/8 prefixlen 9 >< 24", "10.0.0.0/8{8,8} 10.0.0.0/8{25,32}"),
     ],
 )
@@ -449,6 +453,10 @@ def test_no_path_is_taken_after_a_line_that_refuses_any() -> None:
     assert loss("frr", old, refuses % ".*" + old) == [("P", 2, 2)]
     assert loss("frr", old, refuses % "^$" + old) == [("P", 0, 2)]
     assert loss("frr", old, old + "bgp as-path access-list P deny .*\n") == [("P", 0, 2)]
+    assert loss("frr", old, refuses % "_64497$" + old) == [("P", 1, 2)]
+    assert loss("frr", refuses % "_64497$" + old, refuses % "_64497$" + old) == [("P", 0, 1)]
+    # It may refuse less than each path with one of these.
+    assert loss("frr", old, refuses % "_64496_64497$" + old) == [("P", 0, 2)]
 
 
 @pytest.mark.parametrize("kind", ["origin-set O", "roa-set"])
@@ -510,3 +518,21 @@ def test_words_after_the_prefixes_tell_rules_apart() -> None:
 def test_spellings_of_numbers(router: str, old: str, new: str, lost: int) -> None:
     beside = "prefix-set S { 10.0.0.0/8 }\n" if router == "openbgpd" else "define S = [ 1 ];\n"
     assert [one.lost for one in losses(router, beside + old, beside + new)] == [0, lost]
+
+
+@pytest.mark.parametrize(
+    ("router", "old", "gone"),
+    [
+        ("openbgpd", 'a="10.0.0.0/8"\nb="11.0.0.0/8"\nprefix-set X { $a $b }\n', "$b"),
+        ("openbgpd", "long = 'or-longer'\nprefix-set X { 10.0.0.0/8 $long }\n", "$long"),
+        ("openbgpd", 'a="64496"\nb="64497"\nas-set X { $a $b }\n', "$b"),
+        ("openbgpd", 'a="64496"\nas-set X { 1 $a }\na="64497"\nas-set Y { 1 $a }\n', " $a"),
+        ("bird", "define A = 64496;\ndefine B = 64497;\ndefine X = [ A, B ];\n", ", B"),
+        ("bird", "define A = 64497;\ndefine X = [ 64496..A, 1 ];\n", "64496..A, "),
+    ],
+)
+def test_what_stands_for_words_of_a_list(router: str, old: str, gone: str) -> None:
+    """A macro, or a constant, stays if a list no longer has it."""
+    new = old.replace(gone, "", 1)
+    assert not any(one.lost for one in losses(router, old, old))
+    assert [one.name for one in losses(router, old, new) if one.lost] == ["X"]

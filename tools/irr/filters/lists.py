@@ -18,6 +18,20 @@ COMMENTS = {
     ),
 }
 REMOVALS = re.compile(r"^[ \t]*no[ \t][^\n]*", re.M)
+# What stands for a word of a list, and where it is used: a number of BIRD, a macro of OpenBGPD.
+CONSTANTS = {
+    "bird": re.compile(
+        r"\bdefine\s+(?P<name>\w+)\s*=\s*(?P<value>[0-9]+)\s*;"
+        r"|(?<![\w:])(?P<used>[A-Za-z_]\w*)(?![\w:])"
+    ),
+    "openbgpd": re.compile(
+        r"^[ \t]*(?P<name>\w+)[ \t]*=[ \t]*(?P<mark>[\"'])(?P<value>[^\"']*)(?P=mark)"
+        r"|\$(?P<used>\w+)",
+        re.M,
+    ),
+}
+# A slash before a length, which OpenBGPD reads also between blanks.
+SLASH = re.compile(r"[ \t]*/[ \t]*(?=[0-9])")
 PREFIX = r"(?<![\w.:])([0-9A-Fa-f:.]+)/([0-9]{1,3})(?![0-9.])"
 LENGTHS = {
     "bird": re.compile(
@@ -30,8 +44,8 @@ LENGTHS = {
     ),
     "openbgpd": re.compile(
         PREFIX + r"(?:\s+(?:(?P<up>or-longer)|maxlen\s+(?P<le>[0-9]+)"
-        r"|prefixlen\s+(?:=\s*(?P<only>[0-9]+)|(?P<low>[0-9]+)\s+-\s+(?P<high>[0-9]+)"
-        r"|!=\s*(?P<never>[0-9]+)|(?P<below>[0-9]+)\s+><\s+(?P<above>[0-9]+)"
+        r"|prefixlen\s*(?:=\s*(?P<only>[0-9]+)|(?P<low>[0-9]+)\s+-\s+(?P<high>[0-9]+)"
+        r"|!=\s*(?P<never>[0-9]+)|(?P<below>[0-9]+)\s+><\s*(?P<above>[0-9]+)"
         r"|(?P<sign>[<>]=?)\s*(?P<bound>[0-9]+))))?"
         r"(?:\s+(?P<path>(?:AS|(?:source|transit|peer)-as)\s+(?:as-set\s+\S+|\{[^}]*\}|[0-9.]+)))?"
     ),
@@ -138,9 +152,21 @@ class Loss(NamedTuple):
 def uncommented(router: str, text: str) -> str:
     """A filter without its comments, and in BIRD without what is quoted, which is in no list."""
     if router == "openbgpd":
-        text = text.replace("\\\n", "")
+        text = SLASH.sub("/", text.replace("\\\n", ""))
     kept = r'""' if router == "bird" else r"\1"
     return COMMENTS[router].sub(lambda one: one.expand(kept) if one[1] else "", text)
+
+
+def spelled_out(router: str, text: str) -> str:
+    """A filter of BIRD or OpenBGPD with what each constant stands for in its place."""
+    values: dict[str, str] = {}
+
+    def spelled(one: re.Match[str]) -> str:
+        if one["name"]:
+            values[one["name"]] = one["value"]
+        return values.get(one["used"], one[0])
+
+    return CONSTANTS[router].sub(spelled, text)
 
 
 def meaning(router: str, text: str) -> str:
@@ -297,6 +323,7 @@ def parted(router: str, text: str) -> dict[List, list[Words]]:
     text = uncommented(router, text)
     if router == "frr":
         return parted_frr(text)
+    text = spelled_out(router, text)
     found = parted_bird(text) if router == "bird" else parted_openbgpd(text)
     lists: dict[List, list[Words]] = {}
     for place, words in found:
@@ -471,8 +498,17 @@ def has_numbers(place: List, listed: Iterable[Words]) -> bool:
 
 
 def numbers_of(listed: Iterable[Words]) -> set[tuple[int, int]]:
-    """The AS numbers that a list takes, each from a first to a last one."""
-    return {one for words in listed if words.takes for one in numbers_in(words)}
+    """The AS numbers that a list takes, each from a first to a last one. One that is alone in a
+    line which refuses is not taken by a later line."""
+    found: set[tuple[int, int]] = set()
+    refused: set[tuple[int, int]] = set()
+    for words in listed:
+        own = numbers_in(words)
+        if words.takes:
+            found.update(one for one in own if one not in refused)
+        elif len(own) == 1:
+            refused.update(own)
+    return found
 
 
 def numbers_in(words: Words) -> list[tuple[int, int]]:

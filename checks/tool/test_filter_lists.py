@@ -255,8 +255,11 @@ def lines_of_frr(lines: list[str]) -> str:
         (["no ip prefix-list C", *OLD_LINES], 0),
         ([*OLD_LINES, "no ip prefix-list C", OLD_LINES[1]], 2),
         ([*OLD_LINES, "no ip prefix-list C seq 10 permit 10.0.1.0/24"], 1),
-        # A number is that of one line.
-        ([*OLD_LINES, "seq 10 permit 10.0.0.0/24"], 1),
+        # A number is that of one line. Without one a line has that of the last and 5.
+        ([*OLD_LINES, "seq 10 permit 10.0.8.0/24"], 1),
+        (["seq 7 permit 10.0.0.0/23 le 24", "permit 10.0.2.0/24 le 26", "seq 11 deny any"], 1),
+        # A line that is there stays where it is.
+        (["seq 20 deny any", OLD_LINES[0], "seq 25 permit any", "seq 15 permit any"], 2),
         (["description permit 10.0.0.0/8 le 32", OLD_LINES[1]], 2),
         (["permit any"], 0),
     ],
@@ -445,6 +448,19 @@ def test_what_a_removal_of_frr_removes(line: str, lost: int) -> None:
     new = old + f"no ip prefix-list C {line}\n"
     assert loss("frr", old, new) == [("C", lost, 3)]
     assert sum(one.size for one in losses("frr", new, "")) == 3 - lost
+
+
+def test_a_removal_of_a_path_is_of_the_first_line_of_its_pattern() -> None:
+    old = "".join(f"bgp as-path access-list P permit _{n}$\n" for n in (64496, 64497))
+    for words in "permit _64497$", "seq 5 permit _64497$", "deny _64497$":
+        assert loss("frr", old, f"{old}no bgp as-path access-list P {words}\n") == [("P", 1, 2)]
+    assert loss("frr", old, old + "no bgp as-path access-list P seq 5 permit _1$\n") == [("P", 0, 2)]
+
+
+def test_a_line_of_an_access_list_is_there_with_exact_match() -> None:
+    old, exact = "access-list X permit 10.0.0.0/8\n", "access-list X permit 10.0.0.0/8 exact-match\n"
+    assert loss("frr", old, exact + old) == [("X", 1, 1)]
+    assert loss("frr", old, old + exact) == [("X", 0, 1)]
 
 
 def test_no_path_is_taken_after_a_line_that_refuses_any() -> None:

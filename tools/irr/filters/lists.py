@@ -394,12 +394,15 @@ def parted_frr(text: str) -> dict[List, list[Words]]:
         kind = kind.removeprefix("ip ") if "as-path" in kind else kind
         own = lists.setdefault(List(kind, one["name"]), {})
         if one["no"]:
-            for number in removed(own, one["words"]):
+            for number in removed(kind, own, one["words"]):
                 own.pop(number, None)
             continue
         for entry in FRR_ENTRY.finditer(one["words"]):
-            number = int(entry[1]) if entry[1] else (max(own, default=0) // 5 + 1) * 5
-            own[number] = Words(entry[2] == "permit", entry[3])
+            last = max(own, default=0)
+            number = int(entry[1] or last + 5 - (last % 5 if "as-path" in kind else 0))
+            # FRR passes over a line that is there already.
+            if not same(own, entry):
+                own[number] = Words(entry[2] == "permit", entry[3])
     kept = {
         place: reached(place, [own[number] for number in sorted(own)])
         for place, own in lists.items()
@@ -408,19 +411,27 @@ def parted_frr(text: str) -> dict[List, list[Words]]:
     return ({List("", ""): [Words(True, rest)]} if rest else {}) | kept
 
 
-def removed(own: dict[int, Words], words: str) -> list[int]:
-    """The numbers of the lines of a list of FRR that a line with these words removes."""
+def removed(kind: str, own: dict[int, Words], words: str) -> list[int]:
+    """The numbers of the lines of a list of FRR that a line with these words removes: of paths the
+    first one of this pattern, of others that of its number if it has one."""
+    entry = FRR_ENTRY.match(words)
+    if entry and "as-path" in kind:
+        return [number for number in sorted(own) if own[number].text == entry[3]][:1]
     if one := FRR_NUMBER.match(words):
         return [int(one[1])]
     if FRR_REMARK.match(words):
         return []
-    entry = FRR_ENTRY.match(words)
+    return same(own, entry) if entry else list(own)
+
+
+def same(own: dict[int, Words], entry: re.Match[str]) -> list[int]:
+    """The numbers of the lines of a list of FRR that say the same, to which `exact-match` is no
+    difference."""
+    takes, text = entry[2] == "permit", entry[3].replace("exact-match", "").split()
     return [
         number
         for number, line in own.items()
-        if not entry
-        or line.takes == (entry[2] == "permit")
-        and line.text.split() == entry[3].split()
+        if line.takes == takes and line.text.replace("exact-match", "").split() == text
     ]
 
 

@@ -254,6 +254,7 @@ def test_what_makes_no_filter_says_why(trial: Trial, tool: Tool, tell: Tell) -> 
             (["junos", "X", "AS1", "-"], "junos: this is not a format"),
             (["frr", "customers", "AS1", "-"], "customers: this is not the name of a filter"),
             (["frr", "9X", "AS1", "-"], "9X: this is not the name of a filter"),
+            (["bird", "X" * 65, "AS1", "-"], "X{65}: this is not the name of a filter"),
         ]
         for words, reported in bad:
             expect_line(tool("filter", *words), 2, f"{reported}.*", " ".join(words))

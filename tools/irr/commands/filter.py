@@ -22,7 +22,8 @@ irr filter --settings filters.toml --accept               also those that shrank
 """
 # No network has a range above this length, unless the user says so.
 WIDEST = 8
-NAME = "ABCDEFGHIJKLMNOPQRSTUVWXYZ0123456789_"
+# BIRD reads no longer name.
+NAME, LONGEST = "ABCDEFGHIJKLMNOPQRSTUVWXYZ0123456789_", 64
 
 
 def arguments(parser: argparse.ArgumentParser) -> None:
@@ -133,11 +134,12 @@ def read_words(options: argparse.Namespace) -> int:
             "this is not a format; write bird or frr, and take bgpq4 for other routers",
             ARGUMENTS,
         )
-    if options.name[0] not in NAME[:26] or options.name.strip(NAME):
+    is_long = len(options.name) > LONGEST
+    if is_long or options.name[0] not in NAME[:26] or options.name.strip(NAME):
         raise Failure(
             options.name,
             "this is not the name of a filter; "
-            "write capital letters, digits and _, such as CUSTOMERS",
+            f"write up to {LONGEST} capital letters, digits and _, such as CUSTOMERS",
             ARGUMENTS,
         )
     if keys.read_as(options.set) is None and keys.read_set(options.set) is None:

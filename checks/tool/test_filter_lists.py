@@ -454,11 +454,13 @@ def test_a_removal_of_a_path_is_of_the_first_line_of_its_pattern() -> None:
     old = "".join(f"bgp as-path access-list P permit _{n}$\n" for n in (64496, 64497))
     for words in "permit _64497$", "seq 5 permit _64497$", "deny _64497$":
         assert loss("frr", old, f"{old}no bgp as-path access-list P {words}\n") == [("P", 1, 2)]
-    assert loss("frr", old, old + "no bgp as-path access-list P seq 5 permit _1$\n") == [("P", 0, 2)]
+    none = "no bgp as-path access-list P seq 5 permit _1$\n"
+    assert loss("frr", old, old + none) == [("P", 0, 2)]
 
 
 def test_a_line_of_an_access_list_is_there_with_exact_match() -> None:
-    old, exact = "access-list X permit 10.0.0.0/8\n", "access-list X permit 10.0.0.0/8 exact-match\n"
+    old = "access-list X permit 10.0.0.0/8\n"
+    exact = old.replace("/8", "/8 exact-match")
     assert loss("frr", old, exact + old) == [("X", 1, 1)]
     assert loss("frr", old, old + exact) == [("X", 0, 1)]
 

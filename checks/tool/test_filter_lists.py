@@ -295,8 +295,10 @@ def test_a_range_of_numbers_is_of_all_of_them() -> None:
         ("frr", "permit 10.0.0.0/8  ge  9  le  24", "10.0.0.0/8{9,24}"),
         ("frr", "permit 10.0.0.0/8 le 24 ge 9", "10.0.0.0/8{9,24}"),
         ("frr", "permit any", "0.0.0.0/0{0,32}"),
-        ("openbgpd", "10/8", "10.0.0.0/8"),
-        ("openbgpd", "10.1/16\tprefixlen\t17 - 24", "10.1.0.0/16{17,24}"),
+        # As `bgpd -nvv` of 7.7 prints them: 0.0.0.10/8, 10.0.0.1/16 and 8.0.0.0/8.
+        ("openbgpd", "10/8", "0.0.0.0/8"),
+        ("openbgpd", "10.1/16\tprefixlen\t17 - 24", "10.0.0.0/16{17,24}"),
+        ("openbgpd", "010.0.0.0/8", "8.0.0.0/8"),
         ("openbgpd", "10.0.0.0/8 prefixlen =24", "10.0.0.0/8{24,24}"),
         ("openbgpd", "10.0.0.0/8 prefixlen>=24", "10.0.0.0/8{24,32}"),
         ("openbgpd", "10.0.0.0/8 prefixlen<24", "10.0.0.0/8{8,23}"),

@@ -187,7 +187,7 @@ def entries(router: str, text: str, bits: int = 32) -> Iterator[Entry]:
         else:
             own, length = 128 if ":" in found[1] else 32, int(found[2])
             try:
-                first = address(found[1], own)
+                first = address(router, found[1], own)
             except OSError:
                 continue
         path = " ".join((words.get("path") or "").split())
@@ -198,11 +198,13 @@ def entries(router: str, text: str, bits: int = 32) -> Iterator[Entry]:
                 )
 
 
-def address(text: str, bits: int) -> int:
-    """An address as a number; of IPv4, bytes may lack at its end, or begin with noughts."""
+def address(router: str, text: str, bits: int) -> int:
+    """An address as a number. In BIRD the bytes of IPv4 may begin with noughts; to OpenBGPD such a
+    byte is octal, and 10 is 0.0.0.10."""
+    if bits == 32 and router == "openbgpd":
+        return int.from_bytes(socket.inet_aton(text), "big")
     if bits == 32:
-        parts = (text.split(".") + ["0"] * 3)[:4]
-        text = ".".join(part.lstrip("0") or part[:1] for part in parts)
+        text = ".".join(part.lstrip("0") or part[:1] for part in text.split("."))
     return int.from_bytes(socket.inet_pton(FAMILIES[bits], text), "big")
 
 

@@ -163,8 +163,8 @@ export const CODES = {
     E13: [
         "The object that covers the new one, or the parent of a set, does not " +
             "authorise it.",
-        "Ask the holder to add it, or to name your maintainer in `mnt-lower`, for a " +
-            "route in `mnt-routes`.",
+        "Ask the holder to add it, or to name your maintainer in `mnt-lower` (for a " +
+            "route, in `mnt-routes`).",
     ],
     E14: [
         "The `origin` has no aut-num here.",

@@ -93,8 +93,8 @@ TABLE = (
         "E13",
         "The object that covers the new one, or the parent of a set, does not authorise it.",
         "Address space or AS numbers that somebody else holds; a closer route that is not yours.",
-        "Ask the holder to add it, or to name your maintainer in `mnt-lower`, for a route in "
-        "`mnt-routes`.",
+        "Ask the holder to add it, or to name your maintainer in `mnt-lower` (for a route, in "
+        "`mnt-routes`).",
     ),
     Code(
         "E14",

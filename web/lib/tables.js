@@ -120,7 +120,7 @@ export const CODES = {
             "which begins with a blank or `+`. Save the file as plain text.",
     ],
     E02: [
-        "The class is unknown, or `delete` is alone.",
+        "The class is unknown, or the paragraph has only `delete`.",
         "Put the class first, and leave out objects of other classes.",
     ],
     E03: [
@@ -129,8 +129,8 @@ export const CODES = {
         "Write four numbers and a length, and name one `origin`.",
     ],
     E04: [
-        "An attribute that is required is missing or empty, or one that may be there " +
-            "once is repeated.",
+        "A required attribute is missing or empty, or one that may occur only once is" +
+            " repeated.",
         "Compare the object with a registered one of its class, and put a blank line " +
             "between objects.",
     ],
@@ -163,8 +163,8 @@ export const CODES = {
     E13: [
         "The object that covers the new one, or the parent of a set, does not " +
             "authorise it.",
-        "Ask the holder to add it, or to name your maintainer in `mnt-lower` (for a " +
-            "route, in `mnt-routes`).",
+        "Ask the holder to add it, or to name your maintainer in `mnt-lower` (in " +
+            "`mnt-routes` for a route).",
     ],
     E14: [
         "The `origin` has no aut-num here.",
@@ -182,8 +182,8 @@ export const CODES = {
     ],
     E17: [
         "Other objects still name the maintainer that is to be deleted.",
-        "List them with `inverse mnt NAME`. Change or delete what is yours; the rest " +
-            "only its holders, or the registry's operator, can change.",
+        "List them with `inverse mnt NAME`. Change or delete those that are yours. " +
+            "Only their holders, or the registry's operator, can change the others.",
     ],
     E18: [
         "There is no object of this class and key to delete.",

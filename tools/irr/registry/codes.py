@@ -24,7 +24,7 @@ TABLE = (
     ),
     Code(
         "E02",
-        "The class is unknown, or `delete` is alone.",
+        "The class is unknown, or the paragraph has only `delete`.",
         "A class that this registry does not keep, such as `person`, `role` or `route6`; another "
         "attribute before the class.",
         "Put the class first, and leave out objects of other classes.",
@@ -39,20 +39,18 @@ TABLE = (
     ),
     Code(
         "E04",
-        "An attribute that is required is missing or empty, or one that may be there once is "
-        "repeated.",
-        "No `mnt-by`, `source` or `auth`, or nothing after one; a second `source`, mostly "
-        "because a blank line is missing between two objects.",
+        "A required attribute is missing or empty, or one that may occur only once is repeated.",
+        "No `mnt-by`, `source` or `auth`, or nothing after one of these; a second `source`, in "
+        "most cases because a blank line is missing between two objects.",
         "Compare the object with a registered one of its class, and put a blank line between "
         "objects.",
     ),
     Code(
         "E05",
         "An attribute that is read has a bad value.",
-        "A bad name in a list; `64496` for `AS64496`; a set of another registry, as "
-        "`RIPE::AS-FOO`. An `auth` that is empty, or `# filtered` as answers show it, or whose "
-        "hash does not have 64 digits. Two operators on a range; a no-break space; a colon too "
-        "many.",
+        "A bad name in a list; `64496` for `AS64496`; a set of another registry, such as "
+        "`RIPE::AS-FOO`. An `auth` that is empty, is `# filtered` as answers show it, or has a "
+        "hash without 64 digits. Two operators on a range; a no-break space; one colon too many.",
         "Look at `mnt-by`, `mnt-lower`, `mnt-routes`, `members`, `mbrs-by-ref`, `member-of`, "
         "`auth` and `source`.",
     ),
@@ -65,7 +63,7 @@ TABLE = (
     Code(
         "E07",
         "The paragraph is over 65,536 bytes.",
-        "Mostly a blank line is missing between objects.",
+        "In most cases a blank line is missing between objects.",
         "Put blank lines between objects, or split the object.",
     ),
     Code(
@@ -93,8 +91,8 @@ TABLE = (
         "E13",
         "The object that covers the new one, or the parent of a set, does not authorise it.",
         "Address space or AS numbers that somebody else holds; a closer route that is not yours.",
-        "Ask the holder to add it, or to name your maintainer in `mnt-lower` (for a route, in "
-        "`mnt-routes`).",
+        "Ask the holder to add it, or to name your maintainer in `mnt-lower` (in `mnt-routes` "
+        "for a route).",
     ),
     Code(
         "E14",
@@ -120,9 +118,8 @@ TABLE = (
         "Other objects still name the maintainer that is to be deleted.",
         "They may be anybody's, because any maintainer can be named in `mnt-lower` and "
         "`mnt-routes`.",
-        "List them with `inverse mnt NAME`. Change or delete what is yours; the rest only its "
-        "holders, or the registry's operator, can "
-        "change.",
+        "List them with `inverse mnt NAME`. Change or delete those that are yours. Only their "
+        "holders, or the registry's operator, can change the others.",
     ),
     Code(
         "E18",

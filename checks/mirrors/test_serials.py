@@ -72,6 +72,18 @@ def states(trial: Trial, request: pytest.FixtureRequest) -> States:
     return States(trial.place(request.node.name))
 
 
+def test_no_range_begins_later_than_it_was_asked_from(states: States) -> None:
+    """Where changes are removed once a mirror was told that they are kept."""
+    begun = states.add().last
+    for number in range(1, 4):
+        states.add(*map(aut_num, range(1, number + 1)))
+    last = states.serials.range().last
+    states.serials.path(begun + 1).unlink()
+    with pytest.raises(FileNotFoundError):
+        states.parts(begun + 1, last)
+    expect(len(states.parts(begun + 2, last)), last - begun - 1, "from the next one on")
+
+
 def test_each_change_has_the_next_serial(states: States) -> None:
     found = states.add()
     begun = NOW // 10

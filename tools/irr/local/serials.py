@@ -5,6 +5,7 @@ A file begins with a line of what it is, and has the changes as NRTM tells them.
 from which mirrors can only begin has none. All of them are made of the commits of the history, so
 what a stop left out is made up for by the next run.
 """
+import errno
 import hashlib
 import itertools
 import mmap
@@ -112,12 +113,16 @@ class Serials:
     def parts(self, first: int, last: int) -> Iterator[list[Part]]:
         """Where the changes of a range that is kept stand, some at a time: what is done before the
         next ones takes some milliseconds."""
-        kept = self.kept()
+        kept, wanted = self.kept(), first
         found = kept[bisect_left(kept, first) : bisect_left(kept, last) + 1]
         for place in range(0, len(found), AT_ONCE):
             parts: list[Part] = []
             for one in found[place : place + AT_ONCE]:
                 numbered = self.at(one)
+                if numbered.first > wanted:
+                    # It was removed since the range was looked at.
+                    raise FileNotFoundError(errno.ENOENT, "it is removed", self.path(wanted))
+                wanted = numbered.last + 1
                 path, begin = self.path(one), len(numbered.head())
                 end = path.stat().st_size
                 if first > numbered.first or last < numbered.last:

@@ -88,6 +88,33 @@ def test_the_label_is_of_what_is_served(one: Quick, fails: Callable[[], None]) -
     expect(json.dumps(one.view.label), label, "what it is made of")
 
 
+def test_what_one_replica_has_is_told_while_renewals_fail(
+    one: Quick, monkeypatch: pytest.MonkeyPatch, tmp_path: Path
+) -> None:
+    """The other one did not start, so nothing was kept."""
+    one.need("", "the first time")
+
+    def states() -> list[str]:
+        (source,) = one.view.status()["view"]["sources"]
+        return str(source["state"]).split(" or ")
+
+    (before,) = states()
+    one.add(10)
+    assert one.view.make(tmp_path, one.digest)
+    with monkeypatch.context() as patched:
+        patched.setattr(view.View, "read_roas", failing)
+        with pytest.raises(Failure):
+            one.view.make(tmp_path, one.digest)
+    found = states()
+    expect((len(found), found[0]), (2, before), "both states")
+    one.need("", "once all have it")
+    expect(states(), found[1:], "the new one")
+
+
+def failing(*_: object) -> None:
+    raise Failure("roas", "it can't be read")
+
+
 def test_counts_are_of_what_is_served(one: Quick, fails: Callable[[], None]) -> None:
     """A source that grew, and could not be made, is not what the next one shrank from."""
     path = one.folder / "view.toml"

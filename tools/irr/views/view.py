@@ -32,9 +32,11 @@ class View:
         self.faults: dict[str, str] = {}
         self.outcomes: dict[str, Outcome] = {}
         self.roas: roas.Read | None = None
-        # What a registry is made of stands beside it: of that which is served, and of the next one.
+        # What a registry is made of stands beside it: of that which is served, and of the next one;
+        # and of those that were made since, which a replica may have if another one did not start.
         self.label = label_in(self.folder / "made")
         self.next: dict[str, Any] | None = None
+        self.others: list[dict[str, Any]] = []
         self.marks = ""
         for one in settings.sources:
             now, before = self.place(one, "now"), self.place(one, "before")
@@ -75,7 +77,7 @@ class View:
         self.outcomes, self.next = outcomes, self.label_of()
         if not is_new:
             put_label(self.folder / "made", self.next)
-            self.commit()
+            self.keep()
             return None
         put_label(work, self.next)
         Copy(
@@ -87,6 +89,7 @@ class View:
                 limit=self.settings.limit,
             ),
         )
+        self.others.append(self.next)
         return made
 
     def need_all(self) -> None:
@@ -168,7 +171,12 @@ class View:
         return found
 
     def commit(self) -> None:
-        """Keeps what is served now: from then on a source that fails stays so."""
+        """Keeps what all replicas serve now."""
+        self.keep()
+        self.others.clear()
+
+    def keep(self) -> None:
+        """Keeps what was taken: from then on a source that fails stays so."""
         for one in self.settings.sources:
             state = self.new.pop(one.name, None)
             if state:
@@ -213,8 +221,8 @@ class View:
         """What a door is told of what is served: its sources, since when each stands still, and
         why."""
         label = self.label or self.unknown()
-        if self.next:
-            label = between(label, self.next)
+        for other in self.others:
+            label = between(label, other)
         return {
             "view": {
                 **label,
@@ -268,15 +276,18 @@ def label_in(made: Path) -> dict[str, Any]:
 
 def between(old: dict[str, Any], new: dict[str, Any]) -> dict[str, Any]:
     """What is told while one replica after the other is started on what was made: an answer is of
-    one of the two."""
+    one of the two. It has no sources where these are of others, or in another order."""
     others = {one["name"]: one["state"] for one in new["sources"]}
+    if [one["name"] for one in old["sources"]] != list(others):
+        return {**old, "sources": []}
 
     def either(one: str, other: str) -> str:
-        return one if one == other else f"{one or 'none'} or {other or 'none'}"
+        words = one or "none", other or "none"
+        return one if words[1] in words[0].split(" or ") else " or ".join(words)
 
     sources = []
     for one in old["sources"]:
-        state = either(one["state"], others.get(one["name"], ""))
+        state = either(one["state"], others[one["name"]])
         serial = one["serial"] if state == one["state"] else None
         sources.append({**one, "serial": serial, "state": state})
     return {**old, "sources": sources, "roas": either(old["roas"], new["roas"])}

@@ -5,6 +5,7 @@ import json
 import os
 import shutil
 import signal
+import socket
 import subprocess
 import sys
 from collections.abc import Iterator
@@ -54,6 +55,7 @@ mnt-by: ROOT-MNT
 source: TEST
 """
 AS_X = b"as-set: AS-X\nmembers: AS3\nmnt-by: B-MNT\nsource: RIPE\n\n"
+AS_ALL = b"as-set: AS1:AS-ALL\nmembers: AS3\nmnt-by: B-MNT\nsource: RIPE\n\n"
 STATE = "/views/ALL/state"
 AS_FAR = b"as-set: AS1:AS-FAR\nmembers: RIPE::AS-X\nmnt-by: B-MNT\nsource: RIPE\n\n"
 
@@ -138,6 +140,12 @@ def has_changed(port: int) -> bool:
     """Whether a replica of the view has the route that came by NRTM."""
     answer: bytes = whois_answer(port, b"prefixes AS1:AS-ALL")
     return answer.split(b"\n")[0] == b"10.0.2.0/24"
+
+
+def is_of_ripe(port: int) -> bool:
+    """Whether a replica of the view has RIPE's form of a set that TEST has too."""
+    answer: bytes = whois_answer(port, b"object as-set AS1:AS-ALL")
+    return b"ALL # RIPE" in answer
 
 
 def framed(words: str) -> str:
@@ -311,3 +319,48 @@ def test_a_view_may_be_what_is_asked_without_a_source(trial: Trial, tool: Tool) 
         expect(one.whois("!s-lc"), framed("TEST,RIPE"), "what is asked")
         expect("AS-X" in one.whois("object as-set AS-X"), True, "the registry's own query")
         expect(one.asked("TEST", "!s-lc"), "C\n" + framed("TEST"), "one that is named")
+
+
+def test_a_list_of_sources_is_answered_by_these_alone(trial: Trial, tool: Tool) -> None:
+    """While one replica has them in another order than the other one, and after that: also those
+    that were named before."""
+    with Served(trial, tool, "TEST").open() as one:
+        first, other = framed("10.0.1.0/24 198.51.100.0/24"), framed("10.0.1.0/24")
+        asked = "!a4AS1:AS-ALL"
+        question = f"{asked}\n".encode()
+        with socket.create_connection(("127.0.0.1", one.door.whois_port)) as peer:
+            lines = peer.makefile("rb")
+
+            def told() -> bytes:
+                return b"".join(iter(lines.readline, b"C\n"))
+
+            peer.sendall(b"!!\n!sTEST,RIPE\n" + question)
+            expect((told(), told()), (b"", first.encode()[:-2]), "the sources in their order")
+            one.process.kill()
+            one.process.wait()
+            one.files.texts["/ripe.db"] = AS_X + AS_FAR + AS_ALL + route(1, 3).encode()
+            head, own, ripe = one.settings.read_text().split("[[source]]")
+            head = head.replace("pause = 1", "pause = 3600")
+            one.settings.write_text("[[source]]".join([head, ripe, own]))
+            shutil.rmtree(one.folder / "view/sources/RIPE")
+            view = [sys.executable, one.tool.path, "view", str(one.settings)]
+            with running(view, one.log, env=one.world.tool.environment):
+                moved = one.ports[0]
+                wait_until("one that has moved", PATIENCE, lambda: is_of_ripe(moved))
+                expect(is_of_ripe(one.ports[1]), False, "the other one")
+                known = "there is TEST and ALL (its sources change just now)"
+                for sources in "TEST,RIPE", "RIPE,TEST":
+                    words = f"F One or more selected sources are unavailable: {sources}; {known}\n"
+                    own = framed("198.51.100.0/24")
+                    expect(one.asked(sources, asked), words + own, sources)
+                    status = one.door.http("GET", f"/views/{sources}/query/AS-X")[0]
+                    expect(status, 404, f"{sources} by HTTP")
+                expect(one.door.http("GET", STATE)[0], 503, "its state")
+                expect(one.door.http("GET", "/views/ALL/query/AS-X")[0], 200, "by its name")
+                peer.sendall(question)
+                expect(lines.readline()[:14], b"F TEST,RIPE: t", "what was named before")
+            one.settings.write_text(one.settings.read_text().replace("3600", "1"))
+            with running(view, one.log, env=one.world.tool.environment):
+                wait_until("the order", PATIENCE, lambda: other in one.asked("RIPE,TEST", asked))
+                peer.sendall(question)
+                expect(lines.readline()[:14], b"F TEST,RIPE: t", "once all have moved")

@@ -253,8 +253,9 @@ class Http(Connection):
                 head = reply_head(200, len(text), request.is_kept)
                 self.finish(request, head, InMemory(text))
                 return
-            query = unquote_to_bytes(path[7:])
-            answer = await Asker(pool, self.client).ask(query)
+            query, front = unquote_to_bytes(path[7:]), request.path.removesuffix(path)
+            asker = Asker(pool, self.client, sources=front.removeprefix("/views/"))
+            answer = await asker.ask(query)
             self.begin_reply("http", outcome_of(answer.text))
             self.finish(
                 request,

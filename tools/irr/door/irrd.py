@@ -392,7 +392,7 @@ class Session:
             raise Fault(
                 f"One or more selected sources are unavailable: {word.upper()}; {views.known()}"
             )
-        self.asker = Asker(chosen, self.asker.client, self.asker.address)
+        self.asker = Asker(chosen, self.asker.client, self.asker.address, word)
         return NOTHING
 
     async def serials(self, word: str) -> bytes:

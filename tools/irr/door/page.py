@@ -221,7 +221,7 @@ class Page:
         pool = views.chosen(view) if view else views.main
         if pool is None:
             raise Refused("nothing", f"there is no such view; {views.known()}")
-        asker, state = Asker(pool, client), pool.cache.state
+        asker, state = Asker(pool, client, sources=view), pool.cache.state
         # No query begins with a small letter where answers are kept.
         key = f"why {prefix.text()} {references.shown(start)}".encode()
         kept = asker.kept(key)

@@ -26,6 +26,7 @@ FREE, HANDING = 1 << 18, 0.02 / (1 << 20)
 PIECE, SHORT = 1 << 14, 1 << 12
 # The items of a list that are turned at once.
 SOME = 250
+OTHERS = "the view has other sources now, or another order; ask again"
 
 
 def normal(query: bytes) -> bytes:
@@ -57,16 +58,20 @@ def is_native(line: bytes) -> bool:
 
 
 class Asker:
-    """Asks for one client."""
+    """Asks for one client; by sources, if it has named these."""
 
-    __slots__ = ("pool", "client", "address")
+    __slots__ = ("pool", "client", "address", "sources")
 
-    def __init__(self, pool: Pool, client: Client, address: str = "") -> None:
-        self.pool, self.client, self.address = pool, client, address
+    def __init__(self, pool: Pool, client: Client, address: str = "", sources: str = "") -> None:
+        self.pool, self.client, self.address, self.sources = pool, client, address, sources
+
+    def is_of_sources(self) -> bool:
+        """Whether what is asked is of the sources that were named, and has not changed since."""
+        return not self.sources or self.pool.views.chosen(self.sources) is self.pool
 
     def kept(self, key: bytes) -> Optional[Answer]:
         """An answer that is kept, which costs nothing."""
-        return self.pool.cache.get(key, time.monotonic())
+        return self.pool.cache.get(key, time.monotonic()) if self.is_of_sources() else None
 
     def begin(self, query: bytes, answered: Answered) -> "Answer | Pending":
         """The answer to a query where it is known, else what is waited for until it is told;
@@ -84,6 +89,8 @@ class Asker:
     async def ask(self, query: bytes) -> Answer:
         """The answer to a query; Refused if there is none."""
         answer = await awaited(lambda answered: self.begin(query, answered))
+        if not self.is_of_sources():
+            raise Refused("down", f"{self.sources}: {OTHERS}")
         assert isinstance(answer, Answer)
         return answer
 

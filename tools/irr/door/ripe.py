@@ -112,7 +112,7 @@ async def found(asker: Asker, flags: Flags) -> tuple[list[bytes], str, float]:
         if chosen is None:
             wanted = flags.words["s"].upper()
             raise Bad(102, "unknown source", f"'{wanted}' is not a known source; {views.known()}.")
-        asker = Asker(chosen, asker.client, asker.address)
+        asker = Asker(chosen, asker.client, asker.address, flags.words["s"])
     source = asker.pool.source
     chosen_kinds = [templates.class_of(kind) for kind in flags.listed("T")]
     if not flags.key:

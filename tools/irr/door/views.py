@@ -9,6 +9,7 @@ from irr.door.settings import Settings
 from irr.door.upstreams import Upstream
 
 SILENT = "the view does not say what it is made of; ask again later"
+CHANGING = "its sources change just now"
 # Seconds after which it may.
 ASK_AGAIN = 2
 
@@ -56,7 +57,7 @@ class ViewPool(Pool):
         """What everybody may know of what it is made of: the states of its sources, and the ROAs;
         Refused while nobody says so."""
         view = self.reported.get("view", {})
-        if not view:
+        if not view.get("sources"):
             raise Refused("down", SILENT, ASK_AGAIN)
         sources = [
             {name: one.get(name) for name in ("name", "state", "nrtm", "serial")}
@@ -110,7 +111,7 @@ class Views:
     def known(self) -> str:
         """What there is, in words."""
         found = [self.main.source] if self.main.source else []
-        found += [f"{one.name} ({one.sources})" for one in self.pools if one.name]
+        found += [f"{one.name} ({one.sources or CHANGING})" for one in self.pools if one.name]
         return "there is " + " and ".join(found) if found else "the registry does not answer"
 
     def faults(self) -> list[str]:

@@ -158,6 +158,20 @@ def test_a_dump_makes_up_for_a_change_that_cannot_be_read(
     one.need("", "with a dump of after it")
 
 
+def test_a_dump_makes_up_for_a_restore_whose_changes_cannot_be_read(one: Quick) -> None:
+    """They come by serials of changes that were read."""
+    before = dict(one.routes)
+    one.need("", "the first time")
+    one.add(10, 11, 12)
+    one.need("", "what is followed")
+    one.restore(100, before)
+    one.nrtm.publish([("ADD", "% gone\n")])
+    one.add(20, 21, 22)
+    one.need("it tells other changes up to 103", "once serials pass")
+    one.publish()
+    one.need("", "with a dump of after it")
+
+
 def test_a_snapshot_makes_up_for_a_file_of_changes_that_is_lost(mirror: Followed) -> None:
     """By NRTM, version 4."""
     writer = mirror.writer

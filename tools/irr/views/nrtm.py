@@ -37,6 +37,10 @@ class Unread(Failure):
     """An answer that can't be taken, however often it is asked for."""
 
 
+class Endless(Unread):
+    """The same, where nobody knows what else it has."""
+
+
 class Behind(Exception):
     """The changes after a serial are not told any more: a dump has to be taken. The last serial
     that is told, and the first one, if that is said; why it is so, where it is for another
@@ -116,7 +120,13 @@ def is_same(place: tuple[str, int], name: str, serial: int, known: Told) -> bool
     not told any more. After a restored backup others come by the same serials."""
     serials = list(map(int, known))
     begins = [serials[-count:][0] for count in AGAIN if serials]
-    begin, told = told_from(place, name, begins, serial)
+    try:
+        begin, told = told_from(place, name, begins, serial)
+    except Endless:
+        raise
+    except Unread:
+        # Each of those that are known could be read.
+        return False
     if begin is None:
         return None
     return told == {one: known[one] for one in known if int(one) >= begin}
@@ -136,7 +146,7 @@ def lines(answer: BinaryIO, thing: str, begun: float) -> Iterator[bytes]:
             kind = Unread if len(line) == LONGEST else Failure
             raise kind(thing, "its answer is cut off, or has a line without an end")
         if size > MOST or time.monotonic() > begun + ANSWERING:
-            raise Unread(thing, "its answer does not end; look at `nrtm`")
+            raise Endless(thing, "its answer does not end; look at `nrtm`")
         yield line.rstrip(b"\r\n")
 
 

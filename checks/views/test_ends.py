@@ -1,5 +1,6 @@
 """Dumps of a view that lack the end which they had."""
 
+import gzip
 import shutil
 
 import pytest
@@ -37,6 +38,17 @@ def test_a_dump_without_the_end_that_it_had_is_not_taken(world: World, how: str)
     shutil.rmtree(fault(world).partition("remove ")[2].partition(" if")[0])
     world.renew()
     expect((world.routes_seen(), fault(world)), (40, ""), "once that is removed")
+
+
+def test_nothing_shows_that_a_plain_dump_lacks_its_last_lines(world: World) -> None:
+    """As VIEWS says; one that is packed has an end."""
+    name, whole = "/ripe.db.route.gz", "\n".join(world.routes.values()).encode()
+    world.files.texts[name] = whole
+    expect((world.renew(), world.routes_seen()), (True, 40), "the first time")
+    world.files.texts[name] = gzip.compress(whole)[:-9]
+    expect((world.renew(), "it is cut off" in fault(world)), (False, True), fault(world))
+    world.files.texts[name] = whole[: whole.rindex(b"\nroute:")]
+    expect((world.renew(), world.routes_seen(), fault(world)), (True, 39, ""), "as text")
 
 
 @pytest.mark.parametrize(

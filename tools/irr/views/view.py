@@ -199,13 +199,15 @@ class View:
         self.label, self.next = self.next or self.label, None
 
     def label_of(self) -> dict[str, Any]:
-        """What is merged: the states of the sources in their order, and the ROAs."""
+        """What is merged: the states of the sources in their order, and the ROAs by which routes
+        are left out."""
         versions = {one.name: one.nrtm_version() for one in self.settings.sources}
         sources = [
             {"name": name, "nrtm": versions[name], "serial": state.serial, "state": state.digest()}
             for name, state in self.wanted().items()
         ]
-        made_by = self.roas.state() if self.roas else ""
+        # What only counts leaves nothing out.
+        made_by = self.roas.state() if self.roas and not self.settings.keep_invalid else ""
         return {"name": self.settings.name, "sources": sources, "roas": made_by}
 
     def mark(self) -> str:

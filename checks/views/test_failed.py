@@ -172,6 +172,24 @@ def test_a_dump_makes_up_for_a_restore_whose_changes_cannot_be_read(one: Quick) 
     one.need("", "with a dump of after it")
 
 
+def test_a_dump_of_before_a_restore_makes_up_for_no_change(one: Quick) -> None:
+    """It was ahead of the changes when it was seen, whatever serials come later."""
+    one.need("", "the first time")
+    one.nrtm.publish([("ADD", "% gone\n")])
+    one.add(10, 11)
+    then = dict(one.routes)
+    words = "serial 101 has no whole object"
+    one.need(words, "a change that can't be read")
+    one.add(12, 13)
+    one.publish()
+    one.restore(103, then)
+    one.need(words, "a dump that is ahead")
+    one.add(20, 21, 22)
+    one.need("the dump has serial 105 still", "once serials pass")
+    one.publish()
+    one.need("", "with a dump of now")
+
+
 def test_a_snapshot_makes_up_for_a_file_of_changes_that_is_lost(mirror: Followed) -> None:
     """By NRTM, version 4."""
     writer = mirror.writer

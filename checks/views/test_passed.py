@@ -420,6 +420,29 @@ def test_a_dump_that_is_ahead_after_a_gap_is_refused_though_its_changes_fail(one
     one.need("", "with a dump of now")
 
 
+def test_the_dump_of_before_what_was_refused_does_not_hide_that_serials_went_back(
+    one: Quick,
+) -> None:
+    path = one.folder / "view.toml"
+    path.write_text(path.read_text().replace("shrink = 100", "shrink = 10"))
+    one.begin()
+    one.nrtm.is_irrd = True
+    one.need("", "the first time")
+    dump = dict(one.files.texts)
+    one.remove(3, 4)
+    one.publish()
+    for _ in range(2):
+        one.need("more is gone than `shrink`", "what is refused")
+    one.nrtm.changes = []
+    one.need("it tells no changes after 102", "without a journal")
+    one.files.texts.update(dump)
+    for _ in range(2):
+        one.need("it tells no changes after 100", "with the dump of before")
+    one.add(3, 4, 5)
+    one.publish()
+    one.need("", "with a dump of now")
+
+
 # What no source tells, as docs/VIEWS.md lists it.
 
 

@@ -272,14 +272,19 @@ def led_to(
 
 def newer(source: Source, old: State, work: Path) -> State | None:
     """A dump that is another one, with the changes after it; None where they do not lead on from
-    it."""
+    it. One that is ahead of what is told may be from before a restore: it is refused from then
+    on."""
     state = taken(source, old, work, None)
-    if state and state.serial is not None:
-        with contextlib.suppress(nrtm.Behind):
-            state = begun(source, state, state.serial)
-            state.put()
-            return state
-    return None
+    if state is None or state.serial is None:
+        return None
+    try:
+        state = begun(source, state, state.serial)
+    except nrtm.Behind as behind:
+        if behind.is_anew(state.serial):
+            old.note(refused=sorted({*old.refused, *state.names(state.serial)}))
+        return None
+    state.put()
+    return state
 
 
 def begun(source: Source, dump: State, serial: int) -> State:

@@ -121,7 +121,12 @@ class View:
         try:
             state = sources.renewed(source, last or old, work, is_refused=last is not None)
             if last and old and state and state.digests == old.digests:
-                # What was there before is there again, and may lead on.
+                # What was there before is there again, and may lead on, unless serials went back.
+                last = sources.noted(last)
+                if last and last.back:
+                    refused = sorted({*old.refused, *last.refused})
+                    old.note(is_left=True, back=last.back, refused=refused)
+                    old = sources.noted(old)
                 self.forget(name)
                 last, state = None, sources.renewed(source, old, work)
         except Failure as failure:

@@ -466,6 +466,16 @@ def test_a_dump_of_before_a_restore_is_taken_after_a_gap(one: Quick) -> None:
     need_unseen(one, {12, 20}, "with the dump of 103")
 
 
+def test_a_dump_of_before_a_restore_is_taken_of_an_irrd_without_a_journal(one: Quick) -> None:
+    one.nrtm.is_irrd = True
+    one.need("", "the first time")
+    before = dict(one.routes)
+    one.add(10)
+    one.publish()
+    one.restore(100, before)
+    need_unseen(one, {10}, "with the dump of 101")
+
+
 def test_a_dump_of_before_its_serial_is_taken_the_first_time(one: Quick) -> None:
     one.add(10, 11)
     one.put_serial()

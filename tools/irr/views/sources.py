@@ -277,11 +277,12 @@ def newer(source: Source, old: State, work: Path) -> State | None:
     state = taken(source, old, work, None)
     if state is None or state.serial is None:
         return None
+    serial = state.serial
     try:
-        state = begun(source, state, state.serial)
+        state = begun(source, state, serial)
     except nrtm.Behind as behind:
-        if behind.is_anew(state.serial):
-            old.note(refused=sorted({*old.refused, *state.names(state.serial)}))
+        if behind.is_anew(serial):
+            old.note(refused=sorted({*old.refused, *state.names(serial)}))
         return None
     state.put()
     return state

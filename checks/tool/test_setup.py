@@ -293,7 +293,7 @@ def test_a_service_is_made_of_the_files_of_the_package(trial: Trial, tool: Tool)
     stands = re.findall(r"^ *([a-z_]+) ", place[1], re.MULTILINE) if place else []
     stands = stands[: stands.index("auth_basic_user_file") + 1]
     expect(set(stands), {line.split()[0] for line in lines}, "the lines that they replace")
-    said = b"in place of the lines from `satisfy` to\n    `auth_basic_user_file`"
+    said = b"in place of the lines from `satisfy`\n    to `auth_basic_user_file`"
     expect(said in ran.printed, True, f"whether it says so: {ran.printed!r}")
 
 

@@ -8,11 +8,9 @@ from pathlib import Path
 from checks.mirrors.client4 import NOTIFICATION
 from checks.mirrors.writer4 import Writer4
 from checks.running import expect
-from checks.views.serving import Files
+from checks.views.serving import Files, view_in, view_of
 from checks.views.test_merge import made
 from checks.views.test_sources import OWN, route
-from irr.views import settings
-from irr.views.view import View
 
 PATH = f"/4/{NOTIFICATION}"
 
@@ -22,12 +20,11 @@ class World:
 
     def __init__(self, folder: Path, name: str, place: str, key: str) -> None:
         self.folder, self.name = folder, name
-        (folder / "own.db").write_text(OWN)
+        (folder / "own.db").write_text(OWN.replace("TEST", "OWN"))
         (folder / "key.pem").write_text(key)
-        (folder / "view.toml").write_text(
+        self.view = view_of(
+            folder,
             f"""
-name = "ALL"
-folder = "{folder}/view"
 [[source]]
 name = "OWN"
 dump = "{folder}/own.db"
@@ -36,16 +33,13 @@ name = "{name}"
 nrtm4 = "{place}"
 key = "{folder}/key.pem"
 shrink = 100
-"""
+""",
         )
-        text = (folder / "own.db").read_text()
-        (folder / "own.db").write_text(text.replace("TEST", "OWN"))
         self.known = ""
-        self.begin()
 
     def begin(self) -> None:
         """The view after a start."""
-        self.view = View(settings.read(str(self.folder / "view.toml")))
+        self.view = view_in(self.folder)
 
     def renew(self) -> str:
         """What is wrong with the source after a renewal."""

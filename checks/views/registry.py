@@ -16,13 +16,13 @@ import pytest
 
 from checks.running import expect
 from checks.views.following import shaped
-from checks.views.serving import Files, Nrtm
+from checks.views.serving import Files, Nrtm, view_in, view_of
 from checks.views.test_merge import made
 from checks.views.test_sources import route
 from irr.errors import Failure as Fault
 from irr.local import tables
 from irr.rpsl import keys
-from irr.views import settings, view
+from irr.views import view
 from irr.views.merge import Outcome
 from irr.views.sources import State
 
@@ -37,19 +37,17 @@ class Registry:
         self.files, self.nrtm = Files(), Nrtm("RIPE", 101)
         self.routes = {number: route(number) for number in range(5)}
         self.publish()
-        (folder / "view.toml").write_text(
+        self.view = view_of(
+            folder,
             f"""
-name = "ALL"
-folder = "{folder}/view"
 [[source]]
 name = "RIPE"
 dump = "{self.files.url}{DUMP}"
 serial = "{self.files.url}{SERIAL}"
 nrtm = "{self.nrtm.place}"
 shrink = 100
-"""
+""",
         )
-        self.view = view.View(settings.read(str(folder / "view.toml")))
         self.known = ""
 
     def publish(self) -> None:
@@ -166,7 +164,7 @@ class Quick(Registry):
 
     def begin(self) -> None:
         """The view after a start."""
-        self.view = view.View(settings.read(str(self.folder / "view.toml")))
+        self.view = view_in(self.folder)
 
     def put_files(self) -> None:
         """Puts on the disk what is handed out."""

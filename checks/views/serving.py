@@ -6,7 +6,22 @@ import socketserver
 import threading
 from collections.abc import Sequence
 from email.utils import formatdate, parsedate_to_datetime
+from pathlib import Path
 from typing import Any, Self
+
+from irr.views import settings
+from irr.views.view import View
+
+
+def view_of(folder: Path, sources: str) -> View:
+    """A view of these sources, in the words of its settings, in a folder."""
+    (folder / "view.toml").write_text(f'name = "ALL"\nfolder = "{folder}/view"\n{sources}')
+    return view_in(folder)
+
+
+def view_in(folder: Path) -> View:
+    """The view of a folder, as it is after a start."""
+    return View(settings.read(str(folder / "view.toml")))
 
 
 class Served:

@@ -11,7 +11,7 @@ from pathlib import Path
 import pytest
 
 from checks.running import Trial, expect
-from checks.views.serving import Files, Nrtm
+from checks.views.serving import Files, Nrtm, view_in, view_of
 from checks.views.test_merge import asked, emptied
 from irr.errors import Failure
 from irr.migrate.normalisation import ROUTE, LeftOut
@@ -37,10 +37,9 @@ class World:
         (folder / "own.db").write_text(OWN)
         self.routes = {number: route(number) for number in range(40)}
         self.publish()
-        (folder / "view.toml").write_text(
+        self.view = view_of(
+            folder,
             f"""
-name = "ALL"
-folder = "{folder}/view"
 [[source]]
 name = "TEST"
 dump = "{folder}/own.db"
@@ -49,9 +48,8 @@ name = "RIPE"
 dump = ["{self.files.url}/ripe.db.route.gz", "{self.files.url}/ripe.db.as-set"]
 serial = "{self.files.url}/RIPE.CURRENTSERIAL"
 {more}
-"""
+""",
         )
-        self.view = View(settings.read(str(folder / "view.toml")))
         # What is served, and what it answers.
         self.known, self.seen = "", ""
 
@@ -186,7 +184,7 @@ def test_roas_leave_out_what_is_invalid(world: World) -> None:
     for words, count in [("", 39), ("keep_invalid = true\n", 40)]:
         text = f'roas = "{path}"\n{words}{asked_for}'
         (world.folder / "view.toml").write_text(text)
-        world.view = View(settings.read(str(world.folder / "view.toml")))
+        world.view = view_in(world.folder)
         expect(world.renew(), True, f"a view with {words!r}")
         expect(world.routes_seen(), count, words)
         expect(world.view.outcomes["RIPE"].invalid, 1, words)

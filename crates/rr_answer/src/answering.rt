@@ -1,10 +1,11 @@
 //! Answers.
 
-ghost use Rattle.std.specs.Prelude.{◌≢◌, Err, IfErr, IfOk, Ok};
-ghost use Rattle.rr_answer.specs.declared.query_fault.QueryFault.TheVariants.{Memory};
+ghost use Rattle.std.specs.Prelude.{◌≡◌, ◌≢◌, Err, IfErr, IfOk, Ok, true};
+ghost use Rattle.rr_answer.specs.declared.query_fault.QueryFault.TheVariants.{Memory, TooLong};
 ghost use Rattle.rr_number.specs.SetNames.{kind_of};
 ghost use Rattle.rr_answer.specs.Answers.{IsAnswer, IsAnswerTo, IsExpanded};
 ghost use Rattle.rr_answer.specs.Founds.{found_text};
+ghost use Rattle.rr_answer.specs.Queries.{is_too_long};
 
 use crate::expansion::{numbers, ranges};
 use crate::found::Found;
@@ -60,7 +61,7 @@ fn expanded<'a, B: SetBook>(
 }
 
 /// What the text of a query finds. The fault is the first of `TooLong`, `Bad` and `TooMany` that
-/// fits, or that memory ran out.
+/// fits, or, of a text that is not too long, that memory ran out.
 pub fn find_for<'a, B: Keeper>(
     alloc: Global,
     registry: &'a Registry<B>,
@@ -71,6 +72,7 @@ pub fn find_for<'a, B: Keeper>(
         (λ found. IsAnswerTo registry.now limit text.now (Ok (found_text found))) }
     ensures fault { IfErr result
         (λ fault. fault ≢ Memory → IsAnswerTo registry.now limit text.now (Err fault)) }
+    ensures long { is_too_long text.now ≡ true → result ≡ Err TooLong }
 {
     let query = read_query(alloc, text)?;
     find(alloc, registry, limit, &query)

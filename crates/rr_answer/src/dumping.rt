@@ -63,7 +63,6 @@ pub fn dump<B: Keeper, W: Sink>(
     ensures writes { WritesDump (dump full registry.now) (W.told writer.old)
         (W.told writer.new) result }
     ensures count { IfOk result (λ count. count ≡ length (values registry.now)) }
-    ensures aside { W.aside writer.new ≡ W.aside writer.old }
 {
     let objects = registry.objects(alloc)?;
     dump_listed(alloc, &objects, writer, full)
@@ -79,7 +78,6 @@ fn dump_listed<W: Sink>(
     ensures writes { WritesDump (flat_map (dumped full) (lent objects.now)
         ++ end_line (length objects.now)) (W.told writer.old) (W.told writer.new) result }
     ensures count { IfOk result (λ count. count ≡ length objects.now) }
-    ensures aside { W.aside writer.new ≡ W.aside writer.old }
 {
     dump_objects(alloc, objects, writer, full)?;
     dump_end(alloc, writer, objects.len())?;
@@ -93,9 +91,8 @@ fn dump_objects<W: Sink>(
     writer: &mut W,
     full: bool,
 ) -> Result<(), DumpFault>
-    ensures writes { WritesDump (flat_map (dumped full) (lent objects.now)) (W.told writer.old)
+    ensures { WritesDump (flat_map (dumped full) (lent objects.now)) (W.told writer.old)
         (W.told writer.new) result }
-    ensures aside { W.aside writer.new ≡ W.aside writer.old }
 {
     let mut text = Vec::new(alloc);
     'objects: for object in objects {
@@ -112,9 +109,8 @@ fn dump_object<W: Sink>(
     writer: &mut W,
     full: bool,
 ) -> Result<(), DumpFault>
-    ensures writes { WritesDump (dumped full object.now) (W.told writer.old)
+    ensures { WritesDump (dumped full object.now) (W.told writer.old)
         (W.told writer.new) result }
-    ensures aside { W.aside writer.new ≡ W.aside writer.old }
 {
     text.clear();
     push_dumped(text, object, full)?;
@@ -137,8 +133,7 @@ fn push_dumped(text: &mut Vec<u8>, object: &Object, full: bool) -> Result<(), Al
 /// Writes the last line.
 #[tactic(auto, using(crate::specs::HasBytes::line_has_bytes))]
 fn dump_end<W: Sink>(alloc: Global, writer: &mut W, count: usize) -> Result<(), DumpFault>
-    ensures writes { WritesDump (end_line count) (W.told writer.old) (W.told writer.new) result }
-    ensures aside { W.aside writer.new ≡ W.aside writer.old }
+    ensures { WritesDump (end_line count) (W.told writer.old) (W.told writer.new) result }
 {
     let line = format!(in alloc; "% end {count}\n")?;
     write_all(writer, line.as_bytes())?;

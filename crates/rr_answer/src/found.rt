@@ -49,9 +49,8 @@ impl<'a> Found<'a> {
     /// have come is not made.
     #[tactic(auto, unfolding(crate::specs::Texts::members_text))]
     pub fn write<W: Sink>(&self, alloc: Global, writer: &mut W) -> io::Result<()>
-        ensures writes { Writes (W.told writer.old) (W.told writer.new)
+        ensures { Writes (W.told writer.old) (W.told writer.new)
             (found_text self.now) result }
-        ensures aside { W.aside writer.new ≡ W.aside writer.old }
     {
         match self {
             Found::Objects(places) => write_members(alloc, writer, places, &[], NO_ENTRIES),

@@ -22,8 +22,7 @@ pub(crate) trait Part {
 
     /// Writes its bytes, for which no memory is asked.
     fn write<W: Sink>(&self, writer: &mut W) -> io::Result<()>
-        ensures writes { Writes (W.told writer.old) (W.told writer.new) (bytes self.now) result }
-        ensures aside { W.aside writer.new ≡ W.aside writer.old };
+        ensures { Writes (W.told writer.old) (W.told writer.new) (bytes self.now) result };
 
     // It has bytes.
     ghost has_bytes: { (part : Self) → 0 < length (bytes part) };

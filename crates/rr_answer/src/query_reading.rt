@@ -1,11 +1,11 @@
 //! Queries read from texts.
 
-ghost use Rattle.std.specs.Prelude.{◌≡◌, ◌≢◌, Err, IfErr, IfOk, Ok, map};
+ghost use Rattle.std.specs.Prelude.{◌≡◌, ◌≢◌, Err, IfErr, IfOk, Ok, map, true};
 ghost use Rattle.std.specs.List.{list_any};
 ghost use Rattle.std.specs.Option.{option_and_then};
 ghost use Rattle.rr_bytes.specs.Parts.{words};
 ghost use Rattle.rr_object.specs.Items.{only};
-ghost use Rattle.rr_answer.specs.declared.query_fault.QueryFault.TheVariants.{Memory};
+ghost use Rattle.rr_answer.specs.declared.query_fault.QueryFault.TheVariants.{Memory, TooLong};
 ghost use Rattle.rr_answer.specs.Queries as queries;
 
 use crate::query::Query;
@@ -26,13 +26,14 @@ pub fn is_too_long(text: &[u8]) -> bool
     text.len() > MOST_BYTES
 }
 
-/// The query that a text is; letter case is ignored (profile). The fault is `TooLong`, `Bad`, or
-/// that memory ran out.
+/// The query that a text is; letter case is ignored (profile). The fault is `TooLong`, `Bad`, or,
+/// of a text that is not too long, that memory ran out.
 #[tactic(auto, unfolding(crate::specs::Queries::query_of))]
 pub fn read_query(alloc: Global, text: &[u8]) -> Result<Query, QueryFault>
     ensures ok { IfOk result (λ query. queries.query_of text.now ≡ Ok query) }
     ensures fault { IfErr result
         (λ fault. fault ≢ Memory → queries.query_of text.now ≡ Err fault) }
+    ensures long { queries.is_too_long text.now ≡ true → result ≡ Err TooLong }
 {
     if is_too_long(text) {
         return Err(QueryFault::TooLong);

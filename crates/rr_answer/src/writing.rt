@@ -58,9 +58,8 @@ fn write_some<T: Part, W: Sink>(
     parts: &[T],
 ) -> io::Result<usize>
     requires { 0 < length parts.now }
-    ensures writes { WritesSome T.bytes parts.now
+    ensures { WritesSome T.bytes parts.now
         (W.told writer.old) (W.told writer.new) result }
-    ensures aside { W.aside writer.new ≡ W.aside writer.old }
 {
     let count = gather(gathered, parts);
     if count == 0 {
@@ -77,9 +76,8 @@ fn write_parts<T: Part, W: Sink>(
     writer: &mut W,
     parts: &[T],
 ) -> io::Result<()>
-    ensures writes { Writes (W.told writer.old) (W.told writer.new)
+    ensures { Writes (W.told writer.old) (W.told writer.new)
         (flat_map T.bytes parts.now) result }
-    ensures aside { W.aside writer.new ≡ W.aside writer.old }
 {
     let mut rest = parts;
     'rest: while !rest.is_empty() {
@@ -106,10 +104,9 @@ pub(crate) fn write_members<T: Part, W: Sink>(
     missing: &[SetName],
     nothing: &[u8],
 ) -> io::Result<()>
-    ensures writes { Writes (W.told writer.old) (W.told writer.new)
+    ensures { Writes (W.told writer.old) (W.told writer.new)
         (texts.or_else nothing.now
         (flat_map T.bytes found.now ++ flat_map texts.missing_line missing.now)) result }
-    ensures aside { W.aside writer.new ≡ W.aside writer.old }
 {
     if are_none(found, missing) {
         return write_all(writer, nothing);

@@ -1,5 +1,9 @@
 -- What a run of the program does, by its words (profile).
-use Rattle.std.specs.Prelude.{◌≡◌, ◌⊎◌, ℕ, List, Ok, Err}
+use Rattle.std.specs.Prelude.{◌≡◌, ◌⊎◌, ℕ, List, Result, Ok, Err}
+use Rattle.std.specs.IoError.{error_kind}
+use Rattle.std.specs.declared.io.Error.{Error}
+use Rattle.std.specs.declared.io.ErrorKind.{ErrorKind}
+use Rattle.std.specs.declared.io.ErrorKind.TheVariants.{OutOfMemory}
 use Rattle.rr_io.specs.Sending.{TakesSome}
 use Rattle.rr_io.specs.Told.{Told}
 use Rattle.rr_arguments.specs.CommandLine.{Invocation, IsInvoked, FailsToInvoke, invoked}
@@ -72,9 +76,17 @@ EndsRun (Err fault) errors_old errors_new status = (status ≡ trouble_status fa
     × ((about : About) × IsLegible fault.about about
     × TakesSome errors_old errors_new (fault_line about fault.trouble fault.stream))
 
--- why the arguments were not read: one is not text, or memory ran out (profile)
-abbrev pub IsUnread : Trouble → Type 0
-IsUnread cause = (cause ≡ trouble.ArgumentsNotText) ⊎ (cause ≡ trouble.Memory)
+-- what is told of arguments that the system does not give, by the kind of its error: memory ran
+-- out, or one is not text (profile)
+abbrev pub refused_arguments : ErrorKind → Trouble
+refused_arguments OutOfMemory = trouble.Memory
+refused_arguments _ = trouble.ArgumentsNotText
+
+-- why there is no list of arguments, by what the system gave: it gave none, or memory ran out for
+-- the list (profile)
+abbrev pub AreUnread : {X : Type 0} → Result X Error → Trouble → Type 0
+AreUnread (Ok arguments) cause = cause ≡ trouble.Memory
+AreUnread (Err error) cause = cause ≡ refused_arguments (error_kind error)
 
 -- the status of that, and its line (profile)
 abbrev pub EndsUnread : Trouble → Told → Told → ℕ → Type 0

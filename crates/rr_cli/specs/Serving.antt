@@ -13,7 +13,7 @@ use Rattle.rr_commands.specs.declared.trouble.Trouble.{Trouble}
 use Rattle.rr_commands.specs.declared.trouble.Trouble.TheVariants.{ListenerUnopened, Unaccepted}
 use Rattle.rr_commands.specs.declared.trouble.Trouble.TheVariants.{Unwritten}
 use Rattle.rr_commands.specs.Commands.{Act, ActsBySettings, AtDesk, CommandEnd, ProgramEnd}
-use Rattle.rr_commands.specs.Faults.{IsAbout, byte_on_line, name_on_line}
+use Rattle.rr_commands.specs.Faults.{IsAbout, Shows, byte_on_line}
 use Rattle.rr_commands.specs.Worlds.{Deed, Ports, deed}
 use Rattle.rr_commands.specs.declared.command_fault.ProgramFault.{ProgramFault}
 use Rattle.rr_cli.specs.Networks.{Means, NetworkCalls}
@@ -131,8 +131,7 @@ is_of_listener _ = false
 -- a fault shows where this port is listened on, or nothing where memory ran out (profile)
 abbrev pub ShowsPort : ℕ → ProgramFault → Type 0
 ShowsPort port fault =
-    (name_on_line fault.about ≡ map byte_on_line (address port) ++ codes ": ")
-    ⊎ (name_on_line fault.about ≡ [])
+    Shows (map byte_on_line (address port) ++ codes ": ") fault ⊎ Shows [] fault
 
 -- a fault of what listens on this port shows where (profile)
 abbrev pub IsAboutPort : ℕ → ProgramFault → Type 0

@@ -25,16 +25,17 @@ fn main(rt: HostRuntime) -> ExitCode {
     };
     let mut input = Reading::silent(tools.errors, Counted::new(stdin));
     let mut errors = tools.errors.counted();
+    let files = SystemFiles::new(&rt);
     let network = Sockets::new(&rt);
     let mut host = Host {
         tools,
         databases: DatabaseFiles::new(&rt),
-        files: SystemFiles::new(&rt),
         output: Progress::new(tools.errors, Counted::new(rt.stdout())),
     };
     ExitCode::from(match program_run::collect(tools.alloc, env::args(&rt)) {
         Ok(arguments) => program_run::run(
             &mut host,
+            &files,
             &network,
             arguments.as_slice(),
             &mut input,

@@ -31,33 +31,32 @@ const ERROR: u8 = 1;
 /// if the reply is an error. If the turn fails, or the reply cannot be read or is empty, nothing is
 /// printed.
 pub fn probe<'a, D: Databases, F: Files, N: Network, W: Output>(
-    host: &mut Host<'_, D, F, W>,
+    host: &mut Host<'_, D, W>,
+    files: &F,
     network: &N,
     file: &'a str,
 ) -> Result<u8, ProgramFault<'a>>
-    ensures done { ProbesBy (ports D.Disk.Store D.calls (F.calls host.old.files))
+    ensures { ProbesBy (ports D.Disk.Store D.calls (F.calls files.now))
         (means (N.calls network.now) serves_desk) file.now
         (done_by W.told host.old host.new result) }
-    ensures kept { host.new.files ≡ host.old.files }
 {
-    let (settings, mut store) = read_settings_file(host, file)?;
+    let (settings, mut store) = read_settings_file(host.tools.alloc, files, file)?;
     let path = store.path.as_str();
     let end = probe_at(host, network, settings, path, &mut store.found);
     ended(host, end, file, store)
 }
 
 /// Asks the registry in the database at a path for its root maintainer, and prints the reply.
-fn probe_at<D: Databases, F: Files, N: Network, W: Output>(
-    host: &mut Host<'_, D, F, W>,
+fn probe_at<D: Databases, N: Network, W: Output>(
+    host: &mut Host<'_, D, W>,
     network: &N,
     settings: Settings,
     path: &str,
     found: &mut String,
 ) -> Result<u8, Trouble>
-    ensures done { AtDesk (at D.Disk.Store D.calls)
+    ensures { AtDesk (at D.Disk.Store D.calls)
         (ProbesDesk D.Disk.Store (means (N.calls network.now) serves_desk))
         (named settings path.now) (done_by W.told host.old host.new result) }
-    ensures kept { host.new.files ≡ host.old.files }
 {
     let mut desk = open_desk(host.tools, &mut host.databases, settings, path, found)?;
     let end = probe_desk(host.tools.alloc, &mut desk, network, &mut host.output);

@@ -1,13 +1,13 @@
 //! A run of the program, over its arguments and its three streams.
 
 ghost use Rattle.rr_http.specs.DeskRegistrars.{serves_desk};
-ghost use Rattle.std.specs.Prelude.{◌≡◌, IfErr, map, string_bytes};
+ghost use Rattle.std.specs.Prelude.{◌≡◌, IfErr, IsOk, OnOk, map, string_bytes};
 ghost use Rattle.rr_arguments.specs.CommandLine.{invoked};
 ghost use Rattle.rr_commands.specs.Worlds.{deed, ports};
 ghost use Rattle.rr_cli.specs.Networks.{means};
 ghost use Rattle.rr_cli.specs.Running.{CarriesOut, resources};
-ghost use Rattle.rr_cli.specs.Runs.{DoesAsInvoked, EndsRun, EndsUnread, IsOfArguments, IsUnread};
-ghost use Rattle.rr_cli.specs.Runs.{Runs, running};
+ghost use Rattle.rr_cli.specs.Runs.{AreUnread, DoesAsInvoked, EndsRun, EndsUnread, IsOfArguments};
+ghost use Rattle.rr_cli.specs.Runs.{Runs, refused_arguments, running};
 
 use crate::network::Network;
 use crate::probe_command::probe;
@@ -32,20 +32,20 @@ const HINT: &[u8] =
 /// which has its line on `errors`, 2 at wrong arguments, 3 at wrong settings, 4 at trouble with the
 /// database or if the desk is stopped, and else 5, also if memory ran out (profile).
 pub fn run<D: Databases, F: Files, N: Network, R: Input, W: Output, E: Sink>(
-    host: &mut Host<'_, D, F, W>,
+    host: &mut Host<'_, D, W>,
+    files: &F,
     network: &N,
     arguments: &[String],
     input: &mut R,
     errors: &mut E,
 ) -> u8
-    ensures runs { Runs (ports D.Disk.Store D.calls (F.calls host.old.files))
+    ensures { Runs (ports D.Disk.Store D.calls (F.calls files.now))
         (means (N.calls network.now) serves_desk) (map string_bytes arguments.now)
         (deed (running (resources host.old.databases (R.told input.old)) (E.told errors.old))
         (running (resources host.new.databases (R.told input.new)) (E.told errors.new))
         (W.told host.old.output) (W.told host.new.output) result) }
-    ensures kept { host.new.files ≡ host.old.files }
 {
-    let end = run_arguments(host, network, arguments, input);
+    let end = run_arguments(host, files, network, arguments, input);
     ended_with(host.tools.alloc, end, errors)
 }
 
@@ -68,17 +68,25 @@ pub fn tell_unread<E: Sink>(trouble: Trouble, errors: &mut E) -> u8
 
 /// The arguments as a list.
 pub fn collect(alloc: Global, arguments: io::Result<Args>) -> Result<Vec<String>, Trouble>
-    ensures { IfErr result IsUnread }
+    ensures read { OnOk result (IsOk arguments) }
+    ensures unread { IfErr result (AreUnread arguments) }
 {
     match arguments {
         Ok(arguments) => match arguments.collect(alloc) {
             Ok(arguments) => Ok(arguments),
             Err(_) => Err(Trouble::Memory),
         },
-        Err(error) => match error.kind() {
-            ErrorKind::OutOfMemory => Err(Trouble::Memory),
-            _ => Err(Trouble::ArgumentsNotText),
-        },
+        Err(error) => Err(refused_arguments(error.kind())),
+    }
+}
+
+/// What is told of arguments that the system does not give, by the kind of its error.
+fn refused_arguments(kind: ErrorKind) -> Trouble
+    ensures { result ≡ refused_arguments kind }
+{
+    match kind {
+        ErrorKind::OutOfMemory => Trouble::Memory,
+        _ => Trouble::ArgumentsNotText,
     }
 }
 
@@ -130,58 +138,58 @@ fn refusal_of(alloc: Global, arguments: &[String]) -> Option<String> {
 
 /// Does what the arguments ask for.
 fn run_arguments<'a, D: Databases, F: Files, N: Network, R: Input, W: Output>(
-    host: &mut Host<'_, D, F, W>,
+    host: &mut Host<'_, D, W>,
+    files: &F,
     network: &N,
     arguments: &'a [String],
     input: &mut R,
 ) -> Result<u8, ProgramFault<'a>>
-    ensures does { DoesAsInvoked (ports D.Disk.Store D.calls (F.calls host.old.files))
+    ensures { DoesAsInvoked (ports D.Disk.Store D.calls (F.calls files.now))
         (means (N.calls network.now) serves_desk) (invoked (map string_bytes arguments.now))
         (deed (resources host.old.databases (R.told input.old))
         (resources host.new.databases (R.told input.new))
         (W.told host.old.output) (W.told host.new.output) result) }
-    ensures kept { host.new.files ≡ host.old.files }
 {
     match read_command(host.tools.alloc, arguments) {
-        Ok(command) => carry_out(host, network, command, input),
+        Ok(command) => carry_out(host, files, network, command, input),
         Err(fault) => Err(fault_of(host.tools.alloc, arguments, fault)),
     }
 }
 
 /// Carries out a command.
 fn carry_out<'a, D: Databases, F: Files, N: Network, R: Input, W: Output>(
-    host: &mut Host<'_, D, F, W>,
+    host: &mut Host<'_, D, W>,
+    files: &F,
     network: &N,
     command: Command<'a>,
     input: &mut R,
 ) -> Result<u8, ProgramFault<'a>>
-    ensures carries { CarriesOut (ports D.Disk.Store D.calls (F.calls host.old.files))
+    ensures { CarriesOut (ports D.Disk.Store D.calls (F.calls files.now))
         (means (N.calls network.now) serves_desk) command.entry
         (deed (resources host.old.databases (R.told input.old))
         (resources host.new.databases (R.told input.new))
         (W.told host.old.output) (W.told host.new.output) result) }
-    ensures kept { host.new.files ≡ host.old.files }
 {
     match command {
         Command::Plain => {
             hint(host.tools.errors);
             plain(host.tools.alloc, input, &mut host.output)
         }
-        Command::Init { settings } => init(host, settings),
-        Command::Submit { settings, file } => submit(host, settings, file),
+        Command::Init { settings } => init(host, files, settings),
+        Command::Submit { settings, file } => submit(host, files, settings, file),
         Command::Query {
             settings,
             query: words,
-        } => query(host, settings, words.as_str()),
-        Command::Dump { settings, full } => dump(host, settings, full),
-        Command::Load { settings, file } => load(host, settings, file),
-        Command::Migrate { settings } => migrate(host, settings),
+        } => query(host, files, settings, words.as_str()),
+        Command::Dump { settings, full } => dump(host, files, settings, full),
+        Command::Load { settings, file } => load(host, files, settings, file),
+        Command::Migrate { settings } => migrate(host, files, settings),
         Command::Serve {
             settings,
             port,
             count,
-        } => serve(host, network, settings, Listening { port, count }),
-        Command::Probe { settings } => probe(host, network, settings),
+        } => serve(host, files, network, settings, Listening { port, count }),
+        Command::Probe { settings } => probe(host, files, network, settings),
         Command::Print(text) => print(&mut host.output, text.as_bytes()),
     }
 }

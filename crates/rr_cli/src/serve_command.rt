@@ -4,6 +4,7 @@ ghost use Rattle.std.specs.Prelude.{◌≡◌, ◌+◌, ◌<◌, ◌^◌, IfErr,
 ghost use Rattle.rr_io.specs.Sending.{Writes};
 ghost use Rattle.rr_http.specs.DeskRegistrars.{serves_desk};
 ghost use Rattle.rr_commands.specs.Commands.{AtDesk, EndsAs};
+ghost use Rattle.rr_commands.specs.Faults.{IsFaultOf};
 ghost use Rattle.rr_commands.specs.Worlds.{at, deed, done_by, named, ports};
 ghost use Rattle.rr_cli.specs.Networks.{means};
 ghost use Rattle.rr_cli.specs.Serving.{HasServed, IsAboutServing, IsServedEnd, ServesBy};
@@ -38,17 +39,17 @@ pub struct Listening {
 /// many failed: the status is 0, unless no turn was served and in the last one no connection could
 /// be accepted. If the database fails meanwhile, that is said once on standard error.
 pub fn serve<'a, D: Databases, F: Files, N: Network, W: Output>(
-    host: &mut Host<'_, D, F, W>,
+    host: &mut Host<'_, D, W>,
+    files: &F,
     network: &N,
     file: &'a str,
     listening: Listening,
 ) -> Result<u8, ProgramFault<'a>>
-    ensures done { ServesBy (ports D.Disk.Store D.calls (F.calls host.old.files))
+    ensures { ServesBy (ports D.Disk.Store D.calls (F.calls files.now))
         (means (N.calls network.now) serves_desk) file.now listening
         (done_by W.told host.old host.new result) }
-    ensures kept { host.new.files ≡ host.old.files }
 {
-    let (settings, mut store) = read_settings_file(host, file)?;
+    let (settings, mut store) = read_settings_file(host.tools.alloc, files, file)?;
     let watched = Watched {
         tools: host.tools,
         path: store.path.as_str(),
@@ -59,8 +60,8 @@ pub fn serve<'a, D: Databases, F: Files, N: Network, W: Output>(
 }
 
 /// How serving ended; trouble with the listener is about its address.
-fn ended_at<'a, D: Databases, F: Files, W: Output>(
-    host: &Host<'_, D, F, W>,
+fn ended_at<'a, D: Databases, W: Output>(
+    host: &Host<'_, D, W>,
     end: Result<u8, Trouble>,
     port: u16,
     file: &'a str,
@@ -84,8 +85,7 @@ fn ended_at<'a, D: Databases, F: Files, W: Output>(
 
 /// A fault about a port of 127.0.0.1.
 fn about_port<'a>(alloc: Global, trouble: Trouble, port: u16) -> ProgramFault<'a>
-    ensures trouble { result.trouble ≡ trouble }
-    ensures about { ShowsPort port result }
+    ensures { IsFaultOf trouble (ShowsPort port) result }
 {
     match address(alloc, port) {
         Ok(address) => ProgramFault::named(address, trouble),
@@ -104,18 +104,17 @@ fn address(alloc: Global, port: u16) -> Result<String, AllocError>
 }
 
 /// Serves connections from the registry in a database.
-fn serve_at<D: Databases, F: Files, N: Network, W: Output>(
-    host: &mut Host<'_, D, F, W>,
+fn serve_at<D: Databases, N: Network, W: Output>(
+    host: &mut Host<'_, D, W>,
     network: &N,
     settings: Settings,
     watched: Watched<'_>,
     found: &mut String,
 ) -> Result<u8, Trouble>
-    ensures done { AtDesk (at D.Disk.Store D.calls)
+    ensures { AtDesk (at D.Disk.Store D.calls)
         (ServesDesk D.Disk.Store (means (N.calls network.now) serves_desk)
         watched.entry.listening) (named settings watched.entry.path.now)
         (done_by W.told host.old host.new result) }
-    ensures kept { host.new.files ≡ host.old.files }
 {
     let path = watched.path;
     let mut desk = open_desk(watched.tools, &mut host.databases, settings, path, found)?;

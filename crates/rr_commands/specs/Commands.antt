@@ -1,7 +1,7 @@
 -- What commands do that read settings from a file and use the database that these name, by how they
 -- end (profile).
 use Rattle.std.specs.Prelude.{◌≡◌, ◌≤◌, ◌+◌, ◌<◌, ◌⊎◌, ℕ, false, List, [], length, take, IfErr}
-use Rattle.std.specs.Prelude.{IfSome, Option, Result, Ok, Err}
+use Rattle.std.specs.Prelude.{Bool, IfSome, IsTrue, Option, Result, Ok, Err}
 use Rattle.std.specs.IoError.{error_kind, raw_os_error}
 use Rattle.std.specs.declared.io.Error.{Error}
 use Rattle.std.specs.declared.io.ErrorKind.TheVariants.{OutOfMemory}
@@ -14,7 +14,7 @@ use Rattle.rr_desk.specs.Rows.{CommitsNothing}
 use Rattle.rr_desk.specs.Settings.{SettingsParts}
 use Rattle.rr_commands.specs.Causes.{system_cause}
 use Rattle.rr_commands.specs.Databases.{DatabaseCalls}
-use Rattle.rr_commands.specs.Faults.{name_on_line, place_on_line}
+use Rattle.rr_commands.specs.Faults.{Shows, place_on_line}
 use Rattle.rr_commands.specs.Files.{FileCalls}
 use Rattle.rr_commands.specs.Found.{IsToldUnopened}
 use Rattle.rr_commands.specs.SettingsFiles.{AreNoSettings, settings_of_text}
@@ -117,7 +117,7 @@ pub record HasNoSettings {D : Type 0} (files : FileCalls) (file : List ℕ)
   pub fault : ProgramFault
   pub told : done.ended ≡ Err fault
   pub cause : GivesNoSettings files file fault.trouble
-  pub about : name_on_line fault.about ≡ place_on_line place.File file []
+  pub about : Shows (place_on_line place.File file []) fault
   pub untouched : done.after.has ≡ done.before.has
   pub silent : done.after.output ≡ done.before.output
 
@@ -152,6 +152,12 @@ ActsBySettings files file shows does done =
 pub record LooksAt {S : Type 0} (g : Ghosts S) (before after : Held S) : Type 0 where
   pub autocommit : after.in_transaction ≡ false
   pub only : CommitsNothing (state g before) (state g after)
+
+-- a look at a database found nothing, or trouble or a version of this kind (profile)
+pub record Finds {S X : Type 0} (g : Ghosts S) (is_kind : X → Bool) (before after : Held S)
+    (found : Option X) : Type 0 where
+  pub looks : LooksAt g before after
+  pub kind : IfSome found (λ it. IsTrue (is_kind it))
 
 -- the tables of a database were not opened for this fault; what is told is that, or what a look at
 -- the database found (profile)

@@ -43,6 +43,20 @@ abbrev pub NamesPath : List ℕ → List ℕ → List ℕ → Type 0
 NamesPath path found text =
     (text ≡ path) ⊎ ((start : List ℕ) × IsShownAs path start × (text ≡ start ++ found))
 
+-- a fault about this, with this trouble, where reading or printing failed for this cause
+abbrev pub fault_about : About → Trouble → Cause → ProgramFault
+fault_about about trouble stream = record { about = about; trouble = trouble; stream = stream }
+
+-- a fault shows this of what it is about, on its line (profile)
+abbrev pub Shows : List ℕ → ProgramFault → Type 0
+Shows name fault = name_on_line fault.about ≡ name
+
+-- a fault with this trouble, of which this is true (profile)
+pub record IsFaultOf (told : Trouble) (holds : ProgramFault → Type 0) (fault : ProgramFault)
+    : Type 0 where
+  pub trouble : fault.trouble ≡ told
+  pub shows : holds fault
+
 -- what a fault is about, as a line shows it: the same, and a word so or, without memory, as it was
 -- given (profile)
 abbrev pub IsLegible : About → About → Type 0
@@ -59,15 +73,18 @@ abbrev pub IsAbout : List ℕ → List ℕ → List ℕ → ProgramFault → Typ
 IsAbout file path found fault =
     (database : List ℕ)
     × NamesPath path found database
-    × (name_on_line fault.about ≡ place_on_line (place_of fault.trouble) file database)
+    × Shows (place_on_line (place_of fault.trouble) file database) fault
 
--- a fault of what a file has shows the file, and where in it (profile)
-pub record IsInFile (file : List ℕ) (fault : ProgramFault) : Type 0 where
-  pub of_file : place_of fault.trouble ≡ place.File
+-- a fault shows a file, and may show where in it (profile)
+pub record ShowsFile (file : List ℕ) (fault : ProgramFault) : Type 0 where
   pub found : List ℕ
   pub text : List ℕ
   pub names : NamesPath file found text
-  pub shows : name_on_line fault.about ≡ place_on_line place.File text []
+  pub shows : Shows (place_on_line place.File text []) fault
+
+-- a fault of what a file has shows the file, and where in it (profile)
+abbrev pub IsInFile : List ℕ → ProgramFault → Type 0
+IsInFile file fault = (place_of fault.trouble ≡ place.File) × ShowsFile file fault
 
 -- the same of a command that loads this file: what it has may be shown with its place (profile)
 abbrev pub IsAboutDump : List ℕ → List ℕ → List ℕ → ProgramFault → Type 0

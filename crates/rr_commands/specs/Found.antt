@@ -1,10 +1,13 @@
 -- What a look at a database may find whose tables were not opened or not migrated (profile).
-use Rattle.std.specs.Prelude.{◌≡◌, ◌⊎◌, ℕ, ◌==◌, Bool, true, false, IsTrue, nat_lt}
+use Rattle.std.specs.Prelude.{◌≡◌, ◌⊎◌, ℕ, ◌==◌, ◌||◌, Bool, true, false, not, IsTrue}
+use Rattle.std.specs.Prelude.{nat_lt}
 use Rattle.rr_store.specs.declared.store_fault.MigrateFault.{MigrateFault}
 use Rattle.rr_store.specs.declared.store_fault.MigrateFault.TheVariants as migrating
 use Rattle.rr_store.specs.declared.store_fault.OpenFault.{OpenFault}
 use Rattle.rr_store.specs.declared.store_fault.OpenFault.TheVariants as opening
 use Rattle.rr_store.specs.declared.version.TheConstants.{OLD_VERSION, VERSION}
+use Rattle.rr_store.specs.declared.version.Version.{Version}
+use Rattle.rr_store.specs.declared.version.Version.TheVariants.{Current, Old}
 use Rattle.rr_commands.specs.declared.trouble.Trouble.{Trouble}
 use Rattle.rr_commands.specs.declared.trouble.Trouble.TheVariants as trouble
 
@@ -16,28 +19,47 @@ is_of_tables trouble.OtherTables = true
 is_of_tables trouble.Obstacle = true
 is_of_tables _ = false
 
+-- a later version, of tables that are not opened (profile)
+abbrev pub is_later_opened : Trouble → Bool
+is_later_opened (trouble.Opening (opening.WrongVersion version)) = nat_lt VERSION version
+is_later_opened _ = false
+
+-- a later version, of tables that are not migrated (profile)
+abbrev pub is_later_migrated : Trouble → Bool
+is_later_migrated (trouble.Migrating (migrating.WrongVersion version)) = nat_lt VERSION version
+is_later_migrated _ = false
+
 -- what a look at tables that are not opened may find: that, or a later version (profile)
 abbrev pub is_of_unopened : Trouble → Bool
-is_of_unopened (trouble.Opening (opening.WrongVersion version)) = nat_lt VERSION version
-is_of_unopened found = is_of_tables found
+is_of_unopened found = is_of_tables found || is_later_opened found
 
 -- what a look at tables that are not migrated may find: the same (profile)
 abbrev pub is_of_unmigrated : Trouble → Bool
-is_of_unmigrated (trouble.Migrating (migrating.WrongVersion version)) = nat_lt VERSION version
-is_of_unmigrated found = is_of_tables found
+is_of_unmigrated found = is_of_tables found || is_later_migrated found
 
--- what a look at their rows may find: another source, a row, or what rows say together (profile)
-abbrev pub is_of_rows : Trouble → Bool
-is_of_rows trouble.OtherSource = true
-is_of_rows trouble.OtherSourceRow = true
-is_of_rows trouble.BadObject = true
-is_of_rows trouble.Unnamed = true
-is_of_rows trouble.Overlap = true
-is_of_rows trouble.OtherRows = true
-is_of_rows trouble.OldKeys = true
-is_of_rows trouble.NewKeys = true
-is_of_rows trouble.NoObject = true
-is_of_rows _ = false
+-- the version of keys before those of AS numbers of 32 bits (profile)
+abbrev pub is_old : Version → Bool
+is_old Old = true
+is_old Current = false
+
+-- what is told of tables of this version that have the keys of the other one (profile)
+abbrev pub keys_beside : Version → Trouble
+keys_beside Old = trouble.NewKeys
+keys_beside Current = trouble.OldKeys
+
+-- what a look at the rows of tables of this version may find: another source, a row, what rows say
+-- together, or keys of the other version (profile)
+abbrev pub is_of_rows : Version → Trouble → Bool
+is_of_rows version trouble.OtherSource = true
+is_of_rows version trouble.OtherSourceRow = true
+is_of_rows version trouble.BadObject = true
+is_of_rows version trouble.Unnamed = true
+is_of_rows version trouble.Overlap = true
+is_of_rows version trouble.OtherRows = true
+is_of_rows version trouble.NoObject = true
+is_of_rows version trouble.OldKeys = not (is_old version)
+is_of_rows version trouble.NewKeys = is_old version
+is_of_rows version _ = false
 
 -- what a look at tables may find that say this version and are not opened: if it is the one that is
 -- migrated, that `meta` has other rows beside it, or the keys of the one that is read (profile)
@@ -52,19 +74,20 @@ abbrev pub is_of_version : ℕ → Trouble → Bool
 is_of_version version trouble.OtherRows = version == VERSION
 is_of_version _ _ = false
 
--- what may be found of tables that are not opened: where the database was refused, where its rows
--- were, and where its version was (profile)
+-- what may be found of tables that are not opened, which are to be of the version that is read:
+-- where the database was refused, where its rows were, and where its version was (profile)
 abbrev pub is_found_unopened : OpenFault → Trouble → Bool
 is_found_unopened (opening.Store error) found = is_of_unopened found
-is_found_unopened opening.BadRow found = is_of_rows found
+is_found_unopened opening.BadRow found = is_of_rows Current found
 is_found_unopened (opening.WrongVersion version) found = is_of_old version found
 is_found_unopened opening.Memory found = false
 
--- what may be found of tables that are not migrated: where the database was refused, where its rows
--- were, where its version was, and where the root was missing: that there are no objects (profile)
+-- what may be found of tables that are not migrated, which are to be of the version before: where
+-- the database was refused, where its rows were, where its version was, and where the root was
+-- missing: that there are no objects (profile)
 abbrev pub is_found : MigrateFault → Trouble → Bool
 is_found (migrating.Store error) found = is_of_unmigrated found
-is_found migrating.BadRow found = is_of_rows found
+is_found migrating.BadRow found = is_of_rows Old found
 is_found (migrating.WrongVersion version) found = is_of_version version found
 is_found migrating.NoRoot trouble.Empty = true
 is_found _ found = false

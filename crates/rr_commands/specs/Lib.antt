@@ -3,6 +3,8 @@ pub mod Databases
 pub mod Faults
 pub mod Files
 pub mod Found
+pub mod MetaRows
+pub mod ObjectRows
 pub mod SettingsFiles
 pub mod Shown
 pub mod Troubles

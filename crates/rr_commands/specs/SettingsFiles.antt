@@ -95,3 +95,10 @@ AreNoSettings bytes (trouble.SettingsNotToml line) = settings_of_text bytes ≡ 
 AreNoSettings bytes (trouble.SettingBad key) = settings_of_text bytes ≡ Err (BadKey key)
 AreNoSettings bytes trouble.Memory = Unit {0}
 AreNoSettings bytes _ = ⊥
+
+-- what is told of a text that is no settings, by its fault: of one that is no TOML a line (profile)
+abbrev pub IsToldOf : SettingsFault → Trouble → Type 0
+IsToldOf BadToml (trouble.SettingsNotToml line) = Unit {0}
+IsToldOf (BadKey key) (trouble.SettingBad told) = told ≡ key
+IsToldOf Memory trouble.Memory = Unit {0}
+IsToldOf _ _ = ⊥

@@ -55,7 +55,7 @@ deed old new told_old told_new ended = record {
 }
 
 -- what was done by a host
-abbrev pub done_by : {D F W E : Type 0} → (W → Told) → Host D F W → Host D F W → E → Deed D E
+abbrev pub done_by : {D W E : Type 0} → (W → Told) → Host D W → Host D W → E → Deed D E
 done_by told old new ended = deed old.databases new.databases (told old.output) (told new.output)
     ended
 

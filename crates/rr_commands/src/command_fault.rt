@@ -2,8 +2,9 @@
 
 ghost use Rattle.std.specs.Prelude.{◌≡◌, ◌++◌, [], IfSome, codes, map, string_bytes};
 ghost use Rattle.rr_io.specs.Sending.{TakesSome, Writes};
-ghost use Rattle.rr_commands.specs.Faults.{IsLegible, byte_on_line, fault_line, name_on_line};
-ghost use Rattle.rr_commands.specs.Faults.{number_text, place_on_line, trouble_text};
+ghost use Rattle.rr_commands.specs.Faults.{IsFaultOf, IsLegible, Shows, byte_on_line};
+ghost use Rattle.rr_commands.specs.Faults.{fault_about, fault_line, name_on_line, number_text};
+ghost use Rattle.rr_commands.specs.Faults.{place_on_line, trouble_text};
 ghost use Rattle.rr_commands.specs.Troubles.{place_of, trouble_status};
 ghost use Rattle.rr_commands.specs.declared.command_fault.About.TheVariants as abouts;
 ghost use Rattle.rr_commands.specs.declared.trouble.Place.TheVariants as place;
@@ -42,8 +43,7 @@ pub struct ProgramFault<'a> {
 impl<'a> ProgramFault<'a> {
     /// A fault that is about nothing that has a name.
     pub fn unnamed(trouble: Trouble) -> ProgramFault<'a>
-        ensures about { result.about ≡ abouts.Nothing }
-        ensures trouble { result.trouble ≡ trouble }
+        ensures { result ≡ fault_about abouts.Nothing trouble Cause.Unnumbered }
     {
         ProgramFault {
             about: About::Nothing,
@@ -54,8 +54,7 @@ impl<'a> ProgramFault<'a> {
 
     /// A fault that is about a word, or about a file that it names.
     pub fn of(word: &'a str, trouble: Trouble) -> ProgramFault<'a>
-        ensures about { result.about ≡ abouts.Word word.entry }
-        ensures trouble { result.trouble ≡ trouble }
+        ensures { result ≡ fault_about (abouts.Word word.entry) trouble Cause.Unnumbered }
     {
         ProgramFault {
             about: About::Word(word),
@@ -66,9 +65,7 @@ impl<'a> ProgramFault<'a> {
 
     /// A fault of a file that a word names, which gave no more for this cause.
     pub fn of_file(word: &'a str, trouble: Trouble, stream: Cause) -> ProgramFault<'a>
-        ensures about { result.about ≡ abouts.Word word.entry }
-        ensures trouble { result.trouble ≡ trouble }
-        ensures stream { result.stream ≡ stream }
+        ensures { result ≡ fault_about (abouts.Word word.entry) trouble stream }
     {
         ProgramFault {
             about: About::Word(word),
@@ -79,8 +76,7 @@ impl<'a> ProgramFault<'a> {
 
     /// A fault that is about what has this name.
     pub fn named(name: String, trouble: Trouble) -> ProgramFault<'a>
-        ensures about { result.about ≡ abouts.Named name }
-        ensures trouble { result.trouble ≡ trouble }
+        ensures { result ≡ fault_about (abouts.Named name) trouble Cause.Unnumbered }
     {
         ProgramFault {
             about: About::Named(name),
@@ -91,8 +87,7 @@ impl<'a> ProgramFault<'a> {
 
     /// A fault of standard output, which took no more for this cause.
     pub fn of_output(trouble: Trouble, stream: Cause) -> ProgramFault<'a>
-        ensures about { name_on_line result.about ≡ place_on_line place.Output [] [] }
-        ensures trouble { result.trouble ≡ trouble }
+        ensures shows { IsFaultOf trouble (Shows (place_on_line place.Output [] [])) result }
         ensures stream { result.stream ≡ stream }
     {
         ProgramFault {
@@ -110,9 +105,8 @@ impl<'a> ProgramFault<'a> {
         database: String,
         stream: Cause,
     ) -> ProgramFault<'a>
-        ensures trouble { result.trouble ≡ trouble }
-        ensures about { name_on_line result.about
-            ≡ place_on_line (place_of trouble) file.now (string_bytes database) }
+        ensures { IsFaultOf trouble
+            (Shows (place_on_line (place_of trouble) file.now (string_bytes database))) result }
     {
         match trouble.end().place {
             Place::Nothing => ProgramFault::unnamed(trouble),
@@ -155,7 +149,6 @@ impl<'a> ProgramFault<'a> {
         ensures says { TakesSome (E.told errors.old) (E.told errors.new)
             (fault_line self.entry.about self.entry.trouble self.entry.stream) }
         ensures status { result ≡ trouble_status self.entry.trouble }
-        ensures aside { E.aside errors.new ≡ E.aside errors.old }
     {
         // A failed write cannot be said anywhere else, and the status says that there is a fault.
         let _ = self.write_line(errors);
@@ -165,9 +158,8 @@ impl<'a> ProgramFault<'a> {
     /// Writes the line.
     #[tactic(auto, unfolding(crate::specs::Faults::fault_line))]
     fn write_line<E: Sink>(&self, errors: &mut E) -> io::Result<()>
-        ensures writes { Writes (E.told errors.old) (E.told errors.new)
+        ensures { Writes (E.told errors.old) (E.told errors.new)
             (fault_line self.now.about self.now.trouble self.now.stream) result }
-        ensures aside { E.aside errors.new ≡ E.aside errors.old }
     {
         write_all(errors, b"irrdesk: ")?;
         write_about(errors, &self.about)?;
@@ -177,9 +169,8 @@ impl<'a> ProgramFault<'a> {
 
 /// Writes the name of what a fault is about, and a colon.
 fn write_about<E: Sink>(errors: &mut E, about: &About<'_>) -> io::Result<()>
-    ensures writes { Writes (E.told errors.old) (E.told errors.new)
+    ensures { Writes (E.told errors.old) (E.told errors.new)
         (name_on_line about.now) result }
-    ensures aside { E.aside errors.new ≡ E.aside errors.old }
 {
     match about {
         About::Nothing => Ok(()),
@@ -190,9 +181,8 @@ fn write_about<E: Sink>(errors: &mut E, about: &About<'_>) -> io::Result<()>
 
 /// Writes a name, and a colon.
 fn write_name<E: Sink>(errors: &mut E, name: &[u8]) -> io::Result<()>
-    ensures writes { Writes (E.told errors.old) (E.told errors.new)
+    ensures { Writes (E.told errors.old) (E.told errors.new)
         (map byte_on_line name.now ++ codes ": ") result }
-    ensures aside { E.aside errors.new ≡ E.aside errors.old }
 {
     write_on_line(errors, name)?;
     write_all(errors, b": ")
@@ -200,9 +190,8 @@ fn write_name<E: Sink>(errors: &mut E, name: &[u8]) -> io::Result<()>
 
 /// Writes a text, with `?` for each control character, so that it stays on its line.
 fn write_on_line<E: Sink>(errors: &mut E, text: &[u8]) -> io::Result<()>
-    ensures writes { Writes (E.told errors.old) (E.told errors.new)
+    ensures { Writes (E.told errors.old) (E.told errors.new)
         (map byte_on_line text.now) result }
-    ensures aside { E.aside errors.new ≡ E.aside errors.old }
 {
     'bytes: for byte in text {
         write_all(errors, &[byte_on_line(*byte)])?;
@@ -220,9 +209,8 @@ fn byte_on_line(byte: u8) -> u8
 /// Writes what went wrong, to the end of the line.
 #[tactic(auto, unfolding(crate::specs::Faults::trouble_text))]
 fn write_trouble<E: Sink>(errors: &mut E, trouble: Trouble, stream: Cause) -> io::Result<()>
-    ensures writes { Writes (E.told errors.old) (E.told errors.new)
+    ensures { Writes (E.told errors.old) (E.told errors.new)
         (trouble_text trouble stream) result }
-    ensures aside { E.aside errors.new ≡ E.aside errors.old }
 {
     let cause = trouble.cause(stream);
     let mut code_digits = Buffer::new();

@@ -4,23 +4,25 @@
 //! commits nothing. If memory runs out meanwhile, what the store said is told, or what else was
 //! found.
 
-ghost use Rattle.std.specs.Prelude.{◌≡◌, IfSome, IsTrue, false, nat_lt};
-ghost use Rattle.rr_commands.specs.Commands.{LooksAt};
-ghost use Rattle.rr_commands.specs.Found.{IsToldUnopened, is_of_old, is_of_rows, is_of_unmigrated};
-ghost use Rattle.rr_commands.specs.Found.{is_of_unopened, is_of_version};
+ghost use Rattle.std.specs.Prelude.{◌≡◌, IfSome, IsTrue, Some, false, nat_lt};
+ghost use Rattle.rr_commands.specs.Commands.{Finds, LooksAt};
+ghost use Rattle.rr_commands.specs.Found.{IsToldUnopened, is_of_old, is_of_rows, is_of_tables};
+ghost use Rattle.rr_commands.specs.Found.{is_of_unmigrated, is_of_version, keys_beside};
+ghost use Rattle.rr_commands.specs.MetaRows.{SaysVersion};
 ghost use Rattle.rr_commands.specs.Migrated.{IsDiagnosis, LooksAtRefused};
 
+use crate::meta_rows::version_in;
 use crate::object_rows::{
     RowFault, Wanted, are_mostly_others, first_with, objects_of, push_numbered, push_row,
     suit_other_version,
 };
-use crate::obstacle::{has_other_order, has_other_tables, push_obstacle, text_at};
+use crate::obstacle::{has_other_order, has_other_tables, push_obstacle};
 use crate::trouble::Trouble;
 use rr_desk::{MigrateFault, OpenFault};
 use rr_index::IndexedBook;
 use rr_number::Name;
 use rr_registry::{LoadFault, Registry};
-use rr_store::{OLD_VERSION, VERSION, Version, is_version_row_alone, read_decimal};
+use rr_store::{OLD_VERSION, VERSION, Version, is_version_row_alone};
 use sqlite::{Alter, Connection, Row};
 use sqlite_schema::schema::Schema;
 use std::alloc::{AllocError, Global};
@@ -42,6 +44,7 @@ const NAMES_ALONE: &str = "SELECT class, okey FROM named EXCEPT SELECT class, ok
 /// What is the matter with a database whose registry was not opened for this reason. If a row of an
 /// object is, its class and key are put into `found`, if another row is, its table, and if it is
 /// what was added to a table, that. Its rows are looked at if a copy of the source was made.
+#[tactic(auto, using(crate::proofs::FoundLemmas::tables_unopened))]
 pub(crate) fn trouble_with<S: Alter>(
     alloc: Global,
     conn: &mut Connection<S>,
@@ -90,13 +93,12 @@ fn found_in_old<S: Alter>(
     found: &mut String,
 ) -> Option<Trouble>
     requires { conn.old.in_transaction ≡ false }
-    ensures kind { IfSome result (λ trouble. IsTrue (is_of_old version trouble)) }
-    ensures looks { LooksAt S.Store conn.old conn.new }
+    ensures { Finds S.Store (is_of_old version) conn.old conn.new result }
 {
     if version != OLD_VERSION {
         return None;
     }
-    if has_other_meta(conn, Version::Old) {
+    if are_other_rows(look(conn, META), Version::Old) {
         push_meta(found);
         return Some(Trouble::OtherRows);
     }
@@ -112,7 +114,8 @@ fn found_in_old<S: Alter>(
 /// What is the matter with rows of which more are good in the other version than in this one, which
 /// `meta` says.
 fn keys_beside(version: Version) -> Trouble
-    ensures kind { IsTrue (is_of_rows result) }
+    ensures keys { result ≡ keys_beside version }
+    ensures kind { IsTrue (is_of_rows version result) }
 {
     match version {
         Version::Old => Trouble::NewKeys,
@@ -151,7 +154,7 @@ pub(crate) fn told_of<S: Alter>(
             }
         }
         (Err(Trouble::Migrating(MigrateFault::NoRoot)), _) => {
-            if has_no_objects(conn) {
+            if are_none(look(conn, OBJECTS)) {
                 Err(Trouble::Empty)
             } else {
                 end
@@ -161,12 +164,9 @@ pub(crate) fn told_of<S: Alter>(
     }
 }
 
-/// Whether the tables have no objects.
-fn has_no_objects<S: Alter>(conn: &mut Connection<S>) -> bool
-    requires { conn.old.in_transaction ≡ false }
-    ensures { LooksAt S.Store conn.old conn.new }
-{
-    match look(conn, OBJECTS) {
+/// Whether a look found that there are no rows.
+fn are_none(found: Result<Vec<Row>, sqlite::Error>) -> bool {
+    match found {
         Ok(rows) => rows.as_slice().is_empty(),
         Err(_) => false,
     }
@@ -180,11 +180,10 @@ fn found_in_meta<S: Alter>(
     found: &mut String,
 ) -> Option<Trouble>
     requires { conn.old.in_transaction ≡ false }
-    ensures kind { IfSome result (λ trouble. IsTrue (is_of_version version trouble)) }
-    ensures looks { LooksAt S.Store conn.old conn.new }
+    ensures { Finds S.Store (is_of_version version) conn.old conn.new result }
 {
     if version == VERSION {
-        if has_other_meta(conn, Version::Current) {
+        if are_other_rows(look(conn, META), Version::Current) {
             push_meta(found);
             return Some(Trouble::OtherRows);
         }
@@ -199,10 +198,10 @@ fn push_meta(found: &mut String) {
 }
 
 /// What is the matter with tables that are not migrated, if it is found.
+#[tactic(auto, using(crate::proofs::FoundLemmas::tables_unmigrated))]
 fn found_in_tables<S: Alter>(conn: &mut Connection<S>, found: &mut String) -> Option<Trouble>
     requires { conn.old.in_transaction ≡ false }
-    ensures kind { IfSome result (λ trouble. IsTrue (is_of_unmigrated trouble)) }
-    ensures looks { LooksAt S.Store conn.old conn.new }
+    ensures { Finds S.Store is_of_unmigrated conn.old conn.new result }
 {
     if let Some(version) = later_version(conn) {
         Some(Trouble::Migrating(MigrateFault::WrongVersion(version)))
@@ -214,9 +213,7 @@ fn found_in_tables<S: Alter>(conn: &mut Connection<S>, found: &mut String) -> Op
 /// What is the matter with how tables were made, if it is found.
 fn found_in_schema<S: Alter>(conn: &mut Connection<S>, found: &mut String) -> Option<Trouble>
     requires { conn.old.in_transaction ≡ false }
-    ensures unopened { IfSome result (λ trouble. IsTrue (is_of_unopened trouble)) }
-    ensures unmigrated { IfSome result (λ trouble. IsTrue (is_of_unmigrated trouble)) }
-    ensures looks { LooksAt S.Store conn.old conn.new }
+    ensures { Finds S.Store is_of_tables conn.old conn.new result }
 {
     match look(conn, LISTED) {
         Ok(rows) => judge_schema(conn.schema(), rows.as_slice(), found),
@@ -227,8 +224,7 @@ fn found_in_schema<S: Alter>(conn: &mut Connection<S>, found: &mut String) -> Op
 /// What is the matter with tables that are listed so: their order, what was added to them, or that
 /// they were made otherwise.
 fn judge_schema(schema: &Schema, rows: &[Row], found: &mut String) -> Option<Trouble>
-    ensures unopened { IfSome result (λ trouble. IsTrue (is_of_unopened trouble)) }
-    ensures unmigrated { IfSome result (λ trouble. IsTrue (is_of_unmigrated trouble)) }
+    ensures { IfSome result (λ trouble. IsTrue (is_of_tables trouble)) }
 {
     if has_other_order(rows) {
         Some(Trouble::OtherOrder)
@@ -245,31 +241,22 @@ fn judge_schema(schema: &Schema, rows: &[Row], found: &mut String) -> Option<Tro
 /// columns.
 fn later_version<S: Alter>(conn: &mut Connection<S>) -> Option<u32>
     requires { conn.old.in_transaction ≡ false }
-    ensures later { IfSome result (λ version. IsTrue (nat_lt VERSION version)) }
-    ensures looks { LooksAt S.Store conn.old conn.new }
+    ensures { Finds S.Store (nat_lt VERSION) conn.old conn.new result }
 {
     match look(conn, META) {
-        Ok(rows) => {
-            let version = version_in(rows.as_slice())?;
-            if version > VERSION {
-                Some(version)
-            } else {
-                None
-            }
-        }
+        Ok(rows) => later_in(rows.as_slice()),
         Err(_) => None,
     }
 }
 
-/// The version among rows of `meta`.
-fn version_in(rows: &[Row]) -> Option<u32> {
-    let row = rows
-        .iter()
-        .find(|row| text_at(row, 0) == b"version".as_slice())?;
-    let found: Result<String, sqlite::Error> = row.get(1);
-    match found {
-        Ok(found) => read_decimal(found.as_bytes()),
-        Err(_) => None,
+/// The version that these rows of `meta` say, if it is a later one.
+fn later_in(rows: &[Row]) -> Option<u32>
+    ensures later { IfSome result (λ version. IsTrue (nat_lt VERSION version)) }
+    ensures says { IfSome result (SaysVersion rows.now) }
+{
+    match version_in(rows) {
+        Some(version) if version > VERSION => Some(version),
+        _ => None,
     }
 }
 
@@ -283,10 +270,9 @@ fn found_in_rows<S: Alter>(
     found: &mut String,
 ) -> Option<Trouble>
     requires { conn.old.in_transaction ≡ false }
-    ensures kind { IfSome result (λ trouble. IsTrue (is_of_rows trouble)) }
-    ensures looks { LooksAt S.Store conn.old conn.new }
+    ensures { Finds S.Store (is_of_rows version) conn.old conn.new result }
 {
-    if has_other_meta(conn, version) {
+    if are_other_rows(look(conn, META), version) {
         push_meta(found);
         return Some(Trouble::OtherRows);
     }
@@ -302,12 +288,9 @@ fn found_in_rows<S: Alter>(
     }
 }
 
-/// Whether `meta` has other rows than that of this version.
-fn has_other_meta<S: Alter>(conn: &mut Connection<S>, version: Version) -> bool
-    requires { conn.old.in_transaction ≡ false }
-    ensures { LooksAt S.Store conn.old conn.new }
-{
-    match look(conn, META) {
+/// Whether a look at `meta` found other rows than that of this version.
+fn are_other_rows(meta: Result<Vec<Row>, sqlite::Error>, version: Version) -> bool {
+    match meta {
         Ok(rows) => !is_version_row_alone(rows.as_slice(), version),
         Err(_) => false,
     }
@@ -335,8 +318,7 @@ fn judge_rows<S: Alter>(
     found: &mut String,
 ) -> Option<Trouble>
     requires { conn.old.in_transaction ≡ false }
-    ensures kind { IfSome result (λ trouble. IsTrue (is_of_rows trouble)) }
-    ensures looks { LooksAt S.Store conn.old conn.new }
+    ensures { Finds S.Store (is_of_rows wanted.entry.version) conn.old conn.new result }
 {
     if are_mostly_others(alloc, rows, wanted.source, wanted.version) {
         return Some(Trouble::OtherSource);
@@ -376,8 +358,7 @@ fn judge_together<S: Alter>(
     found: &mut String,
 ) -> Option<Trouble>
     requires { conn.old.in_transaction ≡ false }
-    ensures kind { IfSome result (λ trouble. IsTrue (is_of_rows trouble)) }
-    ensures looks { LooksAt S.Store conn.old conn.new }
+    ensures { Finds S.Store (is_of_rows wanted.entry.version) conn.old conn.new result }
 {
     let Some(objects) = objects_of(alloc, rows, wanted.source, wanted.version) else {
         return None;
@@ -386,7 +367,7 @@ fn judge_together<S: Alter>(
     match loaded {
         Ok(_) => {
             let trouble = judge_names(conn, found);
-            Some(trouble)
+            return Some(trouble);
         }
         Err(LoadFault::Overlap(number)) => {
             push_numbered(found, rows, number);
@@ -404,8 +385,8 @@ fn judge_together<S: Alter>(
 /// object, and else all of them.
 fn judge_names<S: Alter>(conn: &mut Connection<S>, found: &mut String) -> Trouble
     requires { conn.old.in_transaction ≡ false }
-    ensures kind { IsTrue (is_of_rows result) }
-    ensures looks { LooksAt S.Store conn.old conn.new }
+    ensures { (version : Version) →
+        Finds S.Store (is_of_rows version) conn.old conn.new (Some result) }
 {
     if let Ok(rows) = look(conn, NAMES_ALONE) {
         if let Some(row) = rows.as_slice().first() {

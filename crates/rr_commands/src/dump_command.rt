@@ -22,31 +22,30 @@ use std::alloc::Global;
 /// Prints the dump of the registry that the settings name, with all of each object if it is to be
 /// full, and else with their public forms.
 pub fn dump<'a, D: Databases, F: Files, W: Output>(
-    host: &mut Host<'_, D, F, W>,
+    host: &mut Host<'_, D, W>,
+    files: &F,
     file: &'a str,
     full: bool,
 ) -> Result<u8, ProgramFault<'a>>
-    ensures done { DumpsBy (ports D.Disk.Store D.calls (F.calls host.old.files)) file.now full
+    ensures { DumpsBy (ports D.Disk.Store D.calls (F.calls files.now)) file.now full
         (done_by W.told host.old host.new result) }
-    ensures kept { host.new.files ≡ host.old.files }
 {
-    let (settings, mut store) = read_settings_file(host, file)?;
+    let (settings, mut store) = read_settings_file(host.tools.alloc, files, file)?;
     let path = store.path.as_str();
     let end = dump_at(host, settings, path, &mut store.found, full);
     ended(host, end, file, store)
 }
 
 /// Prints the dump of the registry in the database at a path.
-fn dump_at<D: Databases, F: Files, W: Output>(
-    host: &mut Host<'_, D, F, W>,
+fn dump_at<D: Databases, W: Output>(
+    host: &mut Host<'_, D, W>,
     settings: Settings,
     path: &str,
     found: &mut String,
     full: bool,
 ) -> Result<u8, Trouble>
-    ensures done { AtDesk (at D.Disk.Store D.calls) (DumpsDesk full) (named settings path.now)
+    ensures { AtDesk (at D.Disk.Store D.calls) (DumpsDesk full) (named settings path.now)
         (done_by W.told host.old host.new result) }
-    ensures kept { host.new.files ≡ host.old.files }
 {
     let desk = open_desk(host.tools, &mut host.databases, settings, path, found)?;
     host.output.show(Shown::Objects);
@@ -66,9 +65,8 @@ pub fn dump_to<S: Alter, W: Sink>(
     writer: &mut W,
 ) -> Result<u8, Trouble>
     requires { desk.now.stored.stopped ≡ false }
-    ensures dumped { HasDumped (dumps.dump full desk.now.stored.registry)
+    ensures { HasDumped (dumps.dump full desk.now.stored.registry)
         (W.told writer.old) (W.told writer.new) result }
-    ensures aside { W.aside writer.new ≡ W.aside writer.old }
 {
     match desk.dump(alloc, writer, full) {
         Ok(_) => Ok(0),

@@ -12,15 +12,14 @@ pub struct Tools<'h> {
     pub errors: ErrorStream<'h>,
 }
 
-/// What a command uses: its tools, what keeps databases, where files are, and what it prints to.
+/// What a command changes, with its tools: what keeps databases, and what it prints to. Files it
+/// only reads.
 #[derive(Drop)]
-pub struct Host<'h, D, F, W> {
+pub struct Host<'h, D, W> {
     /// Its tools.
     pub tools: Tools<'h>,
     /// What keeps databases.
     pub databases: D,
-    /// Where files are.
-    pub files: F,
     /// What it prints to.
     pub output: W,
 }

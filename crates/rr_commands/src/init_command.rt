@@ -19,28 +19,27 @@ use std::alloc::Global;
 
 /// Makes the database that the settings name, with the opening objects of a registry, and says so.
 pub fn init<'a, D: Databases, F: Files, W: Output>(
-    host: &mut Host<'_, D, F, W>,
+    host: &mut Host<'_, D, W>,
+    files: &F,
     file: &'a str,
 ) -> Result<u8, ProgramFault<'a>>
-    ensures done { CreatesBy (ports D.Disk.Store D.calls (F.calls host.old.files)) file.now
+    ensures { CreatesBy (ports D.Disk.Store D.calls (F.calls files.now)) file.now
         (done_by W.told host.old host.new result) }
-    ensures kept { host.new.files ≡ host.old.files }
 {
-    let (settings, store) = read_settings_file(host, file)?;
+    let (settings, store) = read_settings_file(host.tools.alloc, files, file)?;
     let end = init_at(host, settings, store.path.as_str());
     ended(host, end, file, store)
 }
 
 /// Makes the registry that opens with these settings in the database at a path, and says so.
-fn init_at<D: Databases, F: Files, W: Output>(
-    host: &mut Host<'_, D, F, W>,
+fn init_at<D: Databases, W: Output>(
+    host: &mut Host<'_, D, W>,
     settings: Settings,
     path: &str,
 ) -> Result<u8, Trouble>
-    ensures done { InDatabase (at D.Disk.Store D.calls) Absent.Made
+    ensures { InDatabase (at D.Disk.Store D.calls) Absent.Made
         (CreatesIn D.Disk.Store) (named settings path.now)
         (done_by W.told host.old host.new result) }
-    ensures kept { host.new.files ≡ host.old.files }
 {
     match host.databases.open(path, Absent::Made) {
         Ok(conn) => {
@@ -64,7 +63,6 @@ pub fn create_to<S: Alter, W: Sink>(
     ensures creates { CreatesIn S.Store settings
         (deed conn result.0 (W.told writer.old) (W.told writer.new) result.1) }
     ensures autocommit { result.0.in_transaction ≡ false }
-    ensures aside { W.aside writer.new ≡ W.aside writer.old }
 {
     match Desk::create(alloc, conn, settings) {
         Ok(desk) => {

@@ -11,6 +11,7 @@ mod files;
 mod host;
 mod init_command;
 mod load_command;
+mod meta_rows;
 mod migrate_command;
 mod object_rows;
 mod obstacle;

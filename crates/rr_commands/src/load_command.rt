@@ -10,7 +10,7 @@ ghost use Rattle.rr_commands.specs.Worlds.{at, deed, done_by, named, ports};
 
 use crate::command_fault::ProgramFault;
 use crate::files::{Files, open_file};
-use crate::host::{Host, Store};
+use crate::host::{Host, Store, Tools};
 use crate::output::{Output, cause_of, ended, tell};
 use crate::places::about_paragraph;
 use crate::progress::{Reading, Shown};
@@ -28,22 +28,23 @@ use std::alloc::{AllocError, Global};
 /// Makes the registry of a dump in the database that the settings name, which is to be new or
 /// without rows, and says how many objects it has.
 pub fn load<'a, D: Databases, F: Files, W: Output>(
-    host: &mut Host<'_, D, F, W>,
+    host: &mut Host<'_, D, W>,
+    files: &F,
     settings: &'a str,
     file: &'a str,
 ) -> Result<u8, ProgramFault<'a>>
-    ensures done { LoadsBy (ports D.Disk.Store D.calls (F.calls host.old.files)) settings.now
+    ensures { LoadsBy (ports D.Disk.Store D.calls (F.calls files.now)) settings.now
         file.now (done_by W.told host.old host.new result) }
-    ensures kept { host.new.files ≡ host.old.files }
 {
-    let (read, store) = read_settings_file(host, settings)?;
-    let end = load_at(host, read, store.path.as_str(), file);
-    ended_in_dump(host, end, file, store)
+    let (read, store) = read_settings_file(host.tools.alloc, files, settings)?;
+    let end = load_at(host, files, read, store.path.as_str(), file);
+    ended_in_dump(host, files, end, file, store)
 }
 
 /// How a load ended; trouble with a paragraph of the dump is about its line and its key.
 fn ended_in_dump<'a, D: Databases, F: Files, W: Output>(
-    host: &Host<'_, D, F, W>,
+    host: &Host<'_, D, W>,
+    files: &F,
     end: Result<u8, Trouble>,
     file: &'a str,
     store: Store,
@@ -55,13 +56,7 @@ fn ended_in_dump<'a, D: Databases, F: Files, W: Output>(
     match end {
         Ok(status) => Ok(status),
         Err(trouble) => match trouble.paragraph() {
-            Some(number) => Err(about_paragraph(
-                host.tools.alloc,
-                &host.files,
-                file,
-                number,
-                trouble,
-            )),
+            Some(number) => Err(about_paragraph(host.tools.alloc, files, file, number, trouble)),
             None => ended(host, end, file, store),
         },
     }
@@ -69,19 +64,20 @@ fn ended_in_dump<'a, D: Databases, F: Files, W: Output>(
 
 /// Makes the registry of a dump in the database at a path, and says how many objects it has.
 fn load_at<D: Databases, F: Files, W: Output>(
-    host: &mut Host<'_, D, F, W>,
+    host: &mut Host<'_, D, W>,
+    files: &F,
     settings: Settings,
     path: &str,
     file: &str,
 ) -> Result<u8, Trouble>
-    ensures done { InDatabase (at D.Disk.Store D.calls) Absent.Made
-        (LoadsIn D.Disk.Store (F.calls host.old.files) file.now) (named settings path.now)
+    ensures { InDatabase (at D.Disk.Store D.calls) Absent.Made
+        (LoadsIn D.Disk.Store (F.calls files.now) file.now) (named settings path.now)
         (done_by W.told host.old host.new result) }
-    ensures kept { host.new.files ≡ host.old.files }
 {
     match host.databases.open(path, Absent::Made) {
         Ok(conn) => {
-            let (conn, end) = load_file(host, conn, settings, file);
+            let output = &mut host.output;
+            let (conn, end) = load_file(host.tools, files, conn, settings, file, output);
             close(&mut host.databases, conn);
             end
         }
@@ -91,26 +87,25 @@ fn load_at<D: Databases, F: Files, W: Output>(
 
 /// Loads the file of a dump into a database, and shows on a terminal how many bytes were read. The
 /// connection is given back.
-fn load_file<S: Alter, D: Databases, F: Files, W: Output>(
-    host: &mut Host<'_, D, F, W>,
+fn load_file<S: Alter, F: Files, W: Output>(
+    tools: Tools<'_>,
+    files: &F,
     conn: Connection<S>,
     settings: Settings,
     file: &str,
+    output: &mut W,
 ) -> (Connection<S>, Result<u8, Trouble>)
     requires { conn.in_transaction ≡ false }
-    ensures loads { LoadsIn S.Store (F.calls host.old.files) file.now settings
-        (deed conn result.0 (W.told host.old.output) (W.told host.new.output) result.1) }
-    ensures databases { host.new.databases ≡ host.old.databases }
-    ensures kept { host.new.files ≡ host.old.files }
+    ensures { LoadsIn S.Store (F.calls files.now) file.now settings
+        (deed conn result.0 (W.told output.old) (W.told output.new) result.1) }
 {
-    let file = match open_file(&host.files, file) {
+    let file = match open_file(files, file) {
         Ok(file) => file,
         Err(trouble) => return (conn, Err(trouble)),
     };
-    let output = &mut host.output;
-    let mut reading = Reading::new(host.tools.errors, Counted::new(file));
+    let mut reading = Reading::new(tools.errors, Counted::new(file));
     output.show(Shown::Others);
-    let (conn, end) = load_to(host.tools.alloc, conn, settings, &mut reading, output);
+    let (conn, end) = load_to(tools.alloc, conn, settings, &mut reading, output);
     reading.end();
     let cause = cause_of(end, &reading, output);
     output.keep(cause);
@@ -130,8 +125,6 @@ pub fn load_to<S: Alter, R: Source, W: Sink>(
     ensures loads { Loads S.Store settings (R.told reader.old) (R.told reader.new)
         (deed conn result.0 (W.told writer.old) (W.told writer.new) result.1) }
     ensures autocommit { result.0.in_transaction ≡ false }
-    ensures reader_aside { R.aside reader.new ≡ R.aside reader.old }
-    ensures writer_aside { W.aside writer.new ≡ W.aside writer.old }
 {
     match Desk::load(alloc, conn, settings, reader) {
         Ok(desk) => {
@@ -148,9 +141,8 @@ fn tell_loaded<W: Sink>(
     registry: &Registry<IndexedBook>,
     writer: &mut W,
 ) -> Result<u8, Trouble>
-    ensures tells { TellsLoaded (length (values registry.now))
+    ensures { TellsLoaded (length (values registry.now))
         (W.told writer.old) (W.told writer.new) result }
-    ensures aside { W.aside writer.new ≡ W.aside writer.old }
 {
     match object_count(alloc, registry) {
         Ok(count) => tell_count(writer, count),
@@ -168,8 +160,7 @@ fn object_count(alloc: Global, registry: &Registry<IndexedBook>) -> Result<u64, 
 
 /// Writes that so many objects were loaded.
 fn tell_count<W: Sink>(writer: &mut W, count: u64) -> Result<u8, Trouble>
-    ensures tells { Tells (loaded_line count) (W.told writer.old) (W.told writer.new) result }
-    ensures aside { W.aside writer.new ≡ W.aside writer.old }
+    ensures { Tells (loaded_line count) (W.told writer.old) (W.told writer.new) result }
 {
     let mut buffer = Buffer::new();
     let number = buffer.format(count).as_bytes();

@@ -21,29 +21,28 @@ use std::alloc::Global;
 /// Turns the tables of version 1, in the database that the settings name, into those of version 2,
 /// and says so.
 pub fn migrate<'a, D: Databases, F: Files, W: Output>(
-    host: &mut Host<'_, D, F, W>,
+    host: &mut Host<'_, D, W>,
+    files: &F,
     file: &'a str,
 ) -> Result<u8, ProgramFault<'a>>
-    ensures done { MigratesBy (ports D.Disk.Store D.calls (F.calls host.old.files)) file.now
+    ensures { MigratesBy (ports D.Disk.Store D.calls (F.calls files.now)) file.now
         (done_by W.told host.old host.new result) }
-    ensures kept { host.new.files ≡ host.old.files }
 {
-    let (settings, mut store) = read_settings_file(host, file)?;
+    let (settings, mut store) = read_settings_file(host.tools.alloc, files, file)?;
     let end = migrate_at(host, settings, store.path.as_str(), &mut store.found);
     ended(host, end, file, store)
 }
 
 /// Migrates the tables of version 1 of the database at a path, and says so.
-fn migrate_at<D: Databases, F: Files, W: Output>(
-    host: &mut Host<'_, D, F, W>,
+fn migrate_at<D: Databases, W: Output>(
+    host: &mut Host<'_, D, W>,
     settings: Settings,
     path: &str,
     found: &mut String,
 ) -> Result<u8, Trouble>
-    ensures done { InDatabase (at D.Disk.Store D.calls) Absent.Refused
+    ensures { InDatabase (at D.Disk.Store D.calls) Absent.Refused
         (λ settings. IsDiagnosed D.Disk.Store (MigratesIn D.Disk.Store settings))
         (named settings path.now) (done_by W.told host.old host.new result) }
-    ensures kept { host.new.files ≡ host.old.files }
 {
     match host.databases.open(path, Absent::Refused) {
         Ok(conn) => {
@@ -87,7 +86,6 @@ pub fn migrate_to<S: Alter, W: Sink>(
     ensures migrates { MigratesIn S.Store settings
         (deed conn result.0 (W.told writer.old) (W.told writer.new) result.1) }
     ensures autocommit { result.0.in_transaction ≡ false }
-    ensures aside { W.aside writer.new ≡ W.aside writer.old }
 {
     match Desk::migrate(alloc, conn, settings) {
         Ok(desk) => {

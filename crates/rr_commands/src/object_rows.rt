@@ -1,5 +1,10 @@
 //! The rows of objects, and why one has no object of the registry, for messages alone.
 
+ghost use Rattle.std.specs.Prelude.{◌≡◌, IfErr, IsTrue};
+ghost use Rattle.std.specs.Option.{option_copied};
+ghost use Rattle.rr_commands.specs.ObjectRows.{AreMostlyOfOther, IsOfOther, IsTextOfOther};
+ghost use Rattle.rr_commands.specs.ObjectRows.{row_numbered};
+
 use crate::shown::push_key;
 use rr_number::Name;
 use rr_object::{Key, Object, ObjectFault};
@@ -36,8 +41,13 @@ pub(crate) fn push_numbered(found: &mut String, rows: &[Row], number: u64) {
 }
 
 /// The row of this number, from 1.
-fn row_at(rows: &[Row], number: u64) -> Option<&Row> {
-    rows.get(usize::try_from(number).ok()?.checked_sub(1)?)
+fn row_at(rows: &[Row], number: u64) -> Option<&Row>
+    ensures { option_copied result ≡ row_numbered rows.now number }
+{
+    match number {
+        0 => None,
+        _ => rows.get(number as usize - 1),
+    }
 }
 
 /// Whether more than half of the rows have objects of another source.
@@ -46,12 +56,26 @@ pub(crate) fn are_mostly_others(
     rows: &[Row],
     source: &Name,
     version: Version,
-) -> bool {
-    let others = rows
-        .iter()
-        .filter(|row| fault_of(alloc, row, source, version) == Some(RowFault::OtherSource))
-        .count();
+) -> bool
+    ensures { IsTrue result → AreMostlyOfOther source.now rows.now }
+{
+    let mut others = 0usize;
+    'rows: for row in rows {
+        if is_of_other(alloc, row, source, version) {
+            others += 1;
+        }
+    }
     others > rows.len() / 2
+}
+
+/// Whether a row has an object of another source.
+fn is_of_other(alloc: Global, row: &Row, source: &Name, version: Version) -> bool
+    ensures { IsTrue result → IsOfOther source.now row.now }
+{
+    match object_of(alloc, row, source, version) {
+        Err(RowFault::OtherSource) => true,
+        _ => false,
+    }
 }
 
 /// The first row with this fault.
@@ -105,12 +129,9 @@ fn fault_of(alloc: Global, row: &Row, source: &Name, version: Version) -> Option
 }
 
 /// The object of a row.
-fn object_of(
-    alloc: Global,
-    row: &Row,
-    source: &Name,
-    version: Version,
-) -> Result<Object, RowFault> {
+fn object_of(alloc: Global, row: &Row, source: &Name, version: Version) -> Result<Object, RowFault>
+    ensures { IfErr result (λ fault. fault ≡ RowFault.OtherSource → IsOfOther source.now row.now) }
+{
     let body: Result<Vec<u8>, sqlite::Error> = row.get(2);
     match body {
         Ok(body) => read_body(alloc, row, body.as_slice(), source, version),
@@ -125,7 +146,10 @@ fn read_body(
     body: &[u8],
     source: &Name,
     version: Version,
-) -> Result<Object, RowFault> {
+) -> Result<Object, RowFault>
+    ensures { IfErr result (λ fault. fault ≡ RowFault.OtherSource → IsTextOfOther source.now
+        body.now) }
+{
     match read_canonical(alloc, body) {
         Ok(Some(paragraph)) => match Object::read(alloc, paragraph, source) {
             Ok(object) => keyed(alloc, row, object, version),
@@ -139,7 +163,9 @@ fn read_body(
 }
 
 /// The object, if the row has its class and key.
-fn keyed(alloc: Global, row: &Row, object: Object, version: Version) -> Result<Object, RowFault> {
+fn keyed(alloc: Global, row: &Row, object: Object, version: Version) -> Result<Object, RowFault>
+    ensures { IfErr result (λ fault. fault ≡ RowFault.Bad) }
+{
     let class: Result<u64, sqlite::Error> = row.get(0);
     match class {
         Ok(class) if class == u64::from(object.key().class().number()) => {

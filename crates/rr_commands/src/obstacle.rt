@@ -1,6 +1,10 @@
 //! How the tables of a registry were made otherwise than irrdesk makes them, for messages alone: in
 //! another order, or with what keeps them from being read.
 
+ghost use Rattle.std.specs.Prelude.{◌≡◌, ◌≢◌, []};
+ghost use Rattle.sqlite_value.specs.Order.{column};
+ghost use Rattle.sqlite_value.specs.declared.value.Value.TheVariants.{Text};
+
 use crate::shown::push_key;
 use rr_store::{META_TREE, NAMED_TREE, OBJECT_TREE, has_tables};
 use sqlite::Row;
@@ -111,7 +115,9 @@ fn obstacle_of(row: &Row) -> Option<Obstacle<'_>> {
 }
 
 /// The text of a row at a place, or nothing.
-pub(crate) fn text_at(row: &Row, at: usize) -> &[u8] {
+pub(crate) fn text_at(row: &Row, at: usize) -> &[u8]
+    ensures { result.now ≢ [] → column row.now at ≡ Text result.now }
+{
     match row.get_ref(at) {
         Ok(ValueRef::Text(text)) => text,
         _ => b"",

@@ -2,7 +2,7 @@
 
 ghost use Rattle.std.specs.Prelude.{◌≡◌, ◌++◌, ℕ, IfErr, IfOk, List, string_bytes};
 ghost use Rattle.rr_commands.specs.Commands.{EndsAs};
-ghost use Rattle.rr_commands.specs.Faults.{IsAbout, IsShownAs, NamesPath};
+ghost use Rattle.rr_commands.specs.Faults.{IsAbout, IsFaultOf, IsShownAs, NamesPath};
 ghost use Rattle.rr_commands.specs.Printed.{Prints, Tells};
 
 use crate::cause::Cause;
@@ -71,8 +71,7 @@ pub fn print<'a, W: Output>(output: &mut W, text: &[u8]) -> Result<u8, ProgramFa
 
 /// Writes a text, and gives the status 0; the fault is that it could not be written whole.
 pub(crate) fn tell<W: Sink>(writer: &mut W, text: &[u8]) -> Result<u8, Trouble>
-    ensures tells { Tells text.now (W.told writer.old) (W.told writer.new) result }
-    ensures aside { W.aside writer.new ≡ W.aside writer.old }
+    ensures { Tells text.now (W.told writer.old) (W.told writer.new) result }
 {
     match write_all(writer, text) {
         Ok(()) => Ok(0),
@@ -83,8 +82,8 @@ pub(crate) fn tell<W: Sink>(writer: &mut W, text: &[u8]) -> Result<u8, Trouble>
 /// How a command ended that read this file and used the database at this path, with what its
 /// trouble is about: of the database its path, as a line shows it, and then what was found in it,
 /// which is text that a line shows.
-pub fn ended<'a, D, F, W: Output>(
-    host: &Host<'_, D, F, W>,
+pub fn ended<'a, D, W: Output>(
+    host: &Host<'_, D, W>,
     end: Result<u8, Trouble>,
     file: &'a str,
     store: Store,
@@ -110,8 +109,8 @@ pub(crate) fn placed<'a>(
     store: Store,
     stream: Cause,
 ) -> ProgramFault<'a>
-    ensures trouble { result.trouble ≡ trouble }
-    ensures about { IsAbout file.now (string_bytes store.path) (string_bytes store.found) result }
+    ensures { IsFaultOf trouble
+        (IsAbout file.now (string_bytes store.path) (string_bytes store.found)) result }
 {
     let shown = shown_database(alloc, store.path, store.found.as_str());
     ProgramFault::placed(trouble, file, shown, stream)

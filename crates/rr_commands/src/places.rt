@@ -1,8 +1,7 @@
 //! Where a paragraph stands in a file: its line and its key, for messages.
 
-ghost use Rattle.std.specs.Prelude.{◌≡◌, ◌≤◌, ℕ, [], IfSome, List, length, string_bytes};
-ghost use Rattle.rr_commands.specs.Faults.{NamesPath, name_on_line, place_on_line};
-ghost use Rattle.rr_commands.specs.declared.trouble.Place.TheVariants as place;
+ghost use Rattle.std.specs.Prelude.{◌≤◌, ℕ, IfSome, List, length, string_bytes};
+ghost use Rattle.rr_commands.specs.Faults.{IsFaultOf, NamesPath, ShowsFile};
 
 use crate::command_fault::ProgramFault;
 use crate::files::Files;
@@ -25,9 +24,7 @@ pub(crate) fn about_paragraph<'a, F: Files>(
     number: u64,
     trouble: Trouble,
 ) -> ProgramFault<'a>
-    ensures trouble { result.trouble ≡ trouble }
-    ensures about { (found : List ℕ) × (text : List ℕ) × NamesPath file.now found text
-        × (name_on_line result.about ≡ place_on_line place.File text []) }
+    ensures { IsFaultOf trouble (ShowsFile file.now) result }
 {
     match named_place(alloc, files, file, number) {
         Some(name) => ProgramFault::named(name, trouble),

@@ -1,6 +1,6 @@
 //! How far a long command has come, on the last line of a terminal.
 
-ghost use Rattle.std.specs.Prelude.{◌≡◌};
+ghost use Rattle.std.specs.Prelude.{◌≡◌, ◌<◌, IsNone};
 
 use crate::cause::Cause;
 use crate::error_stream::ErrorStream;
@@ -249,8 +249,6 @@ impl<'a, W: Sink> Progress<'a, W> {
 impl<W: Sink> Sink for Progress<'_, W> {
     ghost told = { λ p. W.told p.writer };
 
-    ghost aside = { λ p. W.aside p.writer };
-
     fn write(&mut self, bytes: &[u8]) -> io::Result<usize> {
         let made_way = self.meter.make_way();
         match self.writer.write(bytes) {
@@ -333,8 +331,6 @@ impl<'a, R: Source> Reading<'a, R> {
 impl<R: Source> Source for Reading<'_, R> {
     ghost told = { λ p. R.told p.reader };
 
-    ghost aside = { λ p. R.aside p.reader };
-
     fn read(&mut self, buf: &mut [u8]) -> io::Result<usize> {
         match self.reader.read(buf) {
             Ok(count) => {
@@ -359,29 +355,51 @@ impl<R: Source> Input for Reading<'_, R> {
     }
 }
 
-/// A line on a terminal that says, of a large database, that it is being opened.
-#[derive(Drop)]
-pub struct Opening<'a> {
+/// A line that stands on a terminal until it is taken away: its type is not `Drop`, so whoever has
+/// one takes it away, or does not compile.
+struct Line<'a> {
     errors: ErrorStream<'a>,
-    is_shown: bool,
+}
+
+impl<'a> Line<'a> {
+    /// Writes the line.
+    fn draw(errors: ErrorStream<'a>, text: &[u8]) -> Line<'a> {
+        errors.show(text);
+        Line { errors }
+    }
+
+    /// Takes it away.
+    fn clear(self) {
+        let Line { errors } = self;
+        errors.show(CLEARED);
+    }
+}
+
+/// A line on a terminal that says, of a large database, that it is being opened.
+pub struct Opening<'a> {
+    line: Option<Line<'a>>,
 }
 
 impl<'a> Opening<'a> {
     /// Shows the line for a database of so many bytes, if that is large and standard error is a
     /// terminal.
-    pub fn begin(errors: ErrorStream<'a>, size: u64) -> Opening<'a> {
+    pub fn begin(errors: ErrorStream<'a>, size: u64) -> Opening<'a>
+        ensures { size < LARGE → IsNone result.line }
+    {
         let is_shown = size >= LARGE && errors.is_terminal();
-        if is_shown {
-            errors.show(b"opening the database");
-        }
-        Opening { errors, is_shown }
+        let line = if is_shown {
+            Some(Line::draw(errors, b"opening the database"))
+        } else {
+            None
+        };
+        Opening { line }
     }
 
     /// Takes the line away.
-    pub fn end(&mut self) {
-        if self.is_shown {
-            self.is_shown = false;
-            self.errors.show(CLEARED);
+    pub fn end(self) {
+        let Opening { line } = self;
+        if let Some(line) = line {
+            line.clear();
         }
     }
 }

@@ -23,31 +23,30 @@ const ERROR: u8 = 1;
 /// Asks the registry that the settings name, and prints the answer: the status is 0, or 1 if the
 /// answer is an error.
 pub fn query<'a, D: Databases, F: Files, W: Output>(
-    host: &mut Host<'_, D, F, W>,
+    host: &mut Host<'_, D, W>,
+    files: &F,
     file: &'a str,
     text: &str,
 ) -> Result<u8, ProgramFault<'a>>
-    ensures done { AsksBy (ports D.Disk.Store D.calls (F.calls host.old.files)) file.now text.now
+    ensures { AsksBy (ports D.Disk.Store D.calls (F.calls files.now)) file.now text.now
         (done_by W.told host.old host.new result) }
-    ensures kept { host.new.files ≡ host.old.files }
 {
-    let (settings, mut store) = read_settings_file(host, file)?;
+    let (settings, mut store) = read_settings_file(host.tools.alloc, files, file)?;
     let path = store.path.as_str();
     let end = query_at(host, settings, path, &mut store.found, text.as_bytes());
     ended(host, end, file, store)
 }
 
 /// Asks the registry in the database at a path, and prints the answer.
-fn query_at<D: Databases, F: Files, W: Output>(
-    host: &mut Host<'_, D, F, W>,
+fn query_at<D: Databases, W: Output>(
+    host: &mut Host<'_, D, W>,
     settings: Settings,
     path: &str,
     found: &mut String,
     text: &[u8],
 ) -> Result<u8, Trouble>
-    ensures done { AtDesk (at D.Disk.Store D.calls) (HasAsked D.Disk.Store text.now)
+    ensures { AtDesk (at D.Disk.Store D.calls) (HasAsked D.Disk.Store text.now)
         (named settings path.now) (done_by W.told host.old host.new result) }
-    ensures kept { host.new.files ≡ host.old.files }
 {
     let desk = open_desk(host.tools, &mut host.databases, settings, path, found)?;
     let end = answer_to(host.tools.alloc, &desk, text, &mut host.output);
@@ -64,9 +63,8 @@ pub fn answer_to<S: Alter, W: Sink>(
     writer: &mut W,
 ) -> Result<u8, Trouble>
     requires { desk.now.stored.stopped ≡ false }
-    ensures asked { HasAsked S.Store query.now
+    ensures { HasAsked S.Store query.now
         (deed desk.now desk.now (W.told writer.old) (W.told writer.new) result) }
-    ensures aside { W.aside writer.new ≡ W.aside writer.old }
 {
     match desk.answer(alloc, query, writer) {
         Ok(answered) => Ok(answered_status(answered)),

@@ -347,7 +347,7 @@ pub fn open_desk<D: Databases>(
     ensures fails { IfErr result (OpensNoDesk (at D.Disk.Store D.calls) (named settings path.now)
         databases.old databases.new) }
 {
-    let mut opening = Opening::begin(tools.errors, databases.size(path));
+    let opening = Opening::begin(tools.errors, databases.size(path));
     let opened = open_quietly(tools.alloc, databases, settings, path, found);
     opening.end();
     opened

@@ -5,8 +5,9 @@ ghost use Rattle.std.specs.Prelude.{string_bytes};
 ghost use Rattle.std.specs.Option.{option_copied};
 ghost use Rattle.toml.specs.Parse.{parse_document};
 ghost use Rattle.toml.specs.View.{table_view};
-ghost use Rattle.rr_commands.specs.SettingsFiles.{integer_at, key_of, non_negative, number_at};
-ghost use Rattle.rr_commands.specs.SettingsFiles.{parts_of, settings_of_text, store_of, text_at};
+ghost use Rattle.rr_commands.specs.SettingsFiles.{fault_of, integer_at, key_of, non_negative};
+ghost use Rattle.rr_commands.specs.SettingsFiles.{number_at, parts_of, settings_of_text, store_of};
+ghost use Rattle.rr_commands.specs.SettingsFiles.{text_at};
 ghost use Rattle.rr_commands.specs.declared.settings_file.SettingsFault.TheVariants.{BadToml};
 ghost use Rattle.rr_commands.specs.declared.settings_file.SettingsFault.TheVariants.{Memory};
 
@@ -52,6 +53,18 @@ pub enum SettingsFault {
     BadKey(SettingKey),
     /// Memory ran out.
     Memory,
+}
+
+impl SettingsFault {
+    /// The fault of values that are not settings.
+    fn of(fault: ValueFault) -> SettingsFault
+        ensures { result ≡ fault_of fault }
+    {
+        match fault {
+            ValueFault::Bad(setting) => SettingsFault::BadKey(SettingKey::of(setting)),
+            ValueFault::Memory => SettingsFault::Memory,
+        }
+    }
 }
 
 impl From<AllocError> for SettingsFault {
@@ -108,8 +121,7 @@ fn read_parts(alloc: Global, table: &Table) -> Result<Settings, SettingsFault>
     let limit = number_at(table, "limit");
     match Settings::read(alloc, source, root, auth, limit) {
         Ok(settings) => Ok(settings),
-        Err(ValueFault::Bad(setting)) => { Err(SettingsFault::BadKey(SettingKey::of(setting))) }
-        Err(ValueFault::Memory) => Err(SettingsFault::Memory),
+        Err(fault) => Err(SettingsFault::of(fault)),
     }
 }
 

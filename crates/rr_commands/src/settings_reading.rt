@@ -4,15 +4,15 @@ ghost use Rattle.std.specs.Prelude.{◌≡◌, ◌≤◌, [], IfErr, IfOk};
 ghost use Rattle.std.specs.Prelude.{Ok, OnOk, length, string_bytes};
 ghost use Rattle.rr_commands.specs.Commands.{GivesNoSettings, HasSettings, IsNotRead};
 ghost use Rattle.rr_commands.specs.Commands.{ReadsFile, unread_trouble};
-ghost use Rattle.rr_commands.specs.Faults.{name_on_line, place_on_line};
-ghost use Rattle.rr_commands.specs.SettingsFiles.{AreNoSettings, settings_of_text};
+ghost use Rattle.rr_commands.specs.Faults.{Shows, place_on_line};
+ghost use Rattle.rr_commands.specs.SettingsFiles.{AreNoSettings, IsToldOf, settings_of_text};
 ghost use Rattle.rr_commands.specs.Worlds.{named};
 ghost use Rattle.rr_commands.specs.declared.trouble.Place.TheVariants as place;
 
 use crate::cause::Cause;
 use crate::command_fault::ProgramFault;
 use crate::files::Files;
-use crate::host::{Host, Store};
+use crate::host::Store;
 use crate::readable::Readable;
 use crate::settings_file::{SettingsFault, read_settings};
 use crate::trouble::Trouble;
@@ -27,20 +27,19 @@ const MOST_BYTES: u64 = 1_048_576;
 
 /// The settings in a file, and the path of the database. The fault is about the file (status 3), or
 /// that memory ran out (status 5).
-pub fn read_settings_file<'a, D, F: Files, W>(
-    host: &Host<'_, D, F, W>,
+pub fn read_settings_file<'a, F: Files>(
+    alloc: Global,
+    files: &F,
     file: &'a str,
 ) -> Result<(Settings, Store), ProgramFault<'a>>
-    ensures read { IfOk result (λ read. HasSettings (F.calls host.now.files) file.now
+    ensures read { IfOk result (λ read. HasSettings (F.calls files.now) file.now
         (named read.0 (string_bytes read.1.path))) }
     ensures unfound { IfOk result (λ read. string_bytes read.1.found ≡ []) }
     ensures fails { IfErr result (λ fault.
-        GivesNoSettings (F.calls host.now.files) file.now fault.trouble) }
-    ensures about { IfErr result (λ fault.
-        name_on_line fault.about ≡ place_on_line place.File file.now []) }
+        GivesNoSettings (F.calls files.now) file.now fault.trouble) }
+    ensures about { IfErr result (Shows (place_on_line place.File file.now [])) }
 {
-    let alloc = host.tools.alloc;
-    match read_at(alloc, &host.files, file) {
+    match read_at(alloc, files, file) {
         Ok((settings, path)) => Ok((
             settings,
             Store {
@@ -93,6 +92,7 @@ fn unread_trouble(cause: Cause) -> Trouble
 }
 
 /// The settings that the bytes of a file are, and the path of the database.
+#[tactic(auto, using(crate::proofs::SettingsLemmas::told_of_text))]
 fn read_text(alloc: Global, bytes: &[u8]) -> Result<(Settings, String), Trouble>
     ensures ok { IfOk result
         (λ read. settings_of_text bytes.now ≡ Ok (read.0, string_bytes read.1)) }
@@ -105,11 +105,20 @@ fn read_text(alloc: Global, bytes: &[u8]) -> Result<(Settings, String), Trouble>
     match std::str::from_utf8(bytes) {
         Ok(text) => match read_settings(alloc, text) {
             Ok(read) => Ok(read),
-            Err(SettingsFault::BadToml) => Err(Trouble::SettingsNotToml(bad_line(alloc, text))),
-            Err(SettingsFault::BadKey(key)) => Err(Trouble::SettingBad(key)),
-            Err(SettingsFault::Memory) => Err(Trouble::Memory),
+            Err(fault) => Err(trouble_of(alloc, text, fault)),
         },
         Err(_) => Err(Trouble::SettingsNotText),
+    }
+}
+
+/// What is told of a text that is no settings for this reason.
+fn trouble_of(alloc: Global, text: &str, fault: SettingsFault) -> Trouble
+    ensures { IsToldOf fault result }
+{
+    match fault {
+        SettingsFault::BadToml => Trouble::SettingsNotToml(bad_line(alloc, text)),
+        SettingsFault::BadKey(key) => Trouble::SettingBad(key),
+        SettingsFault::Memory => Trouble::Memory,
     }
 }
 

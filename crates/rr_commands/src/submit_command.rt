@@ -72,35 +72,35 @@ fn plain_trouble(trouble: Trouble) -> Trouble
 /// Submits a file to the registry that the settings name, and prints the report: the status is 0,
 /// or 1 if an item was refused.
 pub fn submit<'a, D: Databases, F: Files, W: Output>(
-    host: &mut Host<'_, D, F, W>,
+    host: &mut Host<'_, D, W>,
+    files: &F,
     settings: &'a str,
     file: &'a str,
 ) -> Result<u8, ProgramFault<'a>>
-    ensures done { SubmitsBy (ports D.Disk.Store D.calls (F.calls host.old.files)) settings.now
+    ensures { SubmitsBy (ports D.Disk.Store D.calls (F.calls files.now)) settings.now
         file.now (done_by W.told host.old host.new result) }
-    ensures kept { host.new.files ≡ host.old.files }
 {
-    let (read, mut store) = read_settings_file(host, settings)?;
+    let (read, mut store) = read_settings_file(host.tools.alloc, files, settings)?;
     let path = store.path.as_str();
-    let end = submit_at(host, read, path, &mut store.found, file);
+    let end = submit_at(host, files, read, path, &mut store.found, file);
     ended(host, end, file, store)
 }
 
 /// Submits a file to the registry in the database at a path, and prints the report.
 fn submit_at<D: Databases, F: Files, W: Output>(
-    host: &mut Host<'_, D, F, W>,
+    host: &mut Host<'_, D, W>,
+    files: &F,
     settings: Settings,
     path: &str,
     found: &mut String,
     file: &str,
 ) -> Result<u8, Trouble>
-    ensures done { AtDesk (at D.Disk.Store D.calls)
-        (SubmitsDesk D.Disk.Store (F.calls host.old.files) file.now) (named settings path.now)
+    ensures { AtDesk (at D.Disk.Store D.calls)
+        (SubmitsDesk D.Disk.Store (F.calls files.now) file.now) (named settings path.now)
         (done_by W.told host.old host.new result) }
-    ensures kept { host.new.files ≡ host.old.files }
 {
     let mut desk = open_desk(host.tools, &mut host.databases, settings, path, found)?;
-    let end = submit_file(host.tools, &mut desk, &host.files, file, &mut host.output);
+    let end = submit_file(host.tools, &mut desk, files, file, &mut host.output);
     let conn = desk.close();
     close(&mut host.databases, conn);
     end
@@ -186,10 +186,8 @@ pub fn submit_to<S: Alter, R: Source, W: Sink>(
     writer: &mut W,
 ) -> Result<u8, Trouble>
     requires { desk.old.stored.stopped ≡ false }
-    ensures submits { HasSubmitted S.Store (R.told reader.old) (R.told reader.new)
+    ensures { HasSubmitted S.Store (R.told reader.old) (R.told reader.new)
         (deed desk.old desk.new (W.told writer.old) (W.told writer.new) result) }
-    ensures reader_aside { R.aside reader.new ≡ R.aside reader.old }
-    ensures writer_aside { W.aside writer.new ≡ W.aside writer.old }
 {
     match desk.submit(alloc, reader, writer) {
         Ok(done) => Ok(done_status(done)),

@@ -1,6 +1,6 @@
 -- What a desk answers, by what its registry found.
-use Rattle.std.proofs.Common.{◌≡◌, ◌≢◌, ℕ, Bool, false, List, Ok, Err, Result, inl, inr, refl, sym}
-use Rattle.std.proofs.Common.{subst}
+use Rattle.std.proofs.Common.{◌≡◌, ◌≢◌, ℕ, Bool, true, false, List, Ok, Err, Result, inl, inr}
+use Rattle.std.proofs.Common.{refl, sym, ap, subst}
 use Rattle.std.specs.Prelude.{IfErr, IfOk}
 use Rattle.rr_io.specs.Sending.{Writes}
 use Rattle.rr_io.specs.Told.{Told}
@@ -30,16 +30,20 @@ registry_answers r limit text (Err TooLong) ok fault = inl (fault (λ same. cc))
 registry_answers r limit text (Err TooMany) ok fault = inl (fault (λ same. cc))
 registry_answers r limit text (Err Stopped) ok fault = inl (fault (λ same. cc))
 
--- a text that is not too long, where the desk runs
+-- so is what a desk that runs found, also of a text that is too long
 pub running : (r : Reg) (limit : ℕ) (text : List ℕ) (stopped : Bool)
-    (found : Result Found QueryFault) → is_too_long text ≡ false → stopped ≡ false →
+    (found : Result Found QueryFault) → stopped ≡ false →
     IfOk found (λ f. IsAnswerTo r limit text (Ok (found_text f)))
     → IfErr found (λ fault. fault ≢ Memory → IsAnswerTo r limit text (Err fault)) →
-    IsAnswered r limit text stopped (made_answer found)
-running r limit text stopped found short was ok fault =
-    subst (λ b. IsAnswerWhere b stopped r limit text (made_answer found)) (sym short)
-    (subst (λ b. IsAnswerWhere false b r limit text (made_answer found)) (sym was)
-    (registry_answers r limit text found ok fault))
+    (is_too_long text ≡ true → found ≡ Err TooLong) → IsAnswered r limit text stopped
+    (made_answer found)
+running r limit text stopped found was ok fault long =
+    subst (λ b. IsAnswerWhere (is_too_long text) b r limit text (made_answer found)) (sym was)
+    (by_length (is_too_long text) refl) where
+      by_length : (b : Bool) → is_too_long text ≡ b →
+          IsAnswerWhere b false r limit text (made_answer found)
+      by_length true too = ap made_answer (long too)
+      by_length false short = registry_answers r limit text found ok fault
 
 -- what was found was written
 pub written : (r : Reg) (limit : ℕ) (text : List ℕ) (stopped : Bool)

@@ -1,7 +1,8 @@
 -- What an item does to the registry, and how the rows follow it.
-use Rattle.std.proofs.Common.{◌≡◌, ℕ, Bool, true, false, cond, List, Ok, Err, Result, OnOk, inl}
-use Rattle.std.proofs.Common.{inr, refl, sym, ap, subst, ◌∙◌, arith}
-use Rattle.std.specs.Prelude.{None, Some, is_some, if◌then◌else◌}
+use Rattle.std.proofs.Common.{◌≡◌, ℕ, Bool, true, false, cond, Bor, List, Ok, Err, Result, OnOk}
+use Rattle.std.proofs.Common.{inl, inr, refl, sym, ap, subst, ◌∙◌, arith}
+use Rattle.std.specs.Prelude.{None, Option, Some, IsSome, is_some, if◌then◌else◌}
+use Rattle.std.specs.Option.{option_copied}
 use Rattle.std.proofs.lemmas.Bool.{true≢false}
 use Rattle.std.specs.FinMap.{get, insert, get-insert}
 use Rattle.sqlite_trees.specs.declared.store.Store.{Ghosts}
@@ -40,8 +41,7 @@ use Rattle.rr_store.specs.Calls.{IsSettled, Transacts, WhileOpen, database}
 use Rattle.rr_desk.specs.Stops.{LeavesStopped, changes}
 use Rattle.rr_desk.specs.Rows.{Holds}
 use Rattle.rr_desk.specs.Stocks.{DatabaseLasts}
-use Rattle.rr_desk.specs.Private.{Follows, FollowsGain, FollowsIn, FollowsNew, Gains, LeadsTo}
-use Rattle.rr_desk.specs.Private.{LeavesRest, puts_one}
+use Rattle.rr_desk.specs.Private.{Follows, FollowsIn, Gains, LeadsTo, LeavesRest, puts_one}
 
 -- a change is never an addition
 beyond : (b : Bool) (c : Code) (v : Verdict) → (if b then Refuse c else v) ≡ Add → v ≡ Add
@@ -85,7 +85,7 @@ effect_leads before (DeleteItem k) Delete met absent = refl
 effect_leads before (DeleteItem k) (Refuse code) met absent = refl
 
 -- so does an item, which is refused where memory ran out or meets its verdict
-pub leads : (before : Reg) (secrets : List (List ℕ)) (item : Item) (outcome : Outcome)
+leads : (before : Reg) (secrets : List (List ℕ)) (item : Item) (outcome : Outcome)
     (later : Reg) → IsStep before secrets item outcome later → LeadsTo before (key_about item)
     outcome later
 leads before secrets item outcome later (inl e) =
@@ -94,6 +94,14 @@ leads before secrets item outcome later (inl e) =
     (λ o is added. absent_if_added before secrets o (subst (λ i. verdict before secrets i ≡ Add) is
     added)))
 leads before secrets item outcome later (inr w) = rw (w.outcome_is, w.effect) refl
+
+-- where its key is this one
+pub leads_at : (before : Reg) (secrets : List (List ℕ)) (item : Item) (key : Key)
+    (outcome : Outcome) (later : Reg) → key ≡ key_about item → IsStep before secrets item outcome
+    later → LeadsTo before key outcome later
+leads_at before secrets item key outcome later is_key step =
+    subst (λ k. LeadsTo before k outcome later) (sym is_key) (leads before secrets item outcome
+    later step)
 
 -- an object that was put in stands under its key
 stands_there : (key : Key) (before after : Reg) (gain : Gains before key after) → get after key
@@ -113,6 +121,11 @@ stands_after before key Unchanged after leading puts = absurd (true≢false (sym
 stands_after before key Deleted after leading puts = absurd (true≢false (sym puts))
 stands_after before key (Refused code) after leading puts = absurd (true≢false (sym puts))
 
+-- an object that is lent is there
+pub some_there : (found : Option (Bor Obj)) → is_some (option_copied found) ≡ true → IsSome found
+some_there (Some object) there = there
+some_there None there = there
+
 -- the object that stands under the key of one that was put in is that one
 the_gained : (key : Key) (before after : Reg) (object : Obj) → get after key ≡ Some object →
     (gain : Gains before key after) → object ≡ gain.object
@@ -122,7 +135,7 @@ the_gained key before after object found gain =
 
 -- its rows are put in with it
 pub gain_follows : (key : Key) (after : Reg) (object : Obj) (old new : Database) → get after key
-    ≡ Some object → Puts object.key object old new → FollowsGain key after old new
+    ≡ Some object → Puts object.key object old new → Follows key Changed after old new
 gain_follows key after object old new found puts before gain rows =
     let same = the_gained key before after object found gain in
     subst (λ r. HasRows r new) (ap (λ o. insert before o.key o) same
@@ -130,7 +143,7 @@ gain_follows key after object old new found puts before gain rows =
 
 -- and added where there was none
 pub new_follows : (key : Key) (after : Reg) (object : Obj) (old new : Database) → get after key
-    ≡ Some object → AddsTo object.key object old new → FollowsNew key after old new
+    ≡ Some object → AddsTo object.key object old new → Follows key Added after old new
 new_follows key after object old new found adds before begun rows =
     let gain = begun.gain in
     let same = the_gained key before after object found gain in
@@ -269,8 +282,8 @@ stops_there g held_before held_after before after secrets item key outcome e is_
     let new = state g held_after in
     let survives = follows.crash in
     let earlier : HasCleanDisk new → HasCleanDisk old = λ clean. omega (arith, survives.clean) in
-    let leading : LeadsTo before key outcome after = subst (λ k. LeadsTo before k outcome after)
-    (sym is_key) (leads before secrets item outcome after step) in
+    let leading : LeadsTo before key outcome after =
+    leads_at before secrets item key outcome after is_key step in
     record {
       outcome = outcome;
       step = step;

@@ -16,7 +16,7 @@ use Rattle.rr_object.specs.declared.object_fault.ObjectFault.{ObjectFault}
 use Rattle.rr_object.specs.Objects.{Obj}
 use Rattle.rr_object.specs.OldKeys.{old_key_bytes}
 use Rattle.rr_object.specs.Readings.{ReadsAs}
-use Rattle.rr_auth.specs.Registries.{Reg, Sound}
+use Rattle.rr_auth.specs.Registries.{Reg}
 use Rattle.rr_auth.specs.Sources.{IsRegistryOf}
 use Rattle.rr_auth.specs.Elements.{IsIn}
 use Rattle.rr_auth.proofs.Members.{found_in}
@@ -89,11 +89,6 @@ unowned_growth s os fault sound (inl memory) = subst (IsGrowthFault s os) (sym m
 unowned_growth s os fault sound (inr bad) = subst (IsGrowthFault s os) (sym bad.0) (sound, bad.1)
 
 -- what is known of both parts of an answer
-pub each_ok : {X E : Type 0} (r : Result X E) (P Q R : X → Type 0) → IfOk r P → IfOk r Q →
-    ((x : X) → P x → Q x → R x) → IfOk r R
-each_ok (Ok x) P Q R p q f = f x p q
-each_ok (Err e) P Q R p q f = tt
-
 pub each_shown : {X E : Type 0} (r : Result X E) (P : X → Type 0) (Q : Type 0) (R : X → Type 0) →
     IfOk r P → OnOk r Q → ((x : X) → Q → P x → R x) → IfOk r R
 each_shown (Ok x) P Q R h k f = f x k h
@@ -165,9 +160,9 @@ growth_rootless s os db is stored h = record {
 
 -- the registry with the block is of the settings' source
 pub grown_of_source : (s : SettingsParts) (os : List Obj) (r : Reg) → IsSettings s →
-    AllByRecursion (IsObjectOf s.source) os → HasUpper s os r → Sound r → IsRegistryOf s.source r
-grown_of_source s os r is all grown sound =
-    taken_read s.source (os ++ grown.upper ∷ []) r grown.taken sound
+    AllByRecursion (IsObjectOf s.source) os → HasUpper s os r → IsRegistryOf s.source r
+grown_of_source s os r is all grown =
+    taken_read s.source (os ++ grown.upper ∷ []) r grown.taken grown.sound
     (all-append (IsReadIn s.source) os (grown.upper ∷ [])
     (all_weaker (IsObjectOf s.source) (IsReadIn s.source) (λ o of. of.read) os all)
     (block_read s grown.upper is (the_upper_object s grown.upper is grown.read), tt))

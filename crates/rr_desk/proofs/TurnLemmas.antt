@@ -8,11 +8,14 @@ use Rattle.std.proofs.lemmas.List.Sums.{sum_by-append}
 use Rattle.sqlite_trees.specs.declared.store.Store.{Ghosts}
 use Rattle.rr_desk.specs.declared.desk.Desk.{Desk}
 use Rattle.std.specs.Prelude.{is_ok}
-use Rattle.rr_io.specs.Told.{Told}
+use Rattle.rr_io.specs.declared.streams.Source as source
+use Rattle.rr_io.specs.declared.streams.Sink as sink
+use Rattle.rr_desk.specs.Desks.{desk_state}
+use Rattle.rr_desk.specs.Lasting.{database_still}
 use Rattle.rr_desk.specs.TurnParts.{TakesTurn}
 use Rattle.rr_desk.specs.Turns.{ConnEnd, Does, DoesAll, InOrder, IsAccepted, IsClosed, IsNext}
 use Rattle.rr_desk.specs.Turns.{IsUnaccepted, Serving, StaysServed, TakesTurns, Tally, Turn, Visit}
-use Rattle.rr_desk.specs.Turns.{closed, given_in, is_served, turn_of, with_turn}
+use Rattle.rr_desk.specs.Turns.{closed, conn_visit, given_in, is_served, turn_of, with_turn}
 
 mapped_more : (visits : List (Option Visit)) (visit : Option Visit) →
     map turn_of (visits ++ visit ∷ []) ≡ map turn_of visits ++ turn_of visit ∷ []
@@ -115,36 +118,39 @@ no_turn g serves desk tally = record {
     none_more (Some turns) = ap Some (sym (append-nil turns))
 
 -- a connection was accepted, served and closed, which is a turn
-pub served_turn : {S : Type 0} (g : Ghosts S) (serves : Serving) (before after : Desk S)
-    (first between last : Tally) (given : Option (List ℕ))
-    (reader_before reader_after writer_before writer_after : Told) (ended : ConnEnd) (well : Bool)
-    → well ≡ is_ok ended →
-    IsAccepted first between given reader_before writer_before →
-    serves S g before after reader_before reader_after writer_before writer_after ended →
+pub served_turn : {S C : Type 0} (g : Ghosts S) (serves : Serving) (reader : source.Ghosts C)
+    (writer : sink.Ghosts C) (before after : Desk S) (first between last : Tally)
+    (given : Option (List ℕ)) (old new : C) (ended : ConnEnd) (well : Bool) → well ≡ is_ok ended →
+    IsAccepted first between given (reader.told old) (writer.told old) →
+    serves S g before after (conn_visit reader writer old new ended) →
     StaysServed g before after →
-    IsClosed given writer_after.bytes between last →
+    IsClosed given (writer.told new).bytes between last →
     TakesTurn g serves before after first last well
-served_turn g serves before after first between last given reader_before reader_after writer_before
-    writer_after ended well is accepted served stays closes = record {
-      visit =
-          Some (record {
-            reader_before = reader_before;
-            reader_after = reader_after;
-            writer_before =
-                writer_before;
-            writer_after = writer_after;
-            ended = ended;
-          });
-      does = (accepted.fresh, served, stays);
-      is_next = subst (IsNext (Some reader_before.bytes) first.waiting) (sym closes.waiting)
+served_turn g serves reader writer before after first between last given old new ended well is
+    accepted served stays closes =
+    let answered = (writer.told new).bytes in
+    record {
+      visit = Some (conn_visit reader writer old new ended);
+      does = (
+        record {
+          no_failed_read = accepted.fresh.no_failed_read;
+          no_failed_write = accepted.fresh.no_failed_write;
+          unwritten = accepted.fresh.unwritten;
+        },
+        served,
+        stays,
+      );
+      is_next = subst (IsNext (Some (reader.told old).bytes) first.waiting) (sym closes.waiting)
           accepted.is_next;
       taken = record {
         counted = closes.counts.counted ∙ ap (λ n. n + 1) accepted.counted;
-        told = closes.counts.told ∙ (ap (λ told. with_turn told (closed given writer_after.bytes))
-            accepted.told ∙ ap (λ bytes. with_turn first.told (closed bytes writer_after.bytes))
+        told = closes.counts.told ∙ (ap (λ told. with_turn told (closed given answered))
+            accepted.told ∙ ap (λ bytes. with_turn first.told (closed bytes answered))
             accepted.is_given);
       };
       served_well = is;
+      lasts = stays.lasts;
+      settings = stays.settings;
     }
 
 -- no connection could be accepted, which is a turn
@@ -157,6 +163,7 @@ failed_turn g serves desk before after turn =
       does = refl;
       is_next = turn.is_next;
       taken = turn.counts;
-      served_well =
-          refl;
+      served_well = refl;
+      lasts = database_still (desk_state g desk);
+      settings = refl;
     }

@@ -35,11 +35,12 @@ pub record AreRegistry (objects : List Obj) : Type 0 where
   pub sound : Sound registry
 
 -- a registry has these objects and the block of the AS numbers of more than 16 bits, which the root
--- maintains, and no others (RFC 6793; profile)
+-- maintains, and no others, and is sound (RFC 6793; profile)
 pub record HasUpper (settings : SettingsParts) (objects : List Obj) (registry : Reg) : Type 0 where
   pub upper : Obj
   pub read : ReadsAs settings.source (upper_block settings.root settings.source) upper
   pub taken : IsTaken (objects ++ upper ∷ []) registry
+  pub sound : Sound registry
 
 -- the objects of tables of version 1 are a sound registry, and this one has them and the block of
 -- the AS numbers of more than 16 bits (profile)

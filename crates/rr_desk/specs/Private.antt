@@ -13,8 +13,6 @@ use Rattle.rr_text.specs.Fields.{Field}
 use Rattle.rr_object.specs.declared.key.Key.{Key}
 use Rattle.rr_object.specs.Objects.{Obj}
 use Rattle.rr_object.specs.Readings.{object_of}
-use Rattle.rr_auth.specs.declared.item.Item.{Item}
-use Rattle.rr_auth.specs.Laws.{key_about}
 use Rattle.rr_auth.specs.Registries.{Reg}
 use Rattle.rr_auth.specs.Sources.{IsRegistryOf}
 use Rattle.rr_registry.specs.declared.outcome.Outcome.{Outcome}
@@ -68,11 +66,6 @@ pub record IsStockOfSource {S : Type 0} (g : Ghosts S) (source : List ℕ) (stoc
   pub running : stock.stopped ≡ false
   pub holds : StoresRows g stock
 
--- a stock runs, and is to decide an item that is about this key
-pub record Awaits {S : Type 0} (stock : Stock S) (this : Key) (item : Item) : Type 0 where
-  pub running : stock.stopped ≡ false
-  pub key : this ≡ key_about item
-
 -- after the outcome an object stands under the key of its item
 abbrev pub puts_one : Outcome → Bool
 puts_one Added = true
@@ -80,18 +73,6 @@ puts_one Changed = true
 puts_one Unchanged = false
 puts_one Deleted = false
 puts_one (Refused code) = false
-
--- where the rows were those of a registry, they are those of the one that it is with an object
--- under this key
-abbrev pub FollowsGain : Key → Reg → Database → Database → Type 0
-FollowsGain key after old new =
-    (before : Reg) → Gains before key after → HasRows before old → HasRows after new
-
--- where the rows were those of a registry without an object under this key, they are those of the
--- one that it is with one there
-abbrev pub FollowsNew : Key → Reg → Database → Database → Type 0
-FollowsNew key after old new =
-    (before : Reg) → GainsNew before key after → HasRows before old → HasRows after new
 
 -- where the rows were those of the registry before the item, they are those of the one after it
 abbrev pub Follows : Key → Outcome → Reg → Database → Database → Type 0

@@ -4,7 +4,9 @@ use Rattle.std.specs.Prelude.{count_by}
 use Rattle.std.specs.Prelude.{List, [], ◌∷◌, ◌++◌, Option, None, Some, slice_get}
 use Rattle.std.specs.Option.{option_map}
 use Rattle.sqlite_trees.specs.declared.store.Store.{Ghosts}
-use Rattle.rr_io.specs.Told.{Told}
+use Rattle.rr_io.specs.declared.streams.Source as source
+use Rattle.rr_io.specs.declared.streams.Sink as sink
+use Rattle.rr_io.specs.Told.{Told, set_beside}
 use Rattle.rr_desk.specs.declared.desk.Desk.{Desk}
 use Rattle.rr_desk.specs.declared.peers.ConnFault.{ConnFault}
 use Rattle.rr_desk.specs.Desks.{desk_state}
@@ -73,13 +75,6 @@ pub record IsClosed (given answered : Option (List ℕ)) (before after : Tally) 
 abbrev pub ConnEnd : Type 0
 ConnEnd = Result (Unit {0}) ConnFault
 
--- what serving a connection does, as a relation of the desk before and after, of what the reader of
--- the connection told before and after and what its writer did, and of how it ended; for desks over
--- tables of any kind
-abbrev pub Serving : Type 1
-Serving = (S : Type 0) → Ghosts S → Desk S → Desk S → Told → Told → Told → Told
-    → ConnEnd → Type 0
-
 -- a connection while it was served: what its reader and its writer told when it was accepted and
 -- when it was closed, and how it ended
 pub record Visit : Type 0 where
@@ -88,6 +83,23 @@ pub record Visit : Type 0 where
   pub writer_before : Told
   pub writer_after : Told
   pub ended : ConnEnd
+
+-- a connection while it was served, by what it told as a reader and as a writer, before and after;
+-- beside each side stands what stood there when it was last read, or when it was first written
+abbrev pub conn_visit : {C : Type 0} → source.Ghosts C → sink.Ghosts C → C → C → ConnEnd
+    → Visit
+conn_visit reader writer old new ended = record {
+  reader_before = reader.told old;
+  reader_after = set_beside (reader.told old).aside (reader.told new);
+  writer_before = set_beside (writer.told new).aside (writer.told old);
+  writer_after = writer.told new;
+  ended = ended;
+}
+
+-- what serving a connection does, as a relation of the desk before and after and of the visit that
+-- it was; for desks over tables of any kind
+abbrev pub Serving : Type 1
+Serving = (S : Type 0) → Ghosts S → Desk S → Desk S → Visit → Type 0
 
 -- the turn that a visit is; without one no connection could be accepted
 abbrev pub turn_of : Option Visit → Turn
@@ -113,8 +125,7 @@ abbrev pub Does : (S : Type 0) → Ghosts S → Serving → Option Visit → Des
 Does S g serves None before after = after ≡ before
 Does S g serves (Some visit) before after =
     IsFresh visit.reader_before visit.writer_before
-    × serves S g before after visit.reader_before visit.reader_after
-    visit.writer_before visit.writer_after visit.ended
+    × serves S g before after visit
     × StaysServed g before after
 
 -- the turns were taken one after the other, in this order

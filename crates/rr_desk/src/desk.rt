@@ -130,8 +130,6 @@ impl<S: Alter> Desk<S> {
             (events.submitted (R.told reader.old) (R.told reader.new)
             (W.told writer.old) (W.told writer.new) result)
             (histories.at_desk self.new) }
-        ensures reader_aside { R.aside reader.new ≡ R.aside reader.old }
-        ensures writer_aside { W.aside writer.new ≡ W.aside writer.old }
     {
         let submitted = rr_submission::submit(
             alloc,

@@ -1,10 +1,11 @@
 //! What a desk answers to queries.
 
-ghost use Rattle.std.specs.Prelude.{◌≡◌, ◌≢◌, Err, IfErr, IfOk, Ok, false};
+ghost use Rattle.std.specs.Prelude.{◌≡◌, ◌≢◌, Err, IfErr, IfOk, Ok, false, true};
 ghost use Rattle.rr_io.specs.Sending.{Writes};
-ghost use Rattle.rr_answer.specs.declared.query_fault.QueryFault.TheVariants.{Memory};
+ghost use Rattle.rr_answer.specs.declared.query_fault.QueryFault.TheVariants.{Memory, TooLong};
 ghost use Rattle.rr_answer.specs.Answers.{IsAnswerTo, answer_bytes};
 ghost use Rattle.rr_answer.specs.Founds.{found_text};
+ghost use Rattle.rr_answer.specs.Queries.{is_too_long};
 ghost use Rattle.rr_desk.specs.Answering.{made_answer, told_number};
 ghost use Rattle.rr_desk.specs.Desks.{GivesAnswer, WritesAnswer, desk_state};
 ghost use Rattle.rr_desk.specs.Histories.{AsksEvent};
@@ -51,7 +52,6 @@ impl<S: Alter> Desk<S> {
             → KeepsRows self.now.stored.registry (desk_state S.Store self.now) }
         ensures event { AsksEvent S.Store self.now query.now
             (W.told writer.old) (W.told writer.new) result }
-        ensures aside { W.aside writer.new ≡ W.aside writer.old }
     {
         // Called for its contract: the rows are those of the registry.
         let _ = self.stored.stopped();
@@ -64,13 +64,14 @@ impl<S: Alter> Desk<S> {
     fn found(&self, alloc: Global, text: &[u8]) -> Result<Found<'_>, QueryFault>
         ensures { GivesAnswer self.now text.now (made_answer result) }
     {
+        if !self.stored.stopped() {
+            return self.found_running(alloc, text);
+        }
         if is_too_long(text) {
-            return Err(QueryFault::TooLong);
+            Err(QueryFault::TooLong)
+        } else {
+            Err(QueryFault::Stopped)
         }
-        if self.stored.stopped() {
-            return Err(QueryFault::Stopped);
-        }
-        self.found_running(alloc, text)
     }
 
     /// What the text of a query finds in the registry, or the error.
@@ -79,6 +80,7 @@ impl<S: Alter> Desk<S> {
             self.now.settings.limit text.now (Ok (found_text found))) }
         ensures fault { IfErr result (λ fault. fault ≢ Memory → IsAnswerTo
             self.now.stored.registry self.now.settings.limit text.now (Err fault)) }
+        ensures long { is_too_long text.now ≡ true → result ≡ Err TooLong }
     {
         let limit = self.settings.limit() as usize;
         find_for(alloc, self.stored.registry(), limit, text)
@@ -94,7 +96,6 @@ fn write_found<W: Sink>(
     ensures writes { Writes (W.told writer.old) (W.told writer.new)
         (answer_bytes (made_answer found.now)) result }
     ensures told { IfOk result (λ done. done.error ≡ told_number (made_answer found.now)) }
-    ensures aside { W.aside writer.new ≡ W.aside writer.old }
 {
     match found {
         Ok(found) => match found.write(alloc, writer) {
@@ -110,7 +111,6 @@ fn write_fault<W: Sink>(fault: QueryFault, writer: &mut W) -> Result<Answered, W
     ensures writes { Writes (W.told writer.old) (W.told writer.new)
         (answer_bytes (Err fault)) result }
     ensures told { IfOk result (λ done. done.error ≡ told_number (Err fault)) }
-    ensures aside { W.aside writer.new ≡ W.aside writer.old }
 {
     match write_all(writer, fault.line()) {
         Ok(()) => Ok(Answered {

@@ -64,7 +64,6 @@ impl<S: Alter> Desk<S> {
             (histories.at_desk self.now)
             (events.dumped full (dumps.dump full self.now.stored.registry))
             (histories.at_desk self.now) }
-        ensures aside { W.aside writer.new ≡ W.aside writer.old }
     {
         if self.stored.stopped() {
             return Err(DeskDumpFault::Stopped);

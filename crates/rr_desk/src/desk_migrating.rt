@@ -1,7 +1,6 @@
 //! A desk over tables of version 1, which it migrates.
 
 ghost use Rattle.std.specs.Prelude.{◌≡◌, ◌⊎◌, false, IfErr, IfOk, OnOk};
-ghost use Rattle.rr_auth.specs.Registries.{Sound};
 ghost use Rattle.rr_auth.specs.Sources.{IsRegistryOf};
 ghost use Rattle.rr_store.specs.Calls.{Looks, OnCleanDisk, database};
 ghost use Rattle.rr_store.specs.declared.store_fault.MigrateFault.TheVariants.{BadRow, Memory};
@@ -116,7 +115,6 @@ fn grow(
 ) -> Result<Registry<IndexedBook>, MigrateFault>
     ensures ok { OnOk result (AreRegistry objects.items) }
     ensures grown { IfOk result (HasUpper settings.now objects.items) }
-    ensures sound { IfOk result Sound }
     ensures fault { IfErr result (IsGrowthFault settings.now objects.items) }
 {
     check_registry(alloc, &objects)?;
@@ -157,7 +155,6 @@ fn with_upper(
     settings: &Settings,
 ) -> Result<Registry<IndexedBook>, MigrateFault>
     ensures ok { IfOk result (HasUpper settings.now objects.items) }
-    ensures sound { IfOk result Sound }
     ensures fault { IfErr result (λ fault.
         (fault ≡ Memory) ⊎ ((fault ≡ NoRoot) × HasUpperFault settings.now objects.items)) }
 {

@@ -27,9 +27,8 @@ pub fn read_dump<R: Source>(
     reader: &mut R,
     source: &Name,
 ) -> Result<Vec<Object>, DumpReadFault>
-    ensures reads { ReadsDump result (λ objects. objects.items) source.now (R.told reader.old)
+    ensures { ReadsDump result (λ objects. objects.items) source.now (R.told reader.old)
         (R.told reader.new) }
-    ensures aside { R.aside reader.new ≡ R.aside reader.old }
 {
     match Paragraphs::new(alloc) {
         Ok(mut paragraphs) => read_entries(alloc, &mut paragraphs, reader, source),
@@ -45,9 +44,8 @@ fn read_entries<R: Source>(
     source: &Name,
 ) -> Result<Vec<Object>, DumpReadFault>
     requires { HasGiven (R.told reader.old) (R.told reader.old) paragraphs.old [] }
-    ensures reads { ReadsDump result (λ objects. objects.items) source.now (R.told reader.old)
+    ensures { ReadsDump result (λ objects. objects.items) source.now (R.told reader.old)
         (R.told reader.new) }
-    ensures aside { R.aside reader.new ≡ R.aside reader.old }
 {
     let mut read = Ok(Vec::new(alloc));
     let mut count = 0;
@@ -74,7 +72,7 @@ fn next_entry<R: Source>(
         → FindsEntry start (R.told reader.new) paragraphs.new given result }
     ensures nearer { IfOk result
         (λ next. OnSome next (left_of paragraphs.new < left_of paragraphs.old)) }
-    ensures aside { R.aside reader.new ≡ R.aside reader.old }
+    ensures aside { (R.told reader.new).aside ≡ (R.told reader.old).aside }
 {
     match paragraphs.next(alloc, reader) {
         Ok(None) => Ok(None),

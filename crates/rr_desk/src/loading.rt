@@ -134,7 +134,6 @@ impl<S: Alter> Desk<S> {
             (R.told reader.old) (R.told reader.new) conn e.1 e.0) }
         ensures event { MakesEvent S.Store settings (events.of_dump settings.source
             (R.told reader.old) (R.told reader.new)) conn result }
-        ensures aside { R.aside reader.new ≡ R.aside reader.old }
     {
         match read_registry(alloc, settings.source(), reader) {
             Ok(registry) => match create_stored(alloc, conn, registry) {
@@ -156,7 +155,6 @@ fn read_registry<R: Source>(
     ensures of_source { IfOk result (IsRegistryOf source.now) }
     ensures why { IfErr result (FailsToLoad source.now (R.told reader.old) (R.told reader.new)) }
     ensures not_of_store { IfErr result IsNotOfStore }
-    ensures aside { R.aside reader.new ≡ R.aside reader.old }
 {
     let objects = read_dump(alloc, reader, source)?;
     let registry = Registry::from_objects(alloc, objects)?;

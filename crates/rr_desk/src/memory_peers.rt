@@ -159,10 +159,8 @@ impl<'a> Peers for MemoryPeers<'a> {
     fn close(&mut self, conn: MemoryConnection<'a>) {
         let (_, writer) = conn.into_parts();
         let answered = writer.into_inner().into_inner();
-        match self.given.take() {
-            Some(given) => self.turns.push_reserved(MemoryTurn { given, answered }),
-            None => unreachable!(),
-        }
+        let given = self.given.take().unwrap();
+        self.turns.push_reserved(MemoryTurn { given, answered });
     }
 
     fn turns(&self) -> u64 {

@@ -60,8 +60,10 @@ pub(crate) fn opening_registry(
     let objects = opening_objects(alloc, settings)?;
     match Registry::from_objects(alloc, objects) {
         Ok(registry) => Ok(registry),
-        Err(LoadFault::Memory) => Err(AllocError),
-        Err(_) => unreachable!(),
+        Err(fault) => {
+            prove!(matches!(&fault, LoadFault::Memory));
+            Err(AllocError)
+        }
     }
 }
 
@@ -88,10 +90,8 @@ pub(crate) fn upper_object(alloc: Global, settings: &Settings) -> Result<Object,
     ensures { IfOk result (IsParagraphOf settings.now.source
         (upper_block settings.now.root settings.now.source)) }
 {
-    match rr_store::upper_object(alloc, settings.root(), settings.source())? {
-        Some(object) => Ok(object),
-        None => unreachable!(),
-    }
+    let object = rr_store::upper_object(alloc, settings.root(), settings.source())?;
+    Ok(object.unwrap())
 }
 
 /// The span of all addresses.
@@ -151,10 +151,10 @@ fn read_object(alloc: Global, paragraph: Paragraph, source: &Name) -> Result<Obj
 {
     match Object::read(alloc, paragraph, source) {
         Ok(object) => Ok(object),
-        Err(fault) => match fault {
-            ObjectFault::Memory => Err(AllocError),
-            _ => unreachable!(),
-        },
+        Err(fault) => {
+            prove!(matches!(&fault, ObjectFault::Memory));
+            Err(AllocError)
+        }
     }
 }
 

@@ -3,7 +3,7 @@
 ghost use Rattle.std.specs.Prelude.{◌≡◌};
 ghost use Rattle.rr_desk.specs.Desks.{desk_state};
 ghost use Rattle.rr_desk.specs.Stocks.{DatabaseLasts, StoresUntilStopped};
-ghost use Rattle.rr_desk.specs.Turns.{Serving};
+ghost use Rattle.rr_desk.specs.Turns.{Serving, conn_visit};
 
 use crate::desk::Desk;
 use crate::peers::ConnFault;
@@ -26,8 +26,7 @@ pub trait Service {
         conn: &mut C,
     ) -> Result<(), ConnFault>
         ensures serves { serves S S.Store desk.old desk.new
-            (C.Source.told conn.old) (C.Source.told conn.new)
-            (C.Sink.told conn.old) (C.Sink.told conn.new) result }
+            (conn_visit C.Source C.Sink conn.old conn.new result) }
         ensures lasts { DatabaseLasts
             (desk_state S.Store desk.old) (desk_state S.Store desk.new) }
         ensures rows { StoresUntilStopped S.Store desk.new.stored }

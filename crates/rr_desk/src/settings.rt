@@ -127,10 +127,8 @@ impl Settings {
     pub fn built_in(alloc: Global) -> Result<Settings, AllocError>
         ensures { IfOk result (λ settings. settings ≡ built_in) }
     {
-        match Settings::new(alloc, "TEST", "ROOT-MNT", BUILT_IN_AUTH, 10_000)? {
-            Some(settings) => Ok(settings),
-            None => unreachable!(),
-        }
+        let settings = Settings::new(alloc, "TEST", "ROOT-MNT", BUILT_IN_AUTH, 10_000)?;
+        Ok(settings.unwrap())
     }
 
     /// The source of the registry.

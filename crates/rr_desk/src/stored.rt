@@ -1,29 +1,25 @@
 //! A registry and the store of its rows, which change together.
 
-ghost use Rattle.std.specs.Prelude.{◌≡◌, false, true, IfOk, OnErr, OnOk, is_some};
+ghost use Rattle.std.specs.Prelude.{◌≡◌, false, true, OnErr, Some, is_some};
 ghost use Rattle.std.specs.FinMap.{get};
 ghost use Rattle.sqlite.specs.Held.{state};
-ghost use Rattle.rr_auth.specs.Laws.{key_about};
-ghost use Rattle.rr_registry.specs.Runs.{IsStep};
 ghost use Rattle.rr_store.specs.Maps.{HasRows};
-ghost use Rattle.rr_store.specs.Calls.{IsOpen, IsSettled, OnCleanDisk, Transacts, database};
-ghost use Rattle.rr_desk.specs.Stops.{LeavesStopped, changes};
-ghost use Rattle.rr_desk.specs.Private.{Follows, FollowsGain, FollowsIn, FollowsNew};
-ghost use Rattle.rr_desk.specs.Private.{LeavesRest, error_of, puts_one};
+ghost use Rattle.rr_store.specs.Calls.{IsOpen, IsSettled, OnCleanDisk, database};
+ghost use Rattle.rr_desk.specs.Stops.{changes};
+ghost use Rattle.rr_desk.specs.Private.{Follows, FollowsIn, IsStockOf, LeavesRest, error_of};
+ghost use Rattle.rr_desk.specs.Private.{puts_one};
 ghost use Rattle.rr_desk.specs.Rows.{KeepsRows};
-ghost use Rattle.rr_desk.specs.Stocks.{DatabaseLasts, StoresUntilStopped};
-ghost use Rattle.rr_desk.specs.Stocks.{stock_ledger};
+ghost use Rattle.rr_desk.specs.Stocks.{StoresUntilStopped, stock_ledger};
 ghost use Rattle.rr_desk.specs.Lasting.{stock_on, stock_still};
-ghost use Rattle.rr_desk.specs.Private.{Awaits, IsStockOf};
 
-use rr_auth::{Book, Item, Secrets};
+use rr_auth::{Book, Secrets};
 use rr_index::IndexedBook;
-use rr_object::{Code, Key};
+use rr_object::{Key, Object};
 use rr_registry::{Outcome, Registry};
 use rr_store::{Store, StoreFault};
-use rr_submission::{Ledger, Stopped};
+use rr_submission::{KeyedItem, Ledger, Stopped};
 use sqlite::{Alter, Connection, Error, ErrorCode};
-use std::alloc::{AllocError, Global};
+use std::alloc::Global;
 use std::marker::Model;
 
 /// A registry with the store that keeps its rows. A fault of the store stops it: until then the
@@ -89,35 +85,6 @@ impl<S: Alter> Stored<S> {
         &self.registry
     }
 
-    /// Decides an item, which is about this key.
-    fn decide_about(
-        &mut self,
-        alloc: Global,
-        secrets: &mut Secrets,
-        key: &Key,
-        item: Item,
-    ) -> Result<Outcome, Stopped>
-        requires { Awaits self.old key.now item }
-        ensures decides { IfOk result (λ outcome.
-            IsStep self.old.registry secrets.old item outcome self.new.registry) }
-        ensures running { OnOk result (self.new.stopped ≡ false) }
-        ensures stops { OnErr result (LeavesStopped self.old.registry secrets.old item
-            self.new.registry self.new.stopped
-            (state S.Store self.old.store) (state S.Store self.new.store)) }
-        ensures lasts { DatabaseLasts
-            (state S.Store self.old.store) (state S.Store self.new.store) }
-        ensures same_secrets { secrets.new ≡ secrets.old }
-    {
-        let outcome = self.registry.apply(alloc, secrets, item);
-        match follow(alloc, &self.registry, &mut self.store, key, outcome) {
-            Ok(()) => Ok(outcome),
-            Err(fault) => {
-                self.cause = Some(error_of(fault));
-                Err(Stopped)
-            }
-        }
-    }
-
     /// Takes it apart and returns the connection, open or shut as it is, in no transaction; the
     /// rows stay.
     pub fn close(self) -> Connection<S>
@@ -172,13 +139,25 @@ impl<S: Alter> Ledger for Stored<S> {
         &mut self,
         alloc: Global,
         secrets: &mut Secrets,
-        item: Item,
+        item: KeyedItem<'_>,
     ) -> Result<Outcome, Stopped> {
-        match copied_key(alloc, &item) {
-            Ok(key) => self.decide_about(alloc, secrets, &key, item),
-            Err(AllocError) => Ok(Outcome::Refused(Code::E90)),
+        let (key, item) = item.parts();
+        let outcome = self.registry.apply(alloc, secrets, item);
+        match follow(alloc, &self.registry, &mut self.store, key, outcome) {
+            Ok(()) => Ok(outcome),
+            Err(fault) => {
+                keep_cause(&mut self.cause, fault);
+                Err(Stopped)
+            }
         }
     }
+}
+
+/// Keeps the error of a fault of the store as the cause of the stop.
+fn keep_cause(cause: &mut Option<Error>, fault: StoreFault)
+    ensures { cause.new ≡ Some (error_of fault) }
+{
+    *cause = Some(error_of(fault));
 }
 
 /// A fault of the store as the database's error: `Memory` is SQLite's `OutOfMemory`.
@@ -188,16 +167,6 @@ fn error_of(fault: StoreFault) -> Error
     match fault {
         StoreFault::Store(error) => error,
         StoreFault::Memory => Error::SqliteFailure(ErrorCode::OutOfMemory),
-    }
-}
-
-/// The key that an item is about; the error is that memory ran out.
-fn copied_key(alloc: Global, item: &Item) -> Result<Key, AllocError>
-    ensures { IfOk result (λ key. key ≡ key_about item.now) }
-{
-    match item {
-        Item::Submit(object) => object.key().copy(alloc),
-        Item::Delete(key) => key.copy(alloc),
     }
 }
 
@@ -217,45 +186,17 @@ fn follow<S: Alter>(
     ensures changing { OnErr result (changes outcome ≡ true) }
 {
     match outcome {
-        Outcome::Added => add_stored(alloc, registry, store, key),
-        Outcome::Changed => put_stored(alloc, registry, store, key),
+        Outcome::Added => store.add(alloc, standing(registry, key)),
+        Outcome::Changed => store.put(alloc, standing(registry, key)),
         Outcome::Deleted => store.remove(alloc, key),
         Outcome::Unchanged | Outcome::Refused(_) => Ok(()),
     }
 }
 
-/// Adds the rows of the object that stands under the key in the registry.
-fn add_stored<S: Alter>(
-    alloc: Global,
-    registry: &Registry<IndexedBook>,
-    store: &mut Store<S>,
-    key: &Key,
-) -> Result<(), StoreFault>
+/// The object that stands under the key.
+fn standing<'a>(registry: &'a Registry<IndexedBook>, key: &Key) -> &'a Object
     requires { is_some (get registry.now key.now) ≡ true }
-    ensures rows { Transacts S.Store (FollowsNew key.now registry.now) store.old store.new result }
-    ensures others { LeavesRest S.Store store.old store.new }
-    ensures settled { IsSettled S.Store store.new }
+    ensures { get registry.now key.now ≡ Some result.now }
 {
-    match registry.book().get(key) {
-        Some(object) => store.add(alloc, object),
-        None => unreachable!(),
-    }
-}
-
-/// Puts the rows of the object that stands under the key in the registry.
-fn put_stored<S: Alter>(
-    alloc: Global,
-    registry: &Registry<IndexedBook>,
-    store: &mut Store<S>,
-    key: &Key,
-) -> Result<(), StoreFault>
-    requires { is_some (get registry.now key.now) ≡ true }
-    ensures rows { Transacts S.Store (FollowsGain key.now registry.now) store.old store.new result }
-    ensures others { LeavesRest S.Store store.old store.new }
-    ensures settled { IsSettled S.Store store.new }
-{
-    match registry.book().get(key) {
-        Some(object) => store.put(alloc, object),
-        None => unreachable!(),
-    }
+    registry.book().get(key).unwrap()
 }

@@ -1,10 +1,8 @@
 //! Serving the connections of a listener, one after the other.
 
-ghost use Rattle.std.specs.Prelude.{◌≡◌, ◌+◌, ◌<◌, ◌^◌, false};
-ghost use Rattle.rr_desk.specs.Desks.{desk_state};
-ghost use Rattle.rr_desk.specs.Stocks.{DatabaseLasts, StoresUntilStopped};
+ghost use Rattle.std.specs.Prelude.{◌+◌, ◌<◌, ◌^◌, false};
 ghost use Rattle.rr_desk.specs.TurnParts.{TakesTurn};
-ghost use Rattle.rr_desk.specs.Turns.{TakesTurns};
+ghost use Rattle.rr_desk.specs.Turns.{StaysServed, TakesTurns};
 
 use crate::desk::Desk;
 use crate::peers::{AcceptFault, Peers};
@@ -35,10 +33,7 @@ pub fn serve_all<S: Alter, P: Peers, V: Service>(
     requires { (P.tally peers.old).turns + count < 2 ^ 64 }
     ensures turns { TakesTurns S.Store V.serves count desk.old desk.new
         (P.tally peers.old) (P.tally peers.new) result.served result.failed }
-    ensures lasts { DatabaseLasts
-        (desk_state S.Store desk.old) (desk_state S.Store desk.new) }
-    ensures settings { desk.new.settings ≡ desk.old.settings }
-    ensures rows { StoresUntilStopped S.Store desk.new.stored }
+    ensures stays { StaysServed S.Store desk.old desk.new }
 {
     let mut served = 0;
     'turns: for turn in 0..count {
@@ -62,11 +57,8 @@ fn take_turn<S: Alter, P: Peers, V: Service>(
     service: &V,
 ) -> bool
     requires { (P.tally peers.old).turns + 1 < 2 ^ 64 }
-    ensures turn { TakesTurn S.Store V.serves desk.old desk.new
+    ensures { TakesTurn S.Store V.serves desk.old desk.new
         (P.tally peers.old) (P.tally peers.new) result }
-    ensures lasts { DatabaseLasts
-        (desk_state S.Store desk.old) (desk_state S.Store desk.new) }
-    ensures settings { desk.new.settings ≡ desk.old.settings }
 {
     match peers.accept(alloc) {
         Ok(mut conn) => {

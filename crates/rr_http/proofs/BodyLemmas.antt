@@ -4,7 +4,7 @@ use Rattle.std.proofs.Common.{length-append, append_assoc, Some, Ok, Err, arith,
 use Rattle.std.proofs.Common.{subst}
 use Rattle.std.specs.Prelude.{Result, replicate}
 use Rattle.std.proofs.lemmas.List.{append_cancel_right, length-replicate}
-use Rattle.rr_io.specs.Told.{Told}
+use Rattle.rr_io.specs.Told.{Beside, Told}
 use Rattle.rr_io.specs.Receiving.{BreaksOff, Gives, IsSpent, Reads}
 use Rattle.rr_io.specs.declared.receiving.ReadEnd.{ReadEnd}
 use Rattle.rr_io.specs.declared.receiving.ReadEnd.TheVariants.{Whole, Broken, Endless}
@@ -13,19 +13,21 @@ use Rattle.rr_submission.specs.declared.submission.Done.{Done}
 use Rattle.rr_submission.specs.declared.submission.DeskFault.{DeskFault}
 use Rattle.rr_submission.specs.declared.submission.DeskFault.TheVariants as fault
 use Rattle.rr_submission.specs.Handled.{ReadsItems}
+use Rattle.rr_submission.specs.Submissions as submissions
 use Rattle.rr_submission.specs.Submissions.{Sides, Submits}
 use Rattle.rr_http.specs.declared.body.Body.{Body}
-use Rattle.rr_http.specs.BodyParts.{body_aside, body_failed, body_missing, body_reads, body_rest}
-use Rattle.rr_http.specs.BodyParts.{body_told}
+use Rattle.rr_http.specs.BodyParts.{body_failed, body_missing, body_reads, body_rest, body_told}
+use Rattle.rr_http.specs.BodyParts.{told_short}
 use Rattle.rr_http.specs.Answering.{EndsWhole, SubmitsBody, TellsMissing, in_memory}
+use Rattle.rr_http.proofs.Asides.{reader_aside}
 
 module _ (body rest : List ℕ) (missing faults reads : ℕ) where
   -- the reader before, and after: so many zeros stand after the bytes
   abbrev start : Told
-  start = record { bytes = Some (body ++ replicate missing 0); faults = 0; reads = 0 }
+  start = told_short body missing 0 0
 
   abbrev end : Told
-  end = record { bytes = Some (rest ++ replicate missing 0); faults = faults; reads = reads }
+  end = told_short rest missing faults reads
 
   abbrev plain_start : Told
   plain_start = in_memory body 0 0
@@ -46,6 +48,7 @@ module _ (body rest : List ℕ) (missing faults reads : ℕ) where
       record {
         consumed = λ xs e. (rest, refl, (let same : xs ≡ body = cc in same ∙ is));
         no_fault = p.no_fault;
+        aside = refl;
       }
 
   none_left : IsSpent end → rest ++ replicate missing 0 ≡ []
@@ -79,12 +82,13 @@ module _ (body rest : List ℕ) (missing faults reads : ℕ) where
         gives = record {
           consumed = λ xs e. (rest, refl, (let same : xs ≡ body = cc in same ∙ is));
           no_fault = p.gives.no_fault;
+          aside = refl;
         };
         fails = record {
           bytes_stay = λ xs e. e;
           counted = p.fails.counted;
-          no_read =
-              p.fails.no_read;
+          no_read = p.fails.no_read;
+          aside = refl;
         };
       }
 
@@ -229,25 +233,18 @@ module _ (body rest : List ℕ) (missing faults reads : ℕ) where
     }) tt
     submits_body (Err fault.Stopped) small fails p = absurd p
 
-abbrev told_with : List ℕ → ℕ → ℕ → ℕ → Told
-told_with bytes missing faults reads = record {
-  bytes = Some (bytes ++ replicate missing 0);
-  faults = faults;
-  reads = reads;
-}
-
 same_told : (xs ys : List ℕ) (m n f h r s : ℕ) → xs ≡ ys → m ≡ n → f ≡ h → r ≡ s →
-    told_with xs m f r ≡ told_with ys n h s
+    told_short xs m f r ≡ told_short ys n h s
 same_told xs ys m n f h r s a b c d =
-    ap (λ zs. told_with zs m f r) a
-    ∙ (ap (λ k. told_with ys k f r) b ∙ (ap (λ k. told_with ys n k r) c ∙ ap (told_with ys n h)
+    ap (λ zs. told_short zs m f r) a
+    ∙ (ap (λ k. told_short ys k f r) b ∙ (ap (λ k. told_short ys n k r) c ∙ ap (told_short ys n h)
     d))
 
 -- what is submitted by this reader is a body
 pub body_submitted : {D : Type 0} (g : Ghosts D) (source bytes : List ℕ) (missing : ℕ)
     (before after : D) (old new : Told) (result : Result Done DeskFault) (fresh used : Body) →
     length bytes ≤ 1048576 → body_rest fresh ≡ bytes → body_missing fresh ≡ missing →
-    body_failed fresh ≡ 0 → body_reads fresh ≡ 0 → body_aside used ≡ body_aside fresh →
+    body_failed fresh ≡ 0 → body_reads fresh ≡ 0 →
     Submits g before after source (record {
       reader_before = body_told fresh;
       reader_after =
@@ -259,11 +256,14 @@ pub body_submitted : {D : Type 0} (g : Ghosts D) (source bytes : List ℕ) (miss
     }) result →
     SubmitsBody g source bytes missing before after old new result
 body_submitted g source bytes missing before after old new result fresh used small rest lacks
-    failed reads aside p =
-    let still : body_missing used ≡ missing = ap (λ (told : Told). told.faults) aside ∙ lacks in
-    let first : body_told fresh ≡ told_with bytes missing 0 0 = same_told _ _ _ _ _ _ _ _ rest
+    failed reads p =
+    let still : body_missing used ≡ missing = ap (λ (other : Beside). other.faults)
+    (reader_aside g before after source
+    (submissions.sides (body_told fresh) (body_told used) old new (g.registry before)
+    (g.registry after)) result p) ∙ lacks in
+    let first : body_told fresh ≡ told_short bytes missing 0 0 = same_told _ _ _ _ _ _ _ _ rest
     lacks failed reads in
-    let last : body_told used ≡ told_with (body_rest used) missing (body_failed used)
+    let last : body_told used ≡ told_short (body_rest used) missing (body_failed used)
     (body_reads used) = same_told _ _ _ _ _ _ _ _ refl still refl refl in
     submits_body bytes (body_rest used) missing (body_failed used) (body_reads used) g source
     before after old new result small
@@ -272,7 +272,7 @@ body_submitted g source bytes missing before after old new result fresh used sma
     (subst (λ told. Submits g before after source
     (record {
       reader_before = told;
-      reader_after = told_with (body_rest used) missing
+      reader_after = told_short (body_rest used) missing
           (body_failed used) (body_reads used);
       writer_before = old;
       writer_after = new;

@@ -7,6 +7,8 @@ pub mod HeadReading
 pub mod AnswerLemmas
 pub mod BodyLemmas
 pub mod ServingLemmas
+pub mod Asides
+pub mod LeavingLemmas
 pub mod ToldLemmas
 pub mod ReplyBytesLemmas
 pub mod FaultLemmas

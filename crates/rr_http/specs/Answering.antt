@@ -2,7 +2,7 @@
 use Rattle.std.specs.Prelude.{◌≡◌, ◌≢◌, ℕ, Bool, true, false, ◌⊎◌, List, [], ◌++◌}
 use Rattle.std.specs.Prelude.{Result, Ok, Err, Some}
 use Rattle.std.proofs.Common.{inl, inr}
-use Rattle.rr_io.specs.Told.{Told}
+use Rattle.rr_io.specs.Told.{Told, alone}
 use Rattle.rr_io.specs.Sending.{Takes, TakesPrefix, Writes}
 use Rattle.rr_text.specs.WholePart.{whole_part}
 use Rattle.rr_auth.specs.Sources.{IsRegistryOf}
@@ -18,6 +18,7 @@ use Rattle.rr_desk.specs.Dumping.{Dumps}
 use Rattle.rr_desk.specs.Turns.{ConnEnd}
 use Rattle.rr_http.specs.declared.asking.Refusal.TheVariants.{Unavailable}
 use Rattle.rr_http.specs.declared.registrar.Registrar.{Ghosts}
+use Rattle.rr_http.specs.Leaving.{Leaves}
 use Rattle.rr_http.specs.Replies.{ok_head, refusal_reply}
 
 -- this text is the whole reply: a write failed where not all of it was taken
@@ -87,7 +88,8 @@ AnswersDump text stopped old new result =
 
 -- a reader of bytes in memory, with these left
 abbrev pub in_memory : List ℕ → ℕ → ℕ → Told
-in_memory bytes faults reads = record { bytes = Some bytes; faults = faults; reads = reads }
+in_memory bytes faults reads =
+    record { bytes = Some bytes; faults = faults; reads = reads; aside = alone }
 
 -- the two sides of a submission of a body: a reader of its bytes, and the writer of the reply
 abbrev pub body_sides : {D : Type 0} → ledger.Ghosts D → List ℕ → List ℕ → ℕ → ℕ
@@ -133,12 +135,12 @@ pub record SubmitsBody {D : Type 0} (g : ledger.Ghosts D) (source body : List �
       before after rest missing result submits
 
 -- what a submission leaves of the desk: only a fault of the store stops it, and after any other end
--- the rows are those of its registry; what lasts through any items lasts, and a registry of its
--- source stays one
+-- the rows are those of its registry; it is left as by any connection, and a registry of its source
+-- stays one
 pub record KeepsDesk {D : Type 0} (registrar : Ghosts D) (before after : D)
     (result : Result Done DeskFault) : Type 0 where
   pub running : UnlessStoreFault result (registrar.ledger.is_stopped after ≡ false)
-  pub lasts : registrar.ledger.Lasts before after
+  pub leaves : Leaves registrar.ledger registrar.settings before after
   pub kept : UnlessStoreFault result (registrar.Kept after)
   pub of_source : IsRegistryOf (registrar.settings before).source (registrar.ledger.registry before)
       → IsRegistryOf (registrar.settings after).source (registrar.ledger.registry after)

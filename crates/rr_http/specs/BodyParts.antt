@@ -1,7 +1,7 @@
 -- What private functions that read a body, or give it on as a reader, promise each other. No public
 -- clause cites these.
 use Rattle.std.specs.Prelude.{◌≡◌, ℕ, ◌<◌, List, [], ◌++◌, length, Some, replicate}
-use Rattle.rr_io.specs.Told.{Told}
+use Rattle.rr_io.specs.Told.{Beside, Told}
 use Rattle.rr_io.specs.Receiving.{BreaksOff, Gives, IsSpent}
 use Rattle.rr_http.specs.declared.body.Body.{Body}
 use Rattle.rr_http.specs.declared.body_reading.BodyEnd.{BodyEnd}
@@ -34,15 +34,22 @@ body_failed body = body.failed
 abbrev pub body_reads : Body → ℕ
 body_reads body = body.reads
 
--- it tells the bytes that are left, and as many zeros after them as never came, which it never
+-- beside a body stands what no read changes: how many bytes never came, in place of a count of
+-- faults
+abbrev pub missing_beside : ℕ → Beside
+missing_beside missing = record { bytes = Some []; faults = missing; reads = 0 }
+
+-- the bytes that are left are told, and as many zeros after them as never came, which a body never
 -- gives
-abbrev pub body_told : Body → Told
-body_told body = record {
-  bytes = Some (body_rest body ++ replicate (body_missing body) 0);
-  faults = body_failed body;
-  reads = body_reads body;
+abbrev pub told_short : List ℕ → ℕ → ℕ → ℕ → Told
+told_short rest missing failed reads = record {
+  bytes = Some (rest ++ replicate missing 0);
+  faults = failed;
+  reads = reads;
+  aside = missing_beside missing;
 }
 
--- what no read changes: how many bytes never came, where a count of faults stands
-abbrev pub body_aside : Body → Told
-body_aside body = record { bytes = Some []; faults = body_missing body; reads = 0 }
+-- so a body tells of itself
+abbrev pub body_told : Body → Told
+body_told body =
+    told_short (body_rest body) (body_missing body) (body_failed body) (body_reads body)

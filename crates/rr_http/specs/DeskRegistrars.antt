@@ -11,7 +11,7 @@ use Rattle.rr_desk.specs.Rows.{KeepsRows}
 use Rattle.rr_desk.specs.Stocks.{StoresUntilStopped, stock_ledger}
 use Rattle.rr_desk.specs.Turns.{Serving}
 use Rattle.rr_http.specs.declared.registrar.Registrar as registrar
-use Rattle.rr_http.specs.Serving.{Serves, visit_of}
+use Rattle.rr_http.specs.Serving.{Serves}
 
 -- a desk as a ledger: its registry and its store, whose connection lasts
 abbrev pub desk_ledger : {S : Type 0} → store.Ghosts S → ledger.Ghosts (Desk S)
@@ -45,6 +45,4 @@ desk_registrar g = record {
 
 -- what serving a connection of a desk does
 abbrev pub serves_desk : Serving
-serves_desk S g before after reader_old reader_new writer_old writer_new result =
-    Serves (desk_registrar g) before after
-    (visit_of reader_old reader_new writer_old writer_new result)
+serves_desk S g before after visit = Serves (desk_registrar g) before after visit

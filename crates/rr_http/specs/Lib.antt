@@ -8,6 +8,7 @@ pub mod Replies
 pub mod Wants
 pub mod Bodies
 pub mod BodyParts
+pub mod Leaving
 pub mod Answering
 pub mod Serving
 pub mod ServingParts
@@ -15,4 +16,5 @@ pub mod Faults
 pub mod ToldBytes
 pub mod ReplyBytes
 pub mod DeskRegistrars
+pub mod DeskLeaving
 pub mod TurnEvents

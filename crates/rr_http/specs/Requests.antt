@@ -15,7 +15,7 @@ use Rattle.rr_http.specs.declared.asking.Refusal.{Refusal}
 use Rattle.rr_http.specs.declared.asking.Refusal.TheVariants.{BadRequest, NotImplemented, NotFound}
 use Rattle.rr_http.specs.declared.asking.Refusal.TheVariants.{MethodNotAllowed, LengthRequired}
 use Rattle.rr_http.specs.declared.asking.Refusal.TheVariants.{PayloadTooLarge}
-use Rattle.rr_http.specs.declared.asking.TheConstants.{BODY_SIZE}
+use Rattle.rr_http.specs.declared.body_size.TheConstants.{BODY_SIZE}
 
 -- a field of a head: its name, and its value less the white space around it (RFC 9110, 5)
 abbrev pub HeadField : Type 0
@@ -124,10 +124,3 @@ HasQueryWithin size (refused refusal) = Unit {0}
 HasQueryWithin size (submission body) = Unit {0}
 HasQueryWithin size (query escaped) = length escaped ≤ size
 HasQueryWithin size dump = Unit {0}
-
--- a submission has a body of at most 1,048,576 bytes (profile)
-abbrev pub HasSmallSize : Asks → Type 0
-HasSmallSize (refused refusal) = Unit {0}
-HasSmallSize (submission size) = size ≤ BODY_SIZE
-HasSmallSize (query escaped) = Unit {0}
-HasSmallSize dump = Unit {0}

@@ -4,8 +4,6 @@ use Rattle.std.specs.Prelude.{◌≡◌, ℕ, ◌-◌, ◌<◌, Bool, true, fals
 use Rattle.std.specs.Prelude.{List, [], ◌++◌}
 use Rattle.std.specs.Prelude.{length, drop, Result, Ok, Err}
 use Rattle.percent_encoding.specs.Percent.{percent_decode}
-use Rattle.rr_io.specs.declared.streams.Source as source
-use Rattle.rr_io.specs.declared.streams.Sink as sink
 use Rattle.rr_io.specs.Told.{Told}
 use Rattle.rr_io.specs.Receiving.{BreaksOff}
 use Rattle.rr_io.specs.Sending.{Takes, TakesPrefix}
@@ -68,12 +66,6 @@ visit_of reader_old reader_new writer_old writer_new ended = record {
   writer_after = writer_new;
   ended = ended;
 }
-
--- a connection while it was served, by what it told as a reader and as a writer, before and after
-abbrev pub visit : {C : Type 0} → source.Ghosts C → sink.Ghosts C → C → C → ConnEnd
-    → Visit
-visit reader writer old new ended =
-    visit_of (reader.told old) (reader.told new) (writer.told old) (writer.told new) ended
 
 -- nothing was read of a connection, and the desk is as it was
 pub record IsUntouched {D : Type 0} (before after : D) (visit : Visit) : Type 0 where

@@ -6,8 +6,9 @@ ghost use Rattle.rr_http.specs.Answering.{AnswersDump, AnswersQuery, AnswersRunn
 ghost use Rattle.rr_http.specs.Answering.{RepliesWithAnswer, SubmitsBody, WritesReply, dump_end};
 ghost use Rattle.rr_http.specs.Replies.{refusal_reply};
 
-use crate::asking::{BODY_SIZE, Refusal};
+use crate::asking::Refusal;
 use crate::body::Body;
+use crate::body_size::BODY_SIZE;
 use crate::heads::HEAD_SIZE;
 use crate::registrar::Registrar;
 use crate::replying::{write_ok_head, write_refusal};
@@ -18,9 +19,8 @@ use std::alloc::Global;
 
 /// Refuses a request. The error is that a write failed: the writer has taken a part of the reply.
 pub(crate) fn refuse<W: Sink>(writer: &mut W, refusal: Refusal) -> Result<(), ConnFault>
-    ensures replies { WritesReply (refusal_reply refusal)
+    ensures { WritesReply (refusal_reply refusal)
         (W.told writer.old) (W.told writer.new) result }
-    ensures aside { W.aside writer.new ≡ W.aside writer.old }
 {
     match write_refusal(writer, refusal) {
         Ok(()) => Ok(()),
@@ -36,11 +36,8 @@ pub(crate) fn write_answer<D: Registrar, W: Sink>(
     query: &[u8],
     writer: &mut W,
 ) -> Result<(), ConnFault>
-    ensures answers { RepliesWithAnswer D.Answers [] query.now desk.old desk.new
+    ensures { RepliesWithAnswer D.Answers [] query.now desk.old desk.new
         (W.told writer.old) (W.told writer.new) result }
-    ensures lasts { D.ledger.Lasts desk.old desk.new }
-    ensures settings { D.settings desk.new ≡ D.settings desk.old }
-    ensures aside { W.aside writer.new ≡ W.aside writer.old }
 {
     match desk.answer(alloc, query, writer) {
         Ok(()) => Ok(()),
@@ -58,12 +55,9 @@ pub(crate) fn answer_query<D: Registrar, W: Sink>(
     writer: &mut W,
 ) -> Result<(), ConnFault>
     requires { length escaped.now ≤ HEAD_SIZE }
-    ensures answers { AnswersQuery D.Answers (D.ledger.is_stopped desk.old)
+    ensures { AnswersQuery D.Answers (D.ledger.is_stopped desk.old)
         (percent_decode escaped.now) desk.old desk.new
         (W.told writer.old) (W.told writer.new) result }
-    ensures lasts { D.ledger.Lasts desk.old desk.new }
-    ensures settings { D.settings desk.new ≡ D.settings desk.old }
-    ensures aside { W.aside writer.new ≡ W.aside writer.old }
 {
     if desk.stopped() {
         return refuse(writer, Refusal::Unavailable);
@@ -96,11 +90,8 @@ fn give_answer<D: Registrar, W: Sink>(
     query: &[u8],
     writer: &mut W,
 ) -> Result<(), ConnFault>
-    ensures answers { AnswersRunning D.Answers query.now desk.old desk.new
+    ensures { AnswersRunning D.Answers query.now desk.old desk.new
         (W.told writer.old) (W.told writer.new) result }
-    ensures lasts { D.ledger.Lasts desk.old desk.new }
-    ensures settings { D.settings desk.new ≡ D.settings desk.old }
-    ensures aside { W.aside writer.new ≡ W.aside writer.old }
 {
     match write_ok_head(writer) {
         Ok(()) => write_answer(alloc, desk, query, writer),
@@ -116,9 +107,8 @@ pub(crate) fn give_dump<D: Registrar, W: Sink>(
     desk: &D,
     writer: &mut W,
 ) -> Result<(), ConnFault>
-    ensures dumps { AnswersDump (D.dumped desk.now) (D.ledger.is_stopped desk.now)
+    ensures { AnswersDump (D.dumped desk.now) (D.ledger.is_stopped desk.now)
         (W.told writer.old) (W.told writer.new) result }
-    ensures aside { W.aside writer.new ≡ W.aside writer.old }
 {
     if desk.stopped() {
         return refuse(writer, Refusal::Unavailable);
@@ -160,8 +150,6 @@ pub(crate) fn submit_body<D: Registrar, W: Sink>(
     ensures submits { SubmitsBody D.ledger (D.settings desk.old).source bytes.now missing
         desk.old desk.new (W.told writer.old) (W.told writer.new) result }
     ensures keeps { KeepsDesk D.Registrar desk.old desk.new result }
-    ensures settings { D.settings desk.new ≡ D.settings desk.old }
-    ensures aside { W.aside writer.new ≡ W.aside writer.old }
 {
     let mut body = Body::new(bytes, missing);
     desk.submit(alloc, &mut body, writer)

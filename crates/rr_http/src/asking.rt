@@ -1,26 +1,22 @@
 //! What a request asks: its page, its method, and the size of its body.
 
-ghost use Rattle.std.specs.Prelude.{◌≡◌, ◌≤◌, ◌∷◌, [], IfOk, Some, codes, length};
-ghost use Rattle.std.specs.Prelude.{All, IfSome};
-ghost use Rattle.std.specs.Prelude.{MatchOption};
+ghost use Rattle.std.specs.Prelude.{◌≡◌, Some, codes, length};
 ghost use Rattle.std.specs.Str.{bytes_eq};
-ghost use Rattle.httparse.specs.Spans.{IsHeaderWithin, header_bytes};
 ghost use Rattle.rr_http.specs.Asked.{view_of};
-ghost use Rattle.rr_http.specs.AskedParts.{fields_of};
-ghost use Rattle.rr_http.specs.Requests.{HasQueryWithin, HasSmallSize, asks_of, asks_page};
+ghost use Rattle.rr_http.specs.AskedParts.{fields_in};
+ghost use Rattle.rr_http.specs.Requests.{HasQueryWithin, asks_of, asks_page};
 ghost use Rattle.rr_http.specs.Requests.{body_size};
-ghost use Rattle.rr_http.specs.Requests.{is_field_of, is_length, is_query_path, is_segment};
+ghost use Rattle.rr_http.specs.Requests.{is_length, is_query_path, is_segment};
 ghost use Rattle.rr_http.specs.Requests.{method_of, page_of, size_of, values_of};
 ghost use Rattle.rr_http.specs.Wants.{RequestAsks};
 
+use crate::body_size::{BODY_SIZE, BodySize};
+use crate::fields::Fields;
 use http::Method;
 use httparse::Status;
-use httparse::spans::{EMPTY_HEADER_SPAN, HeaderSpan, parse_request};
-use rr_bytes::{are_digits, capped_value, cut_before, is_keyword};
+use httparse::spans::{EMPTY_HEADER_SPAN, parse_request};
+use rr_bytes::{are_digits, capped_value, cut_before};
 use std::str;
-
-/// How many bytes the body of a request has at most (profile).
-pub const BODY_SIZE: usize = 1_048_576;
 
 /// How many fields the head of a request has at most (profile).
 pub const FIELD_LIMIT: usize = 64;
@@ -108,8 +104,8 @@ pub enum Refusal {
 pub enum Asked<'a> {
     /// Nothing that is done: it is refused.
     Refused(Refusal),
-    /// The report on its body, which has so many bytes.
-    Submission(usize),
+    /// The report on its body, which has this size.
+    Submission(BodySize),
     /// The answer to the query with these percent escapes.
     Query(&'a [u8]),
     /// The public dump.
@@ -119,7 +115,6 @@ pub enum Asked<'a> {
 /// What a request asks whose head is this; what is no head of a request is refused (RFC 9112, 2.1).
 pub fn read_request(head: &[u8]) -> Asked<'_>
     ensures asks { RequestAsks head.now (view_of result) }
-    ensures small { HasSmallSize (view_of result) }
     ensures within { HasQueryWithin (length head.now) (view_of result) }
 {
     let mut fields = [EMPTY_HEADER_SPAN; FIELD_LIMIT];
@@ -128,8 +123,7 @@ pub fn read_request(head: &[u8]) -> Asked<'_>
             Ok(target) => asked_of(
                 spans.method.of(head),
                 target.as_bytes(),
-                head,
-                &fields[..spans.headers],
+                Fields::new(head, &fields[..spans.headers]),
             ),
             Err(_) => Asked::Refused(Refusal::BadRequest),
         },
@@ -137,16 +131,13 @@ pub fn read_request(head: &[u8]) -> Asked<'_>
     }
 }
 
-/// What a request of this method, target and fields asks (RFC 9110; profile). The spans of the
-/// fields are of `head`.
+/// What a request of this method, target and fields asks (RFC 9110; profile).
 #[tactic(auto, unfolding(crate::specs::Requests::asks_of))]
-fn asked_of<'a>(method: &[u8], target: &'a [u8], head: &[u8], fields: &[HeaderSpan]) -> Asked<'a>
-    requires { All (IsHeaderWithin (length head.now)) fields.now }
-    ensures asks { view_of result ≡ asks_of method.now target.now (fields_of head.now fields.now) }
-    ensures small { HasSmallSize (view_of result) }
+fn asked_of<'a>(method: &[u8], target: &'a [u8], fields: Fields<'_>) -> Asked<'a>
+    ensures asks { view_of result ≡ asks_of method.now target.now (fields_in fields.entry) }
     ensures within { HasQueryWithin (length target.now) (view_of result) }
 {
-    if find_value(head, fields, b"Transfer-Encoding").is_some() {
+    if fields.find(b"Transfer-Encoding").is_some() {
         return Asked::Refused(Refusal::NotImplemented);
     }
     let (path, _) = cut_before(target, b'?');
@@ -154,7 +145,7 @@ fn asked_of<'a>(method: &[u8], target: &'a [u8], head: &[u8], fields: &[HeaderSp
         None => Asked::Refused(Refusal::NotFound),
         Some(page) => {
             if page.takes(method) {
-                asked_at(path, page, head, fields)
+                asked_at(path, page, fields)
             } else {
                 Asked::Refused(Refusal::MethodNotAllowed(page))
             }
@@ -164,15 +155,13 @@ fn asked_of<'a>(method: &[u8], target: &'a [u8], head: &[u8], fields: &[HeaderSp
 
 /// What a request by the method of the page asks.
 #[tactic(auto, using(crate::proofs::RequestLemmas::query_follows))]
-fn asked_at<'a>(path: &'a [u8], page: Page, head: &[u8], fields: &[HeaderSpan]) -> Asked<'a>
-    requires at_page { page_of path.now ≡ Some page }
-    requires within { All (IsHeaderWithin (length head.now)) fields.now }
-    ensures asks { view_of result ≡ asks_page path.now (fields_of head.now fields.now) page }
-    ensures small { HasSmallSize (view_of result) }
+fn asked_at<'a>(path: &'a [u8], page: Page, fields: Fields<'_>) -> Asked<'a>
+    requires { page_of path.now ≡ Some page }
+    ensures asks { view_of result ≡ asks_page path.now (fields_in fields.entry) page }
     ensures within { HasQueryWithin (length path.now) (view_of result) }
 {
     match page {
-        Page::Submissions => match read_size(head, fields) {
+        Page::Submissions => match read_size(fields) {
             Ok(size) => Asked::Submission(size),
             Err(refusal) => Asked::Refused(refusal),
         },
@@ -182,65 +171,29 @@ fn asked_at<'a>(path: &'a [u8], page: Page, head: &[u8], fields: &[HeaderSpan]) 
 }
 
 /// The size of the body that the fields tell (RFC 9110, 8.6).
-fn read_size(head: &[u8], fields: &[HeaderSpan]) -> Result<usize, Refusal>
-    requires { All (IsHeaderWithin (length head.now)) fields.now }
-    ensures size { result
-        ≡ body_size (values_of (codes "Content-Length") (fields_of head.now fields.now)) }
-    ensures small { IfOk result (λ size. size ≤ BODY_SIZE) }
+fn read_size(fields: Fields<'_>) -> Result<BodySize, Refusal>
+    ensures { result ≡ body_size (values_of (codes "Content-Length") (fields_in fields.entry)) }
 {
-    match find_value(head, fields, b"Content-Length") {
+    match fields.find(b"Content-Length") {
         None => Err(Refusal::LengthRequired),
-        Some((value, rest)) => match find_value(head, rest, b"Content-Length") {
+        Some((value, rest)) => match rest.find(b"Content-Length") {
             None => size_of(value),
             Some(_) => Err(Refusal::BadRequest),
         },
     }
 }
 
-/// The value of the first field of this name, and the fields after it.
-fn find_value<'a, 'f>(
-    head: &'a [u8],
-    fields: &'f [HeaderSpan],
-    name: &[u8],
-) -> Option<(&'a [u8], &'f [HeaderSpan])>
-    requires { All (IsHeaderWithin (length head.now)) fields.now }
-    ensures value { MatchOption result (values_of name.now (fields_of head.now fields.now) ≡ [])
-        (λ found. values_of name.now (fields_of head.now fields.now)
-        ≡ found.0.now ∷ values_of name.now (fields_of head.now found.1.now)) }
-    ensures within { IfSome result (λ found. All (IsHeaderWithin (length head.now)) found.1.now) }
-{
-    let mut rest = fields;
-    'fields: while let Some((field, after)) = rest.split_first() {
-        if is_field_of(head, field, name) {
-            return Some((field.value.of(head), after));
-        }
-        rest = after;
-    }
-    None
-}
-
-/// Whether the field has this name, in any case of letters (RFC 9110, 5.1).
-fn is_field_of(head: &[u8], field: &HeaderSpan, name: &[u8]) -> bool
-    requires { IsHeaderWithin (length head.now) field.now }
-    ensures { result ≡ is_field_of name.now (header_bytes head.now field.now) }
-{
-    is_keyword(field.name.of(head), name)
-}
-
 /// The size that the text spells (RFC 9110, 8.6).
 #[tactic(auto, unfolding(crate::specs::Requests::size_of))]
-fn size_of(text: &[u8]) -> Result<usize, Refusal>
-    ensures size { result ≡ size_of text.now }
-    ensures small { IfOk result (λ size. size ≤ BODY_SIZE) }
+fn size_of(text: &[u8]) -> Result<BodySize, Refusal>
+    ensures { result ≡ size_of text.now }
 {
     if !is_length(text) {
         return Err(Refusal::BadRequest);
     }
-    let size = capped_value(text, BODY_SIZE);
-    if size <= BODY_SIZE {
-        Ok(size)
-    } else {
-        Err(Refusal::PayloadTooLarge)
+    match BodySize::new(capped_value(text, BODY_SIZE)) {
+        Some(size) => Ok(size),
+        None => Err(Refusal::PayloadTooLarge),
     }
 }
 

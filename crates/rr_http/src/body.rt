@@ -38,11 +38,9 @@ impl<'a> Body<'a> {
 }
 
 impl<'a> Source for Body<'a> {
-    ghost use Rattle.rr_http.specs.BodyParts.{body_aside, body_told};
+    ghost use Rattle.rr_http.specs.BodyParts.{body_told};
 
     ghost told = { body_told };
-
-    ghost aside = { body_aside };
 
     fn read(&mut self, buf: &mut [u8]) -> io::Result<usize> {
         if self.rest.is_empty() && self.missing > 0 {

@@ -4,7 +4,7 @@ ghost use Rattle.std.specs.Prelude.{◌≡◌, ◌<◌, ◌≤◌, length, IfOk,
 ghost use Rattle.rr_http.specs.Bodies.{ReadsBody};
 ghost use Rattle.rr_http.specs.BodyParts.{ReadsRest};
 
-use crate::asking::BODY_SIZE;
+use crate::body_size::BodySize;
 use rr_io::{READ_SIZE, Source};
 use std::alloc::{AllocError, Global};
 
@@ -19,23 +19,22 @@ pub enum BodyEnd {
     Broken,
 }
 
-/// Reads the body of a request, of `size` bytes, 1,048,576 at most, the first of which are those
-/// that came with its head: gives its bytes, or those that came of it, and how the reading ended.
-/// No byte after the body is asked for. The error is that memory ran out for a body that is not
+/// Reads the body of a request, of this size, the first bytes of which are those that came with its
+/// head: gives its bytes, or those that came of it, and how the reading ended. No byte after the
+/// body is asked for. The error is that memory ran out for a body that is not
 /// empty, and nothing is read then.
 pub fn read_body<R: Source>(
     alloc: Global,
     reader: &mut R,
     buffered: &[u8],
-    size: usize,
+    size: BodySize,
 ) -> Result<(Vec<u8>, BodyEnd), AllocError>
-    requires { size ≤ BODY_SIZE }
     ensures reads { IfOk result (λ read. ReadsBody (R.told reader.old) (R.told reader.new)
         buffered.now size read.0.items read.1) }
     ensures some { OnErr result (0 < size) }
     ensures unread { OnErr result (reader.new ≡ reader.old) }
-    ensures aside { R.aside reader.new ≡ R.aside reader.old }
 {
+    let size = size.bytes();
     let mut body = Vec::with_capacity(alloc, size)?;
     body.extend_from_slice(&buffered[..buffered.len().min(size)])?;
     let end = read_rest(reader, &mut body, size);
@@ -46,9 +45,8 @@ pub fn read_body<R: Source>(
 fn read_rest<R: Source>(reader: &mut R, body: &mut Vec<u8>, size: usize) -> BodyEnd
     requires within { length body.old.items ≤ size }
     requires room { size ≤ vec_capacity body.old }
-    ensures reads { ReadsRest (R.told reader.old) (R.told reader.new)
+    ensures { ReadsRest (R.told reader.old) (R.told reader.new)
         body.old.items size body.new.items result }
-    ensures aside { R.aside reader.new ≡ R.aside reader.old }
 {
     let mut block = [0u8; READ_SIZE];
     'reads: while body.len() < size {
@@ -59,6 +57,7 @@ fn read_rest<R: Source>(reader: &mut R, body: &mut Vec<u8>, size: usize) -> Body
                     return BodyEnd::Short;
                 }
                 if body.extend_from_slice(&block[..count]).is_err() {
+                    // There is room for `size` bytes.
                     unreachable!();
                 }
             }

@@ -1,6 +1,7 @@
 //! A desk over tables as a registrar.
 
 ghost use Rattle.rr_desk.specs.Lasting.{database_still};
+ghost use Rattle.rr_http.specs.DeskLeaving.{desk_answer_leaves};
 ghost use Rattle.rr_http.specs.DeskRegistrars.{desk_registrar};
 
 use crate::registrar::Registrar;
@@ -21,6 +22,8 @@ impl<S: Alter> Registrar for Desk<S> {
     ghost Kept = { (desk_registrar S.Store).Kept };
 
     ghost lasts_still = { λ _. database_still _ };
+
+    ghost answer_leaves = { λ _ _ _ _ is. desk_answer_leaves _ _ _ _ _ is };
 
     fn stopped(&self) -> bool {
         Desk::stopped(self)

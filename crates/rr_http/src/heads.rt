@@ -35,7 +35,6 @@ pub fn read_head<R: Source>(reader: &mut R, buf: &mut [u8]) -> io::Result<(Head,
     ensures finds { IfOk result
         (λ read. FindsHead (R.told reader.old) (R.told reader.new) (take read.1 buf.new) read.0) }
     ensures breaks { OnErr result (BreaksHead (R.told reader.old) (R.told reader.new)) }
-    ensures aside { R.aside reader.new ≡ R.aside reader.old }
 {
     let (count, line) = read_on(reader, Goal::Line, buf, 0, 0)?;
     let Some(end) = line else {
@@ -148,7 +147,6 @@ fn read_on<R: Source>(
         (R.told reader.new) (take filled buf.old) (take read.0 buf.new) read.1) }
     ensures breaks { OnErr result (BreaksOn goal (length buf.new) (R.told reader.old)
         (R.told reader.new) (take filled buf.old)) }
-    ensures aside { R.aside reader.new ≡ R.aside reader.old }
 {
     let mut count = filled;
     let mut place = goal.place_after(&buf[..count], seen);

@@ -8,6 +8,7 @@ ghost use Rattle.rr_submission.specs.Submissions.{RefusesSubmission, SubmitsText
 ghost use Rattle.rr_submission.specs.Submissions.{UnlessStoreFault};
 ghost use Rattle.rr_desk.specs.Dumping.{Dumps, RefusesDump};
 ghost use Rattle.rr_desk.specs.Settings.{SettingsParts};
+ghost use Rattle.rr_http.specs.Leaving.{Leaves};
 
 use rr_desk::{DeskDumpFault, DeskFault, Done, WriteFault};
 use rr_io::{Sink, Source};
@@ -42,11 +43,8 @@ pub trait Registrar {
         query: &[u8],
         writer: &mut W,
     ) -> Result<(), WriteFault>
-        ensures answers { (text : List ℕ) × Answers self.old query.now text self.new
-            × Writes (W.told writer.old) (W.told writer.new) text result }
-        ensures lasts { ledger.Lasts self.old self.new }
-        ensures settings { settings self.new ≡ settings self.old }
-        ensures aside { W.aside writer.new ≡ W.aside writer.old };
+        ensures { (text : List ℕ) × Answers self.old query.now text self.new
+            × Writes (W.told writer.old) (W.told writer.new) text result };
 
     /// Writes the public dump. The fault is that it is stopped, and then nothing is written; or a
     /// write failed or memory ran out, and then a part of the dump is.
@@ -54,8 +52,7 @@ pub trait Registrar {
         ensures stopped { ledger.is_stopped self.now ≡ true
             → RefusesDump writer.old writer.new result }
         ensures dumps { ledger.is_stopped self.now ≡ false
-            → Dumps (dumped self.now) (W.told writer.old) (W.told writer.new) result }
-        ensures aside { W.aside writer.new ≡ W.aside writer.old };
+            → Dumps (dumped self.now) (W.told writer.old) (W.told writer.new) result };
 
     /// Submits what the reader gives, and writes the report, if it is not stopped. Only a fault of
     /// the store stops it, and after any other end the rows are those of its registry. A registry
@@ -73,15 +70,16 @@ pub trait Registrar {
             (R.told reader.old) (R.told reader.new) (W.told writer.old) (W.told writer.new) result }
         ensures running { ledger.is_stopped self.old ≡ false
             → UnlessStoreFault result (ledger.is_stopped self.new ≡ false) }
-        ensures lasts { ledger.Lasts self.old self.new }
+        ensures leaves { Leaves ledger settings self.old self.new }
         ensures kept { ledger.is_stopped self.old ≡ false
             → UnlessStoreFault result (Kept self.new) }
         ensures of_source { IsRegistryOf (settings self.old).source (ledger.registry self.old)
-            → IsRegistryOf (settings self.new).source (ledger.registry self.new) }
-        ensures settings { settings self.new ≡ settings self.old }
-        ensures reader_aside { R.aside reader.new ≡ R.aside reader.old }
-        ensures writer_aside { W.aside writer.new ≡ W.aside writer.old };
+            → IsRegistryOf (settings self.new).source (ledger.registry self.new) };
 
     // What lasts of it lasts where nothing is done.
     ghost lasts_still: { (registrar : Self) → ledger.Lasts registrar registrar };
+
+    // An answer leaves its settings, and what is to last of it.
+    ghost answer_leaves: { (before : Self) (query text : List ℕ) (after : Self)
+        → Answers before query text after → Leaves ledger settings before after };
 }

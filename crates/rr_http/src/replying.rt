@@ -14,8 +14,7 @@ use std::io;
 /// Writes the reply to a request that is refused, whole in the first call of the writer. After a
 /// fault the writer has taken a part of it.
 pub fn write_refusal<W: Sink>(writer: &mut W, refusal: Refusal) -> io::Result<()>
-    ensures writes { Writes (W.told writer.old) (W.told writer.new) (refusal_reply refusal) result }
-    ensures aside { W.aside writer.new ≡ W.aside writer.old }
+    ensures { Writes (W.told writer.old) (W.told writer.new) (refusal_reply refusal) result }
 {
     write_all(writer, refusal_reply(refusal).as_bytes())
 }
@@ -24,8 +23,7 @@ pub fn write_refusal<W: Sink>(writer: &mut W, refusal: Refusal) -> io::Result<()
 /// After a fault the writer has taken a part of it.
 #[tactic(auto, unfolding(crate::specs::Replies::ok_head))]
 pub(crate) fn write_ok_head<W: Sink>(writer: &mut W) -> io::Result<()>
-    ensures writes { Writes (W.told writer.old) (W.told writer.new) ok_head result }
-    ensures aside { W.aside writer.new ≡ W.aside writer.old }
+    ensures { Writes (W.told writer.old) (W.told writer.new) ok_head result }
 {
     write_all(
         writer,

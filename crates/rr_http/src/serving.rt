@@ -1,16 +1,19 @@
 //! Serving a connection: what it wants is found, done, and answered.
 
 ghost use Rattle.std.specs.Prelude.{◌≡◌, ◌≤◌, false, length};
+ghost use Rattle.rr_desk.specs.Turns.{conn_visit};
 ghost use Rattle.rr_http.specs.Asked.{view_of};
 ghost use Rattle.rr_http.specs.Faults.{TellsFaults};
-ghost use Rattle.rr_http.specs.Requests.{HasQueryWithin, HasSmallSize};
-ghost use Rattle.rr_http.specs.Serving.{Serves, ServesAsks, ServesBody, SubmitsRead, end_by, visit};
+ghost use Rattle.rr_http.specs.Leaving.{Leaves};
+ghost use Rattle.rr_http.specs.Requests.{HasQueryWithin};
+ghost use Rattle.rr_http.specs.Serving.{Serves, ServesAsks, ServesBody, SubmitsRead, end_by};
 ghost use Rattle.rr_http.specs.ServingParts.{ServesHead};
 ghost use Rattle.rr_http.specs.Wants.{IsHead};
 
 use crate::answering::{answer_query, give_dump, refuse, submit_body, write_answer};
-use crate::asking::{Asked, BODY_SIZE, Refusal, read_request};
+use crate::asking::{Asked, Refusal, read_request};
 use crate::body_reading::{BodyEnd, read_body};
+use crate::body_size::BodySize;
 use crate::heads::{HEAD_SIZE, Head, read_head};
 use crate::registrar::Registrar;
 use crate::replying::write_ok_head;
@@ -33,10 +36,9 @@ pub fn serve_one<D: Registrar, C: Connection>(
     conn: &mut C,
 ) -> Result<(), ConnFault>
     ensures serves { Serves D.Registrar desk.old desk.new
-        (visit C.Source C.Sink conn.old conn.new result) }
-    ensures faults { TellsFaults (visit C.Source C.Sink conn.old conn.new result) }
-    ensures lasts { D.ledger.Lasts desk.old desk.new }
-    ensures settings { D.settings desk.new ≡ D.settings desk.old }
+        (conn_visit C.Source C.Sink conn.old conn.new result) }
+    ensures faults { TellsFaults (conn_visit C.Source C.Sink conn.old conn.new result) }
+    ensures leaves { Leaves D.ledger D.settings desk.old desk.new }
 {
     let mut buf = [0u8; HEAD_SIZE];
     match read_head(conn, &mut buf) {
@@ -55,10 +57,8 @@ fn serve_head<D: Registrar, C: Connection>(
 ) -> Result<(), ConnFault>
     requires head { IsHead read.now head }
     requires short { length read.now ≤ HEAD_SIZE }
-    ensures serves { ServesHead D.Registrar read.now desk.old desk.new
-        (visit C.Source C.Sink conn.old conn.new result) }
-    ensures lasts { D.ledger.Lasts desk.old desk.new }
-    ensures settings { D.settings desk.new ≡ D.settings desk.old }
+    ensures { ServesHead D.Registrar read.now desk.old desk.new
+        (conn_visit C.Source C.Sink conn.old conn.new result) }
 {
     match head {
         Head::Whois(count) => write_answer(alloc, desk, &read[..count], conn),
@@ -78,12 +78,9 @@ fn serve_asked<D: Registrar, C: Connection>(
     asked: Asked<'_>,
     conn: &mut C,
 ) -> Result<(), ConnFault>
-    requires small { HasSmallSize (view_of asked) }
-    requires within { HasQueryWithin HEAD_SIZE (view_of asked) }
-    ensures serves { ServesAsks D.Registrar buffered.now (view_of asked.entry) desk.old desk.new
-        (visit C.Source C.Sink conn.old conn.new result) }
-    ensures lasts { D.ledger.Lasts desk.old desk.new }
-    ensures settings { D.settings desk.new ≡ D.settings desk.old }
+    requires { HasQueryWithin HEAD_SIZE (view_of asked) }
+    ensures { ServesAsks D.Registrar buffered.now (view_of asked.entry) desk.old desk.new
+        (conn_visit C.Source C.Sink conn.old conn.new result) }
 {
     match asked {
         Asked::Refused(refusal) => refuse(conn, refusal),
@@ -98,14 +95,11 @@ fn take_in<D: Registrar, C: Connection>(
     alloc: Global,
     desk: &mut D,
     buffered: &[u8],
-    size: usize,
+    size: BodySize,
     conn: &mut C,
 ) -> Result<(), ConnFault>
-    requires { size ≤ BODY_SIZE }
-    ensures serves { ServesBody D.Registrar buffered.now size desk.old desk.new
-        (visit C.Source C.Sink conn.old conn.new result) }
-    ensures lasts { D.ledger.Lasts desk.old desk.new }
-    ensures settings { D.settings desk.new ≡ D.settings desk.old }
+    ensures { ServesBody D.Registrar buffered.now size desk.old desk.new
+        (conn_visit C.Source C.Sink conn.old conn.new result) }
 {
     if desk.stopped() {
         return refuse(conn, Refusal::Unavailable);
@@ -123,24 +117,20 @@ fn submit_read<D: Registrar, W: Sink>(
     alloc: Global,
     desk: &mut D,
     body: &[u8],
-    size: usize,
+    size: BodySize,
     end: BodyEnd,
     writer: &mut W,
 ) -> Result<(), ConnFault>
     requires within { length body.now ≤ size }
-    requires small { size ≤ BODY_SIZE }
     requires running { D.ledger.is_stopped desk.old ≡ false }
-    ensures submits { SubmitsRead D.Registrar body.now size end desk.old desk.new
+    ensures { SubmitsRead D.Registrar body.now size end desk.old desk.new
         (W.told writer.old) (W.told writer.new) result }
-    ensures lasts { D.ledger.Lasts desk.old desk.new }
-    ensures settings { D.settings desk.new ≡ D.settings desk.old }
-    ensures aside { W.aside writer.new ≡ W.aside writer.old }
 {
     let failed = writer.failed_writes();
     match write_ok_head(writer) {
         Ok(()) => {
             // The report tells what became of it.
-            let _ = submit_body(alloc, desk, body, size - body.len(), writer);
+            let _ = submit_body(alloc, desk, body, size.bytes() - body.len(), writer);
             end_by(end, failed < writer.failed_writes())
         }
         Err(_) => end_by(end, true),

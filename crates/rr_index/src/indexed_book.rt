@@ -60,6 +60,7 @@ impl IndexedBook {
                 self.indexes.leave_names(old, sets);
                 Ok(())
             }
+            // An object stands under the key.
             Err(_) => unreachable!(),
         }
     }

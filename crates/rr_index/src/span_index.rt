@@ -167,6 +167,7 @@ fn hold_prefix(tree: &mut PrefixTree<()>, prefix: Prefix) -> Result<(), AllocErr
     match tree.insert(prefix, ()) {
         Ok(_) => Ok(()),
         Err(InsertFault::Memory(_)) => Err(AllocError),
+        // Prefixes never cross.
         Err(InsertFault::Overlap(_)) => unreachable!(),
     }
 }

@@ -2,10 +2,11 @@
 use Rattle.std.proofs.Common.{◌≡◌, ℕ, ◌+◌, ◌<◌, List, [], ◌++◌, length, refl, ap, sym, ◌∙◌}
 use Rattle.std.proofs.Common.{append_assoc, length-append, arith, add-one, get_or, drop, drop-cons}
 use Rattle.std.specs.List.{flat_map}
+use Rattle.std.specs.Prelude.{Result, Ok, Err, IfOk}
 use Rattle.std.proofs.lemmas.List.{append-nil}
-use Rattle.rr_io.specs.Told.{Told, Fails}
+use Rattle.rr_io.specs.Told.{Beside, Told, Fails, set_beside}
 use Rattle.rr_io.specs.Sending.{Takes, TakesPrefix}
-use Rattle.rr_io.specs.Receiving.{Gives}
+use Rattle.rr_io.specs.Receiving.{Gives, IsSpent}
 
 -- nothing was written yet
 pub Takes-none : (told : Told) → Takes told told []
@@ -13,6 +14,7 @@ Takes-none told = record {
   appended = λ xs e. rw append-nil e;
   no_fault = refl;
   no_read = refl;
+  aside = refl;
 }
 
 -- one writing and then another
@@ -22,6 +24,7 @@ Takes-then xs ys p q = record {
   appended = λ zs e. rw (← append_assoc) (q.appended _ (p.appended zs e));
   no_fault = q.no_fault ∙ p.no_fault;
   no_read = q.no_read ∙ p.no_read;
+  aside = q.aside ∙ p.aside;
 }
 
 -- one writing, and then another that a fault cut short
@@ -68,6 +71,7 @@ pub Gives-none : (told : Told) → Gives told told []
 Gives-none told = record {
   consumed = λ xs e. (xs, e, refl);
   no_fault = refl;
+  aside = refl;
 }
 
 -- one reading and then another
@@ -77,7 +81,16 @@ Gives-then xs ys p q = record {
   consumed = λ zs e. let a = p.consumed zs e in let b = q.consumed a.0 a.1 in
       (b.0, b.1, a.2 ∙ (ap (λ r. xs ++ r) b.2 ∙ sym (append_assoc xs ys b.0)));
   no_fault = q.no_fault ∙ p.no_fault;
+  aside = q.aside ∙ p.aside;
 }
+
+-- a reader is spent whatever stands beside it
+pub spent-beside : {E : Type 0} (result : Result ℕ E) (room : ℕ) (other : Beside) (told : Told) →
+    IfOk result (λ count. count ≡ 0 → 0 < room → IsSpent told) →
+    IfOk result (λ count. count ≡ 0 → 0 < room → IsSpent (set_beside other told))
+spent-beside (Ok count) room other told spent = λ none some.
+    record { none_left = (spent none some).none_left }
+spent-beside (Err error) room other told spent = tt
 
 -- the next piece, and those after it
 pub flat_map-next : {X : Type 0} (f : X → List ℕ) (xs : List X) (i : ℕ) (d : X) → i < length xs →

@@ -24,13 +24,14 @@ cut_step c = c.step
 abbrev pub cut_left : {T : Type 0} → Cut T → ℕ
 cut_left c = c.left
 
--- it tells the bytes and the reads of what is inside, and the sum of its own failed calls and of
--- those of what is inside, up to 2^64 - 1 (profile)
+-- it tells what that inside tells, but as faults the sum of its own failed calls and of those
+-- inside, up to 2^64 - 1 (profile)
 abbrev pub cut_told : {T : Type 0} → (T → Told) → (Cut T → ℕ) → Cut T → Told
 cut_told told own c = record {
   bytes = (told c.inner).bytes;
   faults = min ((told c.inner).faults + own c) (2 ^ 64 - 1);
   reads = (told c.inner).reads;
+  aside = (told c.inner).aside;
 }
 
 -- so many bytes passed in a call, which did not fail

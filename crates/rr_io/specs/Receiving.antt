@@ -10,6 +10,7 @@ pub record Gives (old new : Told) (bytes : List ℕ) : Type 0 where
   pub consumed : (xs : List ℕ) → old.bytes ≡ Some xs
       → (rest : List ℕ) × (new.bytes ≡ Some rest) × (xs ≡ bytes ++ rest)
   pub no_fault : new.faults ≡ old.faults
+  pub aside : new.aside ≡ old.aside
 
 -- so many reads were counted, each of them (profile)
 abbrev pub CountsReads : Told → Told → ℕ → Type 0

@@ -8,6 +8,7 @@ pub record Takes (old new : Told) (bytes : List ℕ) : Type 0 where
   pub appended : (xs : List ℕ) → old.bytes ≡ Some xs → new.bytes ≡ Some (xs ++ bytes)
   pub no_fault : new.faults ≡ old.faults
   pub no_read : new.reads ≡ old.reads
+  pub aside : new.aside ≡ old.aside
 
 -- the beginning of these bytes was taken, and not all of them: then a call failed
 pub record TakesPrefix (old new : Told) (bytes : List ℕ) : Type 0 where

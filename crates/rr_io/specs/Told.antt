@@ -2,18 +2,35 @@
 use Rattle.std.specs.Prelude.{◌≡◌, ℕ, ◌+◌, ◌-◌, ◌^◌, ◌<◌, ◌≤◌, List}
 use Rattle.std.specs.Prelude.{Option, None, Some, max}
 
--- `bytes` are those that a reader has left, or that a writer has taken: None where it does not say,
--- as over a file or a socket. `faults` counts the failed reads of a reader or the failed writes of
--- a writer, and `reads` a reader's reads that did not fail: a writer has none. Each count stays at
--- 2^64 - 1 once it is there (profile).
-pub record Told : Type 0 where
+-- what stands beside a reader or a writer that is one side of a connection: what its other side
+-- tells
+pub record Beside : Type 0 where
   pub bytes : Option (List ℕ)
   pub faults : ℕ
   pub reads : ℕ
 
--- nothing is told
-abbrev pub untold : Told
-untold = record { bytes = None; faults = 0; reads = 0 }
+-- `bytes` are those that a reader has left, or that a writer has taken: None where it does not say,
+-- as over a file or a socket. `faults` counts the failed reads of a reader or the failed writes of
+-- a writer, and `reads` a reader's reads that did not fail: a writer has none. Each count stays at
+-- 2^64 - 1 once it is there (profile). `aside` is what stands beside it, which its calls leave
+-- alone.
+pub record Told : Type 0 where
+  pub bytes : Option (List ℕ)
+  pub faults : ℕ
+  pub reads : ℕ
+  pub aside : Beside
+
+-- nothing stands beside it
+abbrev pub alone : Beside
+alone = record { bytes = None; faults = 0; reads = 0 }
+
+-- what stands beside the other side of what tells this
+abbrev pub beside : Told → Beside
+beside told = record { bytes = told.bytes; faults = told.faults; reads = told.reads }
+
+-- what is told by this, with another beside it
+abbrev pub set_beside : Beside → Told → Told
+set_beside other told = record told { aside = other }
 
 -- a count grew by so many, up to 2^64 - 1, where it stays (profile)
 pub record Counts (before after many : ℕ) : Type 0 where
@@ -26,3 +43,4 @@ pub record Fails (old new : Told) : Type 0 where
   pub bytes_stay : (xs : List ℕ) → old.bytes ≡ Some xs → new.bytes ≡ Some xs
   pub counted : Counts old.faults new.faults 1
   pub no_read : new.reads ≡ old.reads
+  pub aside : new.aside ≡ old.aside

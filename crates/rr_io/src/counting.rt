@@ -1,6 +1,6 @@
 //! std's readers and writers, with their failed calls and their reads counted.
 ghost use Rattle.std.specs.Prelude.{◌≡◌};
-ghost use Rattle.rr_io.specs.Told.{Counts};
+ghost use Rattle.rr_io.specs.Told.{Counts, alone};
 
 use super::{Sink, Source};
 use std::io;
@@ -60,8 +60,12 @@ pub fn count_one(count: &mut u64)
 }
 
 impl<T: Read> Source for Counted<T> {
-    ghost told = { λ c. record
-        { bytes = T.remaining c.inner; faults = c.failed_reads; reads = c.reads } };
+    ghost told = { λ c. record {
+      bytes = T.remaining c.inner;
+      faults = c.failed_reads;
+      reads = c.reads;
+      aside = alone;
+    } };
 
     fn read(&mut self, buf: &mut [u8]) -> io::Result<usize> {
         match self.inner.read(buf) {
@@ -82,8 +86,12 @@ impl<T: Read> Source for Counted<T> {
 }
 
 impl<T: Write> Sink for Counted<T> {
-    ghost told = { λ c. record
-        { bytes = T.contents c.inner; faults = c.failed_writes; reads = 0 } };
+    ghost told = { λ c. record {
+      bytes = T.contents c.inner;
+      faults = c.failed_writes;
+      reads = 0;
+      aside = alone;
+    } };
 
     fn write(&mut self, bytes: &[u8]) -> io::Result<usize> {
         match self.inner.write(bytes) {

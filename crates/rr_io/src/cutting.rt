@@ -74,8 +74,6 @@ impl<T: Source> Source for Cut<T> {
 
     ghost told = { cut_told T.told reads_cut };
 
-    ghost aside = { λ c. T.aside c.inner };
-
     fn read(&mut self, buf: &mut [u8]) -> io::Result<usize>
         ensures bound { IfOk result (λ count. count ≤ length buf.new) }
         ensures gives { IfOk result (λ count. Gives (cut_told T.told reads_cut self.old)
@@ -86,7 +84,6 @@ impl<T: Source> Source for Cut<T> {
             (cut_told T.told reads_cut self.new) 1) }
         ensures fails { OnErr result
             (Fails (cut_told T.told reads_cut self.old) (cut_told T.told reads_cut self.new)) }
-        ensures aside { T.aside (cut_inner self.new) ≡ T.aside (cut_inner self.old) }
         ensures passes { IfOk result (λ count. Passes reads_cut self.old self.new count) }
         ensures cut { cut_left self.old ≡ 0 → IsErr result }
         ensures only { OnErr result (FailsSomewhere T.told reads_cut self.old self.new) }
@@ -111,8 +108,6 @@ impl<T: Sink> Sink for Cut<T> {
 
     ghost told = { cut_told T.told writes_cut };
 
-    ghost aside = { λ c. T.aside c.inner };
-
     fn write(&mut self, bytes: &[u8]) -> io::Result<usize>
         ensures bound { IfOk result (λ count. count ≤ length bytes.now) }
         ensures some { IfOk result (λ count. 0 < length bytes.now → 0 < count) }
@@ -120,7 +115,6 @@ impl<T: Sink> Sink for Cut<T> {
             (cut_told T.told writes_cut self.new) (take count bytes.now)) }
         ensures fails { OnErr result
             (Fails (cut_told T.told writes_cut self.old) (cut_told T.told writes_cut self.new)) }
-        ensures aside { T.aside (cut_inner self.new) ≡ T.aside (cut_inner self.old) }
         ensures passes { IfOk result (λ count. Passes writes_cut self.old self.new count) }
         ensures cut { cut_left self.old ≡ 0 → IsErr result }
         ensures only { OnErr result (FailsSomewhere T.told writes_cut self.old self.new) }

@@ -1,5 +1,6 @@
 //! A reader and a writer as one connection.
 ghost use Rattle.std.specs.Prelude.{◌≡◌, refl};
+ghost use Rattle.rr_io.specs.Told.{beside, set_beside};
 
 use super::{Connection, Sink, Source};
 use std::io;
@@ -46,9 +47,7 @@ impl<R, W> Joined<R, W> {
 }
 
 impl<R: Source, W: Sink> Source for Joined<R, W> {
-    ghost told = { λ j. R.told j.reader };
-
-    ghost aside = { λ j. W.told j.writer };
+    ghost told = { λ j. set_beside (beside (W.told j.writer)) (R.told j.reader) };
 
     fn read(&mut self, buf: &mut [u8]) -> io::Result<usize> {
         self.reader.read(buf)
@@ -60,9 +59,7 @@ impl<R: Source, W: Sink> Source for Joined<R, W> {
 }
 
 impl<R: Source, W: Sink> Sink for Joined<R, W> {
-    ghost told = { λ j. W.told j.writer };
-
-    ghost aside = { λ j. R.told j.reader };
+    ghost told = { λ j. set_beside (beside (R.told j.reader)) (W.told j.writer) };
 
     fn write(&mut self, bytes: &[u8]) -> io::Result<usize> {
         self.writer.write(bytes)

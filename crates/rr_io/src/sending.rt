@@ -7,8 +7,7 @@ use std::io;
 
 /// Writes all of `bytes`. After a fault the writer has taken the beginning of them.
 pub fn write_all<W: Sink>(writer: &mut W, bytes: &[u8]) -> io::Result<()>
-    ensures writes { Writes (W.told writer.old) (W.told writer.new) bytes.now result }
-    ensures aside { W.aside writer.new ≡ W.aside writer.old }
+    ensures { Writes (W.told writer.old) (W.told writer.new) bytes.now result }
 {
     let mut rest = bytes;
     'rest: while !rest.is_empty() {
@@ -22,9 +21,8 @@ pub fn write_all<W: Sink>(writer: &mut W, bytes: &[u8]) -> io::Result<()>
 /// Writes all of the pieces, one after the other. After a fault the writer has taken the beginning
 /// of their bytes.
 pub fn write_pieces<W: Sink>(writer: &mut W, pieces: &[&[u8]]) -> io::Result<()>
-    ensures writes { Writes (W.told writer.old) (W.told writer.new)
+    ensures { Writes (W.told writer.old) (W.told writer.new)
         (flat_map (λ piece. piece.now) pieces.now) result }
-    ensures aside { W.aside writer.new ≡ W.aside writer.old }
 {
     'pieces: for piece in pieces {
         write_all(writer, piece)?;

@@ -1,6 +1,6 @@
 //! Readers and writers as contracts see them.
 ghost use Rattle.std.specs.Prelude.{◌≡◌, ◌<◌, ◌≤◌, take, length, IfOk, OnErr};
-ghost use Rattle.rr_io.specs.Told.{Told, Fails, untold};
+ghost use Rattle.rr_io.specs.Told.{Told, Fails, beside};
 ghost use Rattle.rr_io.specs.Sending.{Takes};
 ghost use Rattle.rr_io.specs.Receiving.{CountsReads, Gives, IsSpent};
 
@@ -8,12 +8,9 @@ use std::io;
 
 /// A reader. An error of any kind is a fault, and leaves what there is to read as it was.
 pub trait Source {
-    // The bytes that are left to read, and the counts of the reads that failed and of those that
-    // did not.
+    // The bytes that are left to read, the counts of the reads that failed and of those that did
+    // not, and what stands beside the reader.
     ghost told: { Self → Told };
-
-    // What stands beside the reader and is left alone by a read.
-    ghost aside: { Self → Told } = { λ _. untold };
 
     /// Reads some bytes into the beginning of `buf` and says how many: none only at the end, or
     /// into an empty `buf`.
@@ -24,8 +21,7 @@ pub trait Source {
         ensures spent { IfOk result
             (λ count. count ≡ 0 → 0 < length buf.new → IsSpent (told self.new)) }
         ensures counts { IfOk result (λ _. CountsReads (told self.old) (told self.new) 1) }
-        ensures fails { OnErr result (Fails (told self.old) (told self.new)) }
-        ensures aside { aside self.new ≡ aside self.old };
+        ensures fails { OnErr result (Fails (told self.old) (told self.new)) };
 
     /// How many reads failed, up to `u64::MAX`.
     fn failed_reads(&self) -> u64
@@ -35,11 +31,8 @@ pub trait Source {
 /// A writer. An error of any kind is a fault, and so is a write of at least one byte that takes
 /// none.
 pub trait Sink {
-    // The bytes that were taken, and the count of failed writes.
+    // The bytes that were taken, the count of failed writes, and what stands beside the writer.
     ghost told: { Self → Told };
-
-    // What stands beside the writer and is left alone by a write.
-    ghost aside: { Self → Told } = { λ _. untold };
 
     /// Takes some bytes from the beginning of `bytes` and says how many: none only of no bytes.
     fn write(&mut self, bytes: &[u8]) -> io::Result<usize>
@@ -47,8 +40,7 @@ pub trait Sink {
         ensures some { IfOk result (λ count. 0 < length bytes.now → 0 < count) }
         ensures takes { IfOk result
             (λ count. Takes (told self.old) (told self.new) (take count bytes.now)) }
-        ensures fails { OnErr result (Fails (told self.old) (told self.new)) }
-        ensures aside { aside self.new ≡ aside self.old };
+        ensures fails { OnErr result (Fails (told self.old) (told self.new)) };
 
     /// How many writes failed, up to `u64::MAX`: apart from the failed reads of a reader in the
     /// same value.
@@ -58,7 +50,9 @@ pub trait Sink {
 
 /// A reader and a writer in one value, each of which leaves the other alone.
 pub trait Connection: Source + Sink {
-    ghost read_leaves_sink: { (c : Self) → Self.Source.aside c ≡ Self.Sink.told c };
+    ghost read_leaves_sink: { (c : Self)
+        → (Self.Source.told c).aside ≡ beside (Self.Sink.told c) };
 
-    ghost write_leaves_source: { (c : Self) → Self.Sink.aside c ≡ Self.Source.told c };
+    ghost write_leaves_source: { (c : Self)
+        → (Self.Sink.told c).aside ≡ beside (Self.Source.told c) };
 }

@@ -1,1 +1,3 @@
 pub mod ServingTimes
+pub mod PeerCalls
+pub mod Listening

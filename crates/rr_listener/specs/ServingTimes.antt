@@ -36,11 +36,6 @@ abbrev pub SetsTimeout : Option ℕ → Option Duration → Option Duration → 
 SetsTimeout wait before after set =
     SetsWait wait (option_map as_nanos before) (option_map as_nanos after) (option_map as_nanos set)
 
--- there is a wait, and the timeout with which a call was made is it (profile)
-pub record WaitsFor (wait : Option ℕ) (timeout : Option Duration) : Type 0 where
-  pub there_is : is_some wait ≡ true
-  pub stands : option_map as_nanos timeout ≡ wait
-
 -- how many seconds a peer is given to take a reply of which so many bytes went out: 60, and one
 -- more for each 16 KiB (profile)
 abbrev pub reply_time : ℕ → ℕ

@@ -1,16 +1,32 @@
 //! How long a peer is waited for.
 
-ghost use Rattle.std.specs.Prelude.{◌≡◌, ◌+◌, min, IfOk, None, OnErr, Some};
+ghost use Rattle.std.specs.Prelude.{◌≡◌, ◌+◌, ◌-◌, ◌≤◌, min, IfOk, None, OnErr, Some};
 ghost use Rattle.std.specs.Duration.{as_nanos, max_nanos};
 ghost use Rattle.std.specs.Option.{option_map};
+ghost use Rattle.std.specs.Time.{instant_nanos};
 ghost use Rattle.rr_listener.specs.ServingTimes.{SetsTimeout, next_wait};
 
 use std::io;
 use std::io::ErrorKind;
-use std::time::Duration;
+use std::time::{Duration, Instant};
 
 /// How many seconds a call waits for a peer at most (profile).
 pub const LONGEST_WAIT: u64 = 10;
+
+/// A wait for a peer that has begun. It cannot be let go: it has to be ended, and then its time is
+/// taken.
+pub struct Wait {
+    since: Instant,
+}
+
+impl Wait {
+    /// A wait from now on. The error is the system's.
+    pub fn begin(rt: &HostRuntime) -> io::Result<Wait> {
+        Ok(Wait {
+            since: Instant::now(rt)?,
+        })
+    }
+}
 
 /// How much of its time a peer has taken. Time counts while a call waits for this peer, and not
 /// while the desk works or others are served.
@@ -18,9 +34,12 @@ pub const LONGEST_WAIT: u64 = 10;
 pub struct Deadline {
     taken: Duration,
     timeout: Option<Duration>,
+    ghost within: { as_nanos taken ≤ max_nanos },
 }
 
 impl Deadline {
+    ghost use Rattle.rr_listener.specs.PeerCalls.{TakesUp};
+
     /// No time is taken yet.
     pub fn new() -> Deadline
         ensures taken { as_nanos result.taken ≡ 0 }
@@ -32,24 +51,51 @@ impl Deadline {
         }
     }
 
-    /// Adds this wait to the time taken, which stays at the longest `Duration` once it is there.
-    pub fn take(&mut self, waited: Duration)
-        ensures taken { as_nanos self.new.taken
-            ≡ min (as_nanos self.old.taken + as_nanos waited) max_nanos }
+    /// Ends a wait now. If the clock cannot be read all time is taken, and the error is the
+    /// system's.
+    pub fn end(&mut self, rt: &HostRuntime, wait: Wait) -> io::Result<()>
+        ensures taken { as_nanos self.old.taken ≤ as_nanos self.new.taken }
         ensures timeout { self.new.timeout ≡ self.old.timeout }
     {
-        self.taken = self.taken.saturating_add(waited);
+        match Instant::now(rt) {
+            Ok(now) => {
+                self.end_at(wait, now);
+                Ok(())
+            }
+            Err(error) => {
+                self.end_unknown(wait);
+                Err(error)
+            }
+        }
+    }
+
+    /// Ends a wait at this time, and adds it to the time taken, which stays at the longest
+    /// `Duration` once it is there.
+    fn end_at(&mut self, wait: Wait, now: Instant)
+        ensures { TakesUp (min (as_nanos self.old.taken
+            + (instant_nanos now - instant_nanos wait.since)) max_nanos) self.old self.new }
+    {
+        let Wait { since } = wait;
+        self.taken = self.taken.saturating_add(now.duration_since(since));
+    }
+
+    /// Ends a wait that nobody knows the time of: it takes all time.
+    fn end_unknown(&mut self, wait: Wait)
+        ensures { TakesUp max_nanos self.old self.new }
+    {
+        let Wait { since: _ } = wait;
+        self.taken = Duration::MAX;
     }
 
     /// The timeout to set before the next call, if the peer is given so many seconds in all; none
     /// if the one that was set last still serves. The error is that the time is over; then the
-    /// timeout stays.
+    /// deadline stays.
     pub fn next_timeout(&mut self, seconds: u64) -> io::Result<Option<Duration>>
         ensures sets { IfOk result
             (λ set. SetsTimeout (next_wait seconds (as_nanos self.old.taken))
             self.old.timeout self.new.timeout set) }
         ensures over { OnErr result (next_wait seconds (as_nanos self.old.taken) ≡ None) }
-        ensures stays { OnErr result (self.new.timeout ≡ self.old.timeout) }
+        ensures stays { OnErr result (self.new ≡ self.old) }
         ensures taken { self.new.taken ≡ self.old.taken }
     {
         match self.next_wait(seconds) {

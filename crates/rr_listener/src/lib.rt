@@ -6,6 +6,7 @@ mod deadline;
 mod listener;
 mod peer_reader;
 mod peer_writer;
+mod socket;
 mod stream;
 
 pub use listener::Listener;

@@ -1,9 +1,12 @@
 //! A listener on this machine, whose connections are served one after the other.
 
-ghost use Rattle.std.specs.Prelude.{◌≡◌, IfOk};
+ghost use Rattle.std.specs.Prelude.{◌≡◌, ◌+◌, ◌<◌, ◌^◌, IfOk, OnErr, OnOk};
+ghost use Rattle.std.specs.Option.{option_map};
+ghost use Rattle.std.specs.Result.{result_err, result_ok};
 
 use crate::stream::{Stream, accept_stream, end_stream};
 use rr_desk::{AcceptFault, Peers};
+use rr_io::{Sink, Source};
 use std::alloc::Global;
 use std::io;
 use std::net::{Ipv4Addr, TcpListener};
@@ -39,25 +42,22 @@ impl<'a> Listener<'a> {
 
     /// Why no connection could be accepted in the last turn, if that is how it failed. The error is
     /// the system's.
-    pub fn accept_error(&self) -> Option<&io::Error> {
+    pub fn accept_error(&self) -> Option<&io::Error>
+        ensures { option_map (λ error. error.now) result ≡ self.now.accept_error }
+    {
         self.accept_error.as_ref()
     }
-}
 
-impl<'a> Peers for Listener<'a> {
-    ghost use Rattle.std.specs.Prelude.{None};
-    ghost use Rattle.rr_desk.specs.Turns.{none_told};
-
-    type Conn = Stream<'a>;
-
-    ghost tally = { λ listener. record { turns = listener.turns; told = None; waiting = None } };
-
-    ghost IsOpen = { λ _. Unit {0} };
-
-    ghost given = { λ _. None };
-
-    fn accept(&mut self, _alloc: Global) -> Result<Stream<'a>, AcceptFault> {
-        match accept_stream(self.rt, &self.socket) {
+    /// What an accept that ended so is to whom serves it, with its error kept, and counted as a
+    /// turn.
+    fn keep(&mut self, accepted: io::Result<Stream<'a>>) -> Result<Stream<'a>, AcceptFault>
+        requires { self.old.turns + 1 < 2 ^ 64 }
+        ensures kept { self.new.accept_error ≡ result_err accepted.entry }
+        ensures gives { result_ok result ≡ result_ok accepted.entry }
+        ensures accepted { OnOk result (self.new.turns ≡ self.old.turns) }
+        ensures refused { OnErr result (self.new.turns ≡ self.old.turns + 1) }
+    {
+        match accepted {
             Ok(stream) => {
                 self.accept_error = None;
                 Ok(stream)
@@ -68,6 +68,34 @@ impl<'a> Peers for Listener<'a> {
                 Err(AcceptFault)
             }
         }
+    }
+}
+
+impl<'a> Peers for Listener<'a> {
+    ghost use Rattle.std.specs.Prelude.{None, ◌↔◌, IsErr, IsSome};
+    ghost use Rattle.rr_desk.specs.Turns.{IsAccepted, IsUnaccepted, none_told};
+    ghost use Rattle.rr_listener.specs.Listening.{listener_tally};
+
+    type Conn = Stream<'a>;
+
+    ghost tally = { listener_tally };
+
+    ghost IsOpen = { λ _. Unit {0} };
+
+    ghost given = { λ _. None };
+
+    /// The next connection to the port. An error of the system is kept until the next accept.
+    fn accept(&mut self, _alloc: Global) -> Result<Stream<'a>, AcceptFault>
+        requires { self.old.turns + 1 < 2 ^ 64 }
+        ensures accepted { IfOk result (λ conn. IsAccepted
+            (listener_tally self.old) (listener_tally self.new) None
+            (⟦<Stream<'static> as Source>⟧.told conn) (⟦<Stream<'static> as Sink>⟧.told conn)) }
+        ensures refused { OnErr result
+            (IsUnaccepted (listener_tally self.old) (listener_tally self.new)) }
+        ensures kept { IsSome self.new.accept_error ↔ IsErr result }
+    {
+        let accepted = accept_stream(self.rt, &self.socket);
+        self.keep(accepted)
     }
 
     fn close(&mut self, conn: Stream<'a>) {

@@ -1,16 +1,14 @@
 //! What a peer sends.
 
-ghost use Rattle.std.specs.Prelude.{OnOk};
+ghost use Rattle.std.specs.Prelude.{◌≡◌, length};
 ghost use Rattle.std.specs.Duration.{as_nanos};
-ghost use Rattle.std.specs.Io.{ReadsAtMost};
-ghost use Rattle.rr_listener.specs.ServingTimes.{WaitsFor, next_wait};
+ghost use Rattle.rr_listener.specs.PeerCalls.{SpendsCall, SpendsTime};
 
-use crate::deadline::Deadline;
+use crate::deadline::{Deadline, Wait};
+use crate::socket::PeerSocket;
 use rr_io::READ_SIZE;
 use std::io;
 use std::io::{ErrorKind, Read};
-use std::net::TcpStream;
-use std::time::Instant;
 
 /// How many seconds a peer is given for all that it asks (profile).
 const REQUEST_TIME: u64 = 60;
@@ -30,13 +28,13 @@ const DRAIN_READS: u32 = 512;
 #[derive(Drop)]
 pub struct PeerReader<'a> {
     rt: &'a HostRuntime,
-    socket: TcpStream,
+    socket: PeerSocket,
     deadline: Deadline,
 }
 
 impl<'a> PeerReader<'a> {
     /// The bytes that come over a socket.
-    pub fn new(rt: &'a HostRuntime, socket: TcpStream) -> PeerReader<'a> {
+    pub fn new(rt: &'a HostRuntime, socket: PeerSocket) -> PeerReader<'a> {
         PeerReader {
             rt,
             socket,
@@ -48,6 +46,13 @@ impl<'a> PeerReader<'a> {
     /// of it. The error is the system's, or that the time is over.
     pub fn drain(mut self) -> io::Result<()> {
         self.deadline = Deadline::new();
+        self.take_in()
+    }
+
+    /// Takes in what the peer still sends, of whose time for that none is taken yet.
+    fn take_in(&mut self) -> io::Result<()>
+        requires { as_nanos self.old.deadline.taken ≡ 0 }
+    {
         let mut block = [0u8; READ_SIZE];
         for _ in 0..DRAIN_READS {
             if self.receive(&mut block, DRAIN_TIME)? == 0 {
@@ -60,24 +65,25 @@ impl<'a> PeerReader<'a> {
     /// Reads some bytes by one call, of a peer that has so many seconds in all. The error is the
     /// system's, or that the time is over.
     fn receive(&mut self, buf: &mut [u8], seconds: u64) -> io::Result<usize>
-        ensures bound { ReadsAtMost result buf.new }
-        ensures waits { OnOk result (WaitsFor
-            (next_wait seconds (as_nanos self.old.deadline.taken)) self.new.deadline.timeout) }
+        ensures { SpendsCall seconds (length buf.new)
+            self.old.deadline self.new.deadline result }
     {
         if let Some(timeout) = self.deadline.next_timeout(seconds)? {
-            self.socket.set_read_timeout(Some(timeout))?;
+            self.socket.set_read_timeout(timeout)?;
         }
-        let start = Instant::now(self.rt)?;
-        let answer = self.socket.read(buf);
-        let waited = start.elapsed(self.rt)?;
-        self.deadline.take(waited);
+        let wait = Wait::begin(self.rt)?;
+        let answer = self.socket.read(&wait, buf);
+        self.deadline.end(self.rt, wait)?;
         answer
     }
 }
 
 impl Read for PeerReader<'_> {
-    fn read(&mut self, buf: &mut [u8]) -> io::Result<usize> {
-        for _ in 1..MOST_CALLS {
+    /// Reads some bytes; the time that earlier reads took stays taken.
+    fn read(&mut self, buf: &mut [u8]) -> io::Result<usize>
+        ensures { SpendsTime (length buf.new) self.old.deadline self.new.deadline result }
+    {
+        'calls: for _ in 1..MOST_CALLS {
             let answer = self.receive(buf, REQUEST_TIME);
             if !is_interrupted(&answer) {
                 return answer;

@@ -1,15 +1,13 @@
 //! What a peer is sent.
 
-ghost use Rattle.std.specs.Prelude.{◌≡◌, ◌+◌, ◌-◌, ◌^◌, IfOk, OnErr, OnOk, min, nat_lt};
-ghost use Rattle.std.specs.Duration.{as_nanos};
-ghost use Rattle.std.specs.Io.{WritesAtMost};
-ghost use Rattle.rr_listener.specs.ServingTimes.{WaitsFor, next_wait, reply_time};
+ghost use Rattle.std.specs.Prelude.{◌≡◌, ◌+◌, ◌-◌, ◌^◌, IfOk, OnErr, length, min, nat_lt};
+ghost use Rattle.rr_listener.specs.PeerCalls.{SpendsCall, SpendsTime};
+ghost use Rattle.rr_listener.specs.ServingTimes.{reply_time};
 
-use crate::deadline::Deadline;
+use crate::deadline::{Deadline, Wait};
+use crate::socket::PeerSocket;
 use std::io;
 use std::io::{ErrorKind, Write};
-use std::net::{Shutdown, TcpStream};
-use std::time::Instant;
 
 /// How many calls a write makes at most, so that it waits for 90 seconds at most (profile).
 const MOST_CALLS: u32 = 9;
@@ -28,14 +26,14 @@ pub const BYTES_A_SECOND: u64 = 16_384;
 #[derive(Drop)]
 pub struct PeerWriter<'a> {
     rt: &'a HostRuntime,
-    socket: TcpStream,
+    socket: PeerSocket,
     deadline: Deadline,
     written: u64,
 }
 
 impl<'a> PeerWriter<'a> {
     /// The bytes that go over a socket.
-    pub fn new(rt: &'a HostRuntime, socket: TcpStream) -> PeerWriter<'a> {
+    pub fn new(rt: &'a HostRuntime, socket: PeerSocket) -> PeerWriter<'a> {
         PeerWriter {
             rt,
             socket,
@@ -53,27 +51,24 @@ impl<'a> PeerWriter<'a> {
 
     /// Tells the peer that nothing more comes. The error is the system's.
     pub fn finish(self) -> io::Result<()> {
-        self.socket.shutdown(Shutdown::Write)
+        self.socket.finish()
     }
 
     /// Sends some of the bytes by one call. The error is the system's, or that the time is over.
     fn send(&mut self, buf: &[u8]) -> io::Result<usize>
-        ensures bound { WritesAtMost result buf.now }
-        ensures waits { OnOk result (WaitsFor
-            (next_wait (reply_time self.old.written) (as_nanos self.old.deadline.taken))
-            self.new.deadline.timeout) }
+        ensures spends { SpendsCall (reply_time self.old.written) (length buf.now)
+            self.old.deadline self.new.deadline result }
         ensures counts { IfOk result
             (λ count. self.new.written ≡ min (self.old.written + count) (2 ^ 64 - 1)) }
         ensures stays { OnErr result (self.new.written ≡ self.old.written) }
     {
         let seconds = reply_time(self.written);
         if let Some(timeout) = self.deadline.next_timeout(seconds)? {
-            self.socket.set_write_timeout(Some(timeout))?;
+            self.socket.set_write_timeout(timeout)?;
         }
-        let start = Instant::now(self.rt)?;
-        let answer = self.socket.write(buf);
-        let waited = start.elapsed(self.rt)?;
-        self.deadline.take(waited);
+        let wait = Wait::begin(self.rt)?;
+        let answer = self.socket.write(&wait, buf);
+        self.deadline.end(self.rt, wait)?;
         let count = answer?;
         self.written = self.written.saturating_add(count as u64);
         Ok(count)
@@ -81,8 +76,11 @@ impl<'a> PeerWriter<'a> {
 }
 
 impl Write for PeerWriter<'_> {
-    fn write(&mut self, buf: &[u8]) -> io::Result<usize> {
-        for _ in 1..MOST_CALLS {
+    /// Writes some bytes; the time that earlier writes took stays taken.
+    fn write(&mut self, buf: &[u8]) -> io::Result<usize>
+        ensures { SpendsTime (length buf.now) self.old.deadline self.new.deadline result }
+    {
+        'calls: for _ in 1..MOST_CALLS {
             let answer = self.send(buf);
             if !is_made_again(&answer) {
                 return answer;

@@ -1,10 +1,11 @@
 //! Connections over TCP.
 
-ghost use Rattle.std.specs.Prelude.{◌≡◌, IfOk, None};
+ghost use Rattle.std.specs.Prelude.{◌≡◌, ◌<◌, IfOk, None};
 ghost use Rattle.rr_desk.specs.Turns.{IsFresh};
 
 use crate::peer_reader::PeerReader;
 use crate::peer_writer::PeerWriter;
+use crate::socket::PeerSocket;
 use rr_io::{Counted, Joined, Sink, Source};
 use std::io;
 use std::net::TcpListener;
@@ -23,8 +24,8 @@ pub fn accept_stream<'a>(rt: &'a HostRuntime, socket: &TcpListener) -> io::Resul
     let (writing, _peer) = socket.accept()?;
     let reading = writing.try_clone()?;
     Ok(Joined::new(
-        Counted::new(PeerReader::new(rt, reading)),
-        Counted::new(PeerWriter::new(rt, writing)),
+        Counted::new(PeerReader::new(rt, PeerSocket::new(reading))),
+        Counted::new(PeerWriter::new(rt, PeerSocket::new(writing))),
     ))
 }
 
@@ -43,8 +44,11 @@ pub fn end_stream(stream: Stream<'_>) {
     }
 }
 
-/// Tells the peer that nothing more comes, and takes in what it still sends.
-fn settle(reader: PeerReader<'_>, writer: PeerWriter<'_>) -> io::Result<()> {
+/// Tells the peer, to which something was written, that nothing more comes, and takes in what it
+/// still sends.
+fn settle(reader: PeerReader<'_>, writer: PeerWriter<'_>) -> io::Result<()>
+    requires { 0 < writer.written }
+{
     writer.finish()?;
     reader.drain()
 }

@@ -54,8 +54,7 @@ impl NameText {
 
     /// Writes the bytes. After a fault the writer has taken the beginning of them.
     pub(crate) fn print_to<W: Sink>(&self, writer: &mut W) -> io::Result<()>
-        ensures writes { Writes (W.told writer.old) (W.told writer.new) self.now result }
-        ensures aside { W.aside writer.new ≡ W.aside writer.old }
+        ensures { Writes (W.told writer.old) (W.told writer.new) self.now result }
     {
         write_all(writer, &self.bytes)
     }

@@ -131,9 +131,8 @@ impl Operator {
 
     /// Writes the operator's text. After a fault the writer has taken the beginning of it.
     pub fn print_to<W: Sink>(&self, writer: &mut W) -> io::Result<()>
-        ensures writes { Writes (W.told writer.old) (W.told writer.new)
+        ensures { Writes (W.told writer.old) (W.told writer.new)
             (operator_text self.now) result }
-        ensures aside { W.aside writer.new ≡ W.aside writer.old }
     {
         write_all(writer, self.text().as_bytes())
     }

@@ -104,9 +104,8 @@ impl Prefix {
 
     /// Writes the prefix's text. After a fault the writer has taken the beginning of it.
     pub fn print_to<W: Sink>(&self, writer: &mut W) -> io::Result<()>
-        ensures writes { Writes (W.told writer.old) (W.told writer.new)
+        ensures { Writes (W.told writer.old) (W.told writer.new)
             (prefix_text self.now) result }
-        ensures aside { W.aside writer.new ≡ W.aside writer.old }
     {
         write_all(writer, self.text().as_bytes())
     }

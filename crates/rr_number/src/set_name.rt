@@ -104,8 +104,7 @@ impl SetName {
 
     /// Writes the name. After a fault the writer has taken the beginning of it.
     pub fn print_to<W: Sink>(&self, writer: &mut W) -> io::Result<()>
-        ensures writes { Writes (W.told writer.old) (W.told writer.new) self.now result }
-        ensures aside { W.aside writer.new ≡ W.aside writer.old }
+        ensures { Writes (W.told writer.old) (W.told writer.new) self.now result }
     {
         self.text.print_to(writer)
     }

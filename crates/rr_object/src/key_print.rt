@@ -30,8 +30,7 @@ const ROUTE_LENGTH: usize = NUMBER_LENGTH + 1 + 2 + 1 + NUMBER_LENGTH;
 impl Key {
     /// Writes the key as reports print it. After a fault the writer has taken the beginning of it.
     pub fn print_to<W: Sink>(&self, writer: &mut W) -> io::Result<()>
-        ensures writes { Writes (W.told writer.old) (W.told writer.new) (key_text self.now) result }
-        ensures aside { W.aside writer.new ≡ W.aside writer.old }
+        ensures { Writes (W.told writer.old) (W.told writer.new) (key_text self.now) result }
     {
         match self {
             Key::Mntner(name) => name.print_to(writer),
@@ -128,9 +127,8 @@ fn is_old_component(component: &[u8]) -> bool
 }
 
 fn print_route<W: Sink>(prefix: Prefix, origin: AsNumber, writer: &mut W) -> io::Result<()>
-    ensures writes { Writes (W.told writer.old) (W.told writer.new)
+    ensures { Writes (W.told writer.old) (W.told writer.new)
         (prefix_text prefix ++ (32 ∷ as_number_text origin)) result }
-    ensures aside { W.aside writer.new ≡ W.aside writer.old }
 {
     let prefix = prefix.text();
     let origin = origin.text();
@@ -147,6 +145,7 @@ fn four_digits(number: u32) -> [u8; 4]
     let mut digits = [0; 4];
     match hex::encode_to_slice(low, &mut digits) {
         Ok(()) => digits,
+        // Two octets have four digits.
         Err(_) => unreachable!(),
     }
 }
@@ -158,6 +157,7 @@ fn eight_digits(number: u32) -> [u8; 8]
     let mut digits = [0; 8];
     match hex::encode_to_slice(&number.to_be_bytes(), &mut digits) {
         Ok(()) => digits,
+        // Four octets have eight digits.
         Err(_) => unreachable!(),
     }
 }

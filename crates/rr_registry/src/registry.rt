@@ -154,6 +154,7 @@ impl<B: Keeper> Registry<B> {
             Verdict::Change => self.put(alloc, object, Outcome::Changed),
             Verdict::Unchanged => Outcome::Unchanged,
             Verdict::Refuse(code) => Outcome::Refused(code),
+            // An object is never deleted by being submitted.
             Verdict::Delete => unreachable!(),
         }
     }
@@ -184,6 +185,7 @@ impl<B: Keeper> Registry<B> {
                 Outcome::Deleted
             }
             Verdict::Refuse(code) => Outcome::Refused(code),
+            // What is to be deleted is deleted or refused.
             Verdict::Add | Verdict::Change | Verdict::Unchanged => unreachable!(),
         }
     }

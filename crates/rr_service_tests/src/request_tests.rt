@@ -1,7 +1,7 @@
 //! What no clause says: that heads are read in pieces of any size, and what worked requests ask and
 //! are replied. What is expected comes from the rules, read by hand.
 use rr_http::{
-    Asked, BodyEnd, HEAD_SIZE, Head, Page, Refusal, read_body, read_head, read_request,
+    Asked, BodyEnd, BodySize, HEAD_SIZE, Head, Page, Refusal, read_body, read_head, read_request,
     write_refusal,
 };
 use rr_io::{Counted, Cut, Sink, Source};
@@ -36,17 +36,17 @@ fn wanted(head: Head, read: &[u8]) -> Seen {
     match head {
         Head::Whois(count) => Seen::Whois(count),
         Head::Http(count) => match read.get(..count) {
-            Some(head) => summary(count, read_request(head)),
+            Some(head) => summary(count, head),
             None => Seen::Failed,
         },
         Head::Refused(refusal) => Seen::Refused(refusal),
     }
 }
 
-fn summary(place: usize, asked: Asked<'_>) -> Seen {
-    match asked {
+fn summary(place: usize, head: &[u8]) -> Seen {
+    match read_request(head) {
         Asked::Refused(refusal) => Seen::Refused(refusal),
-        Asked::Submission(size) => Seen::Submission(place, size),
+        Asked::Submission(size) => Seen::Submission(place, size.bytes()),
         Asked::Query(escaped) => Seen::Query(escaped.len()),
         Asked::Dump => Seen::Dump,
     }
@@ -338,8 +338,6 @@ struct Calls<W> {
 impl<W: Sink> Sink for Calls<W> {
     ghost told = { λ c. W.told c.inner };
 
-    ghost aside = { λ c. W.aside c.inner };
-
     fn write(&mut self, bytes: &[u8]) -> io::Result<usize> {
         self.calls = self.calls.saturating_add(1);
         self.inner.write(bytes)
@@ -379,7 +377,8 @@ fn expect_body<T: Source, R: Abort + AllocGlobal>(
     buffered: &[u8],
     wanted: (&[u8], BodyEnd),
 ) -> Result<(), AllocError> {
-    let (body, end) = read_body(rt.alloc(), reader, buffered, 4)?;
+    let size = BodySize::new(4).unwrap();
+    let (body, end) = read_body(rt.alloc(), reader, buffered, size)?;
     assert_eq!(rt; (body.as_slice(), end), wanted);
     Ok(())
 }

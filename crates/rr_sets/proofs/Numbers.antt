@@ -10,11 +10,15 @@ use Rattle.rr_object.specs.declared.key.Key.{Key}
 use Rattle.rr_object.specs.declared.key.Key.TheVariants.{Mntner, AsBlock, AutNum, Inetnum, Route}
 use Rattle.rr_object.specs.declared.key.Key.TheVariants.{AsSet, RouteSet}
 use Rattle.rr_object.specs.declared.member.Member.{Member}
-use Rattle.std.proofs.Common.{◌++◌, ◌+◌, ◌<◌, length, get_or, take}
+use Rattle.std.proofs.Common.{◌++◌, ◌+◌, ◌<◌, Bool, true, false, cond, ◌∷◌, length, get_or, take}
+use Rattle.std.specs.List.{filter}
+use Rattle.std.specs.Prelude.{not}
 use Rattle.rr_graph.proofs.Backwards.{Contains-take, Contains-take_cases}
 use Rattle.std.proofs.lemmas.List.Elements.{Contains-append_cases, Contains-append_left}
-use Rattle.std.proofs.lemmas.List.Elements.{Contains-append_right}
+use Rattle.std.proofs.lemmas.List.Elements.{Contains-append_right, filter_more}
+use Rattle.std.proofs.lemmas.List.{append-nil}
 use Rattle.rr_sets.specs.AsSets.{BelongsTo, IsAnyNumber, IsDirect, ListsNumber, ListsSet}
+use Rattle.rr_sets.specs.AsSets.{has_as_set}
 use Rattle.rr_sets.specs.Lists.{IsAutNum, IsReferrer, ListsOnce, lent}
 use Rattle.rr_sets.specs.KeyParts.{number_of_key}
 use Rattle.rr_sets.specs.SetObjects.{number_listed, set_listed, takes}
@@ -204,3 +208,24 @@ names_that_are_listed r name set members names registered is_members is next = (
       (subst (λ (x : Obj). (m : Member) × Contains x.members m × (set_listed m ≡ Some next))
       same listed))),
 )
+
+-- a name is missing where there is no as-set of it
+pub missing_kept : (r : Reg) (name : List ℕ) (before : List (List ℕ)) → has_as_set r name ≡ true →
+    before ≡ before ++ filter (λ s. not (has_as_set r s)) (name ∷ [])
+missing_kept r name before known = sym (ap (λ b. before ++ cond (not b) (name ∷ []) []) known
+    ∙ append-nil before)
+
+pub missing_added : (r : Reg) (name : List ℕ) (before : List (List ℕ)) → has_as_set r name ≡ false
+    → before ++ name ∷ [] ≡ before ++ filter (λ s. not (has_as_set r s)) (name ∷ [])
+missing_added r name before none = sym (ap (λ b. before ++ cond (not b) (name ∷ []) []) none)
+
+pub missing_more : (r : Reg) (names : List (List ℕ)) (i : ℕ) (name : List ℕ)
+    (before after : List (List ℕ)) → i < length names → name ≡ get_or names i name →
+    before ≡ filter (λ s. not (has_as_set r s)) (take i names) →
+    after ≡ before ++ filter (λ s. not (has_as_set r s)) (name ∷ [])
+    → after ≡ filter (λ s. not (has_as_set r s)) (take (i + 1) names)
+missing_more r names i name before after inside is so_far added =
+    let test : List ℕ → Bool = λ s. not (has_as_set r s) in
+    added ∙ ap (λ (l : List (List ℕ)). l ++ filter test (name ∷ [])) so_far
+    ∙ ap (λ (s : List ℕ). filter test (take i names) ++ filter test (s ∷ [])) is
+    ∙ sym (filter_more test names i name inside)

@@ -1,12 +1,17 @@
 //! The expansion of as-sets.
 
-ghost use Rattle.std.specs.Prelude.{◌≡◌, ◌↔◌, ℕ, List, not, true, false, Contains};
-ghost use Rattle.std.specs.Prelude.{IfOk, OnOk, filter};
+ghost use Rattle.std.specs.Prelude.{◌≡◌, ◌↔◌, ◌||◌, ◌++◌, ◌∷◌, [], ℕ, List, not, true, false};
+ghost use Rattle.std.specs.Prelude.{Contains, IfOk, OnOk, filter, is_some};
 ghost use Rattle.std.specs.BTreeSet.{IsFromIterResult};
+ghost use Rattle.std.specs.FinMap.{get};
 ghost use Rattle.std.specs.Option.{option_copied};
 ghost use Rattle.std.specs.List.{filter_map};
 ghost use Rattle.std.specs.List.Sorted.{IsStrictlySortedBy};
+ghost use Rattle.std.specs.Str.{bytes_eq};
 ghost use Rattle.std.proofs.lemmas.Map.Lookups.{CmpEqualImpliesEq};
+ghost use Rattle.rr_number.specs.AnySets.{as_any};
+ghost use Rattle.rr_object.specs.declared.key.Key.TheVariants.{AsSet};
+ghost use Rattle.rr_auth.specs.Registries.{Reg};
 ghost use Rattle.rr_graph.specs.Chain.{MoreThan};
 ghost use Rattle.rr_sets.specs.AsSets.{AreMissing, AreNumbersIn, IsDirect, IsReachedSet};
 ghost use Rattle.rr_sets.specs.AsSets.{ListsSet, has_as_set};
@@ -18,7 +23,7 @@ use crate::direct::{as_set, direct_numbers};
 use crate::members::{ExpandFault, Members};
 use rr_graph::{Graph, ReachFault, ascending, reach};
 use rr_number::{AsNumber, SetName};
-use rr_object::{Member, MemberSet};
+use rr_object::{Member, MemberSet, Object};
 use std::alloc::{AllocError, Global};
 use std::collections::BTreeSet;
 
@@ -100,8 +105,9 @@ fn members_of<B: SetBook>(
         (λ members. IsStrictlySortedBy ⟦<AsNumber as Ord>⟧.cmp members.found.items) }
     ensures missing_sorted { IfOk result (λ members. AreAscendingNames members.missing.items) }
 {
-    let found = sorted(alloc, numbers_in(alloc, book, names)?)?;
-    let missing = sorted(alloc, missing_names(alloc, book, names)?)?;
+    let Members { found, missing } = own_members(alloc, book, names)?;
+    let found = sorted(alloc, found)?;
+    let missing = sorted(alloc, missing)?;
     Ok(Members { found, missing })
 }
 
@@ -121,10 +127,8 @@ impl<B: SetBook> Graph for AsSets<'_, B> {
     ghost exact = { exact_bytes };
 
     fn successors(&self, alloc: Global, name: &SetName) -> Result<Vec<SetName>, AllocError> {
-        match as_set(alloc, self.book, name)? {
-            Some(object) => sets_listed(alloc, object.members()),
-            None => Ok(Vec::new(alloc)),
-        }
+        let set = as_set(alloc, self.book, name)?;
+        names_listed(alloc, set)
     }
 
     fn copy(&self, alloc: Global, name: &SetName) -> Result<SetName, AllocError> {
@@ -150,8 +154,20 @@ fn reached_sets<B: SetBook>(
     reach(alloc, &AsSets { book }, starts, limit)
 }
 
+/// The names of sets that an as-set lists, where it is registered.
+pub fn names_listed(alloc: Global, set: Option<&Object>) -> Result<Vec<SetName>, AllocError>
+    ensures { IfOk result (λ names. (r : Reg) (name : List ℕ)
+        → option_copied set.entry ≡ get r (AsSet name)
+        → (listed : List ℕ) → Contains names.items listed ↔ ListsSet r name listed) }
+{
+    match set {
+        Some(object) => sets_listed(alloc, object.members()),
+        None => Ok(Vec::new(alloc)),
+    }
+}
+
 /// The names of sets among the members.
-pub fn sets_listed(alloc: Global, members: &[Member]) -> Result<Vec<SetName>, AllocError>
+fn sets_listed(alloc: Global, members: &[Member]) -> Result<Vec<SetName>, AllocError>
     ensures { IfOk result (λ names. names.items ≡ filter_map set_listed members.now) }
 {
     let mut names = Vec::new(alloc);
@@ -177,42 +193,55 @@ fn set_listed(member: &Member) -> Option<&SetName>
 fn has_as_set<B: SetBook>(alloc: Global, book: &B, name: &SetName) -> Result<bool, AllocError>
     ensures { IfOk result (λ known. known ≡ has_as_set (B.contents book.now) name.now) }
 {
-    let registered = as_set(alloc, book, name)?.is_some();
-    Ok(registered || name.is_as_any())
+    let set = as_set(alloc, book, name)?;
+    Ok(is_known(name, set))
 }
 
-/// The AS numbers that are in one of the sets itself.
-fn numbers_in<B: SetBook>(
-    alloc: Global,
-    book: &B,
-    names: &[SetName],
-) -> Result<Vec<AsNumber>, AllocError>
-    ensures { IfOk result (λ numbers. (n : ℕ) → Contains numbers.items n
-        ↔ ((s : List ℕ) × Contains names.now s × IsDirect (B.contents book.now) s n)) }
+/// Whether a set of the name is registered, or it is `AS-ANY`.
+fn is_known(name: &SetName, set: Option<&Object>) -> bool
+    ensures { result ≡ (is_some (option_copied set.entry) || bytes_eq name.now as_any) }
 {
-    let mut numbers = Vec::new(alloc);
-    for name in names {
-        numbers.extend_from_slice(&direct_numbers(alloc, book, name)?)?;
-    }
-    Ok(numbers)
+    set.is_some() || name.is_as_any()
 }
 
-/// Those of the names that are not an as-set's.
-fn missing_names<B: SetBook>(
+/// The AS numbers that are in one of the sets itself, where one may come twice, and those of the
+/// names that are not an as-set's.
+fn own_members<B: SetBook>(
     alloc: Global,
     book: &B,
     names: &[SetName],
-) -> Result<Vec<SetName>, AllocError>
-    ensures { IfOk result (λ missing. missing.items
+) -> Result<Members<AsNumber>, AllocError>
+    ensures found { IfOk result (λ members. (n : ℕ) → Contains members.found.items n
+        ↔ ((s : List ℕ) × Contains names.now s × IsDirect (B.contents book.now) s n)) }
+    ensures missing { IfOk result (λ members. members.missing.items
         ≡ filter (λ s. not (has_as_set (B.contents book.now) s)) names.now) }
 {
+    let mut found = Vec::new(alloc);
     let mut missing = Vec::new(alloc);
     for name in names {
-        if !has_as_set(alloc, book, name)? {
-            missing.push(name.copy(alloc)?)?;
-        }
+        let set = as_set(alloc, book, name)?;
+        found.extend_from_slice(&direct_numbers(alloc, book, name, set)?)?;
+        add_missing(alloc, &mut missing, name, set)?;
     }
-    Ok(missing)
+    Ok(Members { found, missing })
+}
+
+/// Adds a name that is not an as-set's; `set` is its object, if it is registered.
+fn add_missing(
+    alloc: Global,
+    missing: &mut Vec<SetName>,
+    name: &SetName,
+    set: Option<&Object>,
+) -> Result<(), AllocError>
+    ensures { OnOk result ((r : Reg) → option_copied set.entry ≡ get r (AsSet name.now)
+        → missing.new.items ≡ missing.old.items
+        ++ filter (λ s. not (has_as_set r s)) (name.now ∷ [])) }
+{
+    if is_known(name, set) {
+        return Ok(());
+    }
+    missing.push(name.copy(alloc)?)?;
+    Ok(())
 }
 
 /// The list in ascending order, without repeats.

@@ -15,16 +15,20 @@ use rr_number::{AsNumber, SetName};
 use rr_object::{Key, Member, MemberSet, Object};
 use std::alloc::{AllocError, Global};
 
-/// The AS numbers that are in the set itself, where one may come twice.
+/// The AS numbers that are in the set itself, where one may come twice; `set` is its object, if it
+/// is registered.
 pub fn direct_numbers<B: SetBook>(
     alloc: Global,
     book: &B,
     name: &SetName,
+    set: Option<&Object>,
 ) -> Result<Vec<AsNumber>, AllocError>
+    requires found { option_copied set ≡ get (B.contents book.now) (Key.AsSet name.now) }
+    requires sound { Sound (B.contents book.now) }
     ensures { IfOk result (λ numbers. (n : ℕ)
         → Contains numbers.items n ↔ IsDirect (B.contents book.now) name.now n) }
 {
-    let mut numbers = registered_numbers(alloc, book, name)?;
+    let mut numbers = registered_numbers(alloc, book, name, set)?;
     numbers.extend_from_slice(&any_numbers(alloc, book, name)?)?;
     Ok(numbers)
 }
@@ -35,11 +39,14 @@ fn registered_numbers<B: SetBook>(
     alloc: Global,
     book: &B,
     name: &SetName,
+    set: Option<&Object>,
 ) -> Result<Vec<AsNumber>, AllocError>
+    requires found { option_copied set ≡ get (B.contents book.now) (Key.AsSet name.now) }
+    requires sound { Sound (B.contents book.now) }
     ensures { IfOk result (λ numbers. (n : ℕ) → Contains numbers.items n ↔ (ListsNumber
         (B.contents book.now) name.now n ⊎ BelongsTo (B.contents book.now) name.now n)) }
 {
-    match as_set(alloc, book, name)? {
+    match set {
         Some(object) => {
             let mut numbers = numbers_listed(alloc, object.members())?;
             let objects = belonging(alloc, book, name, object)?;

@@ -1,15 +1,14 @@
 //! The sets to which a set refers.
 
-ghost use Rattle.std.specs.Prelude.{◌≡◌, ◌↔◌, ◌++◌, ℕ, List, Contains, IfOk, map};
+ghost use Rattle.std.specs.Prelude.{◌≡◌, ◌↔◌, ◌++◌, Contains, IfOk, map};
 ghost use Rattle.std.specs.List.{filter_map};
 ghost use Rattle.std.specs.List.Sorted.{IsStrictlySortedBy};
 ghost use Rattle.rr_number.specs.declared.operator.Operator.{Operator};
 ghost use Rattle.rr_object.specs.declared.member.MemberSet.{MemberSet};
-ghost use Rattle.rr_sets.specs.AsSets.{ListsSet};
 ghost use Rattle.rr_sets.specs.MemberParts.{reference_of, number_reference, set_reference};
 ghost use Rattle.rr_sets.specs.RouteSets.{AreReferences, AsSetRefers, RouteSetRefers};
 
-use crate::as_sets::sets_listed;
+use crate::as_sets::names_listed;
 use crate::book::SetBook;
 use crate::direct::{as_set, direct_numbers};
 use rr_graph::{Edge, put_in_order};
@@ -65,24 +64,10 @@ fn as_set_references<B: SetBook>(
         → Contains references.items (record { to = other; label = operator })
         ↔ AsSetRefers (B.contents book.now) name.now other operator) }
 {
-    let numbers = direct_numbers(alloc, book, name)?;
-    let names = names_listed(alloc, book, name)?;
+    let set = as_set(alloc, book, name)?;
+    let numbers = direct_numbers(alloc, book, name, set)?;
+    let names = names_listed(alloc, set)?;
     plain_references(alloc, numbers, names)
-}
-
-/// The names of sets that a registered as-set lists.
-fn names_listed<B: SetBook>(
-    alloc: Global,
-    book: &B,
-    name: &SetName,
-) -> Result<Vec<SetName>, AllocError>
-    ensures { IfOk result (λ names. (listed : List ℕ)
-        → Contains names.items listed ↔ ListsSet (B.contents book.now) name.now listed) }
-{
-    match as_set(alloc, book, name)? {
-        Some(object) => sets_listed(alloc, object.members()),
-        None => Ok(Vec::new(alloc)),
-    }
 }
 
 /// References to these ASes and to these sets, without operators.

@@ -19,15 +19,13 @@ use Rattle.rr_object.specs.Objects.{Obj}
 use Rattle.rr_object.specs.Readings.{object_of}
 use Rattle.rr_object.proofs.KeyBounds.{key_formed, object_key_formed}
 use Rattle.rr_object.proofs.Parsed.{kept_its_key, kept_paragraph, of_any_source}
-use Rattle.rr_auth.specs.Laws.{key_about}
 use Rattle.rr_auth.specs.Sources.{IsReadIn, IsReadObject}
 use Rattle.rr_registry.specs.RunLaws.{AreReadIn}
-use Rattle.rr_submission.specs.declared.request.Request.{Request}
 use Rattle.rr_submission.specs.SubmissionItems.{AreItems, ItemRequest, submitted}
 use Rattle.rr_submission.specs.SubmissionItems.AreItems.{at_end, secrets_alone, requested, faulty}
 use Rattle.rr_submission.specs.SubmissionItems.AreItems.{unread_for_memory}
-use Rattle.rr_submission.specs.ItemParts.{IsTied}
-use Rattle.rr_submission.specs.Requests.{IsRequest, action_of, request_of, request_of_key}
+use Rattle.rr_submission.specs.ItemParts.{Shows}
+use Rattle.rr_submission.specs.Requests.{Asked, IsRequest, action_of, request_of, request_of_key}
 use Rattle.rr_submission.specs.Requests.{submitted_object, unread}
 
 -- with a key that was read
@@ -43,7 +41,7 @@ IsRequest-at_key source fields own key action e k (inr a) =
     inr (record { refused = a; shown = rw (← e) k })
 
 -- and as that was put together
-pub IsRequest-about : (source : List ℕ) (fields own : List Field) (key : Key) (request : Request) →
+pub IsRequest-about : (source : List ℕ) (fields own : List Field) (key : Key) (request : Asked) →
     own ≡ own_fields fields → key_of own ≡ Ok key →
     (request ≡ record { key = Some key; action = action_of source own key (asks_deletion fields) })
     ⊎ (request ≡ record { key = Some key; action = Err E90 }) →
@@ -77,6 +75,12 @@ IsRequest-at_fault source fields own BadValue e k =
     inl (fault_read source fields own _ e (k (λ p. cc)))
 IsRequest-at_fault source fields own OtherSource e k =
     inl (fault_read source fields own _ e (k (λ p. cc)))
+
+-- what is asked is tied to what is shown and to the source: the key of an item is the one that is
+-- shown, and the item is as it is read in the source
+abbrev IsTied : List ℕ → Asked → Type 0
+IsTied source request =
+    IfOk request.action (λ item. Shows request.key item × IsReadIn source item)
 
 one_key : (key other : Key) (read : Result Key ObjectFault) → read ≡ Ok key → read ≡ Ok other →
     key ≡ other
@@ -120,13 +124,29 @@ tied_request source fields = tied_key source (own_fields fields) (asks_deletion 
     (key_of (own_fields fields)) refl
 
 -- what a paragraph asks is about the key that is shown, as it is read in the source
-pub IsTied-request : (source : List ℕ) (fields : List Field) (request : Request) →
+IsTied-request : (source : List ℕ) (fields : List Field) (request : Asked) →
     IsRequest source fields request → IsTied source request
 IsTied-request source fields request (inl e) = subst (IsTied source) (sym e)
     (tied_request source fields)
 IsTied-request source fields request (inr lacks) =
-    subst (λ action. IfOk action (λ item. (request.key ≡ Some (key_about item)) × IsReadIn source
-    item)) (sym lacks.refused) tt
+    subst (λ action. IfOk action (λ item. Shows request.key item × IsReadIn source item))
+    (sym lacks.refused) tt
+
+shown_of_tied : (source : List ℕ) (key : Option Key) (action : Result Item Code) →
+    IsTied source (record { key = key; action = action }) → IfOk action (Shows key)
+shown_of_tied source key (Ok item) h = h.0
+shown_of_tied source key (Err code) h = tt
+
+-- what is asked about the object of a key is about that key
+pub shown_action : (source : List ℕ) (own : List Field) (key : Key) (deletes : Bool)
+    (action : Result Item Code) → key_of own ≡ Ok key →
+    (action ≡ action_of source own key deletes) ⊎ (action ≡ Err E90) →
+    IfOk action (Shows (Some key))
+shown_action source own key deletes action k (inl a) =
+    subst (λ it. IfOk it (Shows (Some key))) (sym a) (shown_of_tied source (Some key)
+    (action_of source own key deletes) (tied_action source own key deletes k))
+shown_action source own key deletes action k (inr a) =
+    subst (λ it. IfOk it (Shows (Some key))) (sym a) tt
 
 read_item : (source : List ℕ) (key : Option Key) (action : Result Item Code) →
     IsTied source (record { key = key; action = action }) → IfOk action (IsReadIn source)

@@ -32,6 +32,8 @@ pub set_name_short : (name : List ℕ) → IsSetText name → length name ≤ 25
 unfolding is_set_name
 set_name_short name h = leb-true _ _ (and_parts _ _ h.spelled).0
 
+pub ruleset key_short = (name_short, set_name_short)
+
 pub class_name_short : (class : Class) → length (class_name class) ≤ 9
 class_name_short Mntner = lit≤ tt
 class_name_short AsBlock = lit≤ tt

@@ -14,12 +14,11 @@ use Rattle.rr_text.specs.declared.paragraphs.Paragraphs.{Paragraphs}
 use Rattle.rr_text.specs.ParagraphReaders.{Entry, GivesNext, HasEnded, HasGiven}
 use Rattle.rr_object.specs.declared.code.Code.{Code}
 use Rattle.rr_object.specs.declared.code.Code.TheVariants.{E90}
-use Rattle.rr_submission.specs.declared.request.Request.{Request}
 use Rattle.rr_submission.specs.SubmissionTexts.{secrets_of, is_secrets_alone}
 use Rattle.rr_submission.specs.SubmissionItems.{AreItems, ItemRequest}
 use Rattle.rr_submission.specs.SubmissionItems.AreItems.{at_end, secrets_alone, faulty}
 use Rattle.rr_submission.specs.SubmissionItems.AreItems.{unread_for_memory}
-use Rattle.rr_submission.specs.Requests.{unread, text_code}
+use Rattle.rr_submission.specs.Requests.{Asked, unread, text_code}
 use Rattle.rr_submission.specs.ItemParts.{FindsItem, FindsNone}
 
 -- these entries more were given, and none of them is an item
@@ -61,7 +60,7 @@ passing_more source start now then p q given before after fields so has alone = 
 
 -- an entry that is an item
 pub passing_item : (source : List ℕ) (start now then : Told) (p q : Paragraphs)
-    (given : List Entry) (before after counts : List (List ℕ)) (entry : Entry) (request : Request)
+    (given : List Entry) (before after counts : List (List ℕ)) (entry : Entry) (request : Asked)
     → (so : IsPassing source start now p given before after) → HasGiven start then q
     ((given ++ so.added) ++ entry ∷ [])
     → ((more : List Entry) (items : List ItemRequest) → AreItems source counts more items →

@@ -25,7 +25,7 @@ use Rattle.rr_submission.specs.declared.handling_fault.HandlingFault.{HandlingFa
 use Rattle.rr_submission.specs.declared.handling_fault.HandlingFault.TheVariants.{Unwritten}
 use Rattle.rr_submission.specs.declared.handling_fault.HandlingFault.TheVariants.{LedgerStopped}
 use Rattle.rr_submission.specs.declared.submission.Done.{Done}
-use Rattle.rr_submission.specs.declared.request.Request.{Request}
+use Rattle.rr_submission.specs.Requests.{Asked}
 use Rattle.rr_submission.specs.SubmissionItems.{AreItems, ItemRequest, submitted}
 use Rattle.rr_submission.specs.SubmissionItems.AreItems.{at_end}
 use Rattle.rr_submission.specs.Refusals.{is_refusal, refusals}
@@ -110,7 +110,7 @@ at_most_one false = omega arith
 pub ComesTo-more : {source : List ℕ} {given : List Entry} {old between : Reg}
     {before middle : Told} {secrets : List (List ℕ)} {done : Done}
     (start now : Told) (p : Paragraphs) (new : Reg) (after : Told) (then_secrets : List (List ℕ))
-    (then : Done) (request : Request) (outcome : Outcome) →
+    (then : Done) (request : Asked) (outcome : Outcome) →
     ComesTo source given old between before middle secrets done →
     (found : FindsItem source start now p given secrets then_secrets request) →
     Decides between then_secrets request.action outcome new →
@@ -187,7 +187,7 @@ prefix_read start now p given has = record {
 -- the items up to one that was found
 last_items : {source : List ℕ} {given : List Entry} {old between : Reg} {before middle : Told}
     {secrets : List (List ℕ)} {done : Done}
-    (start now : Told) (p : Paragraphs) (then_secrets : List (List ℕ)) (request : Request) →
+    (start now : Told) (p : Paragraphs) (then_secrets : List (List ℕ)) (request : Asked) →
     (so : ComesTo source given old between before middle secrets done) →
     (found : FindsItem source start now p given secrets then_secrets request) →
     AreItems source [] (entries found.has.prefix)
@@ -204,7 +204,7 @@ last_items {source} {given} start now p then_secrets request so found =
 pub HandlesSome-cut : {source : List ℕ} {given : List Entry} {old between : Reg}
     {before middle : Told} {secrets : List (List ℕ)} {done : Done}
     (start now : Told) (p : Paragraphs) (new : Reg) (after : Told) (then_secrets : List (List ℕ))
-    (count : ℕ) (request : Request) (outcome : Outcome) →
+    (count : ℕ) (request : Asked) (outcome : Outcome) →
     ComesTo source given old between before middle secrets done → FindsItem source start now p
     given secrets then_secrets request →
     Decides between then_secrets request.action outcome new → count ≡ done.items + 1 →
@@ -240,7 +240,7 @@ HandlesSome-cut {source} {old} {between} {middle} start now p new after then_sec
 pub HandlesThenStops-cut : {L : Type 0} (g : Ghosts L) {source : List ℕ} {given : List Entry}
     (old between new : L) {before middle : Told} {secrets : List (List ℕ)} {done : Done}
     (start now : Told) (p : Paragraphs) (after : Told) (then_secrets : List (List ℕ)) (count : ℕ)
-    (request : Request) →
+    (request : Asked) →
     ComesTo source given (g.registry old) (g.registry between) before middle secrets done →
     g.is_stopped between ≡ false → FindsItem source start now p given secrets then_secrets
     request →
@@ -277,7 +277,7 @@ HandlesThenStops-cut g {source} old between new {before} {middle} start now p af
 pub Handles-cut : {L : Type 0} (g : Ghosts L) {source : List ℕ} {given : List Entry}
     (old between new : L) {before middle : Told} {secrets : List (List ℕ)} {done : Done}
     (start now : Told) (p : Paragraphs) (after : Told) (then_secrets : List (List ℕ))
-    (request : Request) (stop : HandlingFault) →
+    (request : Asked) (stop : HandlingFault) →
     ComesTo source given (g.registry old) (g.registry between) before middle secrets done →
     g.is_stopped between ≡ false → FindsItem source start now p given secrets then_secrets
     request →

@@ -1,14 +1,15 @@
 -- What private functions that handle the items of a text promise each other. No public clause cites
 -- these.
-use Rattle.std.specs.Prelude.{◌≡◌, ℕ, ◌+◌, List, [], length, map, Result, Ok, Err}
+use Rattle.std.specs.Prelude.{◌≡◌, ℕ, ◌+◌, ◌<◌, ◌^◌, false, List, [], length, map, Result, Ok, Err}
 use Rattle.std.specs.Prelude.{if◌then◌else◌}
 use Rattle.rr_io.specs.Told.{Told}
 use Rattle.rr_io.specs.Sending.{Takes, TakesPrefix, TakesSome}
 use Rattle.rr_io.specs.declared.receiving.ReadEnd.{ReadEnd}
-use Rattle.rr_text.specs.ParagraphReaders.{HasEnded}
+use Rattle.rr_text.specs.ParagraphReaders.{HasEnded, HasGiven}
+use Rattle.rr_text.specs.declared.paragraphs.Paragraphs.{Paragraphs}
 use Rattle.rr_text.specs.Fields.{Field}
 use Rattle.rr_text.specs.declared.text_fault.TextFault.{TextFault}
-use Rattle.rr_auth.specs.Registries.{Reg}
+use Rattle.rr_auth.specs.Registries.{Reg, Sound}
 use Rattle.rr_registry.specs.declared.outcome.Outcome.{Outcome}
 use Rattle.rr_registry.specs.Runs.{Decides, Run}
 use Rattle.rr_submission.specs.declared.ledger.Ledger.{Ghosts}
@@ -22,8 +23,20 @@ use Rattle.rr_submission.specs.SubmissionItems.{AreItems, ItemRequest, submitted
 use Rattle.rr_submission.specs.SubmissionLaws.{ConfinesItems}
 use Rattle.rr_submission.specs.Refusals.{is_refusal, refusals}
 use Rattle.rr_submission.specs.Reports.{item_line, lines_from, stop_lines}
-use Rattle.rr_submission.specs.declared.request.Request.{Request}
+use Rattle.rr_submission.specs.Requests.{Asked}
 use Rattle.rr_submission.specs.Handled.{StopsAt, HandlesStopped, HandlesUnwritten}
+
+-- a ledger that runs, whose registry is sound, and a text of which nothing was read
+pub record Begins {L : Type 0} (g : Ghosts L) (ledger : L) (reader : Told)
+    (paragraphs : Paragraphs) : Type 0 where
+  pub running : g.is_stopped ledger ≡ false
+  pub sound : Sound (g.registry ledger)
+  pub unread : HasGiven reader reader paragraphs []
+
+-- one item more can be counted, refused or not
+pub record CanCount (done : Done) : Type 0 where
+  pub items : done.items + 1 < 2 ^ 64
+  pub refused : done.refused + 1 < 2 ^ 64
 
 -- each item was decided, and its line was written
 pub record HandlesAll (source : List ℕ) (entries : List (Result (List Field) TextFault))
@@ -67,8 +80,14 @@ UnlessStopped (Ok done) fact = fact
 UnlessStopped (Err (Unwritten count)) fact = fact
 UnlessStopped (Err (LedgerStopped count)) fact = Unit {0}
 
+-- what lasts of a ledger lasts, and unless it stopped at an item it still runs
+pub record RunsOn {L T : Type 0} (g : Ghosts L) (old new : L) (result : Result T HandlingFault)
+    : Type 0 where
+  pub running : UnlessStopped result (g.is_stopped new ≡ false)
+  pub lasts : g.Lasts old new
+
 -- an item was decided and counted, and its line was written
-pub record IsCounted (secrets : List (List ℕ)) (request : Request) (done : Done) (old new : Reg)
+pub record IsCounted (secrets : List (List ℕ)) (request : Asked) (done : Done) (old new : Reg)
     (writer_old writer_new : Told) (counted : Done) : Type 0 where
   pub outcome : Outcome
   pub decides : Decides old secrets request.action outcome new
@@ -77,7 +96,7 @@ pub record IsCounted (secrets : List (List ℕ)) (request : Request) (done : Don
   pub writes : Takes writer_old writer_new (item_line counted.items request.key outcome)
 
 -- an item was decided, and its line could not be written
-pub record IsUntold (secrets : List (List ℕ)) (request : Request) (done : Done) (old new : Reg)
+pub record IsUntold (secrets : List (List ℕ)) (request : Asked) (done : Done) (old new : Reg)
     (writer_old writer_new : Told) (count : ℕ) : Type 0 where
   pub outcome : Outcome
   pub decides : Decides old secrets request.action outcome new
@@ -85,14 +104,14 @@ pub record IsUntold (secrets : List (List ℕ)) (request : Request) (done : Done
   pub writes : TakesPrefix writer_old writer_new (item_line count request.key outcome)
 
 -- the ledger stopped at an item, which is not counted
-pub record HasStopped {L : Type 0} (g : Ghosts L) (secrets : List (List ℕ)) (request : Request)
+pub record HasStopped {L : Type 0} (g : Ghosts L) (secrets : List (List ℕ)) (request : Asked)
     (done : Done) (old new : L) (writer_old writer_new : Told) (count : ℕ) : Type 0 where
   pub stops : StopsAt g old secrets request.action new
   pub items : count ≡ done.items
   pub writes : TakesSome writer_old writer_new (stop_lines count request.key)
 
 -- an item was decided, and its line was written or not, or the ledger stopped
-abbrev pub HandlesOne : {L : Type 0} → Ghosts L → List (List ℕ) → Request → Done → L
+abbrev pub HandlesOne : {L : Type 0} → Ghosts L → List (List ℕ) → Asked → Done → L
     → L → Told → Told → Result Done HandlingFault → Type 0
 HandlesOne g secrets request done old new writer_old writer_new (Ok counted) =
     IsCounted secrets request done (g.registry old) (g.registry new) writer_old writer_new counted

@@ -1,21 +1,22 @@
 -- What private functions that read the items of a text promise each other. No public clause cites
 -- these.
 use Rattle.std.specs.Prelude.{◌≡◌, ◌≢◌, ℕ, ◌<◌, List, [], ◌∷◌, ◌++◌, length, Option, Some, None}
-use Rattle.std.specs.Prelude.{Result, Ok, Err, IfOk}
+use Rattle.std.specs.Prelude.{Result, Ok, Err}
 use Rattle.rr_io.specs.Told.{Told}
 use Rattle.rr_io.specs.declared.receiving.ReadEnd.{ReadEnd}
 use Rattle.rr_io.specs.declared.receiving.ReadEnd.TheVariants.{Whole}
 use Rattle.rr_text.specs.declared.paragraphs.Paragraphs.{Paragraphs}
 use Rattle.rr_text.specs.ParagraphReaders.{Entry, HasEnded, HasGiven}
+use Rattle.rr_object.specs.declared.key.Key.{Key}
+use Rattle.rr_auth.specs.declared.item.Item.{Item}
 use Rattle.rr_auth.specs.Laws.{key_about}
-use Rattle.rr_auth.specs.Sources.{IsReadIn}
-use Rattle.rr_submission.specs.declared.request.Request.{Request}
+use Rattle.rr_submission.specs.Requests.{Asked}
 use Rattle.rr_submission.specs.SubmissionItems.{AreItems, ItemRequest}
 
 -- these entries more were given, of which the last is an item, and the secrets of those before it
 -- count for it
 pub record FindsItem (source : List ℕ) (start now : Told) (p : Paragraphs) (given : List Entry)
-    (secrets_old secrets_new : List (List ℕ)) (request : Request) : Type 0 where
+    (secrets_old secrets_new : List (List ℕ)) (request : Asked) : Type 0 where
   pub added : List Entry
   pub has : HasGiven start now p (given ++ added)
   pub some : 0 < length added
@@ -32,7 +33,7 @@ pub record FindsNone (source : List ℕ) (start now : Told) (given : List Entry)
 
 -- the next item; none where the text was read to its end; or how the reading broke off before that
 abbrev pub Finds : List ℕ → Told → Told → Paragraphs → List Entry → List (List ℕ)
-    → List (List ℕ) → Result (Option Request) ReadEnd → Type 0
+    → List (List ℕ) → Result (Option Asked) ReadEnd → Type 0
 Finds source start now p given secrets_old secrets_new (Ok (Some request)) =
     FindsItem source start now p given secrets_old secrets_new request
 Finds source start now p given secrets_old secrets_new (Ok None) =
@@ -40,8 +41,6 @@ Finds source start now p given secrets_old secrets_new (Ok None) =
 Finds source start now p given secrets_old secrets_new (Err ended) =
     (ended ≢ Whole) × FindsNone source start now given secrets_old ended
 
--- what is asked is tied to what is shown and to the source: the key of an item is the one that is
--- shown, and the item is as it is read in the source
-abbrev pub IsTied : List ℕ → Request → Type 0
-IsTied source request =
-    IfOk request.action (λ item. (request.key ≡ Some (key_about item)) × IsReadIn source item)
+-- the key that is shown is the one of the item
+abbrev pub Shows : Option Key → Item → Type 0
+Shows key item = key ≡ Some (key_about item)

@@ -1,6 +1,6 @@
 -- What a paragraph of a submission asks (profile).
 use Rattle.std.specs.Prelude.{◌≡◌, ℕ, Bool, true, false, List, Some, None, Result, Ok, Err}
-use Rattle.std.specs.Prelude.{IfSome, ◌⊎◌}
+use Rattle.std.specs.Prelude.{IfSome, Option, ◌⊎◌}
 use Rattle.rr_io.specs.declared.receiving.ReadEnd.{ReadEnd}
 use Rattle.rr_io.specs.declared.receiving.ReadEnd.TheVariants as end
 use Rattle.rr_text.specs.Fields.{Field}
@@ -18,7 +18,6 @@ use Rattle.rr_object.specs.Objects.{Obj}
 use Rattle.rr_object.specs.Readings.{object_of}
 use Rattle.rr_auth.specs.declared.item.Item.{Item}
 use Rattle.rr_auth.specs.declared.item.Item.TheVariants.{Submit, Delete}
-use Rattle.rr_submission.specs.declared.request.Request.{Request}
 use Rattle.rr_submission.specs.SubmissionTexts.{own_fields, asks_deletion}
 
 -- the code of a paragraph that could not be read as text; a fault that is none of a paragraph ends
@@ -33,8 +32,14 @@ text_code Memory = Ok E90
 text_code Read = Err end.Broken
 text_code Endless = Err end.Endless
 
+-- what is asked: the key that the report shows, if it was read, and the item, or the code with
+-- which it is refused
+pub record Asked : Type 0 where
+  pub key : Option Key
+  pub action : Result Item Code
+
 -- refused before its class and key were read: the report shows no key
-abbrev pub unread : Code → Request
+abbrev pub unread : Code → Asked
 unread code = record { key = None; action = Err code }
 
 -- an object is submitted, or refused with the code of its first fault
@@ -48,23 +53,23 @@ action_of source own key true = Ok (Delete key)
 action_of source own key false = submitted_object (object_of own source)
 
 -- what is asked where the key was read or not
-abbrev pub request_of_key : List ℕ → List Field → Bool → Result Key ObjectFault → Request
+abbrev pub request_of_key : List ℕ → List Field → Bool → Result Key ObjectFault → Asked
 request_of_key source own deletes (Err fault) = unread (code_of fault)
 request_of_key source own deletes (Ok key) =
     record { key = Some key; action = action_of source own key deletes }
 
 -- what a paragraph asks of a registry of this source: its attributes `password` and `delete` are
 -- not part of the object
-unfoldable pub request_of : List ℕ → List Field → Request
+unfoldable pub request_of : List ℕ → List Field → Asked
 request_of source fields =
     request_of_key source (own_fields fields) (asks_deletion fields) (key_of (own_fields fields))
 
 -- memory ran out: the item is refused, and a key that it shows is that of its paragraph
-pub record LacksMemory (fields : List Field) (request : Request) : Type 0 where
+pub record LacksMemory (fields : List Field) (request : Asked) : Type 0 where
   pub refused : request.action ≡ Err E90
   pub shown : IfSome request.key (λ key. key_of (own_fields fields) ≡ Ok key)
 
 -- a reading of what a paragraph asks: exactly that, or memory ran out
-abbrev pub IsRequest : List ℕ → List Field → Request → Type 0
+abbrev pub IsRequest : List ℕ → List Field → Asked → Type 0
 IsRequest source fields request =
     (request ≡ request_of source fields) ⊎ LacksMemory fields request

@@ -6,14 +6,13 @@ use Rattle.rr_text.specs.declared.text_fault.TextFault.{TextFault}
 use Rattle.rr_object.specs.declared.code.Code.{Code}
 use Rattle.rr_object.specs.declared.code.Code.TheVariants.{E90}
 use Rattle.rr_registry.specs.declared.run.Submitted.{Submitted}
-use Rattle.rr_submission.specs.declared.request.Request.{Request}
 use Rattle.rr_submission.specs.SubmissionTexts.{secrets_of, is_secrets_alone}
-use Rattle.rr_submission.specs.Requests.{IsRequest, unread, text_code}
+use Rattle.rr_submission.specs.Requests.{Asked, IsRequest, unread, text_code}
 
 -- an item: what its paragraph asks, and the secrets of it and of those before it
 pub record ItemRequest : Type 0 where
   pub secrets : List (List ℕ)
-  pub request : Request
+  pub request : Asked
 
 -- what is submitted to the registry of it: the key is for the report alone
 abbrev pub submitted : ItemRequest → Submitted
@@ -33,7 +32,7 @@ pub data AreItems (source : List ℕ) : List (List ℕ) → List (Result (List F
   -- any other paragraph is one item, for which its own secrets count too
   requested : {secrets : List (List ℕ)} {fields : List Field}
       {entries : List (Result (List Field) TextFault)} {items : List ItemRequest} →
-      (request : Request) → is_secrets_alone fields ≡ false → IsRequest source fields request
+      (request : Asked) → is_secrets_alone fields ≡ false → IsRequest source fields request
       →
       AreItems source (secrets ++ secrets_of fields) entries items →
       AreItems source secrets (Ok fields ∷ entries)

@@ -47,9 +47,8 @@ impl Ending {
 /// Writes the last line of a report on this many items, whole in the first call of the writer.
 /// After a fault the writer has taken the beginning of it.
 pub fn write_last_line<W: Sink>(writer: &mut W, ending: Ending, items: u64) -> io::Result<()>
-    ensures writes { Writes (W.told writer.old) (W.told writer.new)
+    ensures { Writes (W.told writer.old) (W.told writer.new)
         (last_line ending items) result }
-    ensures aside { W.aside writer.new ≡ W.aside writer.old }
 {
     write_all(writer, last_line(ending, items).as_bytes())
 }

@@ -1,21 +1,22 @@
 //! Submissions: read, decided item by item, and reported.
 
-ghost use Rattle.std.specs.Prelude.{◌≡◌, ◌+◌, ◌<◌, ◌^◌, true, false, [], if◌then◌else◌};
+ghost use Rattle.std.specs.Prelude.{◌≡◌, ◌+◌, ◌<◌, ◌^◌, true, false, if◌then◌else◌};
 ghost use Rattle.std.specs.Prelude.{IfOk, OnOk, OnErr};
 ghost use Rattle.rr_io.specs.Sending.{Writes};
-ghost use Rattle.rr_text.specs.ParagraphReaders.{HasGiven};
-ghost use Rattle.rr_auth.specs.Registries.{Sound};
 ghost use Rattle.rr_registry.specs.Runs.{Decides};
 ghost use Rattle.rr_submission.specs.Refusals.{is_refusal};
 ghost use Rattle.rr_submission.specs.Reports.{stop_lines};
 ghost use Rattle.rr_submission.specs.Handled.{StopsAt};
-ghost use Rattle.rr_submission.specs.HandledParts.{HandlesItems, HandlesOne, UnlessStopped};
+ghost use Rattle.rr_submission.specs.HandledParts.{Begins, CanCount, HandlesItems, HandlesOne};
+ghost use Rattle.rr_submission.specs.HandledParts.{RunsOn};
+ghost use Rattle.rr_submission.specs.ItemParts.{Shows};
 ghost use Rattle.rr_submission.specs.Submissions.{RefusesSubmission, SubmitsText};
 ghost use Rattle.rr_submission.specs.Submissions.{UnlessStoreFault};
 
 use crate::ending::{Ending, write_last_line};
 use crate::handling_fault::HandlingFault;
 use crate::items::next_item;
+use crate::keyed_item::KeyedItem;
 use crate::ledger::{Ledger, Stopped};
 use crate::report_line::write_item_line;
 use crate::request::Request;
@@ -63,8 +64,6 @@ pub fn submit<L: Ledger, R: Source, W: Sink>(
     ensures running { L.is_stopped ledger.old ≡ false
         → UnlessStoreFault result (L.is_stopped ledger.new ≡ false) }
     ensures lasts { L.Lasts ledger.old ledger.new }
-    ensures reader_aside { R.aside reader.new ≡ R.aside reader.old }
-    ensures writer_aside { W.aside writer.new ≡ W.aside writer.old }
 {
     if ledger.stopped() {
         return Err(DeskFault::Stopped);
@@ -88,15 +87,11 @@ fn report<L: Ledger, R: Source, W: Sink>(
     reader: &mut R,
     writer: &mut W,
 ) -> Result<Done, DeskFault>
-    requires running { L.is_stopped ledger.old ≡ false }
-    requires sound { Sound (L.registry ledger.old) }
-    requires unread { HasGiven (R.told reader.old) (R.told reader.old) paragraphs.old [] }
+    requires { Begins L.Ledger ledger.old (R.told reader.old) paragraphs.old }
     ensures submits { SubmitsText L.Ledger ledger.old ledger.new source.now
         (R.told reader.old) (R.told reader.new) (W.told writer.old) (W.told writer.new) result }
     ensures running { UnlessStoreFault result (L.is_stopped ledger.new ≡ false) }
     ensures lasts { L.Lasts ledger.old ledger.new }
-    ensures reader_aside { R.aside reader.new ≡ R.aside reader.old }
-    ensures writer_aside { W.aside writer.new ≡ W.aside writer.old }
 {
     match handle_items(alloc, ledger, source, paragraphs, reader, writer) {
         Ok((done, end)) => {
@@ -125,15 +120,10 @@ fn handle_items<L: Ledger, R: Source, W: Sink>(
     reader: &mut R,
     writer: &mut W,
 ) -> Result<(Done, ReadEnd), HandlingFault>
-    requires running { L.is_stopped ledger.old ≡ false }
-    requires sound { Sound (L.registry ledger.old) }
-    requires unread { HasGiven (R.told reader.old) (R.told reader.old) paragraphs.old [] }
+    requires { Begins L.Ledger ledger.old (R.told reader.old) paragraphs.old }
     ensures handles { HandlesItems L.Ledger ledger.old ledger.new source.now
         (R.told reader.old) (R.told reader.new) (W.told writer.old) (W.told writer.new) result }
-    ensures running { UnlessStopped result (L.is_stopped ledger.new ≡ false) }
-    ensures lasts { L.Lasts ledger.old ledger.new }
-    ensures reader_aside { R.aside reader.new ≡ R.aside reader.old }
-    ensures writer_aside { W.aside writer.new ≡ W.aside writer.old }
+    ensures lasts { RunsOn L.Ledger ledger.old ledger.new result }
 {
     let mut secrets = Secrets::new(alloc);
     let mut done = Done {
@@ -160,18 +150,15 @@ fn handle_item<L: Ledger, W: Sink>(
     done: Done,
     writer: &mut W,
 ) -> Result<Done, HandlingFault>
-    requires items { done.items + 1 < 2 ^ 64 }
-    requires refused { done.refused + 1 < 2 ^ 64 }
+    requires room { CanCount done }
     requires running { L.is_stopped ledger.old ≡ false }
     ensures handles { HandlesOne L.Ledger secrets.old request done ledger.old ledger.new
         (W.told writer.old) (W.told writer.new) result }
-    ensures running { UnlessStopped result (L.is_stopped ledger.new ≡ false) }
-    ensures lasts { L.Lasts ledger.old ledger.new }
+    ensures lasts { RunsOn L.Ledger ledger.old ledger.new result }
     ensures same_secrets { secrets.new ≡ secrets.old }
-    ensures aside { W.aside writer.new ≡ W.aside writer.old }
 {
     let Request { key, action } = request;
-    match decide(alloc, ledger, secrets, action) {
+    match decide(alloc, ledger, secrets, &key, action) {
         Ok(outcome) => {
             let done = counted(done, outcome);
             match write_item_line(writer, done.items, &key, outcome) {
@@ -187,14 +174,16 @@ fn handle_item<L: Ledger, W: Sink>(
     }
 }
 
-/// The outcome of what an item asks.
+/// The outcome of what is asked; an item is about this key.
 fn decide<L: Ledger>(
     alloc: Global,
     ledger: &mut L,
     secrets: &mut Secrets,
+    key: &Option<Key>,
     action: Result<Item, Code>,
 ) -> Result<Outcome, Stopped>
-    requires { L.is_stopped ledger.old ≡ false }
+    requires running { L.is_stopped ledger.old ≡ false }
+    requires about { IfOk action (Shows key.now) }
     ensures decides { IfOk result (λ outcome. Decides
         (L.registry ledger.old) secrets.old action outcome (L.registry ledger.new)) }
     ensures running { OnOk result (L.is_stopped ledger.new ≡ false) }
@@ -203,7 +192,7 @@ fn decide<L: Ledger>(
     ensures same_secrets { secrets.new ≡ secrets.old }
 {
     match action {
-        Ok(item) => ledger.decide(alloc, secrets, item),
+        Ok(item) => ledger.decide(alloc, secrets, KeyedItem::of(key.as_ref().unwrap(), item)),
         Err(code) => Ok(Outcome::Refused(code)),
     }
 }
@@ -213,9 +202,8 @@ fn decide<L: Ledger>(
 #[tactic(auto, unfolding(crate::specs::Reports::stop_lines))]
 fn write_stop<W: Sink>(writer: &mut W, items: u64, key: &Option<Key>) -> io::Result<()>
     requires { items + 1 < 2 ^ 64 }
-    ensures writes { Writes (W.told writer.old) (W.told writer.new)
+    ensures { Writes (W.told writer.old) (W.told writer.new)
         (stop_lines items key.now) result }
-    ensures aside { W.aside writer.new ≡ W.aside writer.old }
 {
     write_item_line(writer, items + 1, key, Outcome::Refused(Code::E91))?;
     write_last_line(writer, Ending::Stopped, items)
@@ -223,8 +211,7 @@ fn write_stop<W: Sink>(writer: &mut W, items: u64, key: &Option<Key>) -> io::Res
 
 /// The counts with one more item.
 fn counted(done: Done, outcome: Outcome) -> Done
-    requires items { done.items + 1 < 2 ^ 64 }
-    requires refused { done.refused + 1 < 2 ^ 64 }
+    requires { CanCount done }
     ensures items { result.items ≡ done.items + 1 }
     ensures refused { result.refused ≡ done.refused + (if is_refusal outcome then 1 else 0) }
 {

@@ -35,7 +35,7 @@ pub fn next_item<R: Source>(
         (R.told reader.new) paragraphs.new given secrets.old secrets.new result }
     ensures nearer { IfOk result
         (λ found. OnSome found (left_of paragraphs.new < left_of paragraphs.old)) }
-    ensures aside { R.aside reader.new ≡ R.aside reader.old }
+    ensures aside { (R.told reader.new).aside ≡ (R.told reader.old).aside }
 {
     'paragraphs: loop {
         match paragraphs.next(alloc, reader) {

@@ -5,7 +5,8 @@ ghost use Rattle.rr_auth.specs.Registries.{Reg, Sound};
 ghost use Rattle.rr_auth.specs.declared.item.Item.{Item};
 ghost use Rattle.rr_registry.specs.Runs.{IsStep};
 
-use rr_auth::{Item, Secrets};
+use crate::keyed_item::KeyedItem;
+use rr_auth::Secrets;
 use rr_registry::{Keeper, Outcome, Registry};
 use std::alloc::Global;
 
@@ -39,13 +40,13 @@ pub trait Ledger {
         &mut self,
         alloc: Global,
         secrets: &mut Secrets,
-        item: Item,
+        item: KeyedItem<'_>,
     ) -> Result<Outcome, Stopped>
-        requires { is_stopped self.old ≡ false }
-        ensures decides { IfOk result
-            (λ outcome. IsStep (registry self.old) secrets.old item outcome (registry self.new)) }
+        requires running { is_stopped self.old ≡ false }
+        ensures decides { IfOk result (λ outcome. IsStep
+            (registry self.old) secrets.old item.entry outcome (registry self.new)) }
         ensures running { OnOk result (is_stopped self.new ≡ false) }
-        ensures stops { OnErr result (Stops self.old secrets.old item self.new) }
+        ensures stops { OnErr result (Stops self.old secrets.old item.entry self.new) }
         ensures lasts { Lasts self.old self.new }
         ensures same_secrets { secrets.new ≡ secrets.old };
 
@@ -82,8 +83,9 @@ impl<B: Keeper> Ledger for Registry<B> {
         &mut self,
         alloc: Global,
         secrets: &mut Secrets,
-        item: Item,
+        item: KeyedItem<'_>,
     ) -> Result<Outcome, Stopped> {
+        let (_key, item) = item.parts();
         Ok(self.apply(alloc, secrets, item))
     }
 }

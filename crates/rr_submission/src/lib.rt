@@ -5,6 +5,7 @@ mod ending;
 mod handling;
 mod handling_fault;
 mod items;
+mod keyed_item;
 pub mod laws;
 mod ledger;
 mod report_keys;
@@ -17,6 +18,7 @@ mod submission_text;
 
 pub use ending::Ending;
 pub use handling::submit;
+pub use keyed_item::KeyedItem;
 pub use ledger::{Ledger, Stopped};
 pub use short_text::{SHORT_SIZE, ShortText};
 pub use submission::{DeskFault, Done};

@@ -7,43 +7,26 @@ ghost use Rattle.rr_number.specs.SetNames.{set_name_limit};
 ghost use Rattle.rr_object.specs.KeyTexts.{key_text};
 
 use crate::short_text::{SHORT_SIZE, ShortText};
-use rr_number::{AsNumber, Name, Prefix, SetName};
+use rr_number::{AsNumber, Prefix};
 use rr_object::Key;
 
 impl ShortText {
     /// Appends a key as reports print it, at most 255 bytes.
+    #[tactic(auto, using(crate::proofs::LineSizes::key_short))]
     pub(crate) fn push_key(&mut self, key: &Key)
         requires { length self.old + set_name_limit ≤ SHORT_SIZE }
         ensures value { self.new ≡ self.old ++ key_text key.now }
         ensures short { length self.new ≤ length self.old + set_name_limit }
     {
         match key {
-            Key::Mntner(name) => self.push_name(name),
+            Key::Mntner(name) => self.push(name.as_bytes()),
             Key::AsBlock(block) => self.push(block.text().as_bytes()),
             Key::AutNum(number) => self.push(number.text().as_bytes()),
             Key::Inetnum(span) => self.push(span.text().as_bytes()),
             Key::Route(prefix, origin) => self.push_route(*prefix, *origin),
-            Key::AsSet(name) => self.push_set_name(name),
-            Key::RouteSet(name) => self.push_set_name(name),
+            Key::AsSet(name) => self.push(name.as_bytes()),
+            Key::RouteSet(name) => self.push(name.as_bytes()),
         }
-    }
-
-    #[tactic(auto, using(crate::proofs::LineSizes::name_short))]
-    fn push_name(&mut self, name: &Name)
-        requires { length self.old + set_name_limit ≤ SHORT_SIZE }
-        ensures value { self.new ≡ self.old ++ name.now }
-        ensures short { length self.new ≤ length self.old + set_name_limit }
-    {
-        self.push(name.as_bytes());
-    }
-
-    #[tactic(auto, using(crate::proofs::LineSizes::set_name_short))]
-    fn push_set_name(&mut self, name: &SetName)
-        requires { length self.old + set_name_limit ≤ SHORT_SIZE }
-        ensures value { self.new ≡ self.old ++ name.now }
-        ensures short { length self.new ≤ length self.old + set_name_limit }
-    {
-        self.push(name.as_bytes());
     }
 
     fn push_route(&mut self, prefix: Prefix, origin: AsNumber)

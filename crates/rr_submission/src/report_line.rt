@@ -2,12 +2,12 @@
 
 ghost use Rattle.std.specs.Prelude.{◌≡◌, ◌+◌, ◌≤◌, [], ◌++◌, length};
 ghost use Rattle.rr_io.specs.Sending.{Writes};
-ghost use Rattle.rr_submission.specs.Reports.{class_part, item_line, number_part, outcome_part};
+ghost use Rattle.rr_submission.specs.Reports.{item_line, number_part, outcome_part};
 ghost use Rattle.rr_submission.specs.Reports.{outcome_word, refusal_code, subject};
 
 use crate::short_text::ShortText;
 use rr_io::{Sink, write_all};
-use rr_object::{Class, Key};
+use rr_object::Key;
 use rr_registry::Outcome;
 use std::io;
 
@@ -19,9 +19,8 @@ pub fn write_item_line<W: Sink>(
     key: &Option<Key>,
     outcome: Outcome,
 ) -> io::Result<()>
-    ensures writes { Writes (W.told writer.old) (W.told writer.new)
+    ensures { Writes (W.told writer.old) (W.told writer.new)
         (item_line number key.now outcome) result }
-    ensures aside { W.aside writer.new ≡ W.aside writer.old }
 {
     write_all(writer, item_line(number, key, outcome).as_bytes())
 }
@@ -47,6 +46,7 @@ fn push_item_number(line: &mut ShortText, number: u64)
 }
 
 /// The class and the key, or `-`.
+#[tactic(auto, using(crate::proofs::LineSizes::class_name_short))]
 fn push_subject(line: &mut ShortText, key: &Option<Key>)
     requires { length line.old ≤ 21 }
     ensures value { line.new ≡ line.old ++ subject key.now }
@@ -55,20 +55,11 @@ fn push_subject(line: &mut ShortText, key: &Option<Key>)
     match key {
         None => line.push(b"-"),
         Some(key) => {
-            push_class(line, key.class());
+            line.push(key.class().name().as_bytes());
+            line.push(b" ");
             line.push_key(key);
         }
     }
-}
-
-#[tactic(auto, using(crate::proofs::LineSizes::class_name_short))]
-fn push_class(line: &mut ShortText, class: Class)
-    requires { length line.old ≤ 21 }
-    ensures value { line.new ≡ line.old ++ class_part class }
-    ensures short { length line.new ≤ 31 }
-{
-    line.push(class.name().as_bytes());
-    line.push(b" ");
 }
 
 /// What stands after the subject.

@@ -9,8 +9,9 @@ use rr_number::Name;
 use rr_object::{Code, Key, Object, key_of};
 use rr_text::Paragraph;
 use std::alloc::Global;
+use std::marker::Model;
 
-/// What a paragraph of a submission asks.
+/// What a paragraph of a submission asks: an item is about the key that the report shows.
 #[derive(Drop)]
 pub struct Request {
     /// The key of the object, if it was read.
@@ -19,8 +20,20 @@ pub struct Request {
     pub action: Result<Item, Code>,
 }
 
+impl Model for Request {
+    ghost use Rattle.rr_submission.specs.Requests.{Asked};
+
+    ghost Value = { Asked };
+
+    ghost use Rattle.std.specs.Prelude.{IfOk};
+    ghost use Rattle.rr_submission.specs.ItemParts.{Shows};
+
+    ghost view = { λ r. record { key = r.key; action = r.action } };
+
+    ghost invariant = { λ r. IfOk r.action (Shows r.key) };
+}
+
 impl Request {
-    ghost use Rattle.rr_submission.specs.ItemParts.{IsTied};
     ghost use Rattle.rr_submission.specs.Requests.{IsRequest, action_of, unread};
 
     /// The request of a paragraph that was refused before its class and key were read.
@@ -36,8 +49,7 @@ impl Request {
     /// What a paragraph asks of a registry of this source. Where memory runs out, it is refused
     /// with E90.
     pub fn read(alloc: Global, paragraph: Paragraph, source: &Name) -> Request
-        ensures asked { IsRequest source.now paragraph result }
-        ensures tied { IsTied source.now result }
+        ensures { IsRequest source.now paragraph result }
     {
         let deletes = asks_deletion(&paragraph);
         let Ok(own) = own_paragraph(alloc, paragraph) else {
@@ -50,6 +62,7 @@ impl Request {
     }
 
     /// What is asked by a paragraph of this key.
+    #[tactic(auto, using(crate::proofs::Asking::shown_action))]
     fn about(alloc: Global, own: Paragraph, source: &Name, key: Key, deletes: bool) -> Request
         requires { key_of own ≡ Ok key }
         ensures { (result

@@ -50,6 +50,7 @@ impl ShortText {
     {
         match self.bytes.try_extend_from_slice(piece) {
             Ok(()) => {}
+            // There is room for it.
             Err(_) => unreachable!(),
         }
     }

@@ -161,8 +161,6 @@ struct Calls<W> {
 impl<W: Sink> Sink for Calls<W> {
     ghost told = { λ c. W.told c.inner };
 
-    ghost aside = { λ c. W.aside c.inner };
-
     fn write(&mut self, bytes: &[u8]) -> io::Result<usize> {
         self.calls = self.calls.saturating_add(1);
         if bytes.ends_with(b"\n") {

@@ -47,7 +47,7 @@ impl<R: Source> ParagraphReader<R> {
             (left_of (paragraphs_of self.new)) result }
         ensures fields { IfOk result
             (λ next. IfSome next (λ paragraph. (0 < length paragraph) × AreFields paragraph)) }
-        ensures aside { R.aside (reader_of self.new) ≡ R.aside (reader_of self.old) }
+        ensures aside { (R.told (reader_of self.new)).aside ≡ (R.told (reader_of self.old)).aside }
     {
         self.paragraphs.next(alloc, &mut self.reader)
     }

@@ -77,7 +77,7 @@ impl Paragraphs {
         ensures nearer { Nearer (left_of self.old) (left_of self.new) result }
         ensures fields { IfOk result
             (λ next. IfSome next (λ paragraph. (0 < length paragraph) × AreFields paragraph)) }
-        ensures aside { R.aside reader.new ≡ R.aside reader.old }
+        ensures aside { (R.told reader.new).aside ≡ (R.told reader.old).aside }
     {
         match self.state {
             ReaderState::Open => self.next_open(alloc, reader),
@@ -97,7 +97,7 @@ impl Paragraphs {
         ensures nearer { Nearer (left_of self.old) (left_of self.new) result }
         ensures fields { IfOk result
             (λ next. IfSome next (λ paragraph. (0 < length paragraph) × AreFields paragraph)) }
-        ensures aside { R.aside reader.new ≡ R.aside reader.old }
+        ensures aside { (R.told reader.new).aside ≡ (R.told reader.old).aside }
     {
         let state = self.gather(reader);
         self.state = state;
@@ -136,9 +136,8 @@ impl Paragraphs {
 
     /// Reads up to the end of the next paragraph, or of the text.
     fn gather<R: Source>(&mut self, reader: &mut R) -> ReaderState
-        ensures gathers { parts.Gathers result (R.told reader.old) (R.told reader.new)
+        ensures { parts.Gathers result (R.told reader.old) (R.told reader.new)
             (held self.old) (reads_of self.old) self.new }
-        ensures aside { R.aside reader.new ≡ R.aside reader.old }
     {
         self.draft.restart();
         'reads: loop {
@@ -183,7 +182,6 @@ impl Paragraphs {
         ensures fills { parts.Fills result (R.told reader.old)
             (R.told reader.new) self.old self.new }
         ensures draft { self.new.draft ≡ self.old.draft }
-        ensures aside { R.aside reader.new ≡ R.aside reader.old }
     {
         match reader.read(&mut self.block) {
             Ok(count) => {

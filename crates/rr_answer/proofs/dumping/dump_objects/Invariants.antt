@@ -10,4 +10,3 @@ invariant-objects g l =
     (taken : List ℕ) × (flat_map (λ object. dumped l.full object.now) l.objects ≡ taken ++ flat_map
     (λ object. dumped l.full object.now) (drop l.object-index l.objects))
     × Takes (g.W.Sink.told l.initial.writer) (g.W.Sink.told l.writer) taken
-    × (g.W.Sink.aside l.writer ≡ g.W.Sink.aside l.initial.writer)

@@ -1,15 +1,15 @@
-use Rattle.std.proofs.Common.{◌≡◌, ◌++◌, ◌∙◌, append_assoc, take}
+use Rattle.std.proofs.Common.{◌≡◌, ◌++◌, append_assoc, take}
 use Rattle.std.specs.List.{flat_map}
 use Rattle.std.proofs.lemmas.Result.{err_from_is_err_and}
 use Rattle.rr_io.proofs.Transfers.{Takes-then, TakesPrefix-then}
 use Rattle.rr_answer.proofs.Parts.{parts_split}
 use Rattle.rr_answer.proofs.writing.write_parts.Goals as goal
 
-pub returns-in_err-count-clause-writes : goal.returns-in_err-count-clause-writes
-returns-in_err-count-clause-writes g c =
+pub returns-in_err-count : goal.returns-in_err-count
+returns-in_err-count g c =
     let exit = err_from_is_err_and c.from_residual.result c.from_residual.ensures.1 in
     let before = c.rest.invariant in
-    rw (exit.1, before.1) (TakesPrefix-then _ _ before.2 c.in_err-count.ensures.writes)
+    rw (exit.1, before.1) (TakesPrefix-then _ _ before.2 c.in_err-count.ensures)
 
 -- what was taken so far, and the parts that were written now
 pub rest-preserved : goal.rest-preserved
@@ -23,6 +23,5 @@ rest-preserved g c =
     rw (c.split_at.ensures.back, append_assoc, ← parts_split bytes count rest) before.1 in (
       before.0 ++ flat_map bytes (take count rest),
       whole,
-      Takes-then _ _ before.2 c.in_ok-count.ensures.writes.takes,
-      c.in_ok-count.ensures.aside ∙ before.3,
+      Takes-then _ _ before.2 c.in_ok-count.ensures.takes,
     )

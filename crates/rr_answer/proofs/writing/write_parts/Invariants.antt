@@ -8,7 +8,6 @@ abbrev pub invariant-rest : goal.invariant-rest
 invariant-rest g l =
     (taken : List ℕ) × (flat_map g.T.Part.bytes l.parts ≡ taken ++ flat_map g.T.Part.bytes l.rest)
     × Takes (g.W.Sink.told l.initial.writer) (g.W.Sink.told l.writer) taken
-    × (g.W.Sink.aside l.writer ≡ g.W.Sink.aside l.initial.writer)
 
 abbrev pub decreases-rest : goal.decreases-rest
 decreases-rest g l = length l.rest

@@ -5,7 +5,7 @@ returns g c = record {
   tally_after = _;
   served = c.serve_all-turns.result.served;
   turns = c.serve_all-turns.ensures.turns;
-  settings = c.serve_all-turns.ensures.settings;
-  lasts = c.serve_all-turns.ensures.lasts;
-  rows = c.serve_all-turns.ensures.rows;
+  settings = c.serve_all-turns.ensures.stays.settings;
+  lasts = c.serve_all-turns.ensures.stays.lasts;
+  rows = c.serve_all-turns.ensures.stays.rows;
 }

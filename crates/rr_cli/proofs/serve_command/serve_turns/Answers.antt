@@ -6,9 +6,9 @@ returns-in-Ok g c = record {
   served = c.serve_all-served.result.served;
   failed = c.serve_all-served.result.failed;
   turns = c.serve_all-served.ensures.turns;
-  settings = c.serve_all-served.ensures.settings;
-  lasts = c.serve_all-served.ensures.lasts;
-  rows = c.serve_all-served.ensures.rows;
+  settings = c.serve_all-served.ensures.stays.settings;
+  lasts = c.serve_all-served.ensures.stays.lasts;
+  rows = c.serve_all-served.ensures.stays.rows;
   ends = inl (c.in-Ok.ensures.writes, c.served_end.ensures);
 }
 
@@ -17,8 +17,8 @@ returns-in-Err g c = record {
   served = c.serve_all-served.result.served;
   failed = c.serve_all-served.result.failed;
   turns = c.serve_all-served.ensures.turns;
-  settings = c.serve_all-served.ensures.settings;
-  lasts = c.serve_all-served.ensures.lasts;
-  rows = c.serve_all-served.ensures.rows;
+  settings = c.serve_all-served.ensures.stays.settings;
+  lasts = c.serve_all-served.ensures.stays.lasts;
+  rows = c.serve_all-served.ensures.stays.rows;
   ends = inr (c.in-Err.ensures.writes, refl);
 }

@@ -8,4 +8,3 @@ invariant-bytes g l =
     (taken : List ℕ) × (map byte_on_line l.text ≡ taken ++ map byte_on_line
     (drop l.byte-index l.text))
     × Takes (g.E.Sink.told l.initial.errors) (g.E.Sink.told l.errors) taken
-    × (g.E.Sink.aside l.errors ≡ g.E.Sink.aside l.initial.errors)

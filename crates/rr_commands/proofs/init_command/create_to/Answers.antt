@@ -8,7 +8,7 @@ returns-in-Ok-clause-creates g c = inr (record {
   opened = c.in-Ok.ensures.opening;
   makes = c.in-Ok.ensures.makes;
   given_back = c.close.ensures.same;
-  tells = c.tell-told.ensures.tells;
+  tells = c.tell-told.ensures;
 })
 
 pub returns-in-Err-clause-creates : goal.returns-in-Err-clause-creates

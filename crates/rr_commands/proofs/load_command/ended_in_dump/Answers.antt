@@ -5,15 +5,9 @@ use Rattle.rr_commands.proofs.load_command.ended_in_dump.Goals as goal
 
 pub returns-in-Some-clause-about : goal.returns-in-Some-clause-about
 returns-in-Some-clause-about g c =
-    let about = c.about_paragraph.ensures.about in
+    let fault = c.about_paragraph.ensures in
     let of_file = paragraph-place c.in-Err.trouble c.in-Some.number (cc) in
-    inr (record {
-      of_file = rw (c.about_paragraph.ensures.trouble) of_file;
-      found = about.0;
-      text = about.1;
-      names = about.2;
-      shows = about.3;
-    })
+    inr (rw fault.trouble of_file, fault.shows)
 
 pub returns-in-None-clause-about : goal.returns-in-None-clause-about
 returns-in-None-clause-about g c =

@@ -8,7 +8,7 @@ returns-in-Ok-clause-loads g c = inr (record {
   loaded = c.in-Ok.ensures.loaded;
   makes = c.in-Ok.ensures.makes;
   given_back = c.close.ensures.same;
-  tells = rw (← c.registry.ensures) c.tell_loaded-told.ensures.tells;
+  tells = rw (← c.registry.ensures) c.tell_loaded-told.ensures;
 })
 
 pub returns-in-Err-clause-loads : goal.returns-in-Err-clause-loads

@@ -7,7 +7,7 @@ returns-in-Ok-clause-migrates g c = inr (record {
   runs = c.in-Ok.ensures.runs;
   migrates = c.in-Ok.ensures.migrates;
   given_back = c.close.ensures.same;
-  tells = c.tell-told.ensures.tells;
+  tells = c.tell-told.ensures;
 })
 
 pub returns-in-Err-clause-migrates : goal.returns-in-Err-clause-migrates

@@ -3,4 +3,4 @@ use Rattle.rr_commands.proofs.output.print.Goals as goal
 
 pub returns-in-Err : goal.returns-in-Err
 returns-in-Err g c =
-    (c.of_output.ensures.trouble ∙ c.in-Err.ensures.tells.0, c.in-Err.ensures.tells.1)
+    (c.of_output.ensures.shows.trouble ∙ c.in-Err.ensures.0, c.in-Err.ensures.1)

@@ -3,8 +3,8 @@ use Rattle.rr_commands.specs.Asked.{error_status}
 use Rattle.rr_commands.proofs.AskedLemmas.{error_status-told}
 use Rattle.rr_commands.proofs.query_command.answer_to.Goals as goal
 
-pub returns-in-Ok-clause-asked : goal.returns-in-Ok-clause-asked
-returns-in-Ok-clause-asked g c =
+pub returns-in-Ok : goal.returns-in-Ok
+returns-in-Ok g c =
     let made = c.in-Ok.ensures.answers in
     record {
       answer = made.answer;
@@ -17,8 +17,8 @@ returns-in-Ok-clause-asked g c =
       keeps = c.in-Ok.ensures.keeps c.requires;
     }
 
-pub returns-in-Err-clause-asked : goal.returns-in-Err-clause-asked
-returns-in-Err-clause-asked g c =
+pub returns-in-Err : goal.returns-in-Err
+returns-in-Err g c =
     let made = c.in-Err.ensures.answers in
     record {
       answer = made.answer;

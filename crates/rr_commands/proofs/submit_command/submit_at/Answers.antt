@@ -1,8 +1,8 @@
 use Rattle.std.proofs.Common.{inr}
 use Rattle.rr_commands.proofs.submit_command.submit_at.Goals as goal
 
-pub returns-clause-done : goal.returns-clause-done
-returns-clause-done g c = inr (record {
+pub returns : goal.returns
+returns g c = inr (record {
   before = c.in_ok-desk.desk;
   after = c.submit_file-end.new.desk;
   between = _;

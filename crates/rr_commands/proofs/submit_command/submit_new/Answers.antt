@@ -7,5 +7,5 @@ returns g c = inr (record {
   after = c.submit_to.new.desk;
   settings = c.in_ok-desk.ensures.settings;
   opened = c.in_ok-desk.ensures.opened;
-  submitted = c.submit_to.ensures.submits;
+  submitted = c.submit_to.ensures;
 })

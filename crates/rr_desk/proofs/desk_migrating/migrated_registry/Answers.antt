@@ -1,12 +1,12 @@
 use Rattle.std.proofs.Common.{inl, subst}
-use Rattle.std.proofs.lemmas.Result.{IfErr-weaker, err_from_is_err_and}
+use Rattle.std.proofs.lemmas.Result.{IfErr-weaker, IfOk-weaker, err_from_is_err_and}
 use Rattle.rr_store.proofs.OtherVersions.{stored_says_it}
 use Rattle.rr_store.specs.Calls.{database}
 use Rattle.rr_store.specs.Opening.{SaysNoOther}
 use Rattle.rr_store.specs.declared.version.Version.TheVariants.{Old}
 use Rattle.rr_desk.specs.Migrating.{IsGrown}
 use Rattle.rr_desk.specs.MigratingParts.{IsGrowthFault}
-use Rattle.rr_desk.proofs.Migrated.{always_ok, each_ok, each_shown, grown_of_source}
+use Rattle.rr_desk.proofs.Migrated.{always_ok, each_shown, grown_of_source}
 use Rattle.rr_desk.proofs.Migrated.{growth_rootless, no_old_registry, refused_old, unread_of_store}
 use Rattle.rr_desk.proofs.desk_migrating.migrated_registry.Goals as goal
 
@@ -30,10 +30,10 @@ returns-clause-grown g c clean =
 
 pub returns-clause-of_source : goal.returns-clause-of_source
 returns-clause-of_source g c =
-    each_ok c.grow.result _ _ _ c.grow.ensures.grown c.grow.ensures.sound
-    (λ r grown sound. grown_of_source c.args.settings.now c.in_ok-objects.objects.items r
+    IfOk-weaker c.grow.result _ _
+    (λ r grown. grown_of_source c.args.settings.now c.in_ok-objects.objects.items r
     c.source.ensures.good (rw c.source.ensures.source at c.in_ok-objects.ensures.listed.of_source)
-    grown sound)
+    grown) c.grow.ensures.grown
 
 pub returns-clause-why : goal.returns-clause-why
 returns-clause-why g c clean =

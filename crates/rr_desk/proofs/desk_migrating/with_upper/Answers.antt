@@ -7,6 +7,7 @@ returns-in-Ok-clause-ok c = record {
   upper = c.in_ok-upper.upper;
   read = c.in_ok-upper.ensures.read;
   taken = rw c.in_ok-objects.ensures at c.in-Ok.ensures.taken;
+  sound = c.in-Ok.ensures.sound;
 }
 
 pub returns-in-Err-clause-fault : goal.returns-in-Err-clause-fault

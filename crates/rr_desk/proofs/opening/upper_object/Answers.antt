@@ -1,9 +1,7 @@
-use Rattle.rr_store.proofs.SourceLemmas.{some_never}
 use Rattle.rr_desk.proofs.Opens.{upper_told}
 use Rattle.rr_desk.proofs.opening.upper_object.Goals as goal
 
-pub unreachable-requires : goal.unreachable-requires
-unreachable-requires c =
-    some_never _ c.in-None.is
-    (c.in_ok-object.ensures.only _ (upper_told c.args.settings.now c.root.result.now
-    c.source.result.now c.root.ensures.good c.root.ensures.root c.source.ensures.source))
+pub unwrap-requires : goal.unwrap-requires
+unwrap-requires c =
+    c.in_ok-object.ensures.only _ (upper_told c.args.settings.now c.root.result.now
+    c.source.result.now c.root.ensures.good c.root.ensures.root c.source.ensures.source)

@@ -1,15 +1,26 @@
-use Rattle.rr_desk.proofs.Following.{loss_follows, writes_follow, writes_leave}
+use Rattle.rr_desk.proofs.Following.{gain_follows, loss_follows, new_follows, writes_follow}
+use Rattle.rr_desk.proofs.Following.{writes_leave}
 use Rattle.rr_desk.proofs.stored.follow.Goals as goal
 
 pub returns-in-Added-clause-follows : goal.returns-in-Added-clause-follows
 returns-in-Added-clause-follows g c =
-    rw c.in-Added.is (writes_follow _ _ _ _ _ _ (λ db h. h) c.add_stored.ensures.rows
-    c.add_stored.ensures.settled)
+    rw c.in-Added.is
+    (writes_follow _ _ _ _ _ _ (λ db. new_follows c.args.key.now c.args.registry.now _ _ db
+    c.standing.ensures) c.add.ensures.adds c.add.ensures.settled)
+
+pub returns-in-Added-clause-others : goal.returns-in-Added-clause-others
+returns-in-Added-clause-others g c = writes_leave g.S.Store _ _ _ _ c.add.ensures.rows
+    (λ db change. change.others)
 
 pub returns-in-Changed-clause-follows : goal.returns-in-Changed-clause-follows
 returns-in-Changed-clause-follows g c =
-    rw c.in-Changed.is (writes_follow _ _ _ _ _ _ (λ db h. h) c.put_stored.ensures.rows
-    c.put_stored.ensures.settled)
+    rw c.in-Changed.is
+    (writes_follow _ _ _ _ _ _ (λ db. gain_follows c.args.key.now c.args.registry.now _ _ db
+    c.standing-in-Changed.ensures) c.put.ensures.puts c.put.ensures.settled)
+
+pub returns-in-Changed-clause-others : goal.returns-in-Changed-clause-others
+returns-in-Changed-clause-others g c = writes_leave g.S.Store _ _ _ _ c.put.ensures.rows
+    (λ db change. change.others)
 
 pub returns-in-Deleted-clause-follows : goal.returns-in-Deleted-clause-follows
 returns-in-Deleted-clause-follows g c =

@@ -13,6 +13,13 @@ turns-init g c = record {
   settings = refl;
 }
 
+pub returns-clause-stays : goal.returns-clause-stays
+returns-clause-stays g c = record {
+  settings = c.turns.invariant.settings;
+  lasts = c.turns.invariant.lasts;
+  rows = c.stopped.ensures.held;
+}
+
 -- one more turn was taken and counted
 pub turns-preserved : goal.turns-preserved
 turns-preserved g c =
@@ -24,7 +31,7 @@ turns-preserved g c =
           = rw w.if-take_turn.true (omega arith) in record {
             within = omega arith;
             taken = turn_counted _ _ _ _ _ _ _ _ _ _ _ _ c.turns.invariant.taken
-                c.take_turn.ensures.turn before more;
+                c.take_turn.ensures before more;
             lasts = database_on _ _ _ c.turns.invariant.lasts c.take_turn.ensures.lasts;
             settings = c.take_turn.ensures.settings ∙ c.turns.invariant.settings;
           }
@@ -34,7 +41,7 @@ turns-preserved g c =
           = rw w.if-take_turn.false (omega arith) in record {
             within = omega arith;
             taken = turn_counted _ _ _ _ _ _ _ _ _ _ _ _ c.turns.invariant.taken
-                c.take_turn.ensures.turn before more;
+                c.take_turn.ensures before more;
             lasts = database_on _ _ _ c.turns.invariant.lasts c.take_turn.ensures.lasts;
             settings = c.take_turn.ensures.settings ∙ c.turns.invariant.settings;
           }

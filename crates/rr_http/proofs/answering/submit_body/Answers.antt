@@ -5,13 +5,12 @@ pub returns-clause-submits : goal.returns-clause-submits
 returns-clause-submits g c =
     body_submitted _ _ _ _ _ _ _ _ _ c.new-body.result c.submit.new.reader c.requires.small
     c.new-body.ensures.rest c.new-body.ensures.missing c.new-body.ensures.failed
-    c.new-body.ensures.reads c.submit.ensures.reader_aside
-    (c.submit.ensures.submits c.requires.running)
+    c.new-body.ensures.reads (c.submit.ensures.submits c.requires.running)
 
 pub returns-clause-keeps : goal.returns-clause-keeps
 returns-clause-keeps g c = record {
   running = c.submit.ensures.running c.requires.running;
-  lasts = c.submit.ensures.lasts;
+  leaves = c.submit.ensures.leaves;
   kept = c.submit.ensures.kept c.requires.running;
   of_source = c.submit.ensures.of_source;
 }

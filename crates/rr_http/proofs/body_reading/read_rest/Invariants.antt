@@ -10,7 +10,6 @@ invariant-reads g l =
     × (l.body.items ≡ l.initial.body.items ++ more)
     × (length l.body.items ≤ l.size)
     × (l.size ≤ vec_capacity l.body)
-    × (g.R.Source.aside l.reader ≡ g.R.Source.aside l.initial.reader)
 
 abbrev pub decreases-reads : goal.decreases-reads
 decreases-reads g l = l.size - length l.body.items

@@ -1,4 +1,4 @@
-use Rattle.std.proofs.Common.{◌≤◌, ◌∙◌, length, arith}
+use Rattle.std.proofs.Common.{◌≤◌, length, arith}
 use Rattle.rr_io.proofs.Transfers.{Gives-then}
 use Rattle.rr_http.proofs.HeadLemmas.{put_more}
 use Rattle.rr_http.proofs.heads.read_on.Goals as goal
@@ -12,6 +12,5 @@ reads-preserved g c =
       gives = Gives-then _ _ before.gives c.in_ok-more.ensures.gives;
       joined = put_more _ _ _ _ _ _ _ before.joined before.within bound;
       within = omega arith;
-      aside = c.in_ok-more.ensures.aside ∙ before.aside;
       is_place = c.place_after-place-in-reads.ensures;
     }

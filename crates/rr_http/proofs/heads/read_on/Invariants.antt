@@ -10,7 +10,6 @@ invariant-reads g l = record {
   gives : Gives (g.R.Source.told l.initial.reader) (g.R.Source.told l.reader) more;
   joined : take l.count l.buf ≡ take l.filled l.initial.buf ++ more;
   within : l.count ≤ length l.buf;
-  aside : g.R.Source.aside l.reader ≡ g.R.Source.aside l.initial.reader;
   is_place : l.place ≡ goal_place l.goal (take l.count l.buf);
 }
 

@@ -1,27 +1,22 @@
-use Rattle.std.proofs.Common.{◌∙◌, refl, sym}
+use Rattle.rr_http.proofs.Asides.{answered, replied}
 use Rattle.rr_http.proofs.ServingLemmas.{http_served, refusal_served, whois_served}
 use Rattle.rr_http.proofs.serving.serve_head.Goals as goal
 
-pub returns-in-Whois-clause-serves : goal.returns-in-Whois-clause-serves
-returns-in-Whois-clause-serves g c =
+pub returns-in-Whois : goal.returns-in-Whois
+returns-in-Whois g c =
     let law = g.met.C.Connection in
-    let unread = sym (law.write_leaves_source c.write_answer.new.writer)
-    ∙ (c.write_answer.ensures.aside ∙ law.write_leaves_source c.args.conn.now) in
-    whois_served _ _ _ _ _ _ (rw c.in-Whois.is at c.requires.head) unread
-    c.write_answer.ensures.answers
+    let told = answered g.C.Source g.C.Sink law.read_leaves_sink law.write_leaves_source _ _ _ _
+    c.args.conn.now c.write_answer.new.writer _ c.write_answer.ensures in
+    whois_served _ _ _ _ _ _ (rw c.in-Whois.is at c.requires.head) told.0 told.1
 
-pub returns-in-Http-clause-serves : goal.returns-in-Http-clause-serves
-returns-in-Http-clause-serves g c =
+pub returns-in-Http : goal.returns-in-Http
+returns-in-Http g c =
     http_served _ _ _ _ _ _ _ (rw c.in-Http.is at c.requires.head)
-    c.read_request-asked.ensures.asks c.serve_asked.ensures.serves
+    c.read_request-asked.ensures.asks c.serve_asked.ensures
 
-pub returns-in-Refused-clause-serves : goal.returns-in-Refused-clause-serves
-returns-in-Refused-clause-serves g c =
+pub returns-in-Refused : goal.returns-in-Refused
+returns-in-Refused g c =
     let law = g.met.C.Connection in
-    let unread = sym (law.write_leaves_source c.refuse.new.writer)
-    ∙ (c.refuse.ensures.aside ∙ law.write_leaves_source c.args.conn.now) in
-    refusal_served _ _ _ _ _ _ (rw c.in-Refused.is at c.requires.head)
-    (record { unread = unread; same = refl }) c.refuse.ensures.replies
-
-pub returns-in-Refused-clause-lasts : goal.returns-in-Refused-clause-lasts
-returns-in-Refused-clause-lasts g c = g.met.D.Registrar.lasts_still c.args.desk.now
+    let told = replied g.C.Source g.C.Sink law.read_leaves_sink law.write_leaves_source
+    c.args.desk.now _ c.args.conn.now c.refuse.new.writer _ c.refuse.ensures in
+    refusal_served _ _ _ _ _ _ (rw c.in-Refused.is at c.requires.head) told.0 told.1

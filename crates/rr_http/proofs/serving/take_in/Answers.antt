@@ -1,7 +1,35 @@
+use Rattle.std.proofs.Common.{inl, inr, refl, sym, ◌∙◌}
+use Rattle.rr_http.proofs.Asides.{replied, taken_in}
 use Rattle.rr_http.proofs.serving.take_in.Goals as goal
 
-pub returns-then-stopped-clause-lasts : goal.returns-then-stopped-clause-lasts
-returns-then-stopped-clause-lasts g c = g.met.D.Registrar.lasts_still c.args.desk.now
+pub returns-then-stopped : goal.returns-then-stopped
+returns-then-stopped g c =
+    let law = g.met.C.Connection in
+    let told = replied g.C.Source g.C.Sink law.read_leaves_sink law.write_leaves_source
+    c.args.desk.now _ c.args.conn.now c.refuse.new.writer _ c.refuse.ensures in
+    inl (inl (record {
+      stopped = sym c.stopped.ensures ∙ c.if-stopped.true;
+      unread = told.0.unread;
+      unavailable = record { replies = told.1; same = refl };
+    }))
 
-pub returns-in-Err-clause-lasts : goal.returns-in-Err-clause-lasts
-returns-in-Err-clause-lasts g c = g.met.D.Registrar.lasts_still c.args.desk.now
+pub returns-in-Ok : goal.returns-in-Ok
+returns-in-Ok g c =
+    let law = g.met.C.Connection in
+    inr (taken_in g.C.Source g.C.Sink law.read_leaves_sink law.write_leaves_source g.D.Registrar _ _
+    _ _ _ _ c.args.conn.now c.read_body.new.reader c.submit_read.new.writer _
+    (sym c.stopped.ensures ∙ c.if-stopped.false) c.in-Ok.ensures.reads
+    (rw c.deref.ensures.value at c.submit_read.ensures))
+
+pub returns-in-Err : goal.returns-in-Err
+returns-in-Err g c =
+    let law = g.met.C.Connection in
+    let told = replied g.C.Source g.C.Sink law.read_leaves_sink law.write_leaves_source
+    c.args.desk.now _ c.args.conn.now c.refuse-in-Err.new.writer _
+    (rw c.in-Err.ensures.unread at c.refuse-in-Err.ensures) in
+    inl (inr (record {
+      running = sym c.stopped.ensures ∙ c.if-stopped.false;
+      some = c.in-Err.ensures.some;
+      unread = told.0.unread;
+      unavailable = record { replies = told.1; same = refl };
+    }))

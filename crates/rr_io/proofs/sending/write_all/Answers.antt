@@ -1,4 +1,4 @@
-use Rattle.std.proofs.Common.{◌≡◌, ◌++◌, ◌∙◌, append_assoc, take}
+use Rattle.std.proofs.Common.{◌≡◌, ◌++◌, append_assoc, take}
 use Rattle.std.proofs.lemmas.List.{take-append-drop}
 use Rattle.rr_io.proofs.Transfers.{Takes-then}
 use Rattle.rr_io.proofs.sending.write_all.Goals as goal
@@ -14,5 +14,4 @@ rest-preserved g c =
       before.0 ++ take count rest,
       prefix,
       Takes-then _ _ before.2 c.in_ok-count.ensures.takes,
-      c.in_ok-count.ensures.aside ∙ before.3,
     )

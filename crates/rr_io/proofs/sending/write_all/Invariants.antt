@@ -6,7 +6,6 @@ abbrev pub invariant-rest : goal.invariant-rest
 invariant-rest g l =
     (taken : List ℕ) × (l.bytes ≡ taken ++ l.rest) × Takes (g.W.Sink.told l.initial.writer)
     (g.W.Sink.told l.writer) taken
-    × (g.W.Sink.aside l.writer ≡ g.W.Sink.aside l.initial.writer)
 
 abbrev pub decreases-rest : goal.decreases-rest
 decreases-rest g l = length l.rest

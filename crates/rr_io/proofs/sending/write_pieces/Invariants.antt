@@ -8,4 +8,3 @@ invariant-pieces g l =
     (taken : List ℕ) × (flat_map (λ piece. piece.now) l.pieces ≡ taken ++ flat_map
     (λ piece. piece.now) (drop l.piece-index l.pieces))
     × Takes (g.W.Sink.told l.initial.writer) (g.W.Sink.told l.writer) taken
-    × (g.W.Sink.aside l.writer ≡ g.W.Sink.aside l.initial.writer)

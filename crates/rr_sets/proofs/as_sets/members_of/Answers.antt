@@ -7,8 +7,9 @@ use Rattle.rr_sets.proofs.as_sets.members_of.Goals as goal
 
 pub returns-clause-found : goal.returns-clause-found
 returns-clause-found g c = λ n. (
-  λ has. (c.in_ok-numbers_in.ensures n).0 ((c.in_ok-found.ensures.same exact_unsigned n).0 has),
-  λ holds. (c.in_ok-found.ensures.same exact_unsigned n).1 ((c.in_ok-numbers_in.ensures n).1 holds),
+  λ has. (c.in_ok-found.ensures.found n).0 ((c.in_ok-found-2.ensures.same exact_unsigned n).0 has),
+  λ holds. (c.in_ok-found-2.ensures.same exact_unsigned n).1
+      ((c.in_ok-found.ensures.found n).1 holds),
 )
 
 -- what a test fails
@@ -25,10 +26,10 @@ returns-clause-missing g c = λ s.
     let test : List ℕ → Bool = λ x. not (has_as_set (g.B.Book.contents c.args.book.now) x) in (
       λ has.
           let r = (Contains-filter test c.args.names.now s).0
-          (subst (λ (l : List (List ℕ)). Contains l s) c.in_ok-missing_names.ensures
+          (subst (λ (l : List (List ℕ)). Contains l s) c.in_ok-found.ensures.missing
           ((c.in_ok-missing.ensures.same exact_bytes s).0 has)) in
           (r.0, untrue (has_as_set (g.B.Book.contents c.args.book.now) s) r.1),
       λ (among, none). (c.in_ok-missing.ensures.same exact_bytes s).1
-          (rw c.in_ok-missing_names.ensures ((Contains-filter test c.args.names.now s).1
+          (rw c.in_ok-found.ensures.missing ((Contains-filter test c.args.names.now s).1
           (among, true_not (has_as_set (g.B.Book.contents c.args.book.now) s) none))),
     )

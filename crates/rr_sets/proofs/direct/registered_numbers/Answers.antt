@@ -15,7 +15,7 @@ pub returns-in_ok-extend_from_slice-in-Some : goal.returns-in_ok-extend_from_sli
 returns-in_ok-extend_from_slice-in-Some g c =
     let r = g.B.Book.contents c.args.book.now in
     let registered : get r (AsSet c.args.name.now) ≡ Some c.in-Some.object.now =
-    sym c.in_ok-object.ensures.found ∙ ap option_copied c.in-Some.is in
+    sym c.requires.found ∙ ap option_copied c.in-Some.is in
     let belong : (o : Obj) → Contains (lent c.deref.result.now) o
     ↔ (IsReferrer r c.args.name.now o × IsTrue (takes c.in-Some.object.now.by_ref o)) =
     subst (λ (l : List (Bor Obj)). (o : Obj) → Contains (lent l) o
@@ -28,6 +28,6 @@ returns-in_ok-extend_from_slice-in-Some g c =
     ∙ ap (λ (l : List ℕ). l ++ c.deref-in-Some.result.now) c.in_ok-numbers-in-Some.ensures
     ∙ ap (λ (l : List ℕ). filter_map number_listed c.members.result.now ++ l)
     (c.deref-in-Some.ensures.value ∙ c.in_ok-numbers_of-in-Some.ensures) in
-    numbers_of_set r c.in_ok-object.ensures.sound c.args.name.now c.in-Some.object.now
+    numbers_of_set r c.requires.sound c.args.name.now c.in-Some.object.now
     c.deref.result.now c.members.result.now c.extend_from_slice.new.self.items
     registered c.members.ensures belong numbers

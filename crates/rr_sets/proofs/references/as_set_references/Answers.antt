@@ -7,5 +7,5 @@ returns g c =
     IfOk-weaker c.plain_references.result _ _
     (λ references is. references_of_as_set (g.B.Book.contents c.args.book.now) c.args.name.now
     c.in_ok-numbers.numbers.items c.in_ok-names.names.items references.items
-    c.in_ok-numbers.ensures c.in_ok-names.ensures is)
+    c.in_ok-numbers.ensures (c.in_ok-names.ensures _ _ c.in_ok-set.ensures.found) is)
     c.plain_references.ensures

@@ -1,5 +1,5 @@
 -- Reading moves what was given, and a line moves how far the items have come.
-use Rattle.std.proofs.Common.{[], ◌++◌, ◌∙◌, refl, arith}
+use Rattle.std.proofs.Common.{[], ◌++◌, arith}
 use Rattle.std.proofs.lemmas.Result.{err_from_is_err_and}
 use Rattle.rr_submission.proofs.Progress.{ComesTo-start, ComesTo-more, Handles-cut, HandlesAll-end}
 use Rattle.rr_submission.proofs.Progress.{given_few}
@@ -9,20 +9,16 @@ pub items-init : goal.items-init
 items-init g c = (
   ([], c.requires.unread, rw c.new-secrets.ensures (ComesTo-start _ _ _ c.requires.sound)),
   c.requires.running,
-  refl,
-  refl,
   g.met.L.Ledger.lasts_still c.args.ledger.now,
 )
 
-pub handle_item-requires-clause-items : goal.handle_item-requires-clause-items
-handle_item-requires-clause-items g c =
+pub handle_item-requires-clause-room : goal.handle_item-requires-clause-room
+handle_item-requires-clause-room g c =
     let so = c.items.invariant.0 in
-    omega (arith, so.2.few, given_few _ _ c.items.paragraphs so.0 so.1)
-
-pub handle_item-requires-clause-refused : goal.handle_item-requires-clause-refused
-handle_item-requires-clause-refused g c =
-    let so = c.items.invariant.0 in
-    omega (arith, so.2.fewer, so.2.few, given_few _ _ c.items.paragraphs so.0 so.1)
+    let few = given_few _ _ c.items.paragraphs so.0 so.1 in record {
+      items = omega (arith, so.2.few, few);
+      refused = omega (arith, so.2.fewer, so.2.few, few);
+    }
 
 pub returns-in_err-done-in-Ok-Some-clause-handles :
     goal.returns-in_err-done-in-Ok-Some-clause-handles
@@ -35,7 +31,12 @@ returns-in_err-done-in-Ok-Some-clause-handles g c =
 
 pub returns-in_err-done-in-Ok-Some-clause-lasts : goal.returns-in_err-done-in-Ok-Some-clause-lasts
 returns-in_err-done-in-Ok-Some-clause-lasts g c =
-    g.met.L.Ledger.lasts_on _ _ _ c.items.invariant.4 c.in_err-done-in-Ok-Some.ensures.lasts
+    let exit = err_from_is_err_and c.from_residual.result c.from_residual.ensures.1 in
+    let on = c.in_err-done-in-Ok-Some.ensures.lasts in
+    record {
+      running = rw (exit.1, exit.2) on.running;
+      lasts = g.met.L.Ledger.lasts_on _ _ _ c.items.invariant.2 on.lasts;
+    }
 
 pub items-preserved : goal.items-preserved
 items-preserved g c =
@@ -49,10 +50,8 @@ items-preserved g c =
             (ComesTo-more _ _ _ _ _ _ _ _ one.outcome so.2 found one.decides one.items one.refused
             one.writes),
       ),
-      c.in_ok-done-in-Ok-Some.ensures.running,
-      c.in-Ok-Some.ensures.aside ∙ c.items.invariant.2,
-      c.in_ok-done-in-Ok-Some.ensures.aside ∙ c.items.invariant.3,
-      g.met.L.Ledger.lasts_on _ _ _ c.items.invariant.4 c.in_ok-done-in-Ok-Some.ensures.lasts,
+      c.in_ok-done-in-Ok-Some.ensures.lasts.running,
+      g.met.L.Ledger.lasts_on _ _ _ c.items.invariant.2 c.in_ok-done-in-Ok-Some.ensures.lasts.lasts,
     )
 
 pub returns-in-Ok-None-clause-handles : goal.returns-in-Ok-None-clause-handles

@@ -10,8 +10,6 @@ invariant-items g l =
     × ComesTo l.source given (g.L.Ledger.registry l.initial.ledger) (g.L.Ledger.registry l.ledger)
     (g.W.Sink.told l.initial.writer) (g.W.Sink.told l.writer) l.secrets l.done)
     × (g.L.Ledger.is_stopped l.ledger ≡ false)
-    × (g.R.Source.aside l.reader ≡ g.R.Source.aside l.initial.reader)
-    × (g.W.Sink.aside l.writer ≡ g.W.Sink.aside l.initial.writer)
     × g.L.Ledger.Lasts l.initial.ledger l.ledger
 
 abbrev pub decreases-items : goal.decreases-items

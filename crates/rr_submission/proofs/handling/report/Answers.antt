@@ -7,4 +7,4 @@ pub returns-in-Ok-write_last_line-clause-submits : goal.returns-in-Ok-write_last
 returns-in-Ok-write_last_line-clause-submits g c =
     let whole : c.in-Ok.end ≡ Whole = c.if-is_whole.ensures.0 refl in
     IsDone-whole _ _ _ c.in-Ok.done (rw whole at c.in-Ok.ensures.handles)
-    c.in-Ok-write_last_line.ensures.writes
+    c.in-Ok-write_last_line.ensures

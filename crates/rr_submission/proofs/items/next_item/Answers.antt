@@ -39,7 +39,7 @@ returns-then-not-is_secrets_alone-clause-finds g c = λ start given has.
     let same = c.in-Ok.ensures.ok in
     rw same (passing_item _ start _ _ c.paragraphs.paragraphs _ given _ _ _ _ c.read.result so next
     (λ more items h. requested c.read.result (sym c.is_secrets_alone.ensures
-    ∙ c.if-not-is_secrets_alone.true) c.read.ensures.asked h))
+    ∙ c.if-not-is_secrets_alone.true) c.read.ensures h))
 
 pub paragraphs-preserved : goal.paragraphs-preserved
 paragraphs-preserved g c =

@@ -11,7 +11,7 @@ invariant-paragraphs g l = record {
       → IsPassing l.source start (g.R.Source.told l.reader) l.paragraphs given l.initial.secrets
       l.secrets;
   nearer : left_of l.paragraphs ≤ left_of l.initial.paragraphs;
-  aside : g.R.Source.aside l.reader ≡ g.R.Source.aside l.initial.reader;
+  aside : (g.R.Source.told l.reader).aside ≡ (g.R.Source.told l.initial.reader).aside;
 }
 
 abbrev pub decreases-paragraphs : goal.decreases-paragraphs

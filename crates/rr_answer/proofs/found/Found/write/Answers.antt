@@ -7,9 +7,9 @@ use Rattle.rr_answer.specs.Founds.{found_text}
 use Rattle.rr_answer.specs.Texts.{members_text, missing_line, number_line, or_else, range_line}
 use Rattle.rr_answer.proofs.found.Found.write.Goals as goal
 
-pub returns-in-Numbers-clause-writes : goal.returns-in-Numbers-clause-writes
+pub returns-in-Numbers : goal.returns-in-Numbers
 unfolding members_text
-returns-in-Numbers-clause-writes g c =
+returns-in-Numbers g c =
     let found = c.deref-in-Numbers in
     let missing = c.deref-in-Numbers-2 in
     let nothing = ended (codes "% empty") in
@@ -20,11 +20,11 @@ returns-in-Numbers-clause-writes g c =
     subst (λ (text : List ℕ). Writes (g.W.Sink.told c.args.writer.now)
     (g.W.Sink.told c.write_members-in-Numbers.new.writer) text
     c.write_members-in-Numbers.result)
-    whole c.write_members-in-Numbers.ensures.writes
+    whole c.write_members-in-Numbers.ensures
 
-pub returns-in-Ranges-clause-writes : goal.returns-in-Ranges-clause-writes
+pub returns-in-Ranges : goal.returns-in-Ranges
 unfolding members_text
-returns-in-Ranges-clause-writes g c =
+returns-in-Ranges g c =
     let found = c.deref-in-Ranges in
     let missing = c.deref-in-Ranges-2 in
     let nothing = ended (codes "% empty") in
@@ -34,4 +34,4 @@ returns-in-Ranges-clause-writes g c =
     (missing.ensures.value i))) ∙ sym (ap found_text c.in-Ranges.is) in
     subst (λ (text : List ℕ). Writes (g.W.Sink.told c.args.writer.now)
     (g.W.Sink.told c.write_members-in-Ranges.new.writer) text c.write_members-in-Ranges.result)
-    whole c.write_members-in-Ranges.ensures.writes
+    whole c.write_members-in-Ranges.ensures

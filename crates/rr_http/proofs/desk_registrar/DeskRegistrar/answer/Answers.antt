@@ -1,9 +1,8 @@
 use Rattle.std.proofs.Common.{refl}
-use Rattle.rr_desk.specs.Lasting.{database_still}
 use Rattle.rr_http.proofs.desk_registrar.DeskRegistrar.answer.Goals as goal
 
-pub returns-in-Ok-clause-answers : goal.returns-in-Ok-clause-answers
-returns-in-Ok-clause-answers g c =
+pub returns-in-Ok : goal.returns-in-Ok
+returns-in-Ok g c =
     let made = c.in-Ok.ensures.answers in (
       _,
       record {
@@ -16,8 +15,8 @@ returns-in-Ok-clause-answers g c =
       made.writes,
     )
 
-pub returns-in-Err-clause-answers : goal.returns-in-Err-clause-answers
-returns-in-Err-clause-answers g c =
+pub returns-in-Err : goal.returns-in-Err
+returns-in-Err g c =
     let made = c.in-Err.ensures.answers in (
       _,
       record {
@@ -29,9 +28,3 @@ returns-in-Err-clause-answers g c =
       },
       made.writes,
     )
-
-pub returns-in-Ok-clause-lasts : goal.returns-in-Ok-clause-lasts
-returns-in-Ok-clause-lasts g c = database_still _
-
-pub returns-in-Err-clause-lasts : goal.returns-in-Err-clause-lasts
-returns-in-Err-clause-lasts g c = database_still _

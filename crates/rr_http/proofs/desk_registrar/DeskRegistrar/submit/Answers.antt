@@ -5,5 +5,8 @@ pub returns-clause-submits : goal.returns-clause-submits
 returns-clause-submits g c = λ running. submits_whole g.S.Store _ _ _ _ _
     (c.submit.ensures.submits running)
 
-pub returns-clause-lasts : goal.returns-clause-lasts
-returns-clause-lasts g c = c.submit.ensures.lasts
+pub returns-clause-leaves : goal.returns-clause-leaves
+returns-clause-leaves g c = record {
+  lasts = c.submit.ensures.lasts;
+  same_settings = c.submit.ensures.settings;
+}

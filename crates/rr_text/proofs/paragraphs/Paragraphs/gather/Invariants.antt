@@ -1,4 +1,4 @@
-use Rattle.std.proofs.Common.{◌≡◌, ◌-◌}
+use Rattle.std.proofs.Common.{◌-◌}
 use Rattle.rr_text.proofs.ReaderLemmas.{IsGathering}
 use Rattle.rr_text.specs.ParagraphReaders.{held, reads_of}
 use Rattle.rr_text.proofs.paragraphs.Paragraphs.gather.Given as goal
@@ -7,7 +7,6 @@ abbrev pub invariant-reads : goal.invariant-reads
 invariant-reads g l =
     IsGathering (g.R.Source.told l.initial.reader) (g.R.Source.told l.reader) (held l.initial.self)
     (reads_of l.initial.self) l.self
-    × (g.R.Source.aside l.reader ≡ g.R.Source.aside l.initial.reader)
 
 abbrev pub decreases-reads : goal.decreases-reads
 decreases-reads g l = 16777216 - reads_of l.self

@@ -298,6 +298,30 @@ def test_a_service_is_made_of_the_files_of_the_package(trial: Trial, tool: Tool)
 
 
 @AS_ROOT
+def test_a_history_takes_git(trial: Trial, tool: Tool) -> None:
+    """That the question says so where git is missing, and asks again, so that no answer is lost."""
+    service = Service(trial, tool, "without-git")
+    first = str(service.place / "bin")
+    for name in "sh", "curl", "python3":
+        os.symlink(str(shutil.which(name)), f"{first}/{name}")
+    alone = tool.at(PATH=first, IRRDESK=f"{first}/irrdesk")
+    words = ["setup", "--settings", str(service.settings)]
+    answers = b"TEST\n \n \n \n \n \n \n \nyes\nno\n \nno"
+    ran = alone.on_terminal(*words, typed=answers, folder=str(service.place))
+    expect(ran.status, 2, f"its end: {ran.printed.decode()}")
+    for said in (
+        b"in git, which is not installed [no]: ",
+        b"  git: a history takes it; install it, or do without",
+        b"nothing was made",
+    ):
+        expect(said in ran.printed, True, f"whether {said!r} is printed: {ran.printed.decode()}")
+    expect(ran.printed.count(b"irrdesk-history"), 0, "its timer among the units")
+    ran = alone(*words, "--yes", *WORDS, folder=str(service.place))
+    expect_line(ran, 2, "git: a history takes it; .*", "with --history")
+    expect(service.asked(), [], "what was asked of systemd")
+
+
+@AS_ROOT
 def test_the_examples_are_those_beside_the_tool(trial: Trial, tool: Tool) -> None:
     """That what is next names the example where the tool is installed, if it is there."""
     service = Service(trial, tool, "prefix")

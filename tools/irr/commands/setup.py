@@ -203,6 +203,16 @@ class Asker:
             return read(" ".join(given))
         return read(proposed) if self.options.yes else questions.ask(question, proposed, read)
 
+    def history(self) -> bool:
+        """Whether a history is kept. That it takes git is said before more is asked."""
+        has_git = shutil.which("git") is not None
+        if self.options.history is not None or self.options.yes:
+            return self.flag("history", "", has_git)
+        question = "A history of the public state, in git"
+        if has_git:
+            return questions.agrees(question, True)
+        return questions.ask(f"{question}, which is not installed", "no", read_history)
+
     def outside(self, plan: Plan) -> None:
         """What stands round the registry."""
         plan.door = self.flag("door", "A door: whois at port 43, HTTP for a proxy", plan.is_service)
@@ -224,8 +234,7 @@ class Asker:
             "replicas", "Two replicas, each with the registry's memory", plan.door
         )
         plan.backups = self.flag("backups", "A backup each night", True)
-        has_git = shutil.which("git") is not None
-        plan.history = self.flag("history", "A history of the public state, in git", has_git)
+        plan.history = self.history()
         if plan.door and plan.history:
             plan.mirrors = self.list(
                 "mirror", "Addresses that may mirror by NRTM, or none", "none", read_networks
@@ -256,6 +265,13 @@ def read_limit(text: str) -> int:
 
 def read_first(text: str) -> str:
     return "" if text in ("none", "") else keys.need_maintainer(text)
+
+
+def read_history(text: str) -> bool:
+    is_kept = questions.is_yes(text)
+    if is_kept:
+        need_git()
+    return is_kept
 
 
 def read_new(text: str) -> str:
@@ -335,8 +351,8 @@ def need_tools(plan: Plan) -> None:
     """What the plan takes that may not be here."""
     if plan.units and shutil.which("systemctl") is None:
         raise Failure("systemctl", "it is not here; make a registry by --folder", ARGUMENTS)
-    if plan.history and shutil.which("git") is None:
-        raise Failure("git", "a history takes it; install it, or add --no-history", ARGUMENTS)
+    if plan.history:
+        need_git()
     has_auth = tomls.parsed(plan.settings, tomls.text_of(plan.settings)).get("auth")
     is_shown = not plan.save and not has_auth or plan.maintainer and not plan.maintainer_save
     if is_shown and not has_terminal():
@@ -346,6 +362,11 @@ def need_tools(plan: Plan) -> None:
             " FILE for a first maintainer",
             ARGUMENTS,
         )
+
+
+def need_git() -> None:
+    if shutil.which("git") is None:
+        raise Failure("git", "a history takes it; install it, or do without a history", ARGUMENTS)
 
 
 def has_terminal() -> bool:

@@ -362,26 +362,48 @@ def test_a_change_is_seen_at_once(door: Opened) -> None:
     expect(door.whois("AS-NEW")[:7], b"as-set:", "after")
 
 
-def test_who_changes_something_sees_it_before_the_replicas_have_it(trial: Trial) -> None:
-    """That who submitted is answered by nobody of an earlier state, and others are as before."""
+@contextlib.contextmanager
+def with_older_replicas(trial: Trial, name: str) -> Iterator[tuple[Registries, Opened]]:
+    """A registry with two replicas that stay as they are, and a door that knows how old these
+    are."""
     with contextlib.ExitStack() as stack:
-        made = stack.enter_context(Registries(trial, "older", worlds.DUMP, replicas=2))
+        made = stack.enter_context(Registries(trial, name, worlds.DUMP, replicas=2))
         seen = time.time()
         replicas = [
             {"port": port, "ready": True, "state": "a", "seen": seen} for port in made.ports[1:]
         ]
         told = stack.enter_context(answering(json.dumps({"replicas": replicas}).encode()))
         words = [made.words[0], f"--agent={told.removeprefix('http://')}"]
-        door = stack.enter_context(Opened(trial, "older-door", words))
+        door = stack.enter_context(Opened(trial, f"{name}-door", words))
         known = "that it knows the replicas"
         wait_until(known, 20, lambda: sum(one["serves"] for one in door.status()["upstreams"]) > 2)
+        yield made, door
+
+
+def need_seen_by_who_submitted(door: Opened) -> None:
+    """That client 2 is answered by nobody of an earlier state, and client 3 is as before."""
+    for _ in range(4):
+        expect(door.whois("AS-SOON", last=2)[:7], b"as-set:", "who submitted, by whois")
+        found = door.http("GET", "/query/AS-SOON", last=2)[2]
+        expect(found[:7], b"as-set:", "who submitted, over HTTP")
+        expect(door.whois("AS-SOON", last=3), b"% no entries\n", "another client")
+        expect(door.whois("AS1", last=2), worlds.AS1 + b"\n", "another object")
+
+
+def test_who_changes_something_sees_it_before_the_replicas_have_it(trial: Trial) -> None:
+    with with_older_replicas(trial, "older") as (_, door):
         door.submit(ITEM.format("AS-SOON"), last=2)
-        for _ in range(4):
-            expect(door.whois("AS-SOON", last=2)[:7], b"as-set:", "who submitted, by whois")
-            found = door.http("GET", "/query/AS-SOON", last=2)[2]
-            expect(found[:7], b"as-set:", "who submitted, over HTTP")
-            expect(door.whois("AS-SOON", last=3), b"% no entries\n", "another client")
-            expect(door.whois("AS1", last=2), worlds.AS1 + b"\n", "another object")
+        need_seen_by_who_submitted(door)
+
+
+def test_who_is_refused_sees_what_the_registry_refused_it_by(trial: Trial) -> None:
+    """Somebody else has changed the registry past the door, and no replica has that yet."""
+    with with_older_replicas(trial, "past") as (made, door):
+        direct(made.ports[0], ITEM.format("AS-SOON").encode())
+        wrong = ITEM.format("AS-SOON").replace("bc", "wrong")
+        report = door.submit(wrong + "members: AS1\n", last=2)[2]
+        expect(report, b"1 as-set AS-SOON: refused E11\n% items 1\n", "the report")
+        need_seen_by_who_submitted(door)
 
 
 def irr(door: Opened, *words: str, stdin: bytes = b"") -> tuple[int, bytes, bytes]:

@@ -339,8 +339,8 @@ class Pool:
         return self.surprise > 0 and client.cheap >= TRUSTED and not client.left < 0
 
     def chosen(self, free: list[Upstream], request: Request) -> Upstream:
-        """One that has what its client has changed, if it is cheap, and that has not failed at it,
-        if there is one; of these the one that was asked least of late."""
+        """One that has what was decided for its client, if it is cheap, and that has not failed at
+        it, if there is one; of these the one that was asked least of late."""
         may_be_asked = not (self.is_held or request.is_dear or request.is_guess)
         registry = self.registry if may_be_asked else None
         free = self.changes.had_by(free, request.client.name, registry)

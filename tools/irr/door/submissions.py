@@ -246,6 +246,8 @@ class Submissions:
             self.running = None
             if report.has_changed:
                 self.pool.cache.renew()
+            if report.report.seen:
+                # What was refused may have been so for a change that the registry alone has.
                 self.pool.changes.add(submission.who.client, now)
             if fault == "ECONNREFUSED" and not exchange.size:
                 # Nothing was sent.

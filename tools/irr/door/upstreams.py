@@ -136,8 +136,9 @@ class Upstream:
 
 
 class Changes:
-    """When the submissions of each client last changed something: replicas of an earlier state lack
-    that. One of which nobody tells the age is taken to have it."""
+    """When the registry last decided an item of each client: replicas of an earlier state may lack
+    what that changed, or what it was decided by. One of which nobody tells the age is taken to have
+    both."""
 
     def __init__(self) -> None:
         self.at: dict[str, float] = {}
@@ -151,10 +152,10 @@ class Changes:
     def had_by(
         self, free: list[Upstream], client: str, registry: Optional[Upstream]
     ) -> list[Upstream]:
-        """Of the upstreams that are free those that have what a client has changed; where none has,
-        the registry, if it is free too."""
-        changed = self.at.get(client, 0.0)
-        found = [one for one in free if not one.seen or one.since >= changed]
+        """Of the upstreams that are free those of no earlier state than the last decision for a
+        client; where there is none, the registry, if it is free too."""
+        decided = self.at.get(client, 0.0)
+        found = [one for one in free if not one.seen or one.since >= decided]
         if found or registry is None or registry.exchange is not None or not registry.is_up:
             return found or free
         return [registry]

@@ -484,12 +484,13 @@ class Pool:
                     one.look(self.watch, self.looked(one), self.named)
         self.since_down = None if any(one.is_up for one in self.all()) else self.since_down or now
         is_down = self.since_down is not None and now - self.since_down >= DOWN
+        judged = min((one.judged for one in self.all()), default=now) if is_down else 0.0
         for request in list(self.turns.all()):
-            if is_down or now - request.since > WAITING:
+            is_lost = request.since <= judged
+            if is_lost or now - request.since > WAITING:
                 self.turns.remove(request)
-                self.give_up(
-                    request, Refused("down", NOBODY) if is_down else Refused("busy", BUSY, 10)
-                )
+                why = Refused("down", NOBODY) if is_lost else Refused("busy", BUSY, 10)
+                self.give_up(request, why)
         self.turn()
 
     def looked(self, one: Upstream) -> Callable[[], None]:

@@ -57,11 +57,15 @@ class Submission(Turn):
     """A submission on its way: its parts, and how many items were decided before the first of
     them."""
 
-    __slots__ = ("who", "items", "parts", "before", "reported", "future", "is_begun", "has_guess")
+    __slots__ = (
+        *("who", "items", "parts", "before", "since", "reported", "future"),
+        *("is_begun", "has_guess"),
+    )
 
     def __init__(self, client: Any, who: Who, items: list[Item], parts: list[bytes]) -> None:
         super().__init__(client)
         self.who, self.items, self.parts, self.before = who, items, parts, 0
+        self.since = time.monotonic()
         self.reported: Callable[[bytes], None] = lambda text: None
         self.future: "asyncio.Future[None]" = asyncio.get_running_loop().create_future()
         self.is_begun = self.has_guess = False
@@ -90,6 +94,7 @@ class Submissions:
         self.tellers, self.untold = Clients(TOLD, TOLD_AT_ONCE), 0
         self.turns: Turns[Submission] = Turns(self.senders)
         self.running: Optional[Submission] = None
+        # Since when the registry is down for those who wait.
         self.down: Optional[float] = None
         self.wake: Optional[asyncio.TimerHandle] = None
         pool.freed = self.turn
@@ -177,10 +182,13 @@ class Submissions:
         if self.running is not None or pool.is_closing:
             return
         now = time.monotonic()
+        if registry.is_up:
+            self.down = None
         if not self.turns.count:
             pool.is_held = False
             return
-        if self.give_up(now):
+        if not registry.is_up:
+            self.give_up(now)
             return
         if registry.exchange is not None:
             # No query goes there before it.
@@ -197,18 +205,19 @@ class Submissions:
         self.running = submission
         self.begin(submission)
 
-    def give_up(self, now: float) -> bool:
-        """Refuses all that wait while the registry is down for long."""
-        self.down = None if self.pool.registry.is_up else self.down or now
-        if self.down is None or now - self.down < DOWN:
-            if self.down is not None:
-                self.look_again()
-                return True
-            return False
-        for submission in list(self.turns.all()):
-            self.turns.remove(submission)
-            self.fail(submission, "cut" if submission.before else "503", NOBODY)
-        return True
+    def give_up(self, now: float) -> None:
+        """Refuses those that wait while the registry is down for long, but for those that have come
+        since the last look: it may have been started since."""
+        self.down = self.down or now
+        # Nobody looks at a registry that is held.
+        self.pool.is_held = False
+        if now - self.down >= DOWN:
+            for submission in list(self.turns.all()):
+                if submission.since <= self.pool.registry.judged:
+                    self.turns.remove(submission)
+                    self.fail(submission, "cut" if submission.before else "503", NOBODY)
+        if self.turns.count:
+            self.look_again()
 
     def fail(self, submission: Submission, outcome: str, why: str) -> None:
         self.refused(submission.who, outcome, len(submission.items) - submission.before)

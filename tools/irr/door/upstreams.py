@@ -46,6 +46,9 @@ class Upstream:
         self.is_dear = False
         self.is_up, self.is_draining, self.why = True, False, "not asked yet"
         self.looked = 0.0
+        # When the last look that is over was begun: what has come since waits for the next one, for
+        # it may have been started meanwhile.
+        self.judged = 0.0
         # The state that it serves, and when the registry was last seen to have that state: by the
         # clock, and by one that nobody sets.
         self.state, self.seen, self.since = "", 0.0, 0.0
@@ -88,6 +91,7 @@ class Upstream:
         self.looked = now
 
         def ended(text: bytes, fault: Optional[str]) -> None:
+            self.judged = now
             has_end = text.endswith(b"\n\n") or fault == "long"
             is_good = has_end and answers.looks_like_objects(text) or text == NOTHING
             if is_good and fault in (None, "long"):

@@ -112,6 +112,21 @@ def test_history_says_who_held_what_and_when(trial: Trial, tool: Tool, tell: Tel
     tell(f"{len(states)} states")
 
 
+def test_a_word_that_is_no_folder_makes_none(trial: Trial, tool: Tool) -> None:
+    """Who wants to look up an object may forget `show`. A new folder is written as a path."""
+    place = trial.place("word")
+    with World(trial, tool, "worded") as world:
+        for word in "AS64496", "192.0.2.0/24", "lost":
+            ran = world.tool("history", word, folder=place)
+            wanted = f"{word}: there is no such folder; .*irr history show KEY.* ./{word} .*"
+            expect_line(ran, 2, wanted, f"the word {word}")
+        expect(os.listdir(place), [], "what was made")
+        for folder in "./a", "a", "../word/b", f"{place}/c/d":
+            ran = world.tool("history", folder, folder=place)
+            expect((ran.status, ran.reported), (0, b""), f"the folder {folder}")
+            expect(Repository(Path(place, folder)).is_there, True, f"the history in {folder}")
+
+
 # A git that is killed at its call N: before it has done anything, once all is done, or in the
 # middle, where it leaves what keeps others out.
 KILLED_GIT = """#!/bin/sh

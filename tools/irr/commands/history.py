@@ -17,6 +17,8 @@ from irr.system import files
 from irr.terminal import texts
 
 DEFAULT = "/var/lib/irrdesk-history"
+# What the path of a new folder begins with.
+NEW = ("/", "./", "../")
 EXAMPLES = """
 irr history /var/lib/irrdesk-history                   fetch the public dump, commit what changed
 irr history show route 192.0.2.0/24 AS64496            the versions of an object, with their times
@@ -44,7 +46,8 @@ def arguments(parser: argparse.ArgumentParser) -> None:
         "words",
         nargs="+",
         metavar="WORD",
-        help="a folder; or `show` and a key; or `at`, a time and a query",
+        help="a folder, as a path with / or ./ before it if it is new; or `show` and a key; or"
+        " `at`, a time and a query",
     )
 
 
@@ -76,7 +79,20 @@ def run(options: argparse.Namespace) -> int:
             "take one FOLDER, or the word `show` or `at`; see `irr history --help`",
             ARGUMENTS,
         )
+    need_folder(first)
     return record(Path(first), server.Server.from_options(options.server, options.plain))
+
+
+def need_folder(word: str) -> None:
+    """That a word is a folder, or says plainly that one is to be made: it may be the key of an
+    object that somebody looks for."""
+    if not word.startswith(NEW) and not os.path.isdir(word):
+        raise Failure(
+            word,
+            "there is no such folder; look up an object by `irr history show KEY`, or write"
+            f" ./{word} to begin a history in a new folder",
+            ARGUMENTS,
+        )
 
 
 def record(place: Path, source: server.Server) -> int:

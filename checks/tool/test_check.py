@@ -390,6 +390,19 @@ def test_what_a_user_may_not_see_is_no_fault(trial: Trial, tool: Tool) -> None:
         machine.backups.chmod(0o700)
 
 
+def test_a_wrong_line_of_the_door_is_reported_once(trial: Trial, tool: Tool) -> None:
+    """The place of the agent and that of the status are both in door.toml."""
+    with standing(trial, tool, "wrong") as machine:
+        names = "irrdesk.service", "irrdesk-mirror.service", "irrdesk-door.service"
+        machine.units(*map(unit, names))
+        (machine.place / "door.toml").write_text("status = \n", encoding="ascii")
+        lines = machine().reported.decode().splitlines()
+        found = [line for line in lines if "door.toml" in line]
+        expect(len(found), 1, f"how often it is reported: {found}")
+        told = json.loads(machine("--json").printed)["unseen"]
+        expect(len([line for line in told if "door.toml" in line]), 1, f"as JSON: {told}")
+
+
 @pytest.mark.parametrize(
     "url, door, status, of_script",
     [(200, 200, 0, 0), (503, 200, 10, 1), (200, None, 11, 2), (503, None, 12, 1), (404, 200, 1, 3)],

@@ -4,6 +4,7 @@ its remedy. docs/WATCHING.md has a row for each word."""
 import calendar
 import contextlib
 import dataclasses
+import functools
 import http.client
 import json
 import os
@@ -274,7 +275,7 @@ class Health:
         """What the agent of the mirror says of its replicas."""
         place = self.places.agent
         if not place and "irrdesk-mirror.service" in self.enabled:
-            place = str(self.door_settings().get("agent", "127.0.0.1:4340"))
+            place = str(self.door_settings.get("agent", "127.0.0.1:4340"))
         if not place:
             return
         try:
@@ -296,6 +297,7 @@ class Health:
             elif not is_ready and not fault:
                 self.unseen.append(f"{thing}: it is about to be renewed")
 
+    @functools.cached_property
     def door_settings(self) -> dict[str, Any]:
         """The settings of the door, if they are to be read."""
         path = str(Path(self.places.settings).parent / "door.toml")
@@ -309,7 +311,7 @@ class Health:
         """How the door is, and how far those are who mirror the registry."""
         place = self.places.door
         if not place and "irrdesk-door.service" in self.enabled:
-            place = str(self.door_settings().get("status", "127.0.0.1:4381"))
+            place = str(self.door_settings.get("status", "127.0.0.1:4381"))
         if not place:
             return
         try:

@@ -131,6 +131,35 @@ def test_questions_are_asked_until_they_are_answered(trial: Trial, tool: Tool) -
     lets_sign(trial, "made/irr.toml", place, b"password: " + shown[0] + b"\n")
 
 
+def maintainers(trial: Trial, place: str) -> list[bytes]:
+    return re.findall(rb"^mntner: +(\S+)$", registered(trial, "made/irr.toml", place), re.M)
+
+
+def test_yes_and_no_are_names_if_they_are_typed_twice(trial: Trial, tool: Tool) -> None:
+    """Who types one at a question for a name has most likely mistaken it for another question."""
+    place = trial.place("slips")
+    slips = b"y\nTEST\nYes\n \nno\n \n \nno\nyes\nn\nnone\nyes"
+    ran = tool.on_terminal("setup", "--folder", "made", typed=slips, folder=place)
+    expect(ran.status, 0, f"its end: {ran.printed.decode()}")
+    for word in b"y", b"Yes", b"no", b"yes", b"n":
+        line = b"\n  %s: this question asks for a name; type it again if it is the name\n" % word
+        expect(line in ran.printed, True, f"{word!r} in {ran.printed.decode()}")
+    expect(maintainers(trial, place), [b"ROOT-MNT"], "the maintainers")
+    expect(os.listdir(place), ["made"], "what was made")
+
+    place = trial.place("twice")
+    meant = b"TEST\n \n \n \nno\nyes\nyes\n \nyes"
+    ran = tool.on_terminal("setup", "--folder", "made", typed=meant, folder=place)
+    expect(ran.status, 0, f"its end: {ran.printed.decode()}")
+    expect(maintainers(trial, place), [b"ROOT-MNT", b"YES"], "with the one that was typed twice")
+
+    place = trial.place("given")
+    words = ["--source", "no", "--save", "y", "--maintainer", "yes", "--maintainer-save", "n"]
+    ran = tool("setup", "--folder", "made", "--yes", *words, folder=place)
+    expect((ran.status, ran.reported), (0, b""), "by options")
+    expect(maintainers(trial, place), [b"ROOT-MNT", b"YES"], "with the one of an option")
+
+
 def test_nothing_is_made_where_the_questions_are_not_answered_to_their_end(
     trial: Trial, tool: Tool
 ) -> None:

@@ -176,7 +176,7 @@ class Asker:
         if given is not None:
             return read(str(given))
         if not self.options.yes:
-            return questions.ask(question, str(proposed), read)
+            return questions.ask(question, str(proposed), read, True)
         if proposed == "":
             raise Failure(f"--{name}", "it is missing; add it", ARGUMENTS)
         return read(str(proposed))
@@ -184,7 +184,7 @@ class Asker:
     def file(self, name: str, question: str) -> str:
         given = getattr(self.options, name)
         if given is None:
-            given = "" if self.options.yes else questions.ask(question, "", read_new)
+            given = "" if self.options.yes else questions.ask(question, "", read_new, True)
         elif given == "":
             files.need_name(given)
         return read_new(given)

@@ -34,8 +34,9 @@ paragraph with a second class line, or a second `source`, is not a single object
 where a class line directly follows `source`, and a part without a `source` is left out.
 Without such a place the whole paragraph is left out. An object is left out too if one of
 its lists can't be read, if two of its lines were joined, or if its file ends within it. An
-item that can't be read is dropped from its list if it is a word: letters, digits and
-_ . : / - ^ between a letter or a digit at both ends, but no word of expressions (EXCEPT)."""
+item that can't be read is dropped from its list if it is a word. A word begins and ends
+with a letter or a digit, and has only letters, digits and _ . : / - ^ in between. EXCEPT
+and other words of expressions don't count as words here."""
 
 
 def arguments(parser: argparse.ArgumentParser) -> None:

@@ -9,8 +9,9 @@ from irr.rpsl.syntax import Attribute
 
 IPV6 = re.compile(rb"([0-9A-Fa-f]{0,4}(?::[0-9A-Fa-f.]{0,15}){2,8})(?:/[0-9]{1,3})?")
 OPERATOR = re.compile(rb"(?:\^(?:[+-]|[0-9]{1,3}(?:-[0-9]{1,3})?))?")
-# What has no part of an expression: letters, digits and marks between a letter or a digit at both
-# ends. A maintainer's name has a letter, no form of a prefix, and that of a set only with `-MNT`.
+# What has no part of an expression: it begins and ends with a letter or a digit, and has letters,
+# digits and marks in between. A maintainer's name has a letter, no form of a prefix, and that of a
+# set only with `-MNT`.
 WORD = re.compile(rb"[A-Za-z0-9](?:[A-Za-z0-9_.:/^-]*[A-Za-z0-9])?")
 NAME = re.compile(
     rb"(?!(?:AS|RS|FLTR|RTRS|PRNG)-(?!(?:.*-)?MNT\Z))(?=[0-9_-]*[A-Z])"

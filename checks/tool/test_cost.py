@@ -1,12 +1,15 @@
-"""What a query and a long submission cost."""
+"""What a query, a long submission and the guard of filters cost."""
 
 import os
 import sys
 import tempfile
 import time
 
+import pytest
+
 from checks.running import Tell, Trial, expect, run, write
 from checks.worlds import Tool, World, answering, items
+from irr.filters.lists import losses
 
 IN_MEMORY = True
 
@@ -111,6 +114,37 @@ def measured(tool: Tool, trial: Trial, folder: str) -> str:
         f"{told}; {count:,} items {seconds:.2f} s, {min(submissions):.2f} of the processor, each"
         f" 1/{min(least) / each:.0f} of the modules; by irrdesk submit {alone_seconds:.2f} s"
     )
+
+
+# The lines of a list, and how many times the time of a short one a list may take that is LONGER
+# times as long.
+SHORT, LONGER, TIMES = 1_000, 8, 20
+LISTS = {
+    "frr": "ip prefix-list C permit {}\n",
+    "frr access": "access-list C permit {}\n",
+    "bird": "C = [ {} ];\n",
+    "openbgpd": "allow from any prefix {}\n",
+}
+
+
+@pytest.mark.parametrize("kind", list(LISTS))
+def test_the_guard_of_filters_takes_time_by_the_length_of_a_list(kind: str, tell: Tell) -> None:
+    """Each hour it compares lists of hundreds of thousands of entries."""
+
+    def took(count: int) -> float:
+        prefixes = (f"10.{number >> 8}.{number & 255}.0/24" for number in range(count))
+        text, begun = "".join(map(LISTS[kind].format, prefixes)), time.process_time()
+        expect(sum(one.lost for one in losses(kind.split()[0], text, text)), 0, "what is lost")
+        return time.process_time() - begun
+
+    times = float("inf")
+    for _ in range(5):
+        short = took(SHORT)
+        times = min(times, took(LONGER * SHORT) / short)
+        if times < TIMES:
+            break
+    tell(f"{SHORT:,} lines take {1_000 * short:.0f} ms, {LONGER} times as many {times:.1f} times")
+    expect(times < TIMES, True, f"whether {times:.1f} times the time are less than {TIMES}")
 
 
 def test_a_report_in_chunks_is_read_as_it_comes(trial: Trial, tool: Tool, tell: Tell) -> None:

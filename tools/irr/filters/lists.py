@@ -4,6 +4,7 @@ import bisect
 import ipaddress
 import re
 import socket
+from collections import Counter
 from typing import Iterable, Iterator, NamedTuple
 
 # What a router does not read in a file, or what is quoted, in which no comment begins; and lines
@@ -337,7 +338,8 @@ def parted(router: str, text: str) -> dict[List, list[Words]]:
 def parted_bird(text: str) -> Iterator[tuple[List, str]]:
     """The same of BIRD: a definition, or each list in a function or a filter."""
     kind, name, end = "", "", 0
-    labels: set[tuple[str, str]] = set()
+    variables: set[tuple[str, str]] = set()
+    counts: Counter[str] = Counter()
     for one in BIRD_LIST.finditer(text):
         is_defined = kind == "define"
         yield List("define" if is_defined else "", name), text[end : one.start()]
@@ -349,10 +351,12 @@ def parted_bird(text: str) -> Iterator[tuple[List, str]]:
         elif is_defined:
             yield List(kind, name), one["list"]
         else:
-            label = one["variable"] or "1"
-            while (label, name) in labels:
-                label = str(int(label) + 1) if label.isdigit() else "1"
-            labels.add((label, name))
+            label = one["variable"]
+            if not label or (label, name) in variables:
+                counts[name] += 1
+                label = str(counts[name])
+            else:
+                variables.add((label, name))
             yield List("list", f"{label} of {name}" if name else label), one["list"]
     yield List("", name), text[end:]
 
@@ -386,55 +390,80 @@ def parted_rule(rule: str) -> tuple[List, str]:
 
 def parted_frr(text: str) -> dict[List, list[Words]]:
     """The same of FRR, whose lists are made and changed line by line, by numbers."""
-    lists: dict[List, dict[int, Words]] = {}
-    outside, end = "", 0
+    lists: dict[List, Lines] = {}
+    outside, end = [], 0
     for one in FRR_LINE.finditer(text):
-        outside += text[end : one.start()]
+        outside.append(text[end : one.start()])
         end = one.end()
         kind = " ".join(one["kind"].split())
         kind = kind.removeprefix("bgp ") if "as-path" in kind else kind
         kind = kind.removeprefix("ip ") if "as-path" in kind else kind
-        own = lists.setdefault(List(kind, one["name"]), {})
+        own = lists.setdefault(List(kind, one["name"]), Lines())
         if one["no"]:
             for number in removed(kind, own, one["words"]):
-                own.pop(number, None)
+                own.remove(number)
             continue
         for entry in FRR_ENTRY.finditer(one["words"]):
-            last = max(own, default=0)
-            number = int(entry[1] or last + 5 - (last % 5 if "as-path" in kind else 0))
-            # FRR passes over a line that is there already.
-            if not same(own, entry):
-                own[number] = Words(entry[2] == "permit", entry[3])
-    kept = {
-        place: reached(place, [own[number] for number in sorted(own)])
-        for place, own in lists.items()
-    }
-    rest = meaning("frr", outside + text[end:])
+            past = own.last % 5 if "as-path" in kind else 0
+            own.add(int(entry[1] or own.last + 5 - past), line_of(entry))
+    kept = {place: reached(place, list(own.in_order())) for place, own in lists.items()}
+    rest = meaning("frr", "".join([*outside, text[end:]]))
     return ({List("", ""): [Words(True, rest)]} if rest else {}) | kept
 
 
-def removed(kind: str, own: dict[int, Words], words: str) -> list[int]:
+class Lines:
+    """The lines of a list of FRR by their numbers, and the number of each by what it says. To that
+    `exact-match` is no difference."""
+
+    def __init__(self) -> None:
+        self.lines: dict[int, Words] = {}
+        self.numbers: dict[Words, int] = {}
+        self.last = 0
+
+    def add(self, number: int, words: Words) -> None:
+        """Puts a line in the place of that of its number. FRR passes over one that is there."""
+        if self.number_of(words) is None:
+            self.remove(number)
+            self.lines[number] = words
+            self.numbers[plain(words)] = number
+            self.last = max(self.last, number)
+
+    def number_of(self, words: Words) -> int | None:
+        return self.numbers.get(plain(words))
+
+    def remove(self, number: int) -> None:
+        words = self.lines.pop(number, None)
+        if words is not None:
+            del self.numbers[plain(words)]
+            self.last = max(self.lines, default=0) if number == self.last else self.last
+
+    def in_order(self) -> Iterator[Words]:
+        return (self.lines[number] for number in sorted(self.lines))
+
+
+def line_of(entry: re.Match[str]) -> Words:
+    return Words(entry[2] == "permit", entry[3])
+
+
+def plain(words: Words) -> Words:
+    return Words(words.takes, " ".join(words.text.replace("exact-match", "").split()))
+
+
+def removed(kind: str, own: Lines, words: str) -> list[int]:
     """The numbers of the lines of a list of FRR that a line with these words removes: of paths the
     first one of this pattern, of others that of its number if it has one."""
     entry = FRR_ENTRY.match(words)
     if entry and "as-path" in kind:
-        return [number for number in sorted(own) if own[number].text == entry[3]][:1]
+        lines = own.lines
+        return [number for number in sorted(lines) if lines[number].text == entry[3]][:1]
     if one := FRR_NUMBER.match(words):
         return [int(one[1])]
     if FRR_REMARK.match(words):
         return []
-    return same(own, entry) if entry else list(own)
-
-
-def same(own: dict[int, Words], entry: re.Match[str]) -> list[int]:
-    """The numbers of the lines of a list of FRR that say the same, to which `exact-match` is no
-    difference."""
-    takes, text = entry[2] == "permit", entry[3].replace("exact-match", "").split()
-    return [
-        number
-        for number, line in own.items()
-        if line.takes == takes and line.text.replace("exact-match", "").split() == text
-    ]
+    if not entry:
+        return list(own.lines)
+    number = own.number_of(line_of(entry))
+    return [] if number is None else [number]
 
 
 def reached(place: List, lines: list[Words]) -> list[Words]:

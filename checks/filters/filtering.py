@@ -1,5 +1,5 @@
 """bgpq4 in front of a registry, what it prints as sets of prefixes or AS numbers; a worked registry
-and those of sets by chance; servers that answer what they are given."""
+and those of sets by chance; servers that answer what they are given; routers that run."""
 
 import contextlib
 import ipaddress
@@ -9,8 +9,10 @@ import random
 import re
 import shutil
 import socket
+import subprocess
 import threading
-from collections.abc import Iterator
+import time
+from collections.abc import Callable, Iterator
 from urllib.parse import unquote
 
 from checks.door.opened import Bridge
@@ -75,6 +77,8 @@ FORMATS: list[list[str]] = [
     ["-B", "-E", "-A"],
 ]
 PATHS = os.environ["PATH"] + ":/usr/sbin"
+# That of FRR, which is none of PATH.
+FRR = "/usr/lib/frr/bgpd"
 # A prefix with the lengths after it, in each of the formats.
 LIST = re.compile(
     r"([0-9]+\.[0-9]+\.[0-9]+\.[0-9]+)/([0-9]+)(?:\{([0-9]+),([0-9]+)\}| prefix-length-range"
@@ -323,3 +327,42 @@ class Canned:
 
     def __exit__(self, *_: object) -> None:
         self.listener.close()
+
+
+@contextlib.contextmanager
+def started(command: list[str], folder: str, file: str) -> Iterator[None]:
+    """A router that runs, once this file of its is there."""
+    process = subprocess.Popen(
+        command,
+        cwd=folder,
+        stdin=subprocess.DEVNULL,
+        stdout=subprocess.DEVNULL,
+        stderr=subprocess.DEVNULL,
+    )
+    try:
+        end = time.monotonic() + 60
+        while not os.path.exists(os.path.join(folder, file)):
+            if time.monotonic() > end or process.poll() is not None:
+                raise Failure(f"{command[0]} did not start")
+            time.sleep(0.05)
+        yield
+    finally:
+        process.kill()
+        process.wait()
+
+
+@contextlib.contextmanager
+def frr(folder: str, path: str) -> Iterator[Callable[..., bytes]]:
+    """FRR with the settings of a file: what it prints when it is asked by vtysh."""
+    place = os.path.join(folder, "vty")
+    os.mkdir(place)
+    words = ["-n", "-S", "-P", "0", "-p", "0", "--vty_socket", place, "-z", f"{folder}/none"]
+    command = [FRR, *words, "-i", f"{folder}/bgpd.pid", "-f", path]
+    with started(command, folder, "vty/bgpd.vty"):
+
+        def vtysh(*asked: str) -> bytes:
+            commands = [word for one in asked for word in ("-c", one)]
+            shell = [program("vtysh"), "--vty_socket", place, "-d", "bgpd"]
+            return run([*shell, *commands], folder).printed
+
+        yield vtysh

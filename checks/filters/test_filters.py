@@ -1,17 +1,24 @@
 """`irr filter`: what it writes, by itself and for a timer; that BIRD and FRR read it and judge
 prefixes by it."""
 
-import contextlib
 import os
 import re
 import shutil
-import subprocess
 import sys
 import time
-from collections.abc import Iterator
 
-from checks.filters.filtering import SET, TAIL, Canned, bridge_of, program, worked
-from checks.running import Failure, Tell, Trial, expect, run, write
+from checks.filters.filtering import (
+    FRR,
+    SET,
+    TAIL,
+    Canned,
+    bridge_of,
+    frr,
+    program,
+    started,
+    worked,
+)
+from checks.running import Tell, Trial, expect, run, write
 from checks.worlds import Tool, expect_line
 
 IN_MEMORY = True
@@ -112,41 +119,12 @@ def judged_by_bird(folder: str) -> str:
 
 
 def judged_by_frr(folder: str) -> str:
-    daemon = "/usr/lib/frr/bgpd"
-    if not program("vtysh") or not os.path.exists(daemon):
+    if not program("vtysh") or not os.path.exists(FRR):
         return "no FRR here"
     path = write(folder, "customers.frr", FOR_FRR)
     expect(run([program("vtysh"), "-C", "-f", path], folder).status, 0, "vtysh -C")
-    os.mkdir(os.path.join(folder, "vty"))
-    with started(
-        [
-            daemon,
-            "-n",
-            "-S",
-            "-P",
-            "0",
-            "-p",
-            "0",
-            "--vty_socket",
-            f"{folder}/vty",
-            "-z",
-            f"{folder}/none",
-            "-i",
-            f"{folder}/bgpd.pid",
-            "-f",
-            path,
-        ],
-        folder,
-        "vty/bgpd.vty",
-    ):
-        asked = [
-            word
-            for prefix, _ in probes()
-            for word in ("-c", f"debug prefix-list CUSTOMERS match {prefix}")
-        ]
-        reported = run(
-            [program("vtysh"), "--vty_socket", f"{folder}/vty", "-d", "bgpd", *asked], folder
-        ).printed
+    with frr(folder, path) as vtysh:
+        reported = vtysh(*(f"debug prefix-list CUSTOMERS match {prefix}" for prefix, _ in probes()))
         found = re.findall(rb"PERMIT|DENY", reported)
         expect(
             [word == b"PERMIT" for word in found],
@@ -154,28 +132,6 @@ def judged_by_frr(folder: str) -> str:
             "what FRR takes",
         )
     return f"FRR judges {len(probes())}"
-
-
-@contextlib.contextmanager
-def started(command: list[str], folder: str, file: str) -> Iterator[None]:
-    """A router that runs, once this file of its is there."""
-    process = subprocess.Popen(
-        command,
-        cwd=folder,
-        stdin=subprocess.DEVNULL,
-        stdout=subprocess.DEVNULL,
-        stderr=subprocess.DEVNULL,
-    )
-    try:
-        end = time.monotonic() + 60
-        while not os.path.exists(os.path.join(folder, file)):
-            if time.monotonic() > end or process.poll() is not None:
-                raise Failure(f"{command[0]} did not start")
-            time.sleep(0.05)
-        yield
-    finally:
-        process.kill()
-        process.wait()
 
 
 def test_what_makes_no_filter_says_why(trial: Trial, tool: Tool, tell: Tell) -> None:

@@ -7,6 +7,8 @@ import socket
 from collections import Counter
 from typing import Iterable, Iterator, NamedTuple
 
+from irr.filters import frr_words
+
 # What a router does not read in a file, or what is quoted, in which no comment begins; and lines
 # that only take away.
 COMMENTS = {
@@ -31,8 +33,8 @@ CONSTANTS = {
         re.M,
     ),
 }
-# A slash before a length, which OpenBGPD reads also between blanks.
-SLASH = re.compile(r"[ \t]*/[ \t]*(?=[0-9])")
+# A slash before a length, which OpenBGPD reads also between blanks, and after an address in quotes.
+SLASH = re.compile(r"(?:([\"'])([0-9A-Fa-f:.]+)\1)?[ \t]*/[ \t]*(?=[0-9])")
 PREFIX = r"(?<![\w.:])([0-9A-Fa-f:.]+)/([0-9]{1,3})(?![0-9.])"
 LENGTHS = {
     "bird": re.compile(
@@ -73,8 +75,8 @@ FRR_ENTRY = re.compile(r"^[ \t]*(?:seq[ \t]+([0-9]+)\s+)?(permit|deny)\b(.*)", r
 # What a removal has that is of one line, or of none.
 FRR_NUMBER = re.compile(r"[ \t]*seq[ \t]+([0-9]+)")
 FRR_REMARK = re.compile(r"[ \t]*(?:description|remark)\b")
-# What is of no path but an empty one; other lines of a path that have no numbers are of any.
-EMPTY_PATH = "^$"
+# A pattern of the empty path alone, and one of any path. What else has no AS number may be of any.
+EMPTY_PATH, ANY_PATH = "^$", ".*"
 # A macro of OpenBGPD has no kind, nor has a rule.
 OPENBGPD_LIST = re.compile(
     r"\b(?P<kind>prefix-set|as-set|origin-set|roa-set)(?:[ \t]+[\"']?(?P<name>[^\s\"'{=]+)[\"']?)?"
@@ -153,7 +155,7 @@ class Loss(NamedTuple):
 def uncommented(router: str, text: str) -> str:
     """A filter without its comments, and in BIRD without what is quoted, which is in no list."""
     if router == "openbgpd":
-        text = SLASH.sub("/", text.replace("\\\n", ""))
+        text = SLASH.sub(r"\2/", text.replace("\\\n", ""))
     kept = r'""' if router == "bird" else r"\1"
     return COMMENTS[router].sub(lambda one: one.expand(kept) if one[1] else "", text)
 
@@ -174,7 +176,9 @@ def meaning(router: str, text: str) -> str:
     """A filter without its comments, and without lines that only remove; blank where nothing is
     left."""
     text = uncommented(router, text)
-    return (REMOVALS.sub("", text) if router == "frr" else text).strip()
+    if router == "frr":
+        text = REMOVALS.sub("", frr_words.spelled_out(text))
+    return text.strip()
 
 
 def entries(router: str, text: str, bits: int = 32) -> Iterator[Entry]:
@@ -325,7 +329,7 @@ def parted(router: str, text: str) -> dict[List, list[Words]]:
     """What stands in each list of a filter, in the order in which its router looks at it."""
     text = uncommented(router, text)
     if router == "frr":
-        return parted_frr(text)
+        return parted_frr(frr_words.spelled_out(text))
     text = spelled_out(router, text)
     found = parted_bird(text) if router == "bird" else parted_openbgpd(text)
     lists: dict[List, list[Words]] = {}
@@ -515,7 +519,9 @@ def losses(router: str, old: str, new: str) -> list[Loss]:
             numbers, kept = numbers_of(listed), numbers_of(there)
             spans = Spans((NUMBERS, first, last + 1) for first, last in kept)
             lost = sum(not spans.has(NUMBERS, first, last + 1) for first, last in numbers)
-            found.append(Loss(place.name, lost, len(numbers)))
+            patterns, now = patterns_of(place, listed), patterns_of(place, there)
+            gone = set() if ANY_PATH in now else patterns - now
+            found.append(Loss(place.name, lost + len(gone), len(numbers) + len(patterns)))
     return [loss for loss in found if loss.size]
 
 
@@ -551,6 +557,16 @@ def numbers_of(listed: Iterable[Words]) -> set[tuple[int, int]]:
         elif len(own) == 1:
             refused.update(own)
     return found
+
+
+def patterns_of(place: List, listed: Iterable[Words]) -> set[str]:
+    """What a list of paths of FRR takes by lines without AS numbers, which are the same only if
+    their words are. Of these the first line decides."""
+    taken: dict[str, bool] = {}
+    for words in listed if "as-path" in place.kind else ():
+        if not numbers_in(words):
+            taken.setdefault(" ".join(words.text.split()), words.takes)
+    return {pattern for pattern, takes in taken.items() if takes}
 
 
 def numbers_in(words: Words) -> list[tuple[int, int]]:

@@ -153,8 +153,7 @@ def test_no_line_of_the_proofs_can_be_broken_to_be_narrower() -> None:
 
 
 def test_the_crates_use_what_they_import_for_contracts_and_proofs() -> None:
-    # Dropping this one means that every crate is proved anew: the next change of rr_io drops it.
-    assert unused_imports() == ["crates/rr_io/src/sending.rt:◌≡◌"]
+    assert not unused_imports()
 
 
 # The rest.

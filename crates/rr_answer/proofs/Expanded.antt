@@ -15,7 +15,8 @@ use Rattle.rr_number.proofs.NumberOrders.{ranges_ordered}
 use Rattle.rr_auth.specs.Registries.{Reg}
 use Rattle.rr_answer.specs.declared.query_fault.QueryFault.{QueryFault}
 use Rattle.rr_answer.specs.Answers.{IsExpanded, IsNumberAnswer, IsRangeAnswer}
-use Rattle.rr_answer.specs.Expansions.{IsExpansion, IsListed, Meaning, as_set_at, route_set_at}
+use Rattle.rr_sets.specs.SetMeanings.{Meaning, as_set_at, route_set_at}
+use Rattle.rr_answer.specs.Expansions.{IsExpansion, IsListed}
 use Rattle.rr_answer.specs.Texts.{members_text}
 use Rattle.rr_answer.proofs.Alike.{Alike, back}
 use Rattle.rr_answer.proofs.SetsAlike.{has_as_set_alike, has_set_alike, in_as_set_on}
@@ -36,19 +37,19 @@ module _ {X : Type 0} (cmp : X → X → Ordering) (line : X → List ℕ) (tota
   -- both list the same
   listed_alike : (t u : List ℕ) → IsListed cmp line set t → IsListed cmp line other u → t ≡ u
   listed_alike t u p q =
-      let found : p.found ≡ q.found = same_sorted total exact p.found q.found p.found_sorted
-      q.found_sorted
+      let found : p.found ≡ q.found = same_sorted total exact p.found q.found p.has.sorted
+      q.has.sorted
       (λ x. (
-        λ h. (q.has x).1 (on.has x ((p.has x).0 h)),
+        λ h. (q.has.all x).1 (on.has x ((p.has.all x).0 h)),
         λ h.
-            (p.has x).1 (from.has x ((q.has x).0 h)),
+            (p.has.all x).1 (from.has x ((q.has.all x).0 h)),
       )) in
       let missing : p.missing ≡ q.missing = same_sorted nat_list_cmp_total exact_bytes p.missing
-      q.missing p.missing_sorted q.missing_sorted
+      q.missing p.lacks.sorted q.lacks.sorted
       (λ n. (
-        λ h. (q.lacks n).1 (on.lacks n ((p.lacks n).0 h)),
+        λ h. (q.lacks.all n).1 (on.lacks n ((p.lacks.all n).0 h)),
         λ h.
-            (p.lacks n).1 (from.lacks n ((q.lacks n).0 h)),
+            (p.lacks.all n).1 (from.lacks n ((q.lacks.all n).0 h)),
       )) in
       p.text_is ∙ (λ i. members_text line (found i) (missing i)) ∙ sym q.text_is
 

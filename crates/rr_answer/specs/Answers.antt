@@ -12,7 +12,8 @@ use Rattle.rr_answer.specs.declared.query_fault.QueryFault.{QueryFault}
 use Rattle.rr_answer.specs.declared.query.Query.{Query}
 use Rattle.rr_answer.specs.declared.query.Query.TheVariants.{Object, Exact, Closest, Less, More}
 use Rattle.rr_answer.specs.declared.query.Query.TheVariants.{Naming, Originated, Expand, Prefixes}
-use Rattle.rr_answer.specs.Expansions.{IsExpansion, as_set_at, route_set_at}
+use Rattle.rr_sets.specs.SetMeanings.{as_set_at, route_set_at}
+use Rattle.rr_answer.specs.Expansions.{IsExpansion}
 use Rattle.rr_answer.specs.Faults.{error_line}
 use Rattle.rr_answer.specs.Queries.{query_of}
 use Rattle.rr_answer.specs.Selections.{asked}

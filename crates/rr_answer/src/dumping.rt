@@ -1,9 +1,9 @@
 //! Dumps.
 
-ghost use Rattle.std.specs.Prelude.{◌≡◌, ◌++◌, IfOk, OnOk, OnErr, length};
+ghost use Rattle.std.specs.Prelude.{◌≡◌, ◌++◌, IfOk, length};
 ghost use Rattle.std.specs.FinMap.{values};
-ghost use Rattle.std.specs.Io.{StartsWith};
 ghost use Rattle.std.specs.List.{flat_map};
+ghost use Rattle.rr_text.specs.Outputs.{MayAdd};
 ghost use Rattle.rr_sets.specs.Lists.{lent};
 ghost use Rattle.rr_answer.specs.Dumps.{WritesDump, dump, dumped, end_line};
 
@@ -120,8 +120,7 @@ fn dump_object<W: Sink>(
 
 /// Appends an object as it stands in a dump.
 fn push_dumped(text: &mut Vec<u8>, object: &Object, full: bool) -> Result<(), AllocError>
-    ensures ok { OnOk result (text.new.items ≡ text.old.items ++ dumped full object.now) }
-    ensures err { OnErr result (StartsWith text.new.items text.old.items) }
+    ensures { MayAdd (dumped full object.now) text.old.items text.new.items result }
 {
     if full {
         push_paragraph(text, object.paragraph())

@@ -1,8 +1,8 @@
 //! The parts of answers: objects, lines of expansions, and names that are missing.
 
-ghost use Rattle.std.specs.Prelude.{◌≡◌, ◌++◌, ◌<◌, length, ℕ, List, OnOk, OnErr};
-ghost use Rattle.std.specs.Io.{StartsWith};
+ghost use Rattle.std.specs.Prelude.{◌<◌, length, ℕ, List};
 ghost use Rattle.rr_io.specs.Sending.{Writes};
+ghost use Rattle.rr_text.specs.Outputs.{MayAdd};
 
 use crate::text::push_line;
 use rr_io::{Sink, write_pieces};
@@ -17,8 +17,7 @@ pub(crate) trait Part {
 
     /// Appends its bytes. The error is that memory ran out: then some may have been appended.
     fn push_onto(&self, out: &mut Vec<u8>) -> Result<(), AllocError>
-        ensures ok { OnOk result (out.new.items ≡ out.old.items ++ bytes self.now) }
-        ensures err { OnErr result (StartsWith out.new.items out.old.items) };
+        ensures { MayAdd (bytes self.now) out.old.items out.new.items result };
 
     /// Writes its bytes, for which no memory is asked.
     fn write<W: Sink>(&self, writer: &mut W) -> io::Result<()>

@@ -1,8 +1,7 @@
 //! The texts of objects and of lines.
 
-ghost use Rattle.std.specs.Prelude.{◌≡◌, ◌++◌, OnOk, OnErr};
-ghost use Rattle.std.specs.Io.{StartsWith};
 ghost use Rattle.rr_text.specs.CanonicalText.{canonical, ended};
+ghost use Rattle.rr_text.specs.Outputs.{MayAdd};
 ghost use Rattle.rr_answer.specs.Texts as texts;
 
 use rr_object::{Object, print_public};
@@ -11,8 +10,7 @@ use std::alloc::AllocError;
 
 /// Appends an object as it is answered.
 pub(crate) fn push_public(text: &mut Vec<u8>, object: &Object) -> Result<(), AllocError>
-    ensures ok { OnOk result (text.new.items ≡ text.old.items ++ texts.public_text object.now) }
-    ensures err { OnErr result (StartsWith text.new.items text.old.items) }
+    ensures { MayAdd (texts.public_text object.now) text.old.items text.new.items result }
 {
     print_public(text, object)?;
     text.push(b'\n')?;
@@ -21,8 +19,7 @@ pub(crate) fn push_public(text: &mut Vec<u8>, object: &Object) -> Result<(), All
 
 /// Appends the canonical text of a paragraph and an empty line.
 pub(crate) fn push_paragraph(text: &mut Vec<u8>, paragraph: &Paragraph) -> Result<(), AllocError>
-    ensures ok { OnOk result (text.new.items ≡ text.old.items ++ ended (canonical paragraph.now)) }
-    ensures err { OnErr result (StartsWith text.new.items text.old.items) }
+    ensures { MayAdd (ended (canonical paragraph.now)) text.old.items text.new.items result }
 {
     print_onto(text, paragraph)?;
     text.push(b'\n')?;
@@ -31,8 +28,7 @@ pub(crate) fn push_paragraph(text: &mut Vec<u8>, paragraph: &Paragraph) -> Resul
 
 /// Appends a line with the LF that ends it.
 pub(crate) fn push_line(text: &mut Vec<u8>, line: &[u8]) -> Result<(), AllocError>
-    ensures ok { OnOk result (text.new.items ≡ text.old.items ++ ended line.now) }
-    ensures err { OnErr result (StartsWith text.new.items text.old.items) }
+    ensures { MayAdd (ended line.now) text.old.items text.new.items result }
 {
     text.extend_from_slice(line)?;
     text.push(b'\n')?;

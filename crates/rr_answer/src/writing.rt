@@ -126,7 +126,7 @@ fn push_parts<T: Part>(out: &mut Vec<u8>, parts: &[T]) -> Result<(), AllocError>
     Ok(())
 }
 
-/// The same in memory.
+/// The text of what was found and of the names that are missing, or the line that there is nothing.
 pub(crate) fn members_text<T: Part>(
     alloc: Global,
     found: &[T],

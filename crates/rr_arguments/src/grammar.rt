@@ -12,7 +12,7 @@ use clap::{Arg, ArgAction};
 use std::alloc::{AllocError, Global};
 
 /// The version of the program, and that of the tables that it reads.
-const VERSION: &str = "2.6.2 (tables 2)";
+const VERSION: &str = "2.7.0 (tables 2)";
 
 /// What the arguments may be. The commands stand in the order in which a registry meets them.
 pub fn program<'a>(alloc: Global) -> Result<clap::Command<'a>, AllocError>

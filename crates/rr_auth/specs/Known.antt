@@ -1,5 +1,5 @@
 -- What is remembered of the objects of a registry, and when it holds.
-use Rattle.std.specs.Prelude.{◌≡◌, ℕ, Bool, false, List, Some, IfSome}
+use Rattle.std.specs.Prelude.{◌≡◌, ℕ, Bool, false, List, Some, IfSome, Result}
 use Rattle.std.specs.BTreeMap.{BTreeMap, get as answer_at}
 use Rattle.std.specs.FinMap.{get}
 use Rattle.std.specs.Ordering.{eq_by_cmp}
@@ -7,7 +7,7 @@ use Rattle.rr_object.specs.declared.key.Key.{Key}
 use Rattle.rr_object.specs.KeyOrders.{key_cmp}
 use Rattle.rr_object.specs.Objects.{Obj}
 use Rattle.rr_auth.specs.declared.known.Known.{Known}
-use Rattle.rr_auth.specs.Passing.{names_pass}
+use Rattle.rr_auth.specs.Passing.{MayTry, Tries, names_pass}
 use Rattle.rr_auth.specs.Registries.{Reg}
 
 -- It says whether the mnt-by of the object of the key passes with these secrets, if there is one.
@@ -23,6 +23,19 @@ AreSeen r secrets answers =
 -- Each answer holds in the registry, for the secrets that are kept with it: none is stale.
 abbrev pub IsKnown : Reg → Known → Type 0
 IsKnown r known = AreSeen r known.secrets.items known.answers
+
+-- Trying secrets with what is known comes to this: they stay as they were, and what is then known
+-- holds (profile).
+abbrev pub TriesKnown : {X : Type 0} → Reg → Known → X → List (List ℕ) → List (List ℕ) → X
+    → Type 0
+TriesKnown r known expected before after result =
+    Tries expected before after result × IsKnown r known
+
+-- The same where memory may run out.
+abbrev pub MayTryKnown : {X E : Type 0} → Reg → Known → X → List (List ℕ) → List (List ℕ)
+    → Result X E → Type 0
+MayTryKnown r known expected before after result =
+    MayTry expected before after result × IsKnown r known
 
 -- Nothing changed but what stands under the key.
 abbrev pub IsSameBut : Key → Reg → Reg → Type 0

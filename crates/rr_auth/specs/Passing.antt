@@ -1,7 +1,7 @@
 -- Who passes with a set of secrets: a secret fits a line, a maintainer passes where some secret
 -- fits one of its lines, and a list of names passes where one of them is that of a maintainer that
 -- passes.
-use Rattle.std.specs.Prelude.{ℕ, Bool, false, ◌++◌, List}
+use Rattle.std.specs.Prelude.{◌≡◌, ℕ, Bool, false, ◌++◌, List, Result, IfOk, OnErr, OnOk}
 use Rattle.std.specs.List.{list_any}
 use Rattle.std.specs.Option.{option_map_or}
 use Rattle.std.specs.Str.{bytes_eq}
@@ -27,3 +27,18 @@ name_passes r secrets name = option_map_or (passes secrets) (maintainer r name) 
 -- (RFC 2622, 3).
 abbrev pub names_pass : Reg → List (List ℕ) → List (List ℕ) → Bool
 names_pass r secrets names = list_any (name_passes r secrets) names
+
+-- This is what trying secrets comes to, which leaves them as they were (profile).
+abbrev pub Tries : {X : Type 0} → X → List (List ℕ) → List (List ℕ) → X → Type 0
+Tries expected before after result = (result ≡ expected) × (after ≡ before)
+
+-- The same where memory may run out.
+abbrev pub MayTry : {X E : Type 0} → X → List (List ℕ) → List (List ℕ) → Result X E → Type 0
+MayTry expected before after result = IfOk result (λ made. made ≡ expected) × (after ≡ before)
+
+-- These secrets are added after those that there were, or none of them where memory runs out
+-- (profile).
+abbrev pub MayAdd : {X E : Type 0} → List (List ℕ) → List (List ℕ) → List (List ℕ) → Result X E
+    → Type 0
+MayAdd more before after result =
+    OnOk result (after ≡ before ++ more) × OnErr result (after ≡ before)

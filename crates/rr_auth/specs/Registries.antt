@@ -1,6 +1,6 @@
 -- A registry: a finite map from keys to objects, and when it is sound.
 use Rattle.std.specs.Prelude.{◌≡◌, ℕ, Bool, false, not, ◌&&◌, List, Option, None, Some}
-use Rattle.std.specs.Prelude.{is_none}
+use Rattle.std.specs.Prelude.{IfOk, Result, is_none}
 use Rattle.std.specs.List.{list_any}
 use Rattle.std.specs.FinMap.{FinMap, get, insert, values}
 use Rattle.rr_number.specs.Spans.{crosses}
@@ -56,3 +56,13 @@ pub record Sound (r : Reg) : Type 0 where
   pub named : (k : Key) (o : Obj) → get r k ≡ Some o → some_is_unknown r (names_of o) ≡ false
   pub apart : (k l : Key) (o x : Obj) → get r k ≡ Some o → get r l ≡ Some x
       → keys_cross k l ≡ false
+
+-- What stands under the key in a registry, which is sound.
+pub record LooksUp (r : Reg) (k : Key) (object : Option Obj) : Type 0 where
+  pub found : object ≡ get r k
+  pub sound : Sound r
+
+-- What is listed of a registry, which is sound, is as is said, unless memory runs out.
+pub record ListsOf {X E : Type 0} (r : Reg) (P : X → Type 0) (result : Result X E) : Type 0 where
+  pub all : IfOk result P
+  pub sound : Sound r

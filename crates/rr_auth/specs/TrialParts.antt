@@ -1,6 +1,7 @@
 -- What is remembered of the maintainers that were tried. Only private functions of src promise it
 -- to each other: no verdict depends on it.
-use Rattle.std.specs.Prelude.{◌≡◌, ℕ, Bool, ◌≤◌, true, List, length, take, IfSome, IsTrue}
+use Rattle.std.specs.Prelude.{◌≡◌, ℕ, Bool, ◌≤◌, true, List, length, take, IfOk, IfSome, IsTrue}
+use Rattle.std.specs.Prelude.{Result}
 use Rattle.std.specs.declared.cmp.Ordering.{Ordering}
 use Rattle.std.specs.BTreeMap.{BTreeMap, get}
 use Rattle.std.specs.BTreeSet.{BTreeSet, contains}
@@ -69,3 +70,11 @@ abbrev pub AreDigests
     → Type 0
 AreDigests wanted secrets digests =
     (salt : Vec ℕ) → IfSome (get salt_cmp digests salt) (HasDigests salt.items wanted secrets)
+
+-- It says whether one of the secrets fits the line, unless memory runs out, and the digests are
+-- right.
+pub record AsksLine {E : Type 0} (wanted : BTreeSet (List ℕ)) (secrets : List (List ℕ))
+    (line : AuthParts) (digests : BTreeMap (Vec ℕ) (BTreeSet (List ℕ))) (result : Result Bool E)
+    : Type 0 where
+  pub answer : IfOk result (λ fits. fits ≡ list_any (fits_line line) secrets)
+  pub remembers : AreDigests wanted secrets digests

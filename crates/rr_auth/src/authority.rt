@@ -6,7 +6,7 @@ ghost use Rattle.rr_number.specs.Prefixes.{PrefixParts};
 ghost use Rattle.rr_number.specs.Ranges.{admits};
 ghost use Rattle.rr_auth.specs.Authority.{grants, is_aut_num, lower_of, lower_passes};
 ghost use Rattle.rr_auth.specs.Authority.{routes_of, routes_pass};
-ghost use Rattle.rr_auth.specs.Passing.{name_passes, names_pass};
+ghost use Rattle.rr_auth.specs.Passing.{Tries, name_passes, names_pass};
 ghost use Rattle.rr_auth.specs.Private.{names_among};
 
 use crate::book::Book;
@@ -110,8 +110,8 @@ fn is_aut_num(key: &Key) -> bool
 
 /// Whether the names that decide below the object pass.
 pub fn lower_passes<B: Book>(book: &B, secrets: &mut Secrets, object: &Object) -> bool
-    ensures answer { result ≡ lower_passes (B.contents book.now) secrets.old object.now }
-    ensures same_secrets { secrets.new ≡ secrets.old }
+    ensures { Tries (lower_passes (B.contents book.now) secrets.old object.now)
+        secrets.old secrets.new result }
 {
     names_pass(book, None, secrets, lower_names(object))
 }
@@ -123,8 +123,8 @@ pub fn routes_pass<B: Book>(
     object: &Object,
     prefix: Prefix,
 ) -> bool
-    ensures answer { result ≡ routes_pass (B.contents book.now) secrets.old prefix object.now }
-    ensures same_secrets { secrets.new ≡ secrets.old }
+    ensures { Tries (routes_pass (B.contents book.now) secrets.old prefix object.now)
+        secrets.old secrets.new result }
 {
     match names_for_routes(object) {
         RouteNames::Granted(entries) => some_grant_passes(book, secrets, entries, prefix),
@@ -140,9 +140,8 @@ fn some_grant_passes<B: Book>(
     entries: &[Grant],
     prefix: Prefix,
 ) -> bool
-    ensures answer { result ≡ names_pass (B.contents book.now) secrets.old
-        (map (λ g. g.name) (filter (grants prefix) entries.now)) }
-    ensures same_secrets { secrets.new ≡ secrets.old }
+    ensures { Tries (names_pass (B.contents book.now) secrets.old
+        (map (λ g. g.name) (filter (grants prefix) entries.now))) secrets.old secrets.new result }
 {
     some_entry_passes(book, secrets, entries, prefix)
 }
@@ -153,10 +152,9 @@ fn some_entry_passes<B: Book>(
     entries: &[Grant],
     prefix: Prefix,
 ) -> bool
-    ensures answer { result ≡ list_any
-        (λ g. grants prefix g && name_passes (B.contents book.now) secrets.old g.name)
-        entries.now }
-    ensures same_secrets { secrets.new ≡ secrets.old }
+    ensures { Tries (list_any
+        (λ g. grants prefix g && name_passes (B.contents book.now) secrets.old g.name) entries.now)
+        secrets.old secrets.new result }
 {
     'entries: for entry in entries {
         if entry_passes(book, secrets, entry, prefix) {
@@ -168,9 +166,8 @@ fn some_entry_passes<B: Book>(
 
 /// Whether the entry grants the prefix and its name passes.
 fn entry_passes<B: Book>(book: &B, secrets: &mut Secrets, entry: &Grant, prefix: Prefix) -> bool
-    ensures answer { result ≡ (grants prefix entry.now
-        && name_passes (B.contents book.now) secrets.old entry.now.name) }
-    ensures same_secrets { secrets.new ≡ secrets.old }
+    ensures { Tries (grants prefix entry.now && name_passes (B.contents book.now) secrets.old
+        entry.now.name) secrets.old secrets.new result }
 {
     grants_prefix(entry, prefix) && name_passes(book, None, secrets, entry.name())
 }

@@ -2,7 +2,6 @@
 
 ghost use Rattle.std.specs.Prelude.{◌≡◌, IfOk};
 ghost use Rattle.std.specs.Option.{option_copied};
-ghost use Rattle.std.specs.FinMap.{get};
 ghost use Rattle.std.specs.List.Sorted.{IsStrictlySortedBy};
 ghost use Rattle.std.specs.Ordering.{nat_cmp};
 
@@ -13,7 +12,7 @@ use std::alloc::{AllocError, Global};
 /// One sound registry. Its calls are answers over a finite map from keys to objects; none but
 /// `origins` takes memory.
 pub trait Book {
-    ghost use Rattle.rr_auth.specs.Registries.{Reg, Sound, maintainer, is_named};
+    ghost use Rattle.rr_auth.specs.Registries.{LooksUp, Reg, Sound, maintainer, is_named};
     ghost use Rattle.rr_auth.specs.Conditions.{crosses_registered};
     ghost use Rattle.rr_auth.specs.Closest.{closest_inetnum, closest_block, closest_routes};
     ghost use Rattle.rr_auth.specs.Closest.{origins};
@@ -22,8 +21,7 @@ pub trait Book {
 
     /// The object of the key.
     fn get(&self, key: &Key) -> Option<&Object>
-        ensures found { option_copied result ≡ get (contents self.now) key.now }
-        ensures sound { Sound (contents self.now) };
+        ensures { LooksUp (contents self.now) key.now (option_copied result) };
 
     /// The mntner of the name.
     fn maintainer(&self, name: &Name) -> Option<&Object>

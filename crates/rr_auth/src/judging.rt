@@ -1,6 +1,6 @@
 //! The verdict on an item.
 
-ghost use Rattle.std.specs.Prelude.{◌≡◌, IfOk, Some};
+ghost use Rattle.std.specs.Prelude.{◌≡◌, Some};
 ghost use Rattle.std.specs.List.{list_any};
 ghost use Rattle.std.specs.Option.{option_and_then, option_copied};
 ghost use Rattle.std.specs.FinMap.{get};
@@ -9,8 +9,9 @@ ghost use Rattle.rr_object.specs.KeyOrders.{IsKeyValue};
 ghost use Rattle.rr_auth.specs.Closest.{closest_inetnum};
 ghost use Rattle.rr_auth.specs.Authority.{lower_passes, routes_pass};
 ghost use Rattle.rr_auth.specs.Conditions.{is_in_use, route_passes};
-ghost use Rattle.rr_auth.specs.Known.{IsKnown};
+ghost use Rattle.rr_auth.specs.Known.{IsKnown, MayTryKnown, TriesKnown};
 ghost use Rattle.rr_auth.specs.Laws.{IsItem};
+ghost use Rattle.rr_auth.specs.Passing.{MayTry, Tries};
 ghost use Rattle.rr_auth.specs.Private.{below, below_origin, below_parent, below_space};
 ghost use Rattle.rr_auth.specs.SetParents.{parent_key};
 ghost use Rattle.rr_auth.specs.Verdicts.{addition, change, deletion, place, submission, verdict};
@@ -37,10 +38,9 @@ pub fn judge<B: Book>(
     item: &Item,
 ) -> Result<Verdict, AllocError>
     requires { IsKnown (B.contents book.now) known.old }
-    ensures verdict { IfOk result (λ v. v ≡ verdict (B.contents book.now) secrets.old item.now) }
+    ensures verdict { MayTryKnown (B.contents book.now) known.new
+        (verdict (B.contents book.now) secrets.old item.now) secrets.old secrets.new result }
     ensures formed { IsItem item.now }
-    ensures same_secrets { secrets.new ≡ secrets.old }
-    ensures known { IsKnown (B.contents book.now) known.new }
 {
     match item {
         Item::Submit(object) => judge_object(alloc, book, secrets, known, object),
@@ -57,11 +57,10 @@ fn judge_object<B: Book>(
     object: &Object,
 ) -> Result<Verdict, AllocError>
     requires { IsKnown (B.contents book.now) known.old }
-    ensures verdict { IfOk result (λ v. v ≡ submission
-        (get (B.contents book.now) object.now.key) (B.contents book.now) secrets.old object.now) }
+    ensures verdict { MayTryKnown (B.contents book.now) known.new
+        (submission (get (B.contents book.now) object.now.key) (B.contents book.now) secrets.old
+        object.now) secrets.old secrets.new result }
     ensures formed { IsKeyValue object.now.key }
-    ensures same_secrets { secrets.new ≡ secrets.old }
-    ensures known { IsKnown (B.contents book.now) known.new }
 {
     match book.get(object.key()) {
         None => judge_addition(alloc, book, secrets, object),
@@ -75,9 +74,8 @@ fn judge_addition<B: Book>(
     secrets: &mut Secrets,
     object: &Object,
 ) -> Result<Verdict, AllocError>
-    ensures verdict { IfOk result
-        (λ v. v ≡ addition (B.contents book.now) secrets.old object.now) }
-    ensures same_secrets { secrets.new ≡ secrets.old }
+    ensures { MayTry (addition (B.contents book.now) secrets.old object.now)
+        secrets.old secrets.new result }
 {
     if names_unknown(book, Some(object), object) {
         Ok(Verdict::Refuse(Code::E10))
@@ -97,9 +95,9 @@ fn judge_change<B: Book>(
 ) -> Verdict
     requires stored { get (B.contents book.now) object.now.key ≡ Some stored.now }
     requires known { IsKnown (B.contents book.now) known.old }
-    ensures verdict { result ≡ change (B.contents book.now) secrets.old stored.now object.now }
-    ensures same_secrets { secrets.new ≡ secrets.old }
-    ensures known { IsKnown (B.contents book.now) known.new }
+    ensures { TriesKnown (B.contents book.now) known.new
+        (change (B.contents book.now) secrets.old stored.now object.now)
+        secrets.old secrets.new result }
 {
     if names_unknown(book, None, object) {
         Verdict::Refuse(Code::E10)
@@ -114,10 +112,9 @@ fn judge_change<B: Book>(
 
 fn judge_deletion<B: Book>(book: &B, secrets: &mut Secrets, known: &mut Known, key: &Key) -> Verdict
     requires { IsKnown (B.contents book.now) known.old }
-    ensures verdict { result ≡ deletion
-        (get (B.contents book.now) key.now) (B.contents book.now) secrets.old key.now }
-    ensures same_secrets { secrets.new ≡ secrets.old }
-    ensures known { IsKnown (B.contents book.now) known.new }
+    ensures { TriesKnown (B.contents book.now) known.new
+        (deletion (get (B.contents book.now) key.now) (B.contents book.now) secrets.old key.now)
+        secrets.old secrets.new result }
 {
     match book.get(key) {
         None => Verdict::Refuse(Code::E18),
@@ -149,8 +146,8 @@ fn judge_place<B: Book>(
     secrets: &mut Secrets,
     key: &Key,
 ) -> Result<Verdict, AllocError>
-    ensures verdict { IfOk result (λ v. v ≡ place (B.contents book.now) secrets.old key.now) }
-    ensures same_secrets { secrets.new ≡ secrets.old }
+    ensures { MayTry (place (B.contents book.now) secrets.old key.now)
+        secrets.old secrets.new result }
 {
     if book.crosses(key) {
         return Ok(Verdict::Refuse(Code::E16));
@@ -179,9 +176,8 @@ fn span_of_number(number: AsNumber) -> Span
 
 /// The verdict on an object whose closest cover, or parent, is this one.
 fn judge_below<B: Book>(book: &B, secrets: &mut Secrets, cover: Option<&Object>) -> Verdict
-    ensures verdict { result ≡ below
-        (lower_passes (B.contents book.now) secrets.old) (option_copied cover.entry) }
-    ensures same_secrets { secrets.new ≡ secrets.old }
+    ensures { Tries (below (lower_passes (B.contents book.now) secrets.old)
+        (option_copied cover.entry)) secrets.old secrets.new result }
 {
     match cover {
         None => Verdict::Refuse(Code::E12),
@@ -203,9 +199,8 @@ fn judge_set<B: Book>(
     kind: SetKind,
     name: &SetName,
 ) -> Result<Verdict, AllocError>
-    ensures verdict { IfOk result (λ v.
-        v ≡ below_parent (B.contents book.now) secrets.old kind name.now) }
-    ensures same_secrets { secrets.new ≡ secrets.old }
+    ensures { MayTry (below_parent (B.contents book.now) secrets.old kind name.now)
+        secrets.old secrets.new result }
 {
     match name.parent(alloc)? {
         None => Ok(Verdict::Add),
@@ -226,10 +221,8 @@ fn parent_key(kind: SetKind, parent: Parent) -> Option<Key>
 
 /// The verdict on a set whose parent has this key.
 fn judge_below_parent<B: Book>(book: &B, secrets: &mut Secrets, parent: Option<Key>) -> Verdict
-    ensures verdict { result ≡ below
-        (lower_passes (B.contents book.now) secrets.old)
-        (option_and_then (get (B.contents book.now)) parent) }
-    ensures same_secrets { secrets.new ≡ secrets.old }
+    ensures { Tries (below (lower_passes (B.contents book.now) secrets.old)
+        (option_and_then (get (B.contents book.now)) parent)) secrets.old secrets.new result }
 {
     match parent {
         None => Verdict::Refuse(Code::E12),
@@ -245,9 +238,8 @@ fn judge_route<B: Book>(
     prefix: Prefix,
     origin: AsNumber,
 ) -> Result<Verdict, AllocError>
-    ensures verdict { IfOk result
-        (λ v. v ≡ below_origin (B.contents book.now) secrets.old prefix origin) }
-    ensures same_secrets { secrets.new ≡ secrets.old }
+    ensures { MayTry (below_origin (B.contents book.now) secrets.old prefix origin)
+        secrets.old secrets.new result }
 {
     match book.get(&Key::AutNum(origin)) {
         None => Ok(Verdict::Refuse(Code::E14)),
@@ -268,9 +260,8 @@ fn judge_space<B: Book>(
     secrets: &mut Secrets,
     prefix: Prefix,
 ) -> Result<Verdict, AllocError>
-    ensures verdict { IfOk result
-        (λ v. v ≡ below_space (B.contents book.now) secrets.old prefix) }
-    ensures same_secrets { secrets.new ≡ secrets.old }
+    ensures { MayTry (below_space (B.contents book.now) secrets.old prefix)
+        secrets.old secrets.new result }
 {
     match book.closest_routes(prefix) {
         None => Ok(judge_inetnum_space(book, secrets, prefix)),
@@ -287,10 +278,8 @@ fn judge_space<B: Book>(
 
 /// The verdict of the closest inetnum on a route that no route covers.
 fn judge_inetnum_space<B: Book>(book: &B, secrets: &mut Secrets, prefix: Prefix) -> Verdict
-    ensures verdict { result ≡ below
-        (routes_pass (B.contents book.now) secrets.old prefix)
-        (closest_inetnum (B.contents book.now) (span_of prefix)) }
-    ensures same_secrets { secrets.new ≡ secrets.old }
+    ensures { Tries (below (routes_pass (B.contents book.now) secrets.old prefix)
+        (closest_inetnum (B.contents book.now) (span_of prefix))) secrets.old secrets.new result }
 {
     match book.closest_inetnum(prefix.span()) {
         None => Verdict::Refuse(Code::E12),
@@ -312,9 +301,8 @@ fn some_route_passes<B: Book>(
     closest: Prefix,
     origins: &[AsNumber],
 ) -> bool
-    ensures answer { result ≡ list_any
-        (route_passes (B.contents book.now) secrets.old prefix closest) origins.now }
-    ensures same_secrets { secrets.new ≡ secrets.old }
+    ensures { Tries (list_any (route_passes (B.contents book.now) secrets.old prefix closest)
+        origins.now) secrets.old secrets.new result }
 {
     'origins: for origin in origins {
         if route_passes(book, secrets, prefix, closest, *origin) {
@@ -331,9 +319,8 @@ fn route_passes<B: Book>(
     closest: Prefix,
     origin: AsNumber,
 ) -> bool
-    ensures answer { result
-        ≡ route_passes (B.contents book.now) secrets.old prefix closest origin }
-    ensures same_secrets { secrets.new ≡ secrets.old }
+    ensures { Tries (route_passes (B.contents book.now) secrets.old prefix closest origin)
+        secrets.old secrets.new result }
 {
     match book.get(&Key::Route(closest, origin)) {
         Some(route) => routes_pass(book, secrets, route, prefix),

@@ -7,7 +7,7 @@
 ghost use Rattle.std.specs.Prelude.{◌≡◌, ◌↔◌, Some, IfOk, IfSome, IsTrue, OnOk};
 ghost use Rattle.std.specs.FinMap.{get};
 ghost use Rattle.rr_auth.specs.Known.{IsKnown, IsSameBut, IsSeen};
-ghost use Rattle.rr_auth.specs.Passing.{names_pass};
+ghost use Rattle.rr_auth.specs.Passing.{Tries, names_pass};
 ghost use Rattle.rr_auth.specs.Registries.{Reg};
 
 use crate::book::Book;
@@ -68,9 +68,8 @@ impl Known {
     ) -> bool
         requires stored { get (B.contents book.now) key.now ≡ Some stored.now }
         requires known { IsKnown (B.contents book.now) self.old }
-        ensures answer { result
-            ≡ names_pass (B.contents book.now) secrets.old stored.now.maintainers }
-        ensures same_secrets { secrets.new ≡ secrets.old }
+        ensures answer { Tries (names_pass (B.contents book.now) secrets.old stored.now.maintainers)
+            secrets.old secrets.new result }
         ensures known { IsKnown (B.contents book.now) self.new }
     {
         let names = stored.maintainers();

@@ -3,7 +3,7 @@
 ghost use Rattle.std.specs.Prelude.{◌≡◌};
 ghost use Rattle.std.specs.Option.{option_copied};
 ghost use Rattle.rr_object.specs.Objects.{names_of};
-ghost use Rattle.rr_auth.specs.Passing.{name_passes, names_pass, passes};
+ghost use Rattle.rr_auth.specs.Passing.{Tries, name_passes, names_pass, passes};
 ghost use Rattle.rr_auth.specs.Registries.{maintainer, some_is_unknown, seen_by};
 
 use crate::book::Book;
@@ -15,8 +15,7 @@ use rr_object::Object;
 /// and then the secret is the line's digest (profile; FIPS 180-4). However often it is asked, a
 /// secret is hashed with each salt of its lines once.
 pub fn passes(maintainer: &Object, secrets: &mut Secrets) -> bool
-    ensures answer { result ≡ passes secrets.old maintainer.now }
-    ensures same_secrets { secrets.new ≡ secrets.old }
+    ensures { Tries (passes secrets.old maintainer.now) secrets.old secrets.new result }
 {
     secrets.fit(maintainer)
 }
@@ -50,9 +49,8 @@ pub fn name_passes<B: Book>(
     secrets: &mut Secrets,
     name: &Name,
 ) -> bool
-    ensures answer { result ≡ name_passes
-        (seen_by (option_copied own.entry) (B.contents book.now)) secrets.old name.now }
-    ensures same_secrets { secrets.new ≡ secrets.old }
+    ensures { Tries (name_passes (seen_by (option_copied own.entry) (B.contents book.now))
+        secrets.old name.now) secrets.old secrets.new result }
 {
     match maintainer_seen(book, own, name) {
         Some(maintainer) => passes(maintainer, secrets),
@@ -67,9 +65,8 @@ pub fn names_pass<B: Book>(
     secrets: &mut Secrets,
     names: &[Name],
 ) -> bool
-    ensures answer { result ≡ names_pass
-        (seen_by (option_copied own.entry) (B.contents book.now)) secrets.old names.now }
-    ensures same_secrets { secrets.new ≡ secrets.old }
+    ensures { Tries (names_pass (seen_by (option_copied own.entry) (B.contents book.now))
+        secrets.old names.now) secrets.old secrets.new result }
 {
     'names: for name in names {
         if name_passes(book, own, secrets, name) {

@@ -8,10 +8,8 @@ ghost use Rattle.std.specs.Prelude.{◌≡◌, ℕ, All, IfOk, IsSome, IsTrue, L
 ghost use Rattle.std.specs.BTreeMap.{get};
 ghost use Rattle.std.specs.BTreeSet.{BTreeSet as Digests, contains};
 ghost use Rattle.std.specs.Cmp.Lexicographic.{slice_cmp};
-ghost use Rattle.std.specs.List.{list_any};
 ghost use Rattle.std.specs.Ordering.{nat_cmp};
-ghost use Rattle.rr_auth.specs.Passing.{fits_line};
-ghost use Rattle.rr_auth.specs.TrialParts.{AreDigests, HasDigests, IsWanted, salt_cmp};
+ghost use Rattle.rr_auth.specs.TrialParts.{AreDigests, AsksLine, HasDigests, IsWanted, salt_cmp};
 ghost use Rattle.rr_auth.specs.TrialParts.{some_line_fits};
 
 use crate::secret::{Secret, salted_digest, some_fits};
@@ -26,19 +24,11 @@ pub(crate) fn some_line_fits(alloc: Global, secrets: &[Secret], lines: &[Auth]) 
     ensures { result ≡ some_line_fits secrets.now lines.now }
 {
     // One line has one salt.
-    if lines.len() <= 1 {
-        return some_line_fits_alone(secrets, lines);
+    if lines.len() > 1 {
+        if let Ok(fits) = some_line_fits_by_salt(alloc, secrets, lines) {
+            return fits;
+        }
     }
-    match some_line_fits_by_salt(alloc, secrets, lines) {
-        Ok(fits) => fits,
-        Err(_) => some_line_fits_alone(secrets, lines),
-    }
-}
-
-/// The same, each line by itself.
-fn some_line_fits_alone(secrets: &[Secret], lines: &[Auth]) -> bool
-    ensures { result ≡ some_line_fits secrets.now lines.now }
-{
     lines.iter().any(|line| some_fits(secrets, line))
 }
 
@@ -100,8 +90,7 @@ impl Salted {
     ) -> Result<bool, AllocError>
         requires remembered { AreDigests wanted.now secrets.now self.old.digests }
         requires wanted { IsWanted wanted.now line.now }
-        ensures answer { IfOk result (λ fits. fits ≡ list_any (fits_line line.now) secrets.now) }
-        ensures remembers { AreDigests wanted.now secrets.now self.new.digests }
+        ensures { AsksLine wanted.now secrets.now line.now self.new.digests result }
     {
         let salt = Vec::from_slice(self.alloc, line.salt())?;
         match self.digests.get(&salt) {
@@ -123,9 +112,8 @@ impl Salted {
         requires remembered { AreDigests wanted.now secrets.now self.old.digests }
         requires unhashed { get salt_cmp self.old.digests salt ≡ None }
         requires wanted { IsTrue (contains (slice_cmp nat_cmp) wanted.now digest.now) }
-        ensures answer { IfOk result (λ fits. fits ≡ list_any
-            (fits_line (record { salt = salt.items; digest = digest.now })) secrets.now) }
-        ensures remembers { AreDigests wanted.now secrets.now self.new.digests }
+        ensures answer { AsksLine wanted.now secrets.now
+            (record { salt = salt.items; digest = digest.now }) self.new.digests result }
         ensures hashed { OnOk result (IsSome (get salt_cmp self.new.digests salt)) }
     {
         let digests = digests(self.alloc, wanted, secrets, &salt)?;

@@ -1,7 +1,7 @@
 //! Secrets, by which a submission shows who sent it.
 
-ghost use Rattle.std.specs.Prelude.{◌≡◌, [], ◌∷◌, ◌++◌, OnOk, OnErr};
-ghost use Rattle.rr_auth.specs.Passing.{passes};
+ghost use Rattle.std.specs.Prelude.{◌≡◌, [], ◌∷◌};
+ghost use Rattle.rr_auth.specs.Passing.{MayAdd, Tries, passes};
 
 use crate::secret::Secret;
 use crate::tried::Tried;
@@ -44,8 +44,7 @@ impl Secrets {
     /// they were.
     #[tactic(auto, using(crate::proofs::Remembered::answers_stay))]
     pub fn add(&mut self, alloc: Global, bytes: &[u8]) -> Result<(), AllocError>
-        ensures ok { OnOk result (self.new ≡ self.old ++ bytes.now ∷ []) }
-        ensures err { OnErr result (self.new ≡ self.old) }
+        ensures { MayAdd (bytes.now ∷ []) self.old self.new result }
     {
         let secret = Secret::new(alloc, bytes)?;
         self.list.push(secret)?;
@@ -56,8 +55,7 @@ impl Secrets {
     /// secrets as they were.
     #[tactic(auto, using(crate::proofs::Remembered::answers_stay))]
     pub fn add_owned(&mut self, bytes: Vec<u8>) -> Result<(), AllocError>
-        ensures ok { OnOk result (self.new ≡ self.old ++ bytes.items ∷ []) }
-        ensures err { OnErr result (self.new ≡ self.old) }
+        ensures { MayAdd (bytes.items ∷ []) self.old self.new result }
     {
         self.list.push(Secret::of(bytes))?;
         Ok(())
@@ -67,8 +65,7 @@ impl Secrets {
     /// they were.
     #[tactic(auto, using(crate::proofs::Remembered::answers_stay))]
     pub fn add_all(&mut self, more: Secrets) -> Result<(), AllocError>
-        ensures ok { OnOk result (self.new ≡ self.old ++ more) }
-        ensures err { OnErr result (self.new ≡ self.old) }
+        ensures { MayAdd more self.old self.new result }
     {
         let Secrets { mut list, tried: _ } = more;
         self.list.append(&mut list)
@@ -83,8 +80,7 @@ impl Secrets {
 
     /// Whether one of the secrets fits one of the maintainer's lines, which is remembered.
     pub(crate) fn fit(&mut self, maintainer: &Object) -> bool
-        ensures answer { result ≡ passes self.old maintainer.now }
-        ensures same_secrets { self.new ≡ self.old }
+        ensures { Tries (passes self.old maintainer.now) self.old self.new result }
     {
         self.tried.passes(self.list.as_slice(), maintainer)
     }

@@ -1,6 +1,6 @@
 -- What the private functions of src promise each other. No public clause cites these.
 use Rattle.std.specs.Prelude.{◌≡◌, ℕ, Bool, true, false, not, ◌&&◌, List, Option, None}
-use Rattle.std.specs.Prelude.{slice_get}
+use Rattle.std.specs.Prelude.{◌||◌, slice_get}
 use Rattle.std.specs.BTreeMap.{BTreeMap}
 use Rattle.std.specs.BTreeSet.{BTreeSet}
 use Rattle.std.specs.List.{position_or_len}
@@ -40,6 +40,12 @@ abbrev pub is_span : Key → Bool
 is_span (key.AsBlock s) = true
 is_span (key.Inetnum s) = true
 is_span _ = false
+
+-- The key is added under the set of the name.
+abbrev pub HasAddedKey : List ℕ → Key → BTreeMap (List ℕ) (BTreeSet Key)
+    → BTreeMap (List ℕ) (BTreeSet Key) → Type 0
+HasAddedKey name key old new = (other : List ℕ) (k : Key) → stands_under new other k
+    ≡ (stands_under old other k || (bytes_eq name other && eq_by_cmp key_cmp key k))
 
 -- The key is taken from under the set of the name.
 abbrev pub HasTakenKey : List ℕ → Key → BTreeMap (List ℕ) (BTreeSet Key)

@@ -1,5 +1,5 @@
 -- Keys of objects, under the sets that these name in their `member-of`.
-use Rattle.std.specs.Prelude.{◌≡◌, ℕ, Bool, false, not, ◌&&◌, ◌||◌, List}
+use Rattle.std.specs.Prelude.{◌≡◌, ℕ, Bool, false, not, ◌&&◌, ◌||◌, List, OnErr, OnOk, Result}
 use Rattle.std.specs.BTreeMap.{BTreeMap, get as keys_at}
 use Rattle.std.specs.BTreeSet.{BTreeSet, contains}
 use Rattle.std.specs.Cmp.Lexicographic.{slice_cmp}
@@ -29,6 +29,13 @@ abbrev pub HasSameKeys : BTreeMap (List ℕ) (BTreeSet Key)
     → BTreeMap (List ℕ) (BTreeSet Key) → Type 0
 HasSameKeys old new = (name : List ℕ) (key : Key)
     → stands_under new name key ≡ stands_under old name key
+
+-- Keys change as is said, and not at all where memory runs out.
+pub record MayChange {X E : Type 0} (Changes : BTreeMap (List ℕ) (BTreeSet Key)
+    → BTreeMap (List ℕ) (BTreeSet Key) → Type 0) (old new : BTreeMap (List ℕ) (BTreeSet Key))
+    (result : Result X E) : Type 0 where
+  pub ok : OnOk result (Changes old new)
+  pub err : OnErr result (HasSameKeys old new)
 
 -- The object's key is added under each set that it names, save those that are left out.
 abbrev pub HasAdded : Obj → (List ℕ → Bool) → BTreeMap (List ℕ) (BTreeSet Key)

@@ -1,8 +1,8 @@
 //! A registry as a list of objects in the order of their keys.
 
-ghost use Rattle.std.specs.Prelude.{◌≡◌, IfOk};
+ghost use Rattle.std.specs.Prelude.{◌≡◌};
 ghost use Rattle.std.specs.FinMap.{values};
-ghost use Rattle.rr_auth.specs.Registries.{Sound};
+ghost use Rattle.rr_auth.specs.Registries.{ListsOf, Sound};
 ghost use Rattle.rr_sets.specs.Lists.{IsReferrer, ListsOnce};
 
 use crate::closest::{closest, closest_routes};
@@ -49,9 +49,8 @@ impl PlainBook {
         alloc: Global,
         name: &SetName,
     ) -> Result<Vec<&Object>, AllocError>
-        ensures lists { IfOk result
-            (λ found. ListsOnce (IsReferrer self.now name.now) found.items) }
-        ensures sound { Sound self.now }
+        ensures { ListsOf self.now
+            (λ found. ListsOnce (IsReferrer self.now name.now) found.items) result }
     {
         match self.referrers.keys(name) {
             Some(keys) => objects_of(alloc, &self.objects, keys),

@@ -14,9 +14,9 @@ ghost use Rattle.rr_object.specs.declared.key.Key.{Key};
 ghost use Rattle.rr_object.specs.KeyOrders.{key_cmp};
 ghost use Rattle.rr_sets.specs.Lists.{lent};
 ghost use Rattle.rr_book.specs.Books.{is_in_order};
-ghost use Rattle.rr_book.specs.Private.{HasTakenKey};
+ghost use Rattle.rr_book.specs.Private.{HasAddedKey, HasTakenKey};
 ghost use Rattle.rr_book.specs.SetIndexes.{is_meant, stands_under, HasAdded, HasSameKeys};
-ghost use Rattle.rr_book.specs.SetIndexes.{HasTaken};
+ghost use Rattle.rr_book.specs.SetIndexes.{HasTaken, MayChange};
 ghost use Rattle.rr_book.specs.SetLists.{names_set};
 
 use crate::object_lists::find_key;
@@ -108,9 +108,8 @@ impl SetIndex {
         requires { (name : List ℕ) (key : Key)
             → IsTrue (is_meant object.now (contains (slice_cmp nat_cmp) others.now) name key)
             → stands_under self.old.keys name key ≡ false }
-        ensures ok { OnOk result (HasAdded object.now (contains (slice_cmp nat_cmp) others.now)
-            self.old.keys self.new.keys) }
-        ensures err { OnErr result (HasSameKeys self.old.keys self.new.keys) }
+        ensures { MayChange (HasAdded object.now (contains (slice_cmp nat_cmp) others.now))
+            self.old.keys self.new.keys result }
     {
         match self.add_each(alloc, object, others) {
             Ok(()) => Ok(()),
@@ -148,11 +147,7 @@ impl SetIndex {
 
     /// Puts the key under the set.
     fn add_under(&mut self, alloc: Global, name: &SetName, key: &Key) -> Result<(), AllocError>
-        ensures ok { OnOk result
-            ((other : List ℕ) (k : Key) → stands_under self.new.keys other k ≡
-            (stands_under self.old.keys other k
-            || (bytes_eq name.now other && eq_by_cmp key_cmp key.now k))) }
-        ensures err { OnErr result (HasSameKeys self.old.keys self.new.keys) }
+        ensures { MayChange (HasAddedKey name.now key.now) self.old.keys self.new.keys result }
     {
         let key = key.copy(alloc)?;
         match self.keys.get_mut(name) {

@@ -9,6 +9,7 @@ mod serve_command;
 mod standard_streams;
 
 use crate::network::Sockets;
+use crate::program_run::Streams;
 use crate::standard_streams::{StandardInput, fill_closed};
 use rr_commands::{DatabaseFiles, ErrorStream, Host, Progress, Reading, SystemFiles, Tools};
 use rr_io::Counted;
@@ -23,8 +24,10 @@ fn main(rt: HostRuntime) -> ExitCode {
         alloc: rt.alloc(),
         errors: ErrorStream::new(&rt),
     };
-    let mut input = Reading::silent(tools.errors, Counted::new(stdin));
-    let mut errors = tools.errors.counted();
+    let mut streams = Streams {
+        input: Reading::silent(tools.errors, Counted::new(stdin)),
+        errors: tools.errors.counted(),
+    };
     let files = SystemFiles::new(&rt);
     let network = Sockets::new(&rt);
     let mut host = Host {
@@ -38,9 +41,8 @@ fn main(rt: HostRuntime) -> ExitCode {
             &files,
             &network,
             arguments.as_slice(),
-            &mut input,
-            &mut errors,
+            &mut streams,
         ),
-        Err(trouble) => program_run::tell_unread(trouble, &mut errors),
+        Err(trouble) => program_run::tell_unread(trouble, &mut streams.errors),
     })
 }

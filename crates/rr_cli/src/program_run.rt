@@ -27,26 +27,36 @@ use std::io::ErrorKind;
 const HINT: &[u8] =
     b"irrdesk: objects are read from this terminal: `irrdesk help` lists the commands\n";
 
+/// The streams of a program beside its standard output, which is its host's.
+#[derive(Drop)]
+pub struct Streams<R, E> {
+    /// Standard input.
+    pub input: R,
+    /// Standard error, for the line of a fault.
+    pub errors: E,
+}
+
 /// Does what the arguments ask for, the first of which is the program's own name, and gives the
 /// status: 0 if it is done, 1 if an item was refused or an answer was an error, and at a fault,
-/// which has its line on `errors`, 2 at wrong arguments, 3 at wrong settings, 4 at trouble with the
-/// database or if the desk is stopped, and else 5, also if memory ran out (profile).
+/// which has its line on standard error, 2 at wrong arguments, 3 at wrong settings, 4 at trouble
+/// with the database or if the desk is stopped, and else 5, also if memory ran out (profile).
 pub fn run<D: Databases, F: Files, N: Network, R: Input, W: Output, E: Sink>(
     host: &mut Host<'_, D, W>,
     files: &F,
     network: &N,
     arguments: &[String],
-    input: &mut R,
-    errors: &mut E,
+    streams: &mut Streams<R, E>,
 ) -> u8
     ensures { Runs (ports D.Disk.Store D.calls (F.calls files.now))
         (means (N.calls network.now) serves_desk) (map string_bytes arguments.now)
-        (deed (running (resources host.old.databases (R.told input.old)) (E.told errors.old))
-        (running (resources host.new.databases (R.told input.new)) (E.told errors.new))
+        (deed (running (resources host.old.databases (R.told streams.old.input))
+        (E.told streams.old.errors))
+        (running (resources host.new.databases (R.told streams.new.input))
+        (E.told streams.new.errors))
         (W.told host.old.output) (W.told host.new.output) result) }
 {
-    let end = run_arguments(host, files, network, arguments, input);
-    ended_with(host.tools.alloc, end, errors)
+    let end = run_arguments(host, files, network, arguments, &mut streams.input);
+    ended_with(host.tools.alloc, end, &mut streams.errors)
 }
 
 /// The status of how a run ended, and at a fault its line on `errors`.

@@ -1,6 +1,6 @@
 -- What commands do that read settings from a file and use the database that these name, by how they
 -- end (profile).
-use Rattle.std.specs.Prelude.{◌≡◌, ◌≤◌, ◌+◌, ◌<◌, ◌⊎◌, ℕ, false, List, [], length, take, IfErr}
+use Rattle.std.specs.Prelude.{◌≡◌, ◌≤◌, ◌+◌, ◌<◌, ◌⊎◌, ℕ, List, [], length, take, IfErr}
 use Rattle.std.specs.Prelude.{Bool, IfSome, IsTrue, Option, Result, Ok, Err}
 use Rattle.std.specs.IoError.{error_kind, raw_os_error}
 use Rattle.std.specs.declared.io.Error.{Error}
@@ -147,11 +147,10 @@ abbrev pub ActsBySettings : {D : Type 0} → FileCalls → List ℕ → Naming �
 ActsBySettings files file shows does done =
     HasNoSettings files file done ⊎ HasActed files file shows does done
 
--- a look at a database for a message, from one connection to the next, which is in no transaction:
--- nothing was committed (profile)
-pub record LooksAt {S : Type 0} (g : Ghosts S) (before after : Held S) : Type 0 where
-  pub autocommit : after.in_transaction ≡ false
-  pub only : CommitsNothing (state g before) (state g after)
+-- a look at a database for a message, from one connection to the next: nothing was committed
+-- (profile)
+abbrev pub LooksAt : {S : Type 0} → Ghosts S → Held S → Held S → Type 0
+LooksAt g before after = CommitsNothing (state g before) (state g after)
 
 -- a look at a database found nothing, or trouble or a version of this kind (profile)
 pub record Finds {S X : Type 0} (g : Ghosts S) (is_kind : X → Bool) (before after : Held S)

@@ -22,8 +22,8 @@ use rr_desk::{MigrateFault, OpenFault};
 use rr_index::IndexedBook;
 use rr_number::Name;
 use rr_registry::{LoadFault, Registry};
-use rr_store::{OLD_VERSION, VERSION, Version, is_version_row_alone};
-use sqlite::{Alter, Connection, Row};
+use rr_store::{IdleConnection, OLD_VERSION, VERSION, Version, is_version_row_alone};
+use sqlite::{Alter, Row};
 use sqlite_schema::schema::Schema;
 use std::alloc::{AllocError, Global};
 
@@ -47,12 +47,11 @@ const NAMES_ALONE: &str = "SELECT class, okey FROM named EXCEPT SELECT class, ok
 #[tactic(auto, using(crate::proofs::FoundLemmas::tables_unopened))]
 pub(crate) fn trouble_with<S: Alter>(
     alloc: Global,
-    conn: &mut Connection<S>,
+    conn: &mut IdleConnection<S>,
     source: Result<Name, AllocError>,
     fault: OpenFault,
     found: &mut String,
 ) -> Trouble
-    requires { conn.old.in_transaction ≡ false }
     ensures cause { IsToldUnopened fault result }
     ensures looks { LooksAt S.Store conn.old conn.new }
 {
@@ -87,22 +86,21 @@ pub(crate) fn trouble_with<S: Alter>(
 /// version that is migrated, another row of `meta` beside it, or keys of the version that is read.
 fn found_in_old<S: Alter>(
     alloc: Global,
-    conn: &mut Connection<S>,
+    conn: &mut IdleConnection<S>,
     source: &Name,
     version: u32,
     found: &mut String,
 ) -> Option<Trouble>
-    requires { conn.old.in_transaction ≡ false }
     ensures { Finds S.Store (is_of_old version) conn.old conn.new result }
 {
     if version != OLD_VERSION {
         return None;
     }
-    if are_other_rows(look(conn, META), Version::Old) {
+    if are_other_rows(conn.ask(META), Version::Old) {
         push_meta(found);
         return Some(Trouble::OtherRows);
     }
-    match look(conn, OBJECTS) {
+    match conn.ask(OBJECTS) {
         Ok(rows) if suit_other_version(alloc, rows.as_slice(), source, Version::Old) => {
             push_meta(found);
             Some(Trouble::NewKeys)
@@ -127,12 +125,11 @@ fn keys_beside(version: Version) -> Trouble
 /// that was refused, as above. No other database is looked at.
 pub(crate) fn told_of<S: Alter>(
     alloc: Global,
-    conn: &mut Connection<S>,
+    conn: &mut IdleConnection<S>,
     source: Result<Name, AllocError>,
     end: Result<u8, Trouble>,
     found: &mut String,
 ) -> Result<u8, Trouble>
-    requires { conn.old.in_transaction ≡ false }
     ensures diagnosis { IsDiagnosis end result }
     ensures looks { LooksAtRefused S.Store end conn.old conn.new }
 {
@@ -154,7 +151,7 @@ pub(crate) fn told_of<S: Alter>(
             }
         }
         (Err(Trouble::Migrating(MigrateFault::NoRoot)), _) => {
-            if are_none(look(conn, OBJECTS)) {
+            if are_none(conn.ask(OBJECTS)) {
                 Err(Trouble::Empty)
             } else {
                 end
@@ -175,15 +172,14 @@ fn are_none(found: Result<Vec<Row>, sqlite::Error>) -> bool {
 /// What is the matter with a `meta` that says this version and is not migrated, if it is found: of
 /// the version that is read, another row beside it.
 fn found_in_meta<S: Alter>(
-    conn: &mut Connection<S>,
+    conn: &mut IdleConnection<S>,
     version: u32,
     found: &mut String,
 ) -> Option<Trouble>
-    requires { conn.old.in_transaction ≡ false }
     ensures { Finds S.Store (is_of_version version) conn.old conn.new result }
 {
     if version == VERSION {
-        if are_other_rows(look(conn, META), Version::Current) {
+        if are_other_rows(conn.ask(META), Version::Current) {
             push_meta(found);
             return Some(Trouble::OtherRows);
         }
@@ -199,8 +195,7 @@ fn push_meta(found: &mut String) {
 
 /// What is the matter with tables that are not migrated, if it is found.
 #[tactic(auto, using(crate::proofs::FoundLemmas::tables_unmigrated))]
-fn found_in_tables<S: Alter>(conn: &mut Connection<S>, found: &mut String) -> Option<Trouble>
-    requires { conn.old.in_transaction ≡ false }
+fn found_in_tables<S: Alter>(conn: &mut IdleConnection<S>, found: &mut String) -> Option<Trouble>
     ensures { Finds S.Store is_of_unmigrated conn.old conn.new result }
 {
     if let Some(version) = later_version(conn) {
@@ -211,11 +206,10 @@ fn found_in_tables<S: Alter>(conn: &mut Connection<S>, found: &mut String) -> Op
 }
 
 /// What is the matter with how tables were made, if it is found.
-fn found_in_schema<S: Alter>(conn: &mut Connection<S>, found: &mut String) -> Option<Trouble>
-    requires { conn.old.in_transaction ≡ false }
+fn found_in_schema<S: Alter>(conn: &mut IdleConnection<S>, found: &mut String) -> Option<Trouble>
     ensures { Finds S.Store is_of_tables conn.old conn.new result }
 {
-    match look(conn, LISTED) {
+    match conn.ask(LISTED) {
         Ok(rows) => judge_schema(conn.schema(), rows.as_slice(), found),
         Err(_) => None,
     }
@@ -239,11 +233,10 @@ fn judge_schema(schema: &Schema, rows: &[Row], found: &mut String) -> Option<Tro
 
 /// The version that `meta` says, if it is a later one: those tables may have other
 /// columns.
-fn later_version<S: Alter>(conn: &mut Connection<S>) -> Option<u32>
-    requires { conn.old.in_transaction ≡ false }
+fn later_version<S: Alter>(conn: &mut IdleConnection<S>) -> Option<u32>
     ensures { Finds S.Store (nat_lt VERSION) conn.old conn.new result }
 {
-    match look(conn, META) {
+    match conn.ask(META) {
         Ok(rows) => later_in(rows.as_slice()),
         Err(_) => None,
     }
@@ -264,19 +257,18 @@ fn later_in(rows: &[Row]) -> Option<u32>
 /// those of `meta`, because keys are written as its version has them.
 fn found_in_rows<S: Alter>(
     alloc: Global,
-    conn: &mut Connection<S>,
+    conn: &mut IdleConnection<S>,
     source: &Name,
     version: Version,
     found: &mut String,
 ) -> Option<Trouble>
-    requires { conn.old.in_transaction ≡ false }
     ensures { Finds S.Store (is_of_rows version) conn.old conn.new result }
 {
-    if are_other_rows(look(conn, META), version) {
+    if are_other_rows(conn.ask(META), version) {
         push_meta(found);
         return Some(Trouble::OtherRows);
     }
-    match look(conn, OBJECTS) {
+    match conn.ask(OBJECTS) {
         Ok(rows) => judge_rows(
             alloc,
             conn,
@@ -296,28 +288,16 @@ fn are_other_rows(meta: Result<Vec<Row>, sqlite::Error>, version: Version) -> bo
     }
 }
 
-/// The answer of a query, in a transaction that is rolled back.
-fn look<S: Alter>(conn: &mut Connection<S>, query: &str) -> Result<Vec<Row>, sqlite::Error>
-    requires { conn.old.in_transaction ≡ false }
-    ensures { LooksAt S.Store conn.old conn.new }
-{
-    let mut tx = conn.transaction();
-    let rows = tx.query_all(query, &[]);
-    tx.rollback();
-    rows
-}
-
 /// What is the matter with these rows of objects: if most are of another source, that; if more are
 /// good in the other version than in this one, that `meta` says this one; otherwise the first that
 /// is bad by itself, or else of another source, and else what is bad of all together.
 fn judge_rows<S: Alter>(
     alloc: Global,
-    conn: &mut Connection<S>,
+    conn: &mut IdleConnection<S>,
     rows: &[Row],
     wanted: Wanted<'_>,
     found: &mut String,
 ) -> Option<Trouble>
-    requires { conn.old.in_transaction ≡ false }
     ensures { Finds S.Store (is_of_rows wanted.entry.version) conn.old conn.new result }
 {
     if are_mostly_others(alloc, rows, wanted.source, wanted.version) {
@@ -352,12 +332,11 @@ fn judge_rows<S: Alter>(
 /// maintainer who is not there, or has a span that crosses one before it, and else `named`.
 fn judge_together<S: Alter>(
     alloc: Global,
-    conn: &mut Connection<S>,
+    conn: &mut IdleConnection<S>,
     rows: &[Row],
     wanted: Wanted<'_>,
     found: &mut String,
 ) -> Option<Trouble>
-    requires { conn.old.in_transaction ≡ false }
     ensures { Finds S.Store (is_of_rows wanted.entry.version) conn.old conn.new result }
 {
     let Some(objects) = objects_of(alloc, rows, wanted.source, wanted.version) else {
@@ -383,12 +362,11 @@ fn judge_together<S: Alter>(
 
 /// What is the matter with the rows of `named` beside those of a registry: the first that is of no
 /// object, and else all of them.
-fn judge_names<S: Alter>(conn: &mut Connection<S>, found: &mut String) -> Trouble
-    requires { conn.old.in_transaction ≡ false }
+fn judge_names<S: Alter>(conn: &mut IdleConnection<S>, found: &mut String) -> Trouble
     ensures { (version : Version) →
         Finds S.Store (is_of_rows version) conn.old conn.new (Some result) }
 {
-    if let Ok(rows) = look(conn, NAMES_ALONE) {
+    if let Ok(rows) = conn.ask(NAMES_ALONE) {
         if let Some(row) = rows.as_slice().first() {
             // Without memory for the row, the message names the database alone.
             let _ = push_row(found, row);

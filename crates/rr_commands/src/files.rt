@@ -70,6 +70,15 @@ impl Files for SystemFiles<'_> {
     {}
 }
 
+/// The file at a path, and what opens it.
+#[derive(Drop)]
+pub(crate) struct FileAt<'a, F> {
+    /// Where files are.
+    pub(crate) files: &'a F,
+    /// Its path.
+    pub(crate) path: &'a str,
+}
+
 /// Opens a file to read it. The error is that it cannot be opened, or that memory ran out.
 pub(crate) fn open_file<F: Files>(files: &F, path: &str) -> Result<F::File, Trouble>
     ensures opened { IfOk result (λ file.

@@ -1,6 +1,5 @@
 //! The making of registries.
 
-ghost use Rattle.std.specs.Prelude.{◌≡◌, false};
 ghost use Rattle.rr_commands.specs.Commands.{InDatabase};
 ghost use Rattle.rr_commands.specs.Created.{CreatesBy, CreatesIn};
 ghost use Rattle.rr_commands.specs.Worlds.{at, deed, done_by, named, ports};
@@ -14,7 +13,8 @@ use crate::settings_reading::read_settings_file;
 use crate::trouble::Trouble;
 use rr_desk::{Desk, Settings};
 use rr_io::Sink;
-use sqlite::{Alter, Connection};
+use rr_store::IdleConnection;
+use sqlite::Alter;
 use std::alloc::Global;
 
 /// Makes the database that the settings name, with the opening objects of a registry, and says so.
@@ -55,14 +55,12 @@ fn init_at<D: Databases, W: Output>(
 /// connection is given back.
 pub fn create_to<S: Alter, W: Sink>(
     alloc: Global,
-    conn: Connection<S>,
+    conn: IdleConnection<S>,
     settings: Settings,
     writer: &mut W,
-) -> (Connection<S>, Result<u8, Trouble>)
-    requires { conn.in_transaction ≡ false }
-    ensures creates { CreatesIn S.Store settings
+) -> (IdleConnection<S>, Result<u8, Trouble>)
+    ensures { CreatesIn S.Store settings
         (deed conn result.0 (W.told writer.old) (W.told writer.new) result.1) }
-    ensures autocommit { result.0.in_transaction ≡ false }
 {
     match Desk::create(alloc, conn, settings) {
         Ok(desk) => {

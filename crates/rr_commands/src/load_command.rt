@@ -1,6 +1,6 @@
 //! Loads of dumps, into a new database.
 
-ghost use Rattle.std.specs.Prelude.{◌≡◌, IfErr, IfOk, false, length, string_bytes};
+ghost use Rattle.std.specs.Prelude.{◌≡◌, IfErr, IfOk, length, string_bytes};
 ghost use Rattle.std.specs.FinMap.{values};
 ghost use Rattle.rr_commands.specs.Commands.{EndsAs, InDatabase};
 ghost use Rattle.rr_commands.specs.Faults.{IsAboutDump};
@@ -9,7 +9,7 @@ ghost use Rattle.rr_commands.specs.Printed.{Tells};
 ghost use Rattle.rr_commands.specs.Worlds.{at, deed, done_by, named, ports};
 
 use crate::command_fault::ProgramFault;
-use crate::files::{Files, open_file};
+use crate::files::{FileAt, Files, open_file};
 use crate::host::{Host, Store, Tools};
 use crate::output::{Output, cause_of, ended, tell};
 use crate::places::about_paragraph;
@@ -22,7 +22,8 @@ use rr_desk::{Desk, Settings};
 use rr_index::IndexedBook;
 use rr_io::{Counted, Sink, Source, write_pieces};
 use rr_registry::Registry;
-use sqlite::{Alter, Connection};
+use rr_store::IdleConnection;
+use sqlite::Alter;
 use std::alloc::{AllocError, Global};
 
 /// Makes the registry of a dump in the database that the settings name, which is to be new or
@@ -76,8 +77,9 @@ fn load_at<D: Databases, F: Files, W: Output>(
 {
     match host.databases.open(path, Absent::Made) {
         Ok(conn) => {
+            let dump = FileAt { files, path: file };
             let output = &mut host.output;
-            let (conn, end) = load_file(host.tools, files, conn, settings, file, output);
+            let (conn, end) = load_file(host.tools, conn, settings, &dump, output);
             close(&mut host.databases, conn);
             end
         }
@@ -89,17 +91,15 @@ fn load_at<D: Databases, F: Files, W: Output>(
 /// connection is given back.
 fn load_file<S: Alter, F: Files, W: Output>(
     tools: Tools<'_>,
-    files: &F,
-    conn: Connection<S>,
+    conn: IdleConnection<S>,
     settings: Settings,
-    file: &str,
+    dump: &FileAt<'_, F>,
     output: &mut W,
-) -> (Connection<S>, Result<u8, Trouble>)
-    requires { conn.in_transaction ≡ false }
-    ensures { LoadsIn S.Store (F.calls files.now) file.now settings
+) -> (IdleConnection<S>, Result<u8, Trouble>)
+    ensures { LoadsIn S.Store (F.calls dump.now.files.now) dump.now.path.now settings
         (deed conn result.0 (W.told output.old) (W.told output.new) result.1) }
 {
-    let file = match open_file(files, file) {
+    let file = match open_file(dump.files, dump.path) {
         Ok(file) => file,
         Err(trouble) => return (conn, Err(trouble)),
     };
@@ -116,15 +116,13 @@ fn load_file<S: Alter, F: Files, W: Output>(
 /// has. The connection is given back.
 pub fn load_to<S: Alter, R: Source, W: Sink>(
     alloc: Global,
-    conn: Connection<S>,
+    conn: IdleConnection<S>,
     settings: Settings,
     reader: &mut R,
     writer: &mut W,
-) -> (Connection<S>, Result<u8, Trouble>)
-    requires { conn.in_transaction ≡ false }
-    ensures loads { Loads S.Store settings (R.told reader.old) (R.told reader.new)
+) -> (IdleConnection<S>, Result<u8, Trouble>)
+    ensures { Loads S.Store settings (R.told reader.old) (R.told reader.new)
         (deed conn result.0 (W.told writer.old) (W.told writer.new) result.1) }
-    ensures autocommit { result.0.in_transaction ≡ false }
 {
     match Desk::load(alloc, conn, settings, reader) {
         Ok(desk) => {

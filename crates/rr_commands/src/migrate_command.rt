@@ -1,6 +1,5 @@
 //! The migration of databases of version 1.
 
-ghost use Rattle.std.specs.Prelude.{◌≡◌, false};
 ghost use Rattle.rr_commands.specs.Commands.{InDatabase};
 ghost use Rattle.rr_commands.specs.Migrated.{IsDiagnosed, MigratesBy, MigratesIn};
 ghost use Rattle.rr_commands.specs.Worlds.{at, deed, done_by, named, ports};
@@ -15,7 +14,8 @@ use crate::settings_reading::read_settings_file;
 use crate::trouble::Trouble;
 use rr_desk::{Desk, Settings};
 use rr_io::Sink;
-use sqlite::{Alter, Connection};
+use rr_store::IdleConnection;
+use sqlite::Alter;
 use std::alloc::Global;
 
 /// Turns the tables of version 1, in the database that the settings name, into those of version 2,
@@ -59,12 +59,11 @@ fn migrate_at<D: Databases, W: Output>(
 /// if it is refused. The connection is given back.
 fn migrate_told<S: Alter, W: Sink>(
     alloc: Global,
-    conn: Connection<S>,
+    conn: IdleConnection<S>,
     settings: Settings,
     found: &mut String,
     output: &mut W,
-) -> (Connection<S>, Result<u8, Trouble>)
-    requires { conn.in_transaction ≡ false }
+) -> (IdleConnection<S>, Result<u8, Trouble>)
     ensures { IsDiagnosed S.Store (MigratesIn S.Store settings)
         (deed conn result.0 (W.told output.old) (W.told output.new) result.1) }
 {
@@ -78,14 +77,12 @@ fn migrate_told<S: Alter, W: Sink>(
 /// back.
 pub fn migrate_to<S: Alter, W: Sink>(
     alloc: Global,
-    conn: Connection<S>,
+    conn: IdleConnection<S>,
     settings: Settings,
     writer: &mut W,
-) -> (Connection<S>, Result<u8, Trouble>)
-    requires { conn.in_transaction ≡ false }
-    ensures migrates { MigratesIn S.Store settings
+) -> (IdleConnection<S>, Result<u8, Trouble>)
+    ensures { MigratesIn S.Store settings
         (deed conn result.0 (W.told writer.old) (W.told writer.new) result.1) }
-    ensures autocommit { result.0.in_transaction ≡ false }
 {
     match Desk::migrate(alloc, conn, settings) {
         Ok(desk) => {

@@ -14,6 +14,7 @@ use crate::host::Tools;
 use crate::progress::Opening;
 use crate::trouble::Trouble;
 use rr_desk::{Desk, Settings};
+use rr_store::IdleConnection;
 use sqlite::{Alter, Connection};
 use sqlite_std_file::File;
 use sqlite_store::FileStore;
@@ -57,9 +58,12 @@ pub trait Databases {
     ghost calls: { DatabaseCalls Self Self.Disk };
 
     /// Opens the database at a path. The error is why it cannot be opened or made.
-    fn open(&mut self, path: &str, absent: Absent) -> Result<Connection<Self::Disk>, DatabaseCause>
-        ensures opens { calls.opens path.now absent result self.old self.new }
-        ensures autocommit { IfOk result (λ conn. conn.in_transaction ≡ false) };
+    fn open(
+        &mut self,
+        path: &str,
+        absent: Absent,
+    ) -> Result<IdleConnection<Self::Disk>, DatabaseCause>
+        ensures { calls.opens path.now absent result self.old self.new };
 
     /// How many bytes the database at a path has, or 0 if that is not available.
     fn size(&self, path: &str) -> u64;
@@ -67,7 +71,7 @@ pub trait Databases {
     /// Closes the database of this connection, if there is one. Call the function `close` of this
     /// module, which takes the connection by value: an impl of a method that takes a connection of
     /// a named store by value cannot be proved.
-    fn close(&mut self, conn: &mut Option<Connection<Self::Disk>>)
+    fn close(&mut self, conn: &mut Option<IdleConnection<Self::Disk>>)
         ensures { (held : Held Self.Disk) → conn.old ≡ Some held
             → calls.closes held self.old self.new };
 }
@@ -96,10 +100,10 @@ impl Databases for DatabaseFiles<'_> {
         &mut self,
         path: &str,
         absent: Absent,
-    ) -> Result<Connection<FileStore<File>>, DatabaseCause> {
+    ) -> Result<IdleConnection<FileStore<File>>, DatabaseCause> {
         match make_ready(self.rt, path, absent) {
             Ok(()) => match Connection::open(self.rt, path) {
-                Ok(conn) => Ok(conn),
+                Ok(conn) => Ok(IdleConnection::of(conn)),
                 Err(error) => Err(cause_at(self.rt, path, error)),
             },
             Err(cause) => Err(cause),
@@ -113,17 +117,17 @@ impl Databases for DatabaseFiles<'_> {
         }
     }
 
-    fn close(&mut self, conn: &mut Option<Connection<FileStore<File>>>) {
+    fn close(&mut self, conn: &mut Option<IdleConnection<FileStore<File>>>) {
         if let Some(conn) = conn.take() {
             // If it fails, what was committed stays in the log.
-            let _ = conn.close();
+            let _ = conn.into_connection().close();
         }
     }
 }
 
 /// Closes a database. What the commits left in its log goes into its file; if that fails it stays
 /// in the log, from which the next opening takes it.
-pub fn close<D: Databases>(databases: &mut D, conn: Connection<D::Disk>)
+pub fn close<D: Databases>(databases: &mut D, conn: IdleConnection<D::Disk>)
     ensures { D.calls.closes conn databases.old databases.new }
 {
     databases.close(&mut Some(conn));
@@ -378,10 +382,9 @@ fn open_quietly<D: Databases>(
 }
 
 /// Opens the database at a path, which is to be there.
-fn open_at<D: Databases>(databases: &mut D, path: &str) -> Result<Connection<D::Disk>, Trouble>
+fn open_at<D: Databases>(databases: &mut D, path: &str) -> Result<IdleConnection<D::Disk>, Trouble>
     ensures gives { IfOk result (λ conn.
         D.calls.opens path.now Absent.Refused (Ok conn) databases.old databases.new) }
-    ensures autocommit { IfOk result (λ conn. conn.in_transaction ≡ false) }
     ensures fails { IfErr result
         (IsNotGiven D.calls path.now Absent.Refused databases.old databases.new) }
 {
@@ -394,11 +397,10 @@ fn open_at<D: Databases>(databases: &mut D, path: &str) -> Result<Connection<D::
 /// Opens the desk over a database, which is given back if it has no registry of these settings.
 fn open_over<S: Alter>(
     alloc: Global,
-    conn: Connection<S>,
+    conn: IdleConnection<S>,
     settings: Settings,
     found: &mut String,
-) -> Result<Desk<S>, (Trouble, Connection<S>)>
-    requires { conn.in_transaction ≡ false }
+) -> Result<Desk<S>, (Trouble, IdleConnection<S>)>
     ensures opens { IfOk result (λ desk. OpensTables S.Store conn desk.stored) }
     ensures runs { IfOk result (IsRunning S.Store settings) }
     ensures fails { IfErr result (λ e.

@@ -12,7 +12,7 @@ ghost use Rattle.rr_commands.specs.Submitted.{done_status, plain_trouble};
 
 use crate::cause::DatabaseCause;
 use crate::command_fault::ProgramFault;
-use crate::files::{Files, open_file};
+use crate::files::{FileAt, Files, open_file};
 use crate::host::{Host, Store, Tools};
 use crate::output::{Input, Output, cause_of, ended, placed};
 use crate::progress::{Reading, Shown};
@@ -21,6 +21,7 @@ use crate::settings_reading::read_settings_file;
 use crate::trouble::Trouble;
 use rr_desk::{Desk, DeskFault, Done, Settings};
 use rr_io::{Counted, Sink, Source};
+use rr_store::IdleConnection;
 use sqlite::{Alter, Connection};
 use std::alloc::Global;
 
@@ -81,26 +82,26 @@ pub fn submit<'a, D: Databases, F: Files, W: Output>(
         file.now (done_by W.told host.old host.new result) }
 {
     let (read, mut store) = read_settings_file(host.tools.alloc, files, settings)?;
+    let items = FileAt { files, path: file };
     let path = store.path.as_str();
-    let end = submit_at(host, files, read, path, &mut store.found, file);
+    let end = submit_at(host, &items, read, path, &mut store.found);
     ended(host, end, file, store)
 }
 
 /// Submits a file to the registry in the database at a path, and prints the report.
 fn submit_at<D: Databases, F: Files, W: Output>(
     host: &mut Host<'_, D, W>,
-    files: &F,
+    items: &FileAt<'_, F>,
     settings: Settings,
     path: &str,
     found: &mut String,
-    file: &str,
 ) -> Result<u8, Trouble>
     ensures { AtDesk (at D.Disk.Store D.calls)
-        (SubmitsDesk D.Disk.Store (F.calls files.now) file.now) (named settings path.now)
-        (done_by W.told host.old host.new result) }
+        (SubmitsDesk D.Disk.Store (F.calls items.now.files.now) items.now.path.now)
+        (named settings path.now) (done_by W.told host.old host.new result) }
 {
     let mut desk = open_desk(host.tools, &mut host.databases, settings, path, found)?;
-    let end = submit_file(host.tools, &mut desk, files, file, &mut host.output);
+    let end = submit_file(host.tools, &mut desk, items, &mut host.output);
     let conn = desk.close();
     close(&mut host.databases, conn);
     end
@@ -110,15 +111,15 @@ fn submit_at<D: Databases, F: Files, W: Output>(
 fn submit_file<S: Alter, F: Files, W: Output>(
     tools: Tools<'_>,
     desk: &mut Desk<S>,
-    files: &F,
-    file: &str,
+    items: &FileAt<'_, F>,
     output: &mut W,
 ) -> Result<u8, Trouble>
     requires { desk.old.stored.stopped ≡ false }
-    ensures { SubmitsDesk S.Store (F.calls files.now) file.now
+    ensures { SubmitsDesk S.Store (F.calls items.now.files.now) items.now.path.now
         (deed desk.old desk.new (W.told output.old) (W.told output.new) result) }
 {
-    let mut reader = Reading::silent(tools.errors, Counted::new(open_file(files, file)?));
+    let file = open_file(items.files, items.path)?;
+    let mut reader = Reading::silent(tools.errors, Counted::new(file));
     output.show(Shown::Items);
     let end = submit_to(tools.alloc, desk, &mut reader, output);
     output.show(Shown::Nothing);
@@ -139,7 +140,7 @@ pub fn submit_plain<R: Source, W: Sink>(
         (W.told output.old) (W.told output.new) result) }
 {
     match Connection::open_in_memory(alloc) {
-        Ok(conn) => submit_new(alloc, conn, input, output),
+        Ok(conn) => submit_new(alloc, IdleConnection::of(conn), input, output),
         Err(_) => Err(Trouble::Memory),
     }
 }
@@ -147,11 +148,10 @@ pub fn submit_plain<R: Source, W: Sink>(
 /// Submits `input` to a new desk over a database with nothing in it, which is let go then.
 fn submit_new<S: Alter + Drop, R: Source, W: Sink>(
     alloc: Global,
-    conn: Connection<S>,
+    conn: IdleConnection<S>,
     input: &mut R,
     output: &mut W,
 ) -> Result<u8, Trouble>
-    requires { conn.in_transaction ≡ false }
     ensures { RunsPlain S.Store (deed (R.told input.old) (R.told input.new)
         (W.told output.old) (W.told output.new) result) }
 {
@@ -161,8 +161,7 @@ fn submit_new<S: Alter + Drop, R: Source, W: Sink>(
 
 /// A new desk with the built-in settings over a database with nothing in it. An error stands for
 /// lack of memory, as `plain_trouble` tells it.
-fn plain_desk<S: Alter + Drop>(alloc: Global, conn: Connection<S>) -> Result<Desk<S>, Trouble>
-    requires { conn.in_transaction ≡ false }
+fn plain_desk<S: Alter + Drop>(alloc: Global, conn: IdleConnection<S>) -> Result<Desk<S>, Trouble>
     ensures running { IfOk result (λ desk. desk.stored.stopped ≡ false) }
     ensures settings { IfOk result (λ desk. desk.settings ≡ built_in) }
     ensures opened { IfOk result (λ desk. IsOpeningRegistry built_in desk.stored.registry) }

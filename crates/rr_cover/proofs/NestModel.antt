@@ -3,7 +3,7 @@ use Rattle.std.proofs.Common.{◌≡◌, ◌+◌, ◌<◌, ◌≤◌, Bool, true
 use Rattle.std.proofs.Common.{◌∷◌, ◌++◌, Option, Some, None, is_some, refl, sym, ap, ◌∙◌, arith}
 use Rattle.std.proofs.lemmas.Bool.Decides.{nat_tests}
 use Rattle.std.specs.FinMap.{contains_key, find, insert, remove, get-from_entries}
-use Rattle.std.specs.Option.{option_or, IfNone}
+use Rattle.std.specs.Option.{option_or, IfSome, IfNone, MatchOption}
 use Rattle.std.specs.Ordering.{eq_by_cmp}
 use Rattle.rr_number.specs.Spans.{Ends, IsSpan, covers, crosses, size, span_cmp}
 use Rattle.rr_number.proofs.SpanOrder.{span_cmp_total}
@@ -38,10 +38,11 @@ not_over s u short true is =
     let over = begins_over s u is in
     absurd (omega (arith, short over.0, over.1))
 
--- what follows where there is nothing
-pub on_none : {X : Type 0} (o : Option X) (P Q : Type 0) → IfNone o P → (P → Q) → IfNone o Q
-on_none None P Q p follows = follows p
-on_none (Some x) P Q p follows = tt
+-- what follows where there is nothing, and what follows of what there is
+pub on_either : {X : Type 0} (o : Option X) (P Q : Type 0) (R S : X → Type 0) → IfNone o P
+    → IfSome o R → (P → Q) → ((x : X) → R x → S x) → MatchOption o Q S
+on_either None P Q R S none some without within = without none
+on_either (Some x) P Q R S none some without within = within x some
 
 module _ {T : Type 0} where
   this_or : (b : Bool) (own rest low high : Option T) → (v : T) × (own ≡ Some v) →

@@ -1,9 +1,11 @@
 -- What the parts of a search tree of spans answer and leave. No public contract cites these.
 use Rattle.std.specs.Prelude.{◌≡◌, ℕ, ◌+◌, ◌<◌, ◌≤◌, min, max, Bool, true}
-use Rattle.std.specs.Prelude.{false, ◌&&◌, nat_lt, nat_le, Some, is_some}
+use Rattle.std.specs.Prelude.{false, ◌&&◌, nat_lt, nat_le, Some, None, Result, is_some}
+use Rattle.std.specs.Prelude.{IfErr, OnOk, OnErr}
 use Rattle.std.specs.Option.{option_or}
-use Rattle.rr_number.specs.Spans.{Ends, crosses}
-use Rattle.rr_cover.specs.SpanNests.{is_ahead, at_span, standing, Fits, IsNest}
+use Rattle.rr_number.specs.Spans.{Ends, IsSpan, crosses}
+use Rattle.rr_cover.specs.SpanNests.{is_ahead, at_span, standing, Fits, IsNest, HoldsAll}
+use Rattle.rr_cover.specs.SpanNests.{HoldsWith, HoldsWithout}
 use Rattle.rr_cover.specs.declared.span_nest.bounds.Bounds.{Bounds}
 use Rattle.rr_cover.specs.declared.span_nest.Nest.{Nest}
 use Rattle.rr_cover.specs.declared.span_nest.Nest.TheVariants.{Empty, Fork'}
@@ -73,3 +75,44 @@ pub record Precedes {T : Type 0} (left right : Nest T) : Type 0 where
   pub ahead :
       (s t : Ends) → is_some (standing left s) ≡ true → is_some (standing right t) ≡ true
       → is_ahead s t ≡ true
+
+-- A span can join two trees as the root of one: it fits between them, and both are in order.
+pub record CanJoin {T : Type 0} (span : Ends) (before after : Nest T) : Type 0 where
+  pub fits : Fits span before after
+  pub nests : IsNest before × IsNest after
+
+-- A tree in order holds what stands before a span, the value at it, and what stands after it.
+pub record Joins {T : Type 0} (before : Nest T) (span : Ends) (value : T)
+    (after whole : Nest T) : Type 0 where
+  pub all : HoldsAll before span value after whole
+  pub nest : IsNest whole
+
+-- A tree in order holds what another holds.
+pub record HoldsSame {T : Type 0} (old new : Nest T) : Type 0 where
+  pub all : (s : Ends) → standing new s ≡ standing old s
+  pub nest : IsNest new
+
+-- A tree in order holds nothing at a span.
+pub record Lacks {T : Type 0} (old : Nest T) (span : Ends) : Type 0 where
+  pub order : IsNest old
+  pub ends : IsSpan span
+  pub missing : standing old span ≡ None
+
+-- A tree in order holds the value at the span, and at any other what another holds.
+pub record Gains {T : Type 0} (old : Nest T) (span : Ends) (value : T) (new : Nest T)
+    : Type 0 where
+  pub all : HoldsWith old span value new
+  pub nest : IsNest new
+
+-- A tree in order holds nothing at the span, and at any other what another holds.
+pub record Loses {T : Type 0} (old : Nest T) (span : Ends) (new : Nest T) : Type 0 where
+  pub all : HoldsWithout old span new
+  pub nest : IsNest new
+
+-- The value is put at the span; or nothing changes, and the value comes back. The tree is in order.
+pub record Puts {T X : Type 0} (old : Nest T) (span : Ends) (value : T) (new : Nest T)
+    (result : Result X T) : Type 0 where
+  pub all : OnOk result (HoldsWith old span value new)
+  pub err : OnErr result (new ≡ old)
+  pub back : IfErr result (λ given. given ≡ value)
+  pub nest : IsNest new

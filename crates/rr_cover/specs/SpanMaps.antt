@@ -1,9 +1,13 @@
--- Maps from spans to values: which spans of a map cross, cover or lie inside a span, and which is
--- closest to it.
-use Rattle.std.specs.Prelude.{◌≡◌, Bool, true, false, ◌≤◌, List, filter, Some}
+-- Maps from spans to values: which spans of a map cross, cover or lie inside a span, which is
+-- closest to it, and what putting a value in and taking one out leave.
+use Rattle.std.specs.Prelude.{◌≡◌, ◌↔◌, Bool, true, false, ◌≤◌, List, filter, Option, Some}
+use Rattle.std.specs.Prelude.{Result, Err, IfOk, IfErr, OnOk, OnErr}
 use Rattle.std.specs.List.{list_any}
-use Rattle.std.specs.FinMap.{FinMap, get, contains_key, keys}
+use Rattle.std.specs.FinMap.{FinMap, get, contains_key, keys, insert, remove}
 use Rattle.rr_number.specs.Spans.{Ends, covers, crosses, size, span_cmp}
+use Rattle.rr_cover.specs.InsertFaults.{value_of}
+use Rattle.rr_cover.specs.declared.insert_fault.InsertFault.{InsertFault}
+use Rattle.rr_cover.specs.declared.insert_fault.InsertFault.TheVariants.{Overlap}
 
 -- What a collection of spans holds: one value at each of finitely many spans.
 abbrev pub SpanMap : Type 0 → Type 0
@@ -37,3 +41,24 @@ covering m s = filter (λ t. covers t s) (keys m)
 -- The spans of a map that lie inside s, in order of first, then last number (profile).
 abbrev pub inside : {T : Type 0} → SpanMap T → Ends → List Ends
 inside m s = filter (λ t. covers s t) (keys m)
+
+-- The value is put at the span, and what stood there comes back; or nothing changes.
+pub record Inserts {T E : Type 0} (old : SpanMap T) (s : Ends) (value : T) (new : SpanMap T)
+    (result : Result (Option T) E) : Type 0 where
+  pub stood : IfOk result (λ before. before ≡ get old s)
+  pub ok : OnOk result (new ≡ insert old s value)
+  pub err : OnErr result (new ≡ old)
+
+-- The value is put at the span; or the fault is that the span crosses one that is held, exactly
+-- where it does (profile). With any fault the value comes back.
+pub record InsertsApart {T : Type 0} (old : SpanMap T) (s : Ends) (value : T) (new : SpanMap T)
+    (result : Result (Option T) (InsertFault T)) : Type 0 where
+  pub inserts : Inserts old s value new result
+  pub overlap : (result ≡ Err (Overlap value)) ↔ (crosses_some old s ≡ true)
+  pub back : IfErr result (λ fault. value_of fault ≡ value)
+
+-- What stood at the span is taken out of the map, and comes back.
+pub record Removes {T : Type 0} (old : SpanMap T) (s : Ends) (new : SpanMap T)
+    (result : Option T) : Type 0 where
+  pub value : result ≡ get old s
+  pub rest : new ≡ remove old s

@@ -1,12 +1,13 @@
 -- What the parts of a tree of prefixes answer and leave. No public contract cites these.
 use Rattle.std.specs.Prelude.{◌≡◌, ℕ, ◌-◌, ◌≤◌, Bool, true, false, not, ◌&&◌}
-use Rattle.std.specs.Prelude.{◌||◌, if◌then◌else◌, List, Option, None, Some, is_some}
+use Rattle.std.specs.Prelude.{◌||◌, if◌then◌else◌, List, Option, None, Some, Result, is_some}
+use Rattle.std.specs.Prelude.{IfErr, OnOk, OnErr}
 use Rattle.std.specs.List.{list_any}
 use Rattle.std.specs.Option.{option_or}
 use Rattle.std.specs.Ordering.{eq_by_cmp}
 use Rattle.rr_number.specs.Prefixes.{PrefixParts, IsMasked, span_of}
 use Rattle.rr_number.specs.Spans.{Ends, covers, size, span_cmp}
-use Rattle.rr_cover.specs.PrefixTrees.{in_upper, lies_on, IsRootedOn}
+use Rattle.rr_cover.specs.PrefixTrees.{in_upper, lies_on, IsRootedOn, IsTree}
 use Rattle.rr_cover.specs.declared.prefix_tree.Tree.{Tree}
 use Rattle.rr_cover.specs.declared.prefix_tree.Tree.TheVariants.{Empty, Fork'}
 
@@ -91,3 +92,45 @@ is_listed prefixes u = list_any (λ p. eq_by_cmp span_cmp u (span_of p)) prefixe
 abbrev pub room : {T : Type 0} → Tree T → ℕ
 room Empty = 0
 room (Fork' p prefix value lower upper) = 33 - prefix.length
+
+-- A tree holds nothing at the span, and at any other what another holds.
+abbrev pub HoldsWithout : {T : Type 0} → Tree T → Ends → Tree T → Type 0
+HoldsWithout old span new =
+    (s : Ends) → standing new s ≡ (if eq_by_cmp span_cmp s span then None else standing old s)
+
+-- A value can be put into a tree at a prefix: the tree is in order, and the prefix is one.
+pub record CanPut {T : Type 0} (old : Tree T) (prefix : PrefixParts) : Type 0 where
+  pub order : IsTree old
+  pub masked : IsMasked prefix
+
+-- A tree with a root can get a prefix that the root does not cover: the tree is in order, and the
+-- prefix is one.
+pub record CanGrow {T : Type 0} (old : Tree T) (at prefix : PrefixParts) : Type 0 where
+  pub tree : IsTree old
+  pub root : root_of old ≡ Some at
+  pub masked : IsMasked prefix
+
+-- A tree in order has its root at a prefix, and holds the value at the span, and at any other what
+-- another holds.
+pub record Grows {T : Type 0} (old : Tree T) (span : Ends) (value : T) (at : PrefixParts)
+    (new : Tree T) : Type 0 where
+  pub all : HoldsWith old span value new
+  pub tree : IsTree new
+  pub root : root_of new ≡ Some at
+
+-- The value is put at the span; or nothing changes, and the value comes back. The tree is in order.
+pub record Puts {T X : Type 0} (old : Tree T) (span : Ends) (value : T) (new : Tree T)
+    (result : Result X T) : Type 0 where
+  pub all : OnOk result (HoldsWith old span value new)
+  pub err : OnErr result (new ≡ old)
+  pub back : IfErr result (λ given. given ≡ value)
+  pub tree : IsTree new
+
+-- What stood at the span is taken out, and comes back. The tree is in order, and its root lies in
+-- each half of a prefix in which it lay.
+pub record Takes {T : Type 0} (old : Tree T) (span : Ends) (new : Tree T) (result : Option T)
+    : Type 0 where
+  pub value : result ≡ standing old span
+  pub all : HoldsWithout old span new
+  pub tree : IsTree new
+  pub root : StaysRooted old new

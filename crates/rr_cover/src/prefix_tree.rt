@@ -1,11 +1,11 @@
 //! Prefixes in a binary tree.
 
-ghost use Rattle.std.specs.Prelude.{◌≡◌, ◌≤◌, map, IfOk, IfErr, IfSome, IfNone, OnOk};
-ghost use Rattle.std.specs.Prelude.{OnErr};
+ghost use Rattle.std.specs.Prelude.{◌≡◌, ◌≤◌, map, IfOk, IfErr, MatchOption};
 ghost use Rattle.std.specs.Option.{option_copied};
 ghost use Rattle.std.specs.FinMap as span_map;
 ghost use Rattle.rr_number.specs.Prefixes.{span_of};
 ghost use Rattle.rr_cover.specs.SpanMaps.{covering, inside, IsClosest, NoneCovers};
+ghost use Rattle.rr_cover.specs.SpanMaps.{Inserts, Removes};
 ghost use Rattle.rr_cover.specs.declared.insert_fault.InsertFault.TheVariants.{Memory};
 
 mod adding;
@@ -89,9 +89,8 @@ impl<T> PrefixTree<T> {
     /// The longest prefix held that covers the prefix, with its value; an equal one counts
     /// (RFC 2725, 9).
     pub fn closest(&self, prefix: Prefix) -> Option<(Prefix, &T)>
-        ensures found { IfSome result
+        ensures { MatchOption result (NoneCovers self.now (span_of prefix))
             (λ p. IsClosest self.now (span_of prefix) (span_of p.0) p.1.now) }
-        ensures none { IfNone result (NoneCovers self.now (span_of prefix)) }
     {
         smallest_cover(&self.root, prefix)
     }
@@ -128,9 +127,7 @@ impl<T: Drop> PrefixTree<T> {
     /// Puts the value at the prefix, and gives back the value that stood there. If memory runs out,
     /// nothing changes and the value comes back.
     pub fn insert(&mut self, prefix: Prefix, value: T) -> Result<Option<T>, InsertFault<T>>
-        ensures stood { IfOk result (λ old. old ≡ span_map.get self.old (span_of prefix)) }
-        ensures ok { OnOk result (self.new ≡ span_map.insert self.old (span_of prefix) value) }
-        ensures err { OnErr result (self.new ≡ self.old) }
+        ensures inserts { Inserts self.old (span_of prefix) value self.new result }
         ensures back { IfErr result (λ fault. fault ≡ Memory value) }
     {
         // its length is one of a prefix
@@ -144,8 +141,7 @@ impl<T: Drop> PrefixTree<T> {
 
     /// Takes the value out that stands at the prefix. The prefixes inside it stay.
     pub fn remove(&mut self, prefix: Prefix) -> Option<T>
-        ensures value { result ≡ span_map.get self.old (span_of prefix) }
-        ensures rest { self.new ≡ span_map.remove self.old (span_of prefix) }
+        ensures { Removes self.old (span_of prefix) self.new result }
     {
         take(&mut self.root, prefix)
     }

@@ -1,17 +1,15 @@
 //! A list of spans in order.
 
-ghost use Rattle.std.specs.Prelude.{◌≡◌, ◌↔◌, fold, None, true, filter, map, IsTrue};
-ghost use Rattle.std.specs.Prelude.{IfOk, IfErr, IfSome, IfNone, OnOk, OnErr};
+ghost use Rattle.std.specs.Prelude.{◌≡◌, fold, None, filter, map, IsTrue};
+ghost use Rattle.std.specs.Prelude.{IfOk, IfErr, MatchOption};
 ghost use Rattle.std.specs.List.{list_any};
 ghost use Rattle.std.specs.Option.{option_copied};
 ghost use Rattle.std.specs.FinMap as span_map;
 ghost use Rattle.std.specs.FinMap.{is_sorted};
 ghost use Rattle.rr_number.specs.Spans.{covers, crosses, span_cmp};
-ghost use Rattle.rr_cover.specs.InsertFaults.{value_of};
 ghost use Rattle.rr_cover.specs.ListParts.{nearer, StandsAt, BelongsAt};
 ghost use Rattle.rr_cover.specs.SpanMaps.{crosses_some, covering, inside, IsClosest};
-ghost use Rattle.rr_cover.specs.SpanMaps.{NoneCovers};
-ghost use Rattle.rr_cover.specs.declared.insert_fault.InsertFault.TheVariants.{Overlap};
+ghost use Rattle.rr_cover.specs.SpanMaps.{NoneCovers, InsertsApart, Removes};
 
 use crate::insert_fault::InsertFault;
 use rr_number::Span;
@@ -72,12 +70,7 @@ impl<T> SpanList<T> {
     /// one that is held is refused, and so is any where memory is; then nothing changes and the
     /// value comes back.
     pub fn insert(&mut self, span: Span, value: T) -> Result<Option<T>, InsertFault<T>>
-        ensures stood { IfOk result (λ old. old ≡ span_map.get self.old span) }
-        ensures ok { OnOk result (self.new ≡ span_map.insert self.old span value) }
-        ensures overlap { (result ≡ Err (Overlap value))
-            ↔ (crosses_some self.old span ≡ true) }
-        ensures err { OnErr result (self.new ≡ self.old) }
-        ensures back { IfErr result (λ fault. value_of fault ≡ value) }
+        ensures { InsertsApart self.old span value self.new result }
     {
         if self.crosses(span) {
             return Err(InsertFault::Overlap(value));
@@ -99,8 +92,7 @@ impl<T> SpanList<T> {
 
     /// Takes the value out that stands at the span.
     pub fn remove(&mut self, span: Span) -> Option<T>
-        ensures value { result ≡ span_map.get self.old span }
-        ensures rest { self.new ≡ span_map.remove self.old span }
+        ensures { Removes self.old span self.new result }
     {
         match place(&self.entries, span) {
             Ok(at) => {
@@ -114,8 +106,8 @@ impl<T> SpanList<T> {
     /// The smallest span held that covers the span, with its value; an equal one counts
     /// (RFC 2725, 9). Each entry is looked at once.
     pub fn closest(&self, span: Span) -> Option<(Span, &T)>
-        ensures found { IfSome result (λ p. IsClosest self.now span p.0 p.1.now) }
-        ensures none { IfNone result (NoneCovers self.now span) }
+        ensures { MatchOption result (NoneCovers self.now span)
+            (λ p. IsClosest self.now span p.0 p.1.now) }
     {
         match smallest_cover(&self.entries, span) {
             Some(entry) => Some((entry.0, &entry.1)),

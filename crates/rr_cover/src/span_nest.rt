@@ -1,14 +1,11 @@
 //! Spans that nest or lie apart, in a balanced search tree.
 
-ghost use Rattle.std.specs.Prelude.{◌≡◌, ◌↔◌, false, true, IfOk, IfErr, IfSome, IfNone};
-ghost use Rattle.std.specs.Prelude.{OnOk, OnErr};
+ghost use Rattle.std.specs.Prelude.{◌≡◌, false, IfOk, IfErr, MatchOption};
 ghost use Rattle.std.specs.Option.{option_copied};
 ghost use Rattle.std.specs.FinMap as span_map;
 ghost use Rattle.rr_number.specs.Spans.{IsSpan};
-ghost use Rattle.rr_cover.specs.InsertFaults.{value_of};
 ghost use Rattle.rr_cover.specs.SpanMaps.{crosses_some, covering, inside, IsClosest};
-ghost use Rattle.rr_cover.specs.SpanMaps.{NoneCovers};
-ghost use Rattle.rr_cover.specs.declared.insert_fault.InsertFault.TheVariants.{Overlap};
+ghost use Rattle.rr_cover.specs.SpanMaps.{NoneCovers, Inserts, InsertsApart, Removes};
 
 mod bounds;
 mod changes;
@@ -102,8 +99,8 @@ impl<T> SpanNest<T> {
     /// The smallest span held that covers the span, whose last number is not below its first, with
     /// its value; an equal one counts (RFC 2725, 9).
     pub fn closest(&self, span: Span) -> Option<(Span, &T)>
-        ensures found { IfSome result (λ p. IsClosest self.now span p.0 p.1.now) }
-        ensures none { IfNone result (NoneCovers self.now span) }
+        ensures closest { MatchOption result (NoneCovers self.now span)
+            (λ p. IsClosest self.now span p.0 p.1.now) }
         ensures ordered { IsSpan span }
     {
         smallest_cover(&self.root, span)
@@ -141,12 +138,7 @@ impl<T: Drop> SpanNest<T> {
     /// one that is held is refused, and so is any where memory is; then nothing changes and the
     /// value comes back.
     pub fn insert(&mut self, span: Span, value: T) -> Result<Option<T>, InsertFault<T>>
-        ensures stood { IfOk result (λ old. old ≡ span_map.get self.old span) }
-        ensures ok { OnOk result (self.new ≡ span_map.insert self.old span value) }
-        ensures overlap { (result ≡ Err (Overlap value))
-            ↔ (crosses_some self.old span ≡ true) }
-        ensures err { OnErr result (self.new ≡ self.old) }
-        ensures back { IfErr result (λ fault. value_of fault ≡ value) }
+        ensures { InsertsApart self.old span value self.new result }
     {
         if self.crosses(span) {
             return Err(InsertFault::Overlap(value));
@@ -162,9 +154,7 @@ impl<T: Drop> SpanNest<T> {
     /// The error is that memory ran out; nothing changes, and it gives the value back.
     pub fn insert_uncrossed(&mut self, span: Span, value: T) -> Result<Option<T>, AllocFailed<T>>
         requires { crosses_some self.old span ≡ false }
-        ensures stood { IfOk result (λ old. old ≡ span_map.get self.old span) }
-        ensures ok { OnOk result (self.new ≡ span_map.insert self.old span value) }
-        ensures err { OnErr result (self.new ≡ self.old) }
+        ensures inserts { Inserts self.old span value self.new result }
         ensures back { IfErr result (λ refused. refused.value ≡ value) }
     {
         let alloc = self.alloc;
@@ -176,8 +166,7 @@ impl<T: Drop> SpanNest<T> {
 
     /// Takes the value out that stands at the span. The spans inside it stay.
     pub fn remove(&mut self, span: Span) -> Option<T>
-        ensures value { result ≡ span_map.get self.old span }
-        ensures rest { self.new ≡ span_map.remove self.old span }
+        ensures { Removes self.old span self.new result }
     {
         take(&mut self.root, span)
     }

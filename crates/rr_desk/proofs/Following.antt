@@ -173,7 +173,6 @@ module _ {S X E : Type 0} (g : Ghosts S) (P Q : Database → Database → Type 0
   -- one change of the rows is another
   pub writes_as : Transacts g P old new result → Transacts g Q old new result
   writes_as writes = record {
-    autocommit = writes.autocommit;
     opened = writes.opened;
     done = λ clean. then_ok result (writes.done clean) (f (database g new));
     is_open = writes.is_open;

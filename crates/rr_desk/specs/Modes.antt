@@ -132,6 +132,7 @@ plain_ledger by = record {
   is_stopped = is_halted;
   Stops = HaltsAt by;
   Lasts = λ old new. Unit {0};
+  Kept = λ mode. Unit {0};
 }
 
 -- the answer of a registry that stopped, by whether the text of a query is too long

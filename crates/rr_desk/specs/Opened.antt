@@ -84,10 +84,9 @@ module _ {S : Type 0} (g : Ghosts S) where
     pub tables : OnCleanDisk g made (HasItsTables (database g conn) (database g made))
     pub crash : Survives (state g conn) (state g made) (CommitsTables rows conn)
 
-  -- a connection is given back: it is in no transaction, what there was stands, and a stop of the
+  -- a connection is given back: what there was stands, and a stop of the
   -- process leaves that or what may have been committed; one that is open was open (profile)
   pub record GivesBack (commits : Trees → Type 0) (conn left : Held S) : Type 0 where
-    pub autocommit : left.in_transaction ≡ false
     pub was_open : WhileOpen g left (IsTrue (state g conn).is_open)
     pub kept : WhileOpen g left (database g left ≡ database g conn)
     pub crash : Survives (state g conn) (state g left) commits

@@ -57,7 +57,8 @@ pub record DatabaseLasts (old now : State) : Type 0 where
   pub was_open : HasCleanDisk now → IsTrue now.is_open → IsTrue old.is_open
   pub others : HasCleanDisk now → IsTrue now.is_open → KeepsOthers old.now now.now
 
--- it keeps its registry, and stops by a fault of the store alone; its connection lasts
+-- it keeps its registry and, until it is stopped, the rows of it; it stops by a fault of the store
+-- alone, and its connection lasts
 abbrev pub stock_ledger : {S : Type 0} → store.Ghosts S → ledger.Ghosts (Stock S)
 stock_ledger g = record {
   registry = λ s. s.registry;
@@ -65,4 +66,5 @@ stock_ledger g = record {
   Stops = λ old secrets item new. LeavesStopped old.registry secrets item new.registry
       new.stopped (state g old.store) (state g new.store);
   Lasts = λ old new. DatabaseLasts (state g old.store) (state g new.store);
+  Kept = StoresUntilStopped g;
 }

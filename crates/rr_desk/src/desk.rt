@@ -18,9 +18,9 @@ use crate::stored::Stored;
 use rr_index::IndexedBook;
 use rr_io::{Sink, Source};
 use rr_registry::Registry;
-use rr_store::{CreateFault, OpenFault};
+use rr_store::{CreateFault, IdleConnection, OpenFault};
 use rr_submission::{DeskFault, Done};
-use sqlite::{Alter, Connection, Error};
+use sqlite::{Alter, Error};
 use std::alloc::Global;
 
 /// A registry by its settings, kept in tables. A fault of the store stops it until it is opened
@@ -33,17 +33,16 @@ pub struct Desk<S: Alter> {
 
 impl<S: Alter> Desk<S> {
     /// The desk of the registry that opens with these settings, in a database with nothing in it or
-    /// with the three tables and no row: all of the rows are written in one transaction. The caller
-    /// gives a connection that is in no transaction. After a fault it is given back, with the rows
-    /// as they were; a stop of the process leaves these or, where there was room for them, the new
-    /// ones whole. `NotEmpty` says that one of the tables has a row. Where other tables stand in
-    /// place of the three, the error of the database says that.
+    /// with the three tables and no row: all of the rows are written in one transaction. After a
+    /// fault the connection is given back, with the rows as they were; a stop of the process leaves
+    /// these or, where there was room for them, the new ones whole. `NotEmpty` says that one of the
+    /// tables has a row. Where other tables stand in place of the three, the error of the database
+    /// says that.
     pub fn create(
         alloc: Global,
-        conn: Connection<S>,
+        conn: IdleConnection<S>,
         settings: Settings,
-    ) -> Result<Desk<S>, (CreateFault, Connection<S>)>
-        requires autocommit { conn.in_transaction ≡ false }
+    ) -> Result<Desk<S>, (CreateFault, IdleConnection<S>)>
         ensures runs { IfOk result (IsRunning S.Store settings) }
         ensures opening { IfOk result (λ desk. IsOpeningRegistry settings desk.stored.registry) }
         ensures makes { IfOk result (λ desk.
@@ -62,16 +61,15 @@ impl<S: Alter> Desk<S> {
     }
 
     /// The desk of the registry whose rows the tables hold, of which the settings say the source.
-    /// The caller gives a connection that is in no transaction. After a fault it is given back, and
-    /// no row is changed: the tables are of another version, which comes first, or their rows are
-    /// those of no registry of the source, or the database refused, or memory ran out. Of a
-    /// database without the three tables, that and nothing else is told.
+    /// After a fault the connection is given back, and no row is changed: the tables are of another
+    /// version, which comes first, or their rows are those of no registry of the source, or the
+    /// database refused, or memory ran out. Of a database without the three tables, that and
+    /// nothing else is told.
     pub fn open(
         alloc: Global,
-        conn: Connection<S>,
+        conn: IdleConnection<S>,
         settings: Settings,
-    ) -> Result<Desk<S>, (OpenFault, Connection<S>)>
-        requires autocommit { conn.in_transaction ≡ false }
+    ) -> Result<Desk<S>, (OpenFault, IdleConnection<S>)>
         ensures runs { IfOk result (IsRunning S.Store settings) }
         ensures opens { IfOk result (λ desk. OpensTables S.Store conn desk.stored) }
         ensures fails { IfErr result (λ e.
@@ -86,7 +84,7 @@ impl<S: Alter> Desk<S> {
 
     /// Opens the tables again, also after a fault of the store, as [`Desk::open`] does: after a
     /// fault the connection is given back, and no row is changed.
-    pub fn reopen(self, alloc: Global) -> Result<Desk<S>, (OpenFault, Connection<S>)>
+    pub fn reopen(self, alloc: Global) -> Result<Desk<S>, (OpenFault, IdleConnection<S>)>
         ensures runs { IfOk result (IsRunning S.Store self.settings) }
         ensures opens { IfOk result (λ desk. OpensTables S.Store self.stored.store desk.stored) }
         ensures fails { IfErr result (λ e.
@@ -131,16 +129,8 @@ impl<S: Alter> Desk<S> {
             (W.told writer.old) (W.told writer.new) result)
             (histories.at_desk self.new) }
     {
-        let submitted = rr_submission::submit(
-            alloc,
-            &mut self.stored,
-            self.settings.source(),
-            reader,
-            writer,
-        );
-        // Called for its contract: the rows are those of the registry.
-        let _ = self.stored.stopped();
-        submitted
+        let source = self.settings.source();
+        rr_submission::submit(alloc, &mut self.stored, source, reader, writer)
     }
 
     /// The settings.
@@ -159,6 +149,15 @@ impl<S: Alter> Desk<S> {
         self.stored.stopped()
     }
 
+    /// Whether its rows are those of its registry until a fault of the store stops it: they always
+    /// are. `prove!` asks this where a proof needs it and the code does not.
+    pub fn keeps_its_rows(&self) -> bool
+        ensures always { result ≡ true }
+        ensures rows { StoresUntilStopped S.Store self.now.stored }
+    {
+        self.stored.stopped() == self.stored.cause().is_some()
+    }
+
     /// The error of the database that stopped the desk; none until it is stopped.
     pub fn cause(&self) -> Option<Error>
         ensures cause { result ≡ self.now.stored.cause }
@@ -174,11 +173,9 @@ impl<S: Alter> Desk<S> {
         self.stored.registry()
     }
 
-    /// Takes the desk apart and returns its connection, open or shut as it is, in no transaction;
-    /// the rows stay.
-    pub fn close(self) -> Connection<S>
+    /// Takes the desk apart and returns its connection, open or shut as it is; the rows stay.
+    pub fn close(self) -> IdleConnection<S>
         ensures same { result ≡ self.stored.store }
-        ensures autocommit { result.in_transaction ≡ false }
         ensures event { Happens S.Store (histories.at_desk self) events.closed
             (histories.at_rest result) }
     {

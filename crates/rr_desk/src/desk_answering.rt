@@ -53,16 +53,18 @@ impl<S: Alter> Desk<S> {
         ensures event { AsksEvent S.Store self.now query.now
             (W.told writer.old) (W.told writer.new) result }
     {
-        // Called for its contract: the rows are those of the registry.
-        let _ = self.stored.stopped();
         let found = self.found(alloc, query);
         write_found(alloc, &found, writer)
     }
 
-    /// What the text of a query finds, or the error.
+    /// What the text of a query finds, or the error. Until the desk is stopped its rows are those
+    /// of its registry.
     #[tactic(auto, using(crate::proofs::AnswerLemmas::running))]
     fn found(&self, alloc: Global, text: &[u8]) -> Result<Found<'_>, QueryFault>
-        ensures { GivesAnswer self.now text.now (made_answer result) }
+        ensures gives { GivesAnswer self.now text.now (made_answer result) }
+        ensures rows { StoresUntilStopped S.Store self.now.stored }
+        ensures keeps { self.now.stored.stopped ≡ false
+            → KeepsRows self.now.stored.registry (desk_state S.Store self.now) }
     {
         if !self.stored.stopped() {
             return self.found_running(alloc, text);

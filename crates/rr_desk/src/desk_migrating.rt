@@ -1,6 +1,6 @@
 //! A desk over tables of version 1, which it migrates.
 
-ghost use Rattle.std.specs.Prelude.{◌≡◌, ◌⊎◌, false, IfErr, IfOk, OnOk};
+ghost use Rattle.std.specs.Prelude.{◌≡◌, ◌⊎◌, IfErr, IfOk, OnOk};
 ghost use Rattle.rr_auth.specs.Sources.{IsRegistryOf};
 ghost use Rattle.rr_store.specs.Calls.{Looks, OnCleanDisk, database};
 ghost use Rattle.rr_store.specs.declared.store_fault.MigrateFault.TheVariants.{BadRow, Memory};
@@ -19,24 +19,23 @@ use crate::stored::Stored;
 use rr_index::IndexedBook;
 use rr_object::Object;
 use rr_registry::{LoadFault, Registry};
-use rr_store::{MigrateFault, Store};
-use sqlite::{Alter, Connection};
+use rr_store::{IdleConnection, MigrateFault, Store};
+use sqlite::Alter;
 use std::alloc::{AllocError, Global};
 
 impl<S: Alter> Desk<S> {
     /// The desk of the registry whose rows tables of version 1 hold, written anew as those of
-    /// version 2, and of the block of the AS numbers of more than 16 bits, which the root
-    /// maintains (RFC 6793). The settings say the source and the root. The caller gives a
-    /// connection that is in no transaction. After a fault it is given back, with the rows as they
-    /// were; a stop of the process leaves these, or the new ones whole. That the tables are of
-    /// another version comes first, then that their rows are those of no registry, then that the
-    /// root is not registered. Of a file without the three tables, that and nothing else is told.
+    /// version 2, and of the block of the AS numbers of more than 16 bits, which the root maintains
+    /// (RFC 6793). The settings say the source and the root. After a fault the connection is given
+    /// back, with the rows as they were; a stop of the process leaves these, or the new ones whole.
+    /// That the tables are of another version comes first, then that their rows are those of no
+    /// registry, then that the root is not registered. Of a file without the three tables, that and
+    /// nothing else is told.
     pub fn migrate(
         alloc: Global,
-        conn: Connection<S>,
+        conn: IdleConnection<S>,
         settings: Settings,
-    ) -> Result<Desk<S>, (MigrateFault, Connection<S>)>
-        requires autocommit { conn.in_transaction ≡ false }
+    ) -> Result<Desk<S>, (MigrateFault, IdleConnection<S>)>
         ensures runs { IfOk result (IsRunning S.Store settings) }
         ensures migrates { IfOk result (λ desk. MigratesTables S.Store settings conn desk.stored) }
         ensures fails { IfErr result (λ e. FailsToMigrateTables S.Store settings conn e.1 e.0) }
@@ -52,10 +51,9 @@ impl<S: Alter> Desk<S> {
 /// The registry that migration makes of the tables, with the store of its rows.
 fn migrate_stored<S: Alter>(
     alloc: Global,
-    mut conn: Connection<S>,
+    mut conn: IdleConnection<S>,
     settings: &Settings,
-) -> Result<Stored<S>, (MigrateFault, Connection<S>)>
-    requires autocommit { conn.in_transaction ≡ false }
+) -> Result<Stored<S>, (MigrateFault, IdleConnection<S>)>
     ensures stock { IfOk result (IsStockOfSource S.Store settings.now.source) }
     ensures migrates { IfOk result (MigratesTables S.Store settings.now conn) }
     ensures fails { IfErr result (λ e. FailsToMigrateTables S.Store settings.now conn e.1 e.0) }
@@ -70,12 +68,11 @@ fn migrate_stored<S: Alter>(
 /// can't run out for it once the rows are changed.
 fn migrate_tables<S: Alter>(
     alloc: Global,
-    conn: Connection<S>,
+    conn: IdleConnection<S>,
     settings: &Settings,
     registry: Registry<IndexedBook>,
-) -> Result<Stored<S>, (MigrateFault, Connection<S>)>
-    requires autocommit { conn.in_transaction ≡ false }
-    requires grown { OnCleanDisk S.Store conn
+) -> Result<Stored<S>, (MigrateFault, IdleConnection<S>)>
+    requires { OnCleanDisk S.Store conn
         (IsGrown settings.now (database S.Store conn) registry) }
     ensures stock { IfOk result (IsStockOf S.Store registry) }
     ensures migrates { IfOk result (MigratesTables S.Store settings.now conn) }
@@ -90,10 +87,9 @@ fn migrate_tables<S: Alter>(
 /// The registry that the tables are to hold once they are migrated; nothing changes.
 fn migrated_registry<S: Alter>(
     alloc: Global,
-    conn: &mut Connection<S>,
+    conn: &mut IdleConnection<S>,
     settings: &Settings,
 ) -> Result<Registry<IndexedBook>, MigrateFault>
-    requires autocommit { conn.old.in_transaction ≡ false }
     ensures looks { Looks S.Store conn.old conn.new result }
     ensures grown { OnCleanDisk S.Store conn.new
         (IfOk result (IsGrown settings.now (database S.Store conn.old))) }

@@ -1,6 +1,6 @@
 //! Desks made from dumps.
 
-ghost use Rattle.std.specs.Prelude.{◌≡◌, false, IfErr, IfOk};
+ghost use Rattle.std.specs.Prelude.{◌≡◌, IfErr, IfOk};
 ghost use Rattle.rr_auth.specs.Sources.{IsRegistryOf};
 ghost use Rattle.rr_desk.specs.Events as events;
 ghost use Rattle.rr_desk.specs.Histories.{MakesEvent};
@@ -18,8 +18,8 @@ use rr_io::Source;
 use rr_number::Name;
 use rr_object::Code;
 use rr_registry::{LoadFault, Registry};
-use rr_store::CreateFault;
-use sqlite::{Alter, Connection, Error as DatabaseError};
+use rr_store::{CreateFault, IdleConnection};
+use sqlite::{Alter, Error as DatabaseError};
 use std::alloc::Global;
 use thiserror::Error;
 
@@ -114,17 +114,16 @@ impl<S: Alter> Desk<S> {
     /// The desk of the registry whose dump this reader gives, in a database with nothing in it or
     /// with the three tables and no row. Once the dump is read to its end, all of the rows are
     /// written in one transaction, or none. The dump is any RPSL text whose entries are the objects
-    /// of a sound registry of the settings' source. The caller gives a connection that is in no
-    /// transaction. After a fault it is given back, with the rows as they were; a stop of the
-    /// process leaves these or, where there was room for them, the new ones whole. Where other
-    /// tables stand in place of the three, the error of the database says that.
+    /// of a sound registry of the settings' source. After a fault the connection is given back,
+    /// with the rows as they were; a stop of the process leaves these or, where there was room for
+    /// them, the new ones whole. Where other tables stand in place of the three, the error of the
+    /// database says that.
     pub fn load<R: Source>(
         alloc: Global,
-        conn: Connection<S>,
+        conn: IdleConnection<S>,
         settings: Settings,
         reader: &mut R,
-    ) -> Result<Desk<S>, (DeskLoadFault, Connection<S>)>
-        requires autocommit { conn.in_transaction ≡ false }
+    ) -> Result<Desk<S>, (DeskLoadFault, IdleConnection<S>)>
         ensures runs { IfOk result (IsRunning S.Store settings) }
         ensures loaded { IfOk result (λ desk. IsLoaded settings.source
             (R.told reader.old) (R.told reader.new) desk.stored.registry) }

@@ -1,7 +1,7 @@
 //! How a registry and the store of its rows come about: from tables that are there, or with new
 //! ones.
 
-ghost use Rattle.std.specs.Prelude.{◌≡◌, false, IfErr, IfOk};
+ghost use Rattle.std.specs.Prelude.{◌≡◌, IfErr, IfOk};
 ghost use Rattle.rr_store.specs.Maps.{HasRows};
 ghost use Rattle.rr_store.specs.Calls.{IsOpen, IsSettled, OnCleanDisk, database};
 ghost use Rattle.rr_desk.specs.Opened.{FailsToMakeTables, FailsToOpenTables, MakesTables};
@@ -13,17 +13,16 @@ use crate::stored::Stored;
 use rr_index::IndexedBook;
 use rr_number::Name;
 use rr_registry::{LoadFault, Registry};
-use rr_store::{CreateFault, OpenFault, Store};
-use sqlite::{Alter, Connection};
+use rr_store::{CreateFault, IdleConnection, OpenFault, Store};
+use sqlite::Alter;
 use std::alloc::Global;
 
 /// The registry of this source whose rows the tables hold, with its store.
 pub(crate) fn open_stored<S: Alter>(
     alloc: Global,
-    conn: Connection<S>,
+    conn: IdleConnection<S>,
     source: &Name,
-) -> Result<Stored<S>, (OpenFault, Connection<S>)>
-    requires autocommit { conn.in_transaction ≡ false }
+) -> Result<Stored<S>, (OpenFault, IdleConnection<S>)>
     ensures stock { IfOk result (IsStockOfSource S.Store source.now) }
     ensures opens { IfOk result (OpensTables S.Store conn) }
     ensures fails { IfErr result (λ e. FailsToOpenTables S.Store source.now conn e.1 e.0) }
@@ -52,10 +51,9 @@ fn refused(fault: LoadFault) -> OpenFault
 /// A registry with a new store, in tables that hold the rows of its objects.
 pub(crate) fn create_stored<S: Alter>(
     alloc: Global,
-    conn: Connection<S>,
+    conn: IdleConnection<S>,
     registry: Registry<IndexedBook>,
-) -> Result<Stored<S>, (CreateFault, Connection<S>)>
-    requires autocommit { conn.in_transaction ≡ false }
+) -> Result<Stored<S>, (CreateFault, IdleConnection<S>)>
     ensures stock { IfOk result (IsStockOf S.Store registry) }
     ensures makes { IfOk result (λ stored.
         MakesTables S.Store (HasRows registry) conn stored.store) }
@@ -71,10 +69,9 @@ pub(crate) fn create_stored<S: Alter>(
 /// The store of the rows of a registry, in new tables.
 fn create_store<S: Alter>(
     alloc: Global,
-    conn: Connection<S>,
+    conn: IdleConnection<S>,
     registry: &Registry<IndexedBook>,
-) -> Result<Store<S>, (CreateFault, Connection<S>)>
-    requires autocommit { conn.in_transaction ≡ false }
+) -> Result<Store<S>, (CreateFault, IdleConnection<S>)>
     ensures rows { IfOk result (λ store.
         OnCleanDisk S.Store store (HasRows registry.now (database S.Store store))) }
     ensures is_open { IfOk result (IsOpen S.Store) }

@@ -1,12 +1,13 @@
 //! The objects that a registry opens with.
 
-ghost use Rattle.std.specs.Prelude.{◌≡◌, [], ◌∷◌, ◌++◌, IfOk};
+ghost use Rattle.std.specs.Prelude.{◌≡◌, [], ◌∷◌, ◌++◌, IfOk, OnOk};
 ghost use Rattle.rr_text.specs.Fields.{AreFields, IsField, one_line};
 ghost use Rattle.rr_auth.specs.Sources.{IsRegistryOf};
 ghost use Rattle.rr_store.specs.Migrating.{upper_block};
 ghost use Rattle.rr_desk.specs.Opening.{AreOpening, IsOpeningRegistry, addresses_fields, auth_line};
 ghost use Rattle.rr_desk.specs.Opening.{numbers_fields, owner_fields, root_fields};
 ghost use Rattle.rr_desk.specs.Private.{HasObject, IsParagraphOf};
+ghost use Rattle.rr_desk.specs.Settings.{IsSettings};
 
 use crate::settings::Settings;
 use rr_index::IndexedBook;
@@ -20,7 +21,8 @@ use std::alloc::{AllocError, Global};
 /// numbers of 16 and of 32 bits, and the span of all addresses, each maintained by the root
 /// (profile). The error is that memory ran out.
 fn opening_objects(alloc: Global, settings: &Settings) -> Result<Vec<Object>, AllocError>
-    ensures { IfOk result (λ objects. AreOpening settings.now objects.items) }
+    ensures opening { IfOk result (λ objects. AreOpening settings.now objects.items) }
+    ensures good { OnOk result (IsSettings settings.now) }
 {
     let objects = Vec::with_capacity(alloc, 4)?;
     let root = root_object(alloc, settings)?;
@@ -55,8 +57,6 @@ pub(crate) fn opening_registry(
     ensures opening { IfOk result (IsOpeningRegistry settings.now) }
     ensures of_source { IfOk result (IsRegistryOf settings.now.source) }
 {
-    // Called for its contract: the settings are good, so that the objects have no fault.
-    let _ = settings.source();
     let objects = opening_objects(alloc, settings)?;
     match Registry::from_objects(alloc, objects) {
         Ok(registry) => Ok(registry),
@@ -70,7 +70,8 @@ pub(crate) fn opening_registry(
 /// The root maintainer.
 #[tactic(auto, using(crate::proofs::Opens::root_readable, crate::proofs::Opens::read_back))]
 fn root_object(alloc: Global, settings: &Settings) -> Result<Object, AllocError>
-    ensures { IfOk result (IsParagraphOf settings.now.source (root_fields settings.now)) }
+    ensures object { IfOk result (IsParagraphOf settings.now.source (root_fields settings.now)) }
+    ensures good { OnOk result (IsSettings settings.now) }
 {
     let paragraph = root_paragraph(alloc, settings)?;
     read_object(alloc, paragraph, settings.source())

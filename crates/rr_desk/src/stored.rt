@@ -16,9 +16,9 @@ use rr_auth::{Book, Secrets};
 use rr_index::IndexedBook;
 use rr_object::{Key, Object};
 use rr_registry::{Outcome, Registry};
-use rr_store::{Store, StoreFault};
+use rr_store::{IdleConnection, Store, StoreFault};
 use rr_submission::{KeyedItem, Ledger, Stopped};
-use sqlite::{Alter, Connection, Error, ErrorCode};
+use sqlite::{Alter, Error, ErrorCode};
 use std::alloc::Global;
 use std::marker::Model;
 
@@ -85,11 +85,9 @@ impl<S: Alter> Stored<S> {
         &self.registry
     }
 
-    /// Takes it apart and returns the connection, open or shut as it is, in no transaction; the
-    /// rows stay.
-    pub fn close(self) -> Connection<S>
-        ensures same { result ≡ self.store }
-        ensures autocommit { result.in_transaction ≡ false }
+    /// Takes it apart and returns the connection, open or shut as it is; the rows stay.
+    pub fn close(self) -> IdleConnection<S>
+        ensures { result ≡ self.store }
     {
         let Stored { store, .. } = self;
         store.close()
@@ -106,6 +104,8 @@ impl<S: Alter> Ledger for Stored<S> {
     ghost Stops = { (stock_ledger S.Store).Stops };
 
     ghost Lasts = { (stock_ledger S.Store).Lasts };
+
+    ghost Kept = { (stock_ledger S.Store).Kept };
 
     // The two laws give the record of the store's ghosts part by part, because there `S.Store` is
     // none.
@@ -130,8 +130,7 @@ impl<S: Alter> Ledger for Stored<S> {
     }) };
 
     fn stopped(&self) -> bool {
-        // Called for its contract: the registry is sound.
-        let _ = self.registry.book();
+        prove!(self.registry.is_sound());
         self.cause.is_some()
     }
 

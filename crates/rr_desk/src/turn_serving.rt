@@ -41,8 +41,7 @@ pub fn serve_all<S: Alter, P: Peers, V: Service>(
             served += 1;
         }
     }
-    // Called for its contract: the rows are those of the registry.
-    let _ = desk.stored.stopped();
+    prove!(desk.keeps_its_rows());
     Served {
         served,
         failed: count - served,

@@ -21,16 +21,22 @@ use Rattle.std.proofs.lemmas.List.Elements.{Contains-append_right, Contains-push
 use Rattle.std.proofs.lemmas.Map.Keys.{sorted_head, sorted_tail}
 use Rattle.std.proofs.lemmas.Map.Lookups.{CmpEqualImpliesEq, exact_pairs}
 use Rattle.std.proofs.lemmas.Map.Views.{tells_apart}
+use Rattle.rr_graph.specs.Answered.{ListsInOrder}
 use Rattle.rr_graph.specs.Carried.{IsFound, IsFoundPair, IsLabelledChain, IsReachedFrom}
 use Rattle.rr_graph.specs.Carried.{put_through}
 use Rattle.rr_graph.specs.Chain.{HasNoRepeats, MoreThan}
-use Rattle.rr_graph.specs.SettledParts.{HasEdges, IsAmong, IsFoundAmong, IsHeld, IsHeldOr, IsPassed}
-use Rattle.rr_graph.specs.SettledParts.{HoldsAllValues, IsTallied}
+use Rattle.rr_graph.specs.SettledParts.{HoldsAllValues, IsAmong, IsFoundAmong, IsHeld, IsHeldOr}
+use Rattle.rr_graph.specs.SettledParts.{IsPassed, IsTallied}
 use Rattle.rr_graph.specs.declared.labels.Edge.{Edge}
 use Rattle.rr_graph.proofs.Backwards.{Contains-take, Contains-take_cases}
 use Rattle.rr_graph.proofs.Listings.{HasNoRepeats-push, MoreThan-listed}
 use Rattle.rr_graph.proofs.Lists.{Contains-filter_map, Contains-head, Contains-later, Contains-map}
 use Rattle.rr_graph.proofs.Lists.{Contains-nil}
+
+-- The edges are those that leave the node.
+abbrev pub HasEdges : {N L : Type 0} → (N → N → L → Type 0) → N → List (Edge N L) → Type 0
+HasEdges {N} {L} edge node edges = (to : N) (label : L) →
+    Contains edges (record { to = to; label = label }) ↔ edge node to label
 
 -- an option that has something
 pub some_of : {X : Type 0} (o : Option X) → is_some o ≡ true → (x : X) × (o ≡ Some x)
@@ -290,7 +296,7 @@ module _ {N L V : Type 0} (edge : N → N → L → Type 0) (own : N → V → T
     on : own node v ⊎ IsPassed passed at edges v → IsFound edge own passed node v
     on (inl owned) = ([], node, v, refl, owned, refl)
     on (inr (e, among, (w, (held, is, has), through))) =
-        let (chain, b, start, leads, owned, put) = ((settled e.to held is).0 w).0 has in (
+        let (chain, b, start, leads, owned, put) = ((settled e.to held is).all w).0 has in (
           e ∷ chain,
           b,
           start,
@@ -326,7 +332,7 @@ module _ {N L V : Type 0} (edge : N → N → L → Type 0) (own : N → V → T
               (
                 held.0,
                 held.1,
-                ((settled e.to held.0 held.1).0 w).1 (
+                ((settled e.to held.0 held.1).all w).1 (
                   chain,
                   b,
                   start,
@@ -392,11 +398,10 @@ module _ {N L V : Type 0} (edge : N → N → L → Type 0) (own : N → V → T
 
     -- the new node is settled too
     pub HoldsAllValues-entered : HoldsAllValues edge own passed value_cmp at →
-        ((v : V) → Contains values v ↔ IsFound edge own passed tail v) → IsStrictlySortedBy
-        value_cmp values → HoldsAllValues edge own passed value_cmp new
-    HoldsAllValues-entered settled found sorted =
-        entered (λ n held. ((v : V) → Contains held v ↔ IsFound edge own passed n v)
-        × IsStrictlySortedBy value_cmp held) (found, sorted) settled
+        ListsInOrder value_cmp (IsFound edge own passed tail) values →
+        HoldsAllValues edge own passed value_cmp new
+    HoldsAllValues-entered settled found =
+        entered (λ n held. ListsInOrder value_cmp (IsFound edge own passed n) held) found settled
 
     -- no other node is
     pub only_entered : (other : N) → is_some (new other) ≡ true → (is_some (at other) ≡ true)
@@ -411,7 +416,7 @@ module _ {N L V : Type 0} (edge : N → N → L → Type 0) (own : N → V → T
       → IsAmong nodes at → Contains nodes node → (p : N × V) →
       IsHeldOr at node (IsFound edge own passed node) p → IsFoundAmong edge own passed nodes p
   IsFoundAmong-held nodes node settled among there p (inl (held, is, has)) =
-      (among p.0 held is, ((settled p.0 held is).0 p.1).0 has)
+      (among p.0 held is, ((settled p.0 held is).all p.1).0 has)
   IsFoundAmong-held nodes node settled among there p (inr (same, found)) = (
     subst (Contains nodes) (sym same) there,
     subst (λ (n : N). IsFound edge own passed n p.1)
@@ -442,4 +447,4 @@ few_settled {N} {L} {V} {cmp} order exact {value_cmp} value_order value_exact ed
     limit tallied.pairs (IsFoundPair edge own passed start) (rw tallied.long tallied.few)
     (λ p (name, found).
     let held = some_of (at p.0) (known p.0 name) in
-    (tallied.same p).1 (held.0, held.1, ((settled p.0 held.0 held.1).0 p.1).1 found))
+    (tallied.same p).1 (held.0, held.1, ((settled p.0 held.0 held.1).all p.1).1 found))

@@ -1,4 +1,5 @@
 pub mod Listings
+pub mod Finding
 pub mod Reached
 pub mod Lists
 pub mod Backwards

@@ -170,13 +170,13 @@ module _ {N : Type 0} {cmp : N → N → Ordering} (order : IsTotalOrder cmp)
   -- a full list and a node that it lacks
   pub MoreThan-push : (limit : ℕ) (list : List N) (index : BTreeSet N) (node : N) →
       IsListing cmp limit list index → contains cmp index node ≡ false → limit ≤ length list →
-      MoreThan limit (λ other. Contains list other ⊎ (other ≡ node))
+      MoreThan limit (λ other. Contains list other ⊎ Contains (node ∷ []) other)
   MoreThan-push limit list index node kept absent full =
       let few : length list ≤ limit = kept.few in
-      let P : N → Type 0 = λ other. Contains list other ⊎ (other ≡ node) in (
+      let P : N → Type 0 = λ other. Contains list other ⊎ Contains (node ∷ []) other in (
         list ++ node ∷ [],
         rw length_push (omega arith),
         HasNoRepeats-push list node kept.once (IsListing-absent limit list index node kept absent),
         All-push P list node (All-weaker (Contains list) P (λ other h. inl h) list
-            (All-contains_itself list)) (inr refl),
+            (All-contains_itself list)) (inr (Contains-push [] node)),
       )

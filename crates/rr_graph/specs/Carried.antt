@@ -2,7 +2,10 @@
 -- at the node that it leaves too, once the edge's label has passed it.
 use Rattle.std.specs.Prelude.{◌≡◌, ◌↔◌, ◌⊎◌, ◌∷◌, ℕ, List, [], Option}
 use Rattle.std.specs.Prelude.{Contains, Some, option_and_then}
-use Rattle.rr_graph.specs.Chain.{IsReached, MoreThan}
+use Rattle.std.specs.declared.cmp.Ordering.{Ordering}
+use Rattle.rr_graph.specs.Answered.{ListsInOrder}
+use Rattle.rr_graph.specs.Chain.{AreReached, IsReached, MoreThan}
+use Rattle.rr_graph.specs.declared.gathering.Gathered.{Gathered}
 use Rattle.rr_graph.specs.declared.labels.Edge.{Edge}
 
 module _ {N L : Type 0} (edge : N → N → L → Type 0) where
@@ -24,6 +27,10 @@ module _ {N L : Type 0} (edge : N → N → L → Type 0) where
   abbrev pub AreReachedFrom : N → List N → Type 0
   AreReachedFrom start nodes = (node : N) → Contains nodes node ↔ IsReachedFrom start node
 
+  -- They are those, each listed once.
+  abbrev pub AreMetFrom : N → List N → Type 0
+  AreMetFrom start nodes = AreReached Leads (start ∷ []) nodes
+
 -- What becomes of a value that is put through the labels of a chain, the last first, unless a label
 -- drops it. (profile)
 abbrev pub put_through : {N L V : Type 0} → (L → V → Option V) → List (Edge N L) → V
@@ -40,10 +47,6 @@ module _ {N L V : Type 0} (edge : N → N → L → Type 0) (own : N → V → T
       (chain : List (Edge N L)) × (b : N) × (start : V) × IsLabelledChain edge a chain b
       × own b start × (put_through passed chain start ≡ Some value)
 
-  -- The values are those that are found at the node.
-  abbrev pub AreFound : N → List V → Type 0
-  AreFound node values = (value : V) → Contains values value ↔ IsFound node value
-
   -- A node that is reached from the start, with a value that is found at it.
   abbrev pub IsFoundPair : N → N × V → Type 0
   IsFoundPair start p = IsReachedFrom edge start p.0 × IsFound p.0 p.1
@@ -56,3 +59,10 @@ module _ {N L V : Type 0} (edge : N → N → L → Type 0) (own : N → V → T
   -- found at it. (profile)
   abbrev pub IsTooMany : ℕ → N → Type 0
   IsTooMany limit start = MoreThan limit (IsReachedFrom edge start) ⊎ HasManyPairs limit start
+
+  -- What is gathered at the start: the nodes that are reached from it, and the values that are
+  -- found at it, in ascending order.
+  pub record IsGathered (cmp : V → V → Ordering) (start : N) (gathered : Gathered N V)
+      : Type 0 where
+    pub nodes : AreMetFrom edge start gathered.nodes.items
+    pub values : ListsInOrder cmp (IsFound start) gathered.values.items

@@ -1,6 +1,6 @@
 -- What a graph's edges reach. An edge is a relation between nodes: nothing here says how nodes are
 -- found.
-use Rattle.std.specs.Prelude.{◌≡◌, ◌≢◌, ℕ, ◌+◌, List, [], ◌∷◌, length}
+use Rattle.std.specs.Prelude.{◌≡◌, ◌≢◌, ◌↔◌, ℕ, ◌+◌, List, [], ◌∷◌, length}
 use Rattle.std.specs.Prelude.{Contains, All, AllPairs}
 
 -- Edges lead from `a` through each node of the list in turn, the last of which is `b`. The empty
@@ -17,6 +17,11 @@ IsReached {N} edge starts b =
 -- Each thing is listed once. (profile)
 abbrev pub HasNoRepeats : {X : Type 0} → List X → Type 0
 HasNoRepeats xs = AllPairs (λ x y. x ≢ y) xs
+
+-- The nodes are those to which chains lead from the starts, each listed once. (profile)
+pub record AreReached {N : Type 0} (edge : N → N → Type 0) (starts nodes : List N) : Type 0 where
+  pub all : (node : N) → Contains nodes node ↔ IsReached edge starts node
+  pub once : HasNoRepeats nodes
 
 -- More than `limit` things have the property: a list without repeats of `limit + 1` of them exists.
 -- (profile)

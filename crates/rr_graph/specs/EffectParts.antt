@@ -1,7 +1,7 @@
 -- Edges that are enough for a value: all that keep values, and of the others to one node that make
 -- the same of it, one. Private functions promise these; what a caller reads is in `Carried`.
 use Rattle.std.specs.Prelude.{◌≡◌, ◌⊎◌, Bool, List, Contains, Option, None, Some, IsTrue, IfSome}
-use Rattle.std.specs.Prelude.{filter, if◌then◌else◌}
+use Rattle.std.specs.Prelude.{filter, if◌then◌else◌, not}
 use Rattle.std.specs.declared.cmp.Ordering.{Ordering}
 use Rattle.std.specs.BTreeSet.{BTreeSet, contains}
 use Rattle.rr_graph.specs.declared.effects.Choice.{Choice}
@@ -56,6 +56,11 @@ module _ {N L V : Type 0} (keeps : L → Bool) (passed : L → V → Option V) w
 -- New has at most one mark more.
 abbrev pub AddsAtMost : {M : Type 0} → (M → Bool) → (M → Bool) → M → Type 0
 AddsAtMost {M} old new mark = (m : M) → IsTrue (new m) → IsTrue (old m) ⊎ (mark ≡ m)
+
+-- The mark is set; it is the first of its kind where it was not there yet.
+pub record SetsMark {M : Type 0} (old new : M → Bool) (mark : M) (first : Bool) : Type 0 where
+  pub is_first : first ≡ not (old mark)
+  pub marked : AddsAtMost old new mark
 
 -- The edges that are kept are enough, and the index has only what they make.
 pub record IsDistinct {N L V : Type 0} (cmp : N × V → N × V → Ordering)

@@ -1,3 +1,4 @@
+pub mod Answered
 pub mod Chain
 pub mod Carried
 pub mod ListingParts

@@ -1,10 +1,13 @@
 -- What a walk of a graph keeps: the nodes that it found in the order of finding, and an index of
 -- them.
 use Rattle.std.specs.Prelude.{◌≡◌, ℕ, ◌≤◌, ◌⊎◌, ◌↔◌, List, ◌++◌}
-use Rattle.std.specs.Prelude.{length, Contains, IsTrue}
+use Rattle.std.specs.Prelude.{length, Contains, IsTrue, OnOk, Err, Result}
 use Rattle.std.specs.declared.cmp.Ordering.{Ordering}
 use Rattle.std.specs.BTreeSet.{BTreeSet, contains}
-use Rattle.rr_graph.specs.Chain.{HasNoRepeats}
+use Rattle.rr_graph.specs.Chain.{HasNoRepeats, MoreThan}
+use Rattle.rr_graph.specs.declared.ReachFault.{ReachFault}
+use Rattle.rr_graph.specs.declared.ReachFault.TheVariants.{TooMany}
+use Rattle.rr_graph.specs.declared.walk.Found.{Found}
 
 -- The index has exactly the listed nodes, of which there are at most `limit`, each once.
 pub record IsListing {N : Type 0} (cmp : N → N → Ordering) (limit : ℕ) (list : List N)
@@ -19,3 +22,11 @@ pub record Lists {N : Type 0} (old nodes new : List N) : Type 0 where
   pub after : new ≡ old ++ more
   pub all : (node : N) → Contains nodes node → Contains new node
   pub only : (node : N) → Contains new node → Contains old node ⊎ Contains nodes node
+
+-- A walk that keeps a listing adds the nodes to it, unless they and its own are too many.
+pub record AddsListed {N X : Type 0} (cmp : N → N → Ordering) (limit : ℕ) (nodes : List N)
+    (old new : Found N) (result : Result X ReachFault) : Type 0 where
+  pub listing : OnOk result (IsListing cmp limit new.list.items new.index)
+  pub added : OnOk result (Lists old.list.items nodes new.list.items)
+  pub many : result ≡ Err TooMany
+      → MoreThan limit (λ node. Contains old.list.items node ⊎ Contains nodes node)

@@ -6,17 +6,11 @@ use Rattle.std.specs.declared.cmp.Ordering.{Ordering}
 use Rattle.std.specs.Option.{option_map}
 use Rattle.std.specs.Global.{Vec}
 use Rattle.std.specs.BTreeMap.{BTreeMap, get}
-use Rattle.std.specs.List.Sorted.{IsStrictlySortedBy}
+use Rattle.rr_graph.specs.Answered.{ListsInOrder}
 use Rattle.rr_graph.specs.Carried.{IsFound}
 use Rattle.rr_graph.specs.Chain.{HasNoRepeats}
 use Rattle.rr_graph.specs.EffectParts.{Makes}
 use Rattle.rr_graph.specs.declared.labels.Edge.{Edge}
-
--- The edges are those that leave the node.
-abbrev pub HasEdges : {N L : Type 0} → (N → N → L → Type 0) → N → List (Edge N L)
-    → Type 0
-HasEdges {N} {L} edge node edges = (to : N) (label : L)
-    → Contains edges (record { to = to; label = label }) ↔ edge node to label
 
 module _ {N V : Type 0} where
   -- the values that a map of lists has for the node
@@ -50,8 +44,7 @@ module _ {N L V : Type 0} (edge : N → N → L → Type 0) (own : N → V → T
   -- A known node has exactly the values that are found at it, in order.
   abbrev pub HoldsAllValues : (V → V → Ordering) → (N → Option (List V)) → Type 0
   HoldsAllValues cmp at = (node : N) (values : List V) → at node ≡ Some values
-      → ((v : V) → Contains values v ↔ IsFound edge own passed node v)
-      × IsStrictlySortedBy cmp values
+      → ListsInOrder cmp (IsFound edge own passed node) values
 
   -- The pair of one of the nodes and a value that is found at it.
   abbrev pub IsFoundAmong : List N → N × V → Type 0

@@ -7,12 +7,19 @@ ghost use Rattle.std.specs.BTreeSet.{contains};
 ghost use Rattle.std.specs.List.{filter_map};
 ghost use Rattle.std.specs.Option.{option_map};
 ghost use Rattle.rr_graph.specs.EffectParts.{AddsAtMost, IsChoice, IsDistinct, IsEnough, IsKnown};
-ghost use Rattle.rr_graph.specs.EffectParts.{IsMadeBut, changed};
+ghost use Rattle.rr_graph.specs.EffectParts.{IsMadeBut, SetsMark, changed};
 ghost use Rattle.rr_graph.specs.declared.labels.Edge.{Edge};
 
 use crate::labels::{Edge, Labelled};
 use std::alloc::{AllocError, Global};
 use std::collections::{BTreeMap, BTreeSet};
+
+/// A node with edges that lead to it, over which its values are carried back.
+#[derive(Drop)]
+pub(crate) struct Head<'a, N, L> {
+    pub(crate) node: &'a N,
+    pub(crate) edges: &'a [Edge<N, L>],
+}
 
 /// For each node and each kind of values the edges that are enough for values of that kind, and
 /// which kinds and groups of values were put through those that change values. Many references
@@ -20,7 +27,8 @@ use std::collections::{BTreeMap, BTreeSet};
 /// operator but none tells `10.0.0.0/8^8-9` from `10.0.0.0/8^8-10`. So each effect is used once.
 /// The first group of a kind goes through all edges: mostly there is no second one.
 #[derive(Drop)]
-pub(crate) struct Effects<G: Labelled> {
+pub(crate) struct Effects<'a, G: Labelled> {
+    graph: &'a G,
     map: BTreeMap<(G::Node, G::Kind), Choice<G::Node, G::Label>>,
     marks: BTreeSet<((G::Node, G::Kind), G::Group)>,
 }
@@ -33,15 +41,16 @@ struct Choice<N, L> {
     changing: Option<Vec<Edge<N, L>>>,
 }
 
-impl<G: Labelled> Effects<G> {
+impl<'a, G: Labelled> Effects<'a, G> {
     /// None yet.
-    pub(crate) fn new(alloc: Global) -> Self
+    pub(crate) fn new(alloc: Global, graph: &'a G) -> Self
         ensures known { (key : G.Node × G.Kind)
             → get ⟦<(G::Node, G::Kind) as Ord>⟧.cmp result.map key ≡ None }
         ensures marks { (mark : (G.Node × G.Kind) × G.Group)
             → contains ⟦<((G::Node, G::Kind), G::Group) as Ord>⟧.cmp result.marks mark ≡ false }
     {
         Effects {
+            graph,
             map: BTreeMap::new(alloc),
             marks: BTreeSet::new(alloc),
         }
@@ -52,30 +61,39 @@ impl<G: Labelled> Effects<G> {
     pub(crate) fn made(
         &mut self,
         alloc: Global,
-        graph: &G,
-        node: &G::Node,
-        edges: &[Edge<G::Node, G::Label>],
+        head: &Head<'_, G::Node, G::Label>,
         value: G::Value,
     ) -> Result<Vec<(G::Node, G::Value)>, AllocError>
-        ensures known { (all : G.Node → List (Edge G.Node G.Label)) → all node.now ≡ edges.now
+        ensures made { (all : G.Node → List (Edge G.Node G.Label))
+            → all head.now.node.now ≡ head.now.edges.now
             → IsKnown G.keeps G.passed G.kind_of all
-            (get ⟦<(G::Node, G::Kind) as Ord>⟧.cmp self.old.map) → OnOk result (IsKnown G.keeps
-            G.passed G.kind_of all (get ⟦<(G::Node, G::Kind) as Ord>⟧.cmp self.new.map)) }
+            (get ⟦<(G::Node, G::Kind) as Ord>⟧.cmp self.old.map) → IfOk result
+            (λ pairs. IsMadeBut G.keeps G.passed head.now.edges.now value
+            (contains ⟦<((G::Node, G::Kind), G::Group) as Ord>⟧.cmp self.old.marks
+            ((head.now.node.now, G.kind_of value), G.group_of value)) pairs.items
+            × IsKnown G.keeps G.passed G.kind_of all
+            (get ⟦<(G::Node, G::Kind) as Ord>⟧.cmp self.new.map)) }
         ensures marked { OnOk result (AddsAtMost
             (contains ⟦<((G::Node, G::Kind), G::Group) as Ord>⟧.cmp self.old.marks)
             (contains ⟦<((G::Node, G::Kind), G::Group) as Ord>⟧.cmp self.new.marks)
-            ((node.now, G.kind_of value), G.group_of value)) }
-        ensures made { (all : G.Node → List (Edge G.Node G.Label)) → all node.now ≡ edges.now
-            → IsKnown G.keeps G.passed G.kind_of all
-            (get ⟦<(G::Node, G::Kind) as Ord>⟧.cmp self.old.map) → IfOk result
-            (λ pairs. IsMadeBut G.keeps G.passed edges.now value
-            (contains ⟦<((G::Node, G::Kind), G::Group) as Ord>⟧.cmp self.old.marks
-            ((node.now, G.kind_of value), G.group_of value)) pairs.items) }
+            ((head.now.node.now, G.kind_of value), G.group_of value)) }
     {
-        let first = self.mark(alloc, graph, node, value)?;
-        self.note(alloc, graph, node, edges, value, first)?;
-        let pairs = self.chosen(alloc, graph, node, edges, value, first)?;
+        let first = self.mark(alloc, head.node, value)?;
+        self.note(alloc, head, value, first)?;
+        let pairs = self.chosen(alloc, head, value, first)?;
         Ok(pairs)
+    }
+
+    /// The node and the kind of the value.
+    fn key(
+        &self,
+        alloc: Global,
+        node: &G::Node,
+        value: G::Value,
+    ) -> Result<(G::Node, G::Kind), AllocError>
+        ensures { IfOk result (λ key. key ≡ (node.now, G.kind_of value)) }
+    {
+        Ok((self.graph.copy(alloc, node)?, self.graph.kind(value)))
     }
 
     /// Notes of the node and the value's kind what the value needs, unless that is known: which of
@@ -83,43 +101,40 @@ impl<G: Labelled> Effects<G> {
     fn note(
         &mut self,
         alloc: Global,
-        graph: &G,
-        node: &G::Node,
-        edges: &[Edge<G::Node, G::Label>],
+        head: &Head<'_, G::Node, G::Label>,
         value: G::Value,
         first: bool,
     ) -> Result<(), AllocError>
-        ensures known { (all : G.Node → List (Edge G.Node G.Label)) → all node.now ≡ edges.now
-            → IsKnown G.keeps G.passed G.kind_of all
+        ensures known { (all : G.Node → List (Edge G.Node G.Label))
+            → all head.now.node.now ≡ head.now.edges.now → IsKnown G.keeps G.passed G.kind_of all
             (get ⟦<(G::Node, G::Kind) as Ord>⟧.cmp self.old.map) → OnOk result (IsKnown G.keeps
             G.passed G.kind_of all (get ⟦<(G::Node, G::Kind) as Ord>⟧.cmp self.new.map)) }
         ensures marks { self.new.marks ≡ self.old.marks }
     {
-        let key = (graph.copy(alloc, node)?, graph.kind(value));
-        if let Some(choice) = self.lacking(alloc, graph, &key, edges, value, first)? {
+        if let Some(choice) = self.lacking(alloc, head, value, first)? {
+            let key = self.key(alloc, head.node, value)?;
             self.map.insert(key, choice)?;
         }
         Ok(())
     }
 
-    /// What the value needs and is not known under the key.
+    /// What the value needs and is not known of its kind at the node.
     fn lacking(
         &self,
         alloc: Global,
-        graph: &G,
-        key: &(G::Node, G::Kind),
-        edges: &[Edge<G::Node, G::Label>],
+        head: &Head<'_, G::Node, G::Label>,
         value: G::Value,
         first: bool,
     ) -> Result<Option<Choice<G::Node, G::Label>>, AllocError>
         ensures { IfOk result (λ lacking. IfSome lacking
-            (λ choice. IsChoice G.keeps G.passed edges.now value choice)) }
+            (λ choice. IsChoice G.keeps G.passed head.now.edges.now value choice)) }
     {
-        match self.map.get(key) {
-            None => Ok(Some(begin(alloc, graph, edges)?)),
+        let key = self.key(alloc, head.node, value)?;
+        match self.map.get(&key) {
+            None => Ok(Some(begin(alloc, self.graph, head.edges)?)),
             Some(choice) => {
                 if first && choice.changing.is_none() {
-                    Ok(Some(choose(alloc, graph, edges, value)?))
+                    Ok(Some(choose(alloc, self.graph, head.edges, value)?))
                 } else {
                     Ok(None)
                 }
@@ -128,24 +143,15 @@ impl<G: Labelled> Effects<G> {
     }
 
     /// Marks the kind and group of the value at the node, and tells whether they were not yet.
-    fn mark(
-        &mut self,
-        alloc: Global,
-        graph: &G,
-        node: &G::Node,
-        value: G::Value,
-    ) -> Result<bool, AllocError>
-        ensures first { IfOk result
-            (λ first. first ≡ not (contains ⟦<((G::Node, G::Kind), G::Group) as Ord>⟧.cmp
-            self.old.marks ((node.now, G.kind_of value), G.group_of value))) }
-        ensures marked { OnOk result (AddsAtMost
+    fn mark(&mut self, alloc: Global, node: &G::Node, value: G::Value) -> Result<bool, AllocError>
+        ensures marked { IfOk result (SetsMark
             (contains ⟦<((G::Node, G::Kind), G::Group) as Ord>⟧.cmp self.old.marks)
             (contains ⟦<((G::Node, G::Kind), G::Group) as Ord>⟧.cmp self.new.marks)
             ((node.now, G.kind_of value), G.group_of value)) }
         ensures map { self.new.map ≡ self.old.map }
     {
-        let kind = (graph.copy(alloc, node)?, graph.kind(value));
-        let first = self.marks.insert((kind, graph.group(value)))?;
+        let key = self.key(alloc, node, value)?;
+        let first = self.marks.insert((key, self.graph.group(value)))?;
         Ok(first)
     }
 
@@ -154,42 +160,38 @@ impl<G: Labelled> Effects<G> {
     fn chosen(
         &self,
         alloc: Global,
-        graph: &G,
-        node: &G::Node,
-        edges: &[Edge<G::Node, G::Label>],
+        head: &Head<'_, G::Node, G::Label>,
         value: G::Value,
         first: bool,
     ) -> Result<Vec<(G::Node, G::Value)>, AllocError>
-        ensures { (all : G.Node → List (Edge G.Node G.Label)) → all node.now ≡ edges.now
-            → IsKnown G.keeps G.passed G.kind_of all
+        ensures { (all : G.Node → List (Edge G.Node G.Label))
+            → all head.now.node.now ≡ head.now.edges.now → IsKnown G.keeps G.passed G.kind_of all
             (get ⟦<(G::Node, G::Kind) as Ord>⟧.cmp self.now.map) → IfOk result
-            (λ pairs. IsMadeBut G.keeps G.passed edges.now value (not first) pairs.items) }
+            (λ pairs. IsMadeBut G.keeps G.passed head.now.edges.now value (not first) pairs.items) }
     {
-        let key = (graph.copy(alloc, node)?, graph.kind(value));
-        match self.map.get(&key) {
-            Some(choice) => choice.carried(alloc, graph, edges, value, first),
-            None => carried(alloc, graph, edges, value),
+        let key = self.key(alloc, head.node, value)?;
+        let Some(choice) = self.map.get(&key) else {
+            return carried(alloc, self.graph, head.edges, value);
+        };
+        if first {
+            return choice.carried(alloc, self.graph, head.edges, value);
         }
+        carried(alloc, self.graph, &choice.keeping, value)
     }
 }
 
 impl<N: Drop, L: Copy + Drop> Choice<N, L> {
-    /// The pairs of a node and what an edge to it makes of the value: those that keep values, and
-    /// also the others, if that is wanted.
+    /// The pairs of a node and what an edge to it makes of the value.
     fn carried<G: Labelled<Node = N, Label = L>>(
         &self,
         alloc: Global,
         graph: &G,
         edges: &[Edge<N, L>],
         value: G::Value,
-        others: bool,
     ) -> Result<Vec<(N, G::Value)>, AllocError>
         ensures { IsChoice G.keeps G.passed edges.now value self.now → IfOk result
-            (λ pairs. IsMadeBut G.keeps G.passed edges.now value (not others) pairs.items) }
+            (λ pairs. IsMadeBut G.keeps G.passed edges.now value false pairs.items) }
     {
-        if !others {
-            return carried(alloc, graph, &self.keeping, value);
-        }
         let Some(changing) = &self.changing else {
             return carried(alloc, graph, edges, value);
         };

@@ -1,11 +1,10 @@
 //! Which values are found at a node of a labelled graph.
 
-ghost use Rattle.std.specs.Prelude.{◌≡◌, ◌↔◌, Contains, IfOk, OnOk, map};
-ghost use Rattle.rr_graph.specs.Chain.{HasNoRepeats, MoreThan};
-ghost use Rattle.std.specs.List.Sorted.{IsStrictlySortedBy};
-ghost use Rattle.rr_graph.specs.Carried.{AreFound, AreReachedFrom, HasManyPairs, IsReachedFrom};
-ghost use Rattle.rr_graph.specs.Carried.{IsTooMany};
-ghost use Rattle.rr_graph.specs.Carried.{Leads};
+ghost use Rattle.std.specs.Prelude.{◌≡◌, ◌↔◌, Contains, IfOk, map};
+ghost use Rattle.rr_graph.specs.Answered.{FindsWithin, ListsInOrder};
+ghost use Rattle.rr_graph.specs.Carried.{AreMetFrom, AreReachedFrom, HasManyPairs, IsFound};
+ghost use Rattle.rr_graph.specs.Carried.{IsGathered, IsReachedFrom, IsTooMany, Leads};
+ghost use Rattle.rr_graph.specs.Chain.{MoreThan};
 ghost use Rattle.rr_graph.specs.ReversedParts.{IsCarriedPair};
 
 use crate::backward::reversed;
@@ -14,7 +13,7 @@ use crate::labels::{Edge, Labelled};
 use crate::numbered::Numbered;
 use crate::order::ascending;
 use crate::pairs::{Pairs, own_pairs, reach_back};
-use crate::settling::settled;
+use crate::settling::{Ordered, settled};
 use crate::{Graph, ReachFault, reach};
 use std::alloc::{AllocError, Global};
 use std::collections::BTreeSet;
@@ -55,12 +54,8 @@ fn reached_from<G: Labelled>(
     start: &G::Node,
     limit: usize,
 ) -> Result<Vec<G::Node>, ReachFault>
-    ensures found { IfOk result
-        (λ nodes. AreReachedFrom (G.edge graph.now) start.now nodes.items) }
-    ensures once { IfOk result (λ nodes. HasNoRepeats nodes.items) }
-    ensures few { OnOk result (¬ MoreThan limit (IsReachedFrom (G.edge graph.now) start.now)) }
-    ensures many { result ≡ Err ReachFault.TooMany
-        → MoreThan limit (IsReachedFrom (G.edge graph.now) start.now) }
+    ensures { FindsWithin (λ nodes. AreMetFrom (G.edge graph.now) start.now nodes.items)
+        (MoreThan limit (IsReachedFrom (G.edge graph.now) start.now)) result }
 {
     let mut starts = Vec::new(alloc);
     starts.push(graph.copy(alloc, start)?)?;
@@ -94,17 +89,9 @@ pub fn gather<G: Labelled>(
     start: &G::Node,
     limit: usize,
 ) -> Result<Gathered<G::Node, G::Value>, ReachFault>
-    ensures nodes { IfOk result
-        (λ gathered. AreReachedFrom (G.edge graph.now) start.now gathered.nodes.items) }
-    ensures once { IfOk result (λ gathered. HasNoRepeats gathered.nodes.items) }
-    ensures values { IfOk result (λ gathered. AreFound
-        (G.edge graph.now) (G.own graph.now) G.passed start.now gathered.values.items) }
-    ensures sorted { IfOk result
-        (λ gathered. IsStrictlySortedBy G.Value.cmp gathered.values.items) }
-    ensures few { OnOk result
-        (¬ IsTooMany (G.edge graph.now) (G.own graph.now) G.passed limit start.now) }
-    ensures many { result ≡ Err ReachFault.TooMany
-        → IsTooMany (G.edge graph.now) (G.own graph.now) G.passed limit start.now }
+    ensures { FindsWithin
+        (IsGathered (G.edge graph.now) (G.own graph.now) G.passed G.Value.cmp start.now)
+        (IsTooMany (G.edge graph.now) (G.own graph.now) G.passed limit start.now) result }
 {
     let nodes = reached_from(alloc, graph, start, limit)?;
     let values = found_among(alloc, graph, &nodes, start, limit)?;
@@ -120,54 +107,49 @@ fn found_among<G: Labelled>(
     start: &G::Node,
     limit: usize,
 ) -> Result<Vec<G::Value>, ReachFault>
-    requires reached_from { AreReachedFrom (G.edge graph.now) start.now nodes.now }
-    requires once { HasNoRepeats nodes.now }
-    ensures found { IfOk result (λ values. AreFound
-        (G.edge graph.now) (G.own graph.now) G.passed start.now values.items) }
-    ensures sorted { IfOk result (λ values. IsStrictlySortedBy G.Value.cmp values.items) }
-    ensures few { OnOk result
-        (¬ HasManyPairs (G.edge graph.now) (G.own graph.now) G.passed limit start.now) }
-    ensures many { result ≡ Err ReachFault.TooMany
-        → HasManyPairs (G.edge graph.now) (G.own graph.now) G.passed limit start.now }
+    requires { AreMetFrom (G.edge graph.now) start.now nodes.now }
+    ensures { FindsWithin (λ values. ListsInOrder G.Value.cmp
+        (IsFound (G.edge graph.now) (G.own graph.now) G.passed start.now) values.items)
+        (HasManyPairs (G.edge graph.now) (G.own graph.now) G.passed limit start.now) result }
 {
     let numbered = Numbered::new(alloc, graph, nodes)?;
     let places = numbered.all(alloc)?;
     match numbered.place(start) {
         Some(place) => {
             let order = ends_first(alloc, &numbered, place)?;
-            found_at(alloc, &numbered, &places, &order, &place, limit)
+            let ordered = Ordered {
+                nodes: &places,
+                order: &order,
+            };
+            found_at(alloc, &numbered, &ordered, &place, limit)
         }
         None => Ok(Vec::new(alloc)),
     }
 }
 
 /// The values that are found at the start, in ascending order, where the nodes are those that are
-/// reached from it, to be looked at in this order of their places.
+/// reached from it.
 fn found_at<G: Labelled>(
     alloc: Global,
     graph: &G,
-    nodes: &[G::Node],
-    order: &[u32],
+    ordered: &Ordered<'_, G::Node>,
     start: &G::Node,
     limit: usize,
 ) -> Result<Vec<G::Value>, ReachFault>
-    requires { AreReachedFrom (G.edge graph.now) start.now nodes.now }
-    ensures found { IfOk result (λ values. AreFound
-        (G.edge graph.now) (G.own graph.now) G.passed start.now values.items) }
-    ensures sorted { IfOk result (λ values. IsStrictlySortedBy G.Value.cmp values.items) }
-    ensures few { OnOk result
-        (¬ HasManyPairs (G.edge graph.now) (G.own graph.now) G.passed limit start.now) }
-    ensures many { result ≡ Err ReachFault.TooMany
-        → HasManyPairs (G.edge graph.now) (G.own graph.now) G.passed limit start.now }
+    requires { AreReachedFrom (G.edge graph.now) start.now ordered.now.nodes.now }
+    ensures { FindsWithin (λ values. ListsInOrder G.Value.cmp
+        (IsFound (G.edge graph.now) (G.own graph.now) G.passed start.now) values.items)
+        (HasManyPairs (G.edge graph.now) (G.own graph.now) G.passed limit start.now) result }
 {
-    let settled = settled(alloc, graph, nodes, order, limit)?;
-    match settled.into_values(nodes, start) {
+    let settled = settled(alloc, graph, ordered, limit)?;
+    match settled.into_values(ordered.nodes, start) {
         Some(values) => Ok(values),
-        None => walked(alloc, graph, nodes, start, limit),
+        None => walked(alloc, graph, ordered.nodes, start, limit),
     }
 }
 
-/// The same, over nodes that rings of edges may be reached from.
+/// The values that are carried back to the start from one of the nodes over edges between them, in
+/// ascending order, whatever rings these form.
 fn walked<G: Labelled>(
     alloc: Global,
     graph: &G,
@@ -175,14 +157,10 @@ fn walked<G: Labelled>(
     start: &G::Node,
     limit: usize,
 ) -> Result<Vec<G::Value>, ReachFault>
-    requires { AreReachedFrom (G.edge graph.now) start.now nodes.now }
-    ensures found { IfOk result (λ values. AreFound
-        (G.edge graph.now) (G.own graph.now) G.passed start.now values.items) }
-    ensures sorted { IfOk result (λ values. IsStrictlySortedBy G.Value.cmp values.items) }
-    ensures few { OnOk result
-        (¬ HasManyPairs (G.edge graph.now) (G.own graph.now) G.passed limit start.now) }
-    ensures many { result ≡ Err ReachFault.TooMany
-        → HasManyPairs (G.edge graph.now) (G.own graph.now) G.passed limit start.now }
+    ensures { FindsWithin (λ values. ListsInOrder G.Value.cmp (λ value. IsCarriedPair
+        (G.edge graph.now) (G.own graph.now) G.passed nodes.now (start.now, value)) values.items)
+        (MoreThan limit (IsCarriedPair (G.edge graph.now) (G.own graph.now) G.passed nodes.now))
+        result }
 {
     let pairs = found_pairs(alloc, graph, nodes, limit)?;
     let values = values_at::<G>(alloc, &pairs, start)?;
@@ -197,12 +175,10 @@ fn found_pairs<G: Labelled>(
     nodes: &[G::Node],
     limit: usize,
 ) -> Result<Vec<(G::Node, G::Value)>, ReachFault>
-    ensures found { IfOk result (λ pairs. (p : _) → Contains pairs.items p
-        ↔ IsCarriedPair (G.edge graph.now) (G.own graph.now) G.passed nodes.now p) }
-    ensures few { OnOk result (¬ MoreThan limit
-        (IsCarriedPair (G.edge graph.now) (G.own graph.now) G.passed nodes.now)) }
-    ensures many { result ≡ Err ReachFault.TooMany
-        → MoreThan limit (IsCarriedPair (G.edge graph.now) (G.own graph.now) G.passed nodes.now) }
+    ensures { FindsWithin (λ pairs. (p : _) → Contains pairs.items p
+        ↔ IsCarriedPair (G.edge graph.now) (G.own graph.now) G.passed nodes.now p)
+        (MoreThan limit (IsCarriedPair (G.edge graph.now) (G.own graph.now) G.passed nodes.now))
+        result }
 {
     let starts = own_pairs(alloc, graph, nodes)?;
     let backward = reversed(alloc, graph, nodes)?;
@@ -219,9 +195,8 @@ fn values_at<G: Labelled>(
     pairs: &[(G::Node, G::Value)],
     node: &G::Node,
 ) -> Result<Vec<G::Value>, AllocError>
-    ensures found { IfOk result (λ values. (value : G.Value)
-        → Contains values.items value ↔ Contains pairs.now (node.now, value)) }
-    ensures sorted { IfOk result (λ values. IsStrictlySortedBy G.Value.cmp values.items) }
+    ensures { IfOk result (λ values. ListsInOrder G.Value.cmp
+        (λ value. Contains pairs.now (node.now, value)) values.items) }
 {
     let mut values = BTreeSet::new(alloc);
     for pair in pairs {

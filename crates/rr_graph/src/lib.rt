@@ -2,9 +2,10 @@
 //! can be listed.
 #![tactic(auto)]
 
-ghost use Rattle.std.specs.Prelude.{◌≡◌, ◌↔◌, Contains, IfOk, OnOk};
+ghost use Rattle.std.specs.Prelude.{◌≡◌, ◌↔◌, Contains, IfOk};
 ghost use Rattle.std.proofs.lemmas.Map.Lookups.{CmpEqualImpliesEq};
-ghost use Rattle.rr_graph.specs.Chain.{HasNoRepeats, IsReached, MoreThan};
+ghost use Rattle.rr_graph.specs.Answered.{FindsWithin};
+ghost use Rattle.rr_graph.specs.Chain.{AreReached, IsReached, MoreThan};
 
 mod backward;
 mod descent;
@@ -16,7 +17,6 @@ mod order;
 mod pairs;
 mod settled;
 mod settling;
-mod tails;
 mod walk;
 
 pub use gathering::{Gathered, gather};
@@ -93,12 +93,8 @@ pub fn reach<G: Graph>(
     starts: Vec<G::Node>,
     limit: usize,
 ) -> Result<Vec<G::Node>, ReachFault>
-    ensures found { IfOk result (λ nodes. (node : G.Node)
-        → Contains nodes.items node ↔ IsReached (G.edge graph.now) starts.items node) }
-    ensures once { IfOk result (λ nodes. HasNoRepeats nodes.items) }
-    ensures few { OnOk result (¬ MoreThan limit (IsReached (G.edge graph.now) starts.items)) }
-    ensures many { result ≡ Err ReachFault.TooMany
-        → MoreThan limit (IsReached (G.edge graph.now) starts.items) }
+    ensures { FindsWithin (λ nodes. AreReached (G.edge graph.now) starts.items nodes.items)
+        (MoreThan limit (IsReached (G.edge graph.now) starts.items)) result }
 {
     let mut found = Found::new(alloc);
     found.add_all(alloc, graph, starts, limit)?;

@@ -1,8 +1,8 @@
 //! Sets as sorted lists.
 
-ghost use Rattle.std.specs.Prelude.{◌≡◌, ◌↔◌, Contains, IfOk};
+ghost use Rattle.std.specs.Prelude.{◌≡◌, IfOk};
 ghost use Rattle.std.specs.List.Sorted.{IsStrictlySortedBy};
-ghost use Rattle.std.proofs.lemmas.Map.Lookups.{CmpEqualImpliesEq};
+ghost use Rattle.rr_graph.specs.Answered.{PutsInOrder};
 
 use std::alloc::{AllocError, Global};
 use std::collections::BTreeSet;
@@ -17,9 +17,7 @@ pub fn ascending<T: Ord + Drop>(alloc: Global, set: BTreeSet<T>) -> Result<Vec<T
 
 /// Puts the list in ascending order, without repeats.
 pub fn put_in_order<T: Ord + Drop>(list: &mut Vec<T>)
-    ensures sorted { IsStrictlySortedBy T.cmp list.new.items }
-    ensures same { CmpEqualImpliesEq T.cmp → (x : T)
-        → Contains list.new.items x ↔ Contains list.old.items x }
+    ensures { PutsInOrder T.cmp list.old.items list.new.items }
 {
     list.sort_unstable();
     list.dedup();

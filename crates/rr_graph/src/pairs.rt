@@ -1,6 +1,7 @@
 //! Pairs of a node and a value that is found at it.
 
 ghost use Rattle.std.specs.Prelude.{◌≡◌, ◌↔◌, ◌++◌, Contains, IfOk, OnOk, map};
+ghost use Rattle.rr_graph.specs.Answered.{FindsWithin};
 ghost use Rattle.rr_graph.specs.Chain.{IsReached, MoreThan};
 ghost use Rattle.std.specs.BTreeMap.{get};
 ghost use Rattle.std.specs.BTreeSet.{contains};
@@ -9,7 +10,7 @@ ghost use Rattle.std.proofs.lemmas.Map.Lookups.{exact_pairs};
 ghost use Rattle.rr_graph.specs.ReversedParts.{edges_at, IsOwnPair, LeadsBack};
 
 use crate::backward::Backward;
-use crate::effects::{Effects, carried};
+use crate::effects::{Effects, Head, carried};
 use crate::labels::Labelled;
 use crate::walk::Found;
 use crate::{Graph, ReachFault};
@@ -56,7 +57,7 @@ const FEW: usize = 4;
 fn carried_back<G: Labelled>(
     alloc: Global,
     pairs: &Pairs<'_, G>,
-    effects: &mut Effects<G>,
+    effects: &mut Effects<'_, G>,
     pair: &(G::Node, G::Value),
 ) -> Result<Vec<(G::Node, G::Value)>, AllocError>
     requires { IsKnown G.keeps G.passed G.kind_of (edges_at G.Node.cmp pairs.now.backward.now.map)
@@ -77,7 +78,11 @@ fn carried_back<G: Labelled>(
     if edges.len() <= FEW {
         return carried(alloc, pairs.graph, edges, pair.1);
     }
-    let made = effects.made(alloc, pairs.graph, &pair.0, edges, pair.1)?;
+    let head = Head {
+        node: &pair.0,
+        edges,
+    };
+    let made = effects.made(alloc, &head, pair.1)?;
     Ok(made)
 }
 
@@ -89,14 +94,13 @@ pub(crate) fn reach_back<G: Labelled>(
     starts: Vec<(G::Node, G::Value)>,
     limit: usize,
 ) -> Result<Vec<(G::Node, G::Value)>, ReachFault>
-    ensures found { IfOk result (λ found. (p : _) → Contains found.items p ↔ IsReached
-        (LeadsBack G.passed (edges_at G.Node.cmp pairs.now.backward.now.map)) starts.items p) }
-    ensures few { OnOk result (¬ MoreThan limit (IsReached
-        (LeadsBack G.passed (edges_at G.Node.cmp pairs.now.backward.now.map)) starts.items)) }
-    ensures many { result ≡ Err ReachFault.TooMany → MoreThan limit (IsReached
-        (LeadsBack G.passed (edges_at G.Node.cmp pairs.now.backward.now.map)) starts.items) }
+    ensures { FindsWithin (λ found. (p : _) → Contains found.items p ↔ IsReached
+        (LeadsBack G.passed (edges_at G.Node.cmp pairs.now.backward.now.map)) starts.items p)
+        (MoreThan limit (IsReached
+        (LeadsBack G.passed (edges_at G.Node.cmp pairs.now.backward.now.map)) starts.items))
+        result }
 {
-    let mut effects = Effects::<G>::new(alloc);
+    let mut effects = Effects::<G>::new(alloc, pairs.graph);
     let mut found = Found::new(alloc);
     found.add_all(alloc, pairs, starts, limit)?;
     let mut done = 0;

@@ -1,49 +1,54 @@
 //! Settles the nodes of a labelled graph from the ends of its chains back to their start, as far as
 //! there are no rings.
 
-ghost use Rattle.std.specs.Prelude.{◌≡◌, ◌≤◌, ◌↔◌, ◌⊎◌, ◌++◌, true};
+ghost use Rattle.std.specs.Prelude.{◌≡◌, ◌≤◌, ◌↔◌, ◌⊎◌, ◌++◌, [], true};
 ghost use Rattle.std.specs.Prelude.{Contains, IfOk, IfSome, IsTrue, OnOk, is_some, length, map};
 ghost use Rattle.std.specs.Prelude.{take};
 ghost use Rattle.std.specs.List.{filter_map};
-ghost use Rattle.std.specs.List.Sorted.{IsStrictlySortedBy};
 ghost use Rattle.std.proofs.lemmas.Map.Lookups.{CmpEqualImpliesEq};
+ghost use Rattle.rr_graph.specs.Answered.{ListsInOrder};
 ghost use Rattle.rr_graph.specs.Carried.{IsFound};
 ghost use Rattle.rr_graph.specs.Chain.{MoreThan};
-ghost use Rattle.rr_graph.specs.SettledParts.{HasEdges, IsAmong, IsFoundAmong, IsHeldOr, IsMade};
+ghost use Rattle.rr_graph.specs.SettledParts.{IsAmong, IsFoundAmong, IsHeldOr, IsMade};
 ghost use Rattle.rr_graph.specs.SettledParts.{HoldsAllValues, IsPassed, IsRun};
 ghost use Rattle.rr_graph.specs.SettledParts.{IsTallied, values_at};
 
 use crate::ReachFault;
-use crate::effects::Effects;
+use crate::effects::{Effects, Head};
 use crate::labels::{Edge, Labelled};
 use crate::order::put_in_order;
 use crate::settled::Settled;
-use crate::tails::{Tail, tail_of};
 use std::alloc::{AllocError, Global};
+
+/// Nodes, and in which order of their places they are looked at.
+#[derive(Drop)]
+pub(crate) struct Ordered<'a, N> {
+    pub(crate) nodes: &'a [N],
+    pub(crate) order: &'a [u32],
+}
 
 /// Those of the nodes that no ring of edges is reached from, each with the values that are found at
 /// it, where their order has each after those to which its edges lead.
 pub(crate) fn settled<G: Labelled>(
     alloc: Global,
     graph: &G,
-    nodes: &[G::Node],
-    order: &[u32],
+    ordered: &Ordered<'_, G::Node>,
     limit: usize,
 ) -> Result<Settled<G>, ReachFault>
     ensures settled { IfOk result (λ settled. HoldsAllValues (G.edge graph.now)
         (G.own graph.now) G.passed G.Value.cmp (values_at G.Node.cmp settled.values)) }
     ensures among { IfOk result
-        (λ settled. IsAmong nodes.now (values_at G.Node.cmp settled.values)) }
+        (λ settled. IsAmong ordered.now.nodes.now (values_at G.Node.cmp settled.values)) }
     ensures tallied { IfOk result
         (λ settled. IsTallied (values_at G.Node.cmp settled.values) limit settled.pairs) }
     ensures many { result ≡ Err ReachFault.TooMany
-        → MoreThan limit (IsFoundAmong (G.edge graph.now) (G.own graph.now) G.passed nodes.now) }
+        → MoreThan limit
+        (IsFoundAmong (G.edge graph.now) (G.own graph.now) G.passed ordered.now.nodes.now) }
 {
     let mut settled = Settled::new(alloc);
-    for place in order {
-        if let Some(node) = nodes.get(*place as usize) {
-            let tail = tail_of(alloc, graph, node)?;
-            settle(alloc, graph, &mut settled, &tail, limit)?;
+    for place in ordered.order {
+        if let Some(node) = ordered.nodes.get(*place as usize) {
+            settle(alloc, graph, &mut settled, node, limit)?;
         }
     }
     Ok(settled)
@@ -54,10 +59,9 @@ fn settle<G: Labelled>(
     alloc: Global,
     graph: &G,
     settled: &mut Settled<G>,
-    tail: &Tail<'_, G::Node, G::Label>,
+    node: &G::Node,
     limit: usize,
 ) -> Result<(), ReachFault>
-    requires edges { HasEdges (G.edge graph.now) tail.now.node.now tail.now.edges.items }
     requires settled { HoldsAllValues (G.edge graph.now) (G.own graph.now) G.passed G.Value.cmp
         (values_at G.Node.cmp settled.old.values) }
     requires tallied { IsTallied (values_at G.Node.cmp settled.old.values) limit settled.old.pairs }
@@ -65,18 +69,18 @@ fn settle<G: Labelled>(
         (G.own graph.now) G.passed G.Value.cmp (values_at G.Node.cmp settled.new.values)) }
     ensures tallied { OnOk result
         (IsTallied (values_at G.Node.cmp settled.new.values) limit settled.new.pairs) }
-    ensures only { OnOk result ((node : G.Node)
-        → is_some (values_at G.Node.cmp settled.new.values node) ≡ true → (is_some
-        (values_at G.Node.cmp settled.old.values node) ≡ true) ⊎ (tail.now.node.now ≡ node)) }
+    ensures only { OnOk result ((other : G.Node)
+        → is_some (values_at G.Node.cmp settled.new.values other) ≡ true → (is_some
+        (values_at G.Node.cmp settled.old.values other) ≡ true) ⊎ (node.now ≡ other)) }
     ensures many { result ≡ Err ReachFault.TooMany
-        → MoreThan limit (IsHeldOr (values_at G.Node.cmp settled.old.values) tail.now.node.now
-        (IsFound (G.edge graph.now) (G.own graph.now) G.passed tail.now.node.now)) }
+        → MoreThan limit (IsHeldOr (values_at G.Node.cmp settled.old.values) node.now
+        (IsFound (G.edge graph.now) (G.own graph.now) G.passed node.now)) }
 {
-    if settled.at(tail.node).is_some() {
+    if settled.at(node).is_some() {
         return Ok(());
     }
-    if let Some(values) = found_at(alloc, graph, settled, tail)? {
-        settled.enter(graph.copy(alloc, tail.node)?, values, limit)?;
+    if let Some(values) = found_at(alloc, graph, settled, node)? {
+        settled.enter(graph.copy(alloc, node)?, values, limit)?;
     }
     Ok(())
 }
@@ -87,25 +91,58 @@ fn found_at<G: Labelled>(
     alloc: Global,
     graph: &G,
     settled: &Settled<G>,
-    tail: &Tail<'_, G::Node, G::Label>,
+    node: &G::Node,
 ) -> Result<Option<Vec<G::Value>>, AllocError>
-    requires edges { HasEdges (G.edge graph.now) tail.now.node.now tail.now.edges.items }
-    requires settled { HoldsAllValues (G.edge graph.now) (G.own graph.now) G.passed G.Value.cmp
+    requires { HoldsAllValues (G.edge graph.now) (G.own graph.now) G.passed G.Value.cmp
         (values_at G.Node.cmp settled.now.values) }
-    ensures found { IfOk result
-        (λ found. IfSome found (λ values. (v : G.Value) → Contains values.items v
-        ↔ IsFound (G.edge graph.now) (G.own graph.now) G.passed tail.now.node.now v)) }
-    ensures sorted { IfOk result
-        (λ found. IfSome found (λ values. IsStrictlySortedBy G.Value.cmp values.items)) }
+    ensures { IfOk result (λ found. IfSome found (λ values. ListsInOrder G.Value.cmp
+        (IsFound (G.edge graph.now) (G.own graph.now) G.passed node.now) values.items)) }
 {
-    let mut values = Vec::new(alloc);
-    if !add_passed(alloc, graph, settled, tail.edges.as_slice(), &mut values)? {
+    let edges = graph.edges(alloc, node)?;
+    let mut collected = Collected::new(alloc);
+    if !add_passed(alloc, graph, settled, &edges, &mut collected)? {
         return Ok(None);
     }
-    let mut own = graph.values(alloc, tail.node)?;
+    let Collected {
+        mut values,
+        last: _,
+    } = collected;
+    let mut own = graph.values(alloc, node)?;
     values.append(&mut own)?;
     put_in_order(&mut values);
     Ok(Some(values))
+}
+
+/// Values that are added with repeats, and how many there were after the last removal of these.
+#[derive(Drop)]
+struct Collected<V: Ord + Drop> {
+    values: Vec<V>,
+    last: usize,
+}
+
+impl<V: Ord + Drop> Collected<V> {
+    /// No values.
+    fn new(alloc: Global) -> Self
+        ensures { result.values.items ≡ [] }
+    {
+        Collected {
+            values: Vec::new(alloc),
+            last: 0,
+        }
+    }
+
+    /// Removes the repeats, and puts the values in order, where there are more than twice as many
+    /// as after the last removal. So edges that carry the same values, as often as they come, never
+    /// take more than three times the memory of what is found.
+    fn dedup_if_doubled(&mut self)
+        ensures { CmpEqualImpliesEq V.cmp → (x : V)
+            → Contains self.new.values.items x ↔ Contains self.old.values.items x }
+    {
+        if self.values.len() / 2 > self.last {
+            put_in_order(&mut self.values);
+            self.last = self.values.len();
+        }
+    }
 }
 
 /// Adds what the labels of the edges make of the values of settled nodes, a run of edges to one
@@ -115,15 +152,14 @@ fn add_passed<G: Labelled>(
     graph: &G,
     settled: &Settled<G>,
     edges: &[Edge<G::Node, G::Label>],
-    values: &mut Vec<G::Value>,
+    collected: &mut Collected<G::Value>,
 ) -> Result<bool, AllocError>
     ensures known { IfOk result (λ whole. IsTrue whole → (e : Edge G.Node G.Label)
         → Contains edges.now e → is_some (values_at G.Node.cmp settled.now.values e.to) ≡ true) }
     ensures passed { IfOk result (λ whole. IsTrue whole → (v : G.Value)
-        → Contains values.new.items v ↔ (Contains values.old.items v
+        → Contains collected.new.values.items v ↔ (Contains collected.old.values.items v
         ⊎ IsPassed G.passed (values_at G.Node.cmp settled.now.values) edges.now v)) }
 {
-    let mut last = values.len();
     let mut done = 0;
     while done < edges.len() {
         let node = &edges[done].to;
@@ -131,7 +167,11 @@ fn add_passed<G: Labelled>(
             return Ok(false);
         };
         let next = done + 1 + run_length(node, &edges[done + 1..]);
-        last = pass_run(alloc, graph, node, &edges[done..next], starts, values, last)?;
+        let head = Head {
+            node,
+            edges: &edges[done..next],
+        };
+        pass_run(alloc, graph, &head, starts, collected)?;
         done = next;
     }
     Ok(true)
@@ -154,45 +194,27 @@ fn run_length<N: Ord + Drop, L: Drop>(node: &N, edges: &[Edge<N, L>]) -> usize
 fn pass_run<G: Labelled>(
     alloc: Global,
     graph: &G,
-    node: &G::Node,
-    run: &[Edge<G::Node, G::Label>],
+    head: &Head<'_, G::Node, G::Label>,
     starts: &[G::Value],
-    values: &mut Vec<G::Value>,
-    last: usize,
-) -> Result<usize, AllocError>
-    requires { IsRun node.now run.now }
-    ensures { OnOk result ((v : G.Value) → Contains values.new.items v
-        ↔ (Contains values.old.items v ⊎ IsMade G.passed node.now run.now starts.now v)) }
+    collected: &mut Collected<G::Value>,
+) -> Result<(), AllocError>
+    requires { IsRun head.now.node.now head.now.edges.now }
+    ensures { OnOk result ((v : G.Value) → Contains collected.new.values.items v
+        ↔ (Contains collected.old.values.items v
+        ⊎ IsMade G.passed head.now.node.now head.now.edges.now starts.now v)) }
 {
-    if let [edge] = run {
-        pass_all(graph, edge.label, starts, values)?;
-        return Ok(dedup_if_doubled(values, last));
+    if let [edge] = head.edges {
+        pass_all(graph, edge.label, starts, &mut collected.values)?;
+        collected.dedup_if_doubled();
+        return Ok(());
     }
-    pass_effects(alloc, graph, node, run, starts, values, last)
-}
-
-/// The same, where there may be many edges.
-fn pass_effects<G: Labelled>(
-    alloc: Global,
-    graph: &G,
-    node: &G::Node,
-    run: &[Edge<G::Node, G::Label>],
-    starts: &[G::Value],
-    values: &mut Vec<G::Value>,
-    last: usize,
-) -> Result<usize, AllocError>
-    requires { IsRun node.now run.now }
-    ensures { OnOk result ((v : G.Value) → Contains values.new.items v
-        ↔ (Contains values.old.items v ⊎ IsMade G.passed node.now run.now starts.now v)) }
-{
-    let mut effects = Effects::<G>::new(alloc);
-    let mut last = last;
+    let mut effects = Effects::<G>::new(alloc, graph);
     for value in starts {
-        let made = effects.made(alloc, graph, node, run, *value)?;
-        add_made(&made, values)?;
-        last = dedup_if_doubled(values, last);
+        let made = effects.made(alloc, head, *value)?;
+        add_made(&made, &mut collected.values)?;
+        collected.dedup_if_doubled();
     }
-    Ok(last)
+    Ok(())
 }
 
 /// Adds the values of the pairs.
@@ -225,18 +247,4 @@ fn pass_all<G: Labelled>(
         }
     }
     Ok(())
-}
-
-/// Removes the repeats from the list, and puts it in order, where it has more than twice as many
-/// values as after the last removal, and gives how many it then has. So edges that carry the same
-/// values, as often as they come, never take more than three times the memory of what is found.
-fn dedup_if_doubled<T: Ord + Drop>(list: &mut Vec<T>, last: usize) -> usize
-    ensures { CmpEqualImpliesEq T.cmp → (x : T)
-        → Contains list.new.items x ↔ Contains list.old.items x }
-{
-    if list.len() / 2 <= last {
-        return last;
-    }
-    put_in_order(list);
-    list.len()
 }

@@ -1,8 +1,7 @@
 //! The nodes that a walk has found so far.
 
-ghost use Rattle.std.specs.Prelude.{◌≡◌, [], ◌∷◌, ◌⊎◌, Contains, OnOk};
-ghost use Rattle.rr_graph.specs.Chain.{MoreThan};
-ghost use Rattle.rr_graph.specs.ListingParts.{IsListing, Lists};
+ghost use Rattle.std.specs.Prelude.{◌≡◌, [], ◌∷◌};
+ghost use Rattle.rr_graph.specs.ListingParts.{AddsListed, IsListing};
 
 use crate::{Graph, ReachFault};
 use std::alloc::Global;
@@ -36,10 +35,7 @@ impl<N: Ord + Drop> Found<N> {
         limit: usize,
     ) -> Result<(), ReachFault>
         requires { IsListing N.cmp limit self.old.list.items self.old.index }
-        ensures listing { OnOk result (IsListing N.cmp limit self.new.list.items self.new.index) }
-        ensures added { OnOk result (Lists self.old.list.items nodes.items self.new.list.items) }
-        ensures many { result ≡ Err ReachFault.TooMany → MoreThan limit
-            (λ node. Contains self.old.list.items node ⊎ Contains nodes.items node) }
+        ensures { AddsListed N.cmp limit nodes.items self.old self.new result }
     {
         let mut nodes = nodes;
         while let Some(node) = nodes.pop() {
@@ -57,10 +53,7 @@ impl<N: Ord + Drop> Found<N> {
         limit: usize,
     ) -> Result<(), ReachFault>
         requires { IsListing N.cmp limit self.old.list.items self.old.index }
-        ensures listing { OnOk result (IsListing N.cmp limit self.new.list.items self.new.index) }
-        ensures added { OnOk result (Lists self.old.list.items (node ∷ []) self.new.list.items) }
-        ensures many { result ≡ Err ReachFault.TooMany
-            → MoreThan limit (λ other. Contains self.old.list.items other ⊎ (other ≡ node)) }
+        ensures { AddsListed N.cmp limit (node ∷ []) self.old self.new result }
     {
         if self.index.contains(&node) {
             return Ok(());

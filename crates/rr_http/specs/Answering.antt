@@ -141,6 +141,6 @@ pub record KeepsDesk {D : Type 0} (registrar : Ghosts D) (before after : D)
     (result : Result Done DeskFault) : Type 0 where
   pub running : UnlessStoreFault result (registrar.ledger.is_stopped after ≡ false)
   pub leaves : Leaves registrar.ledger registrar.settings before after
-  pub kept : UnlessStoreFault result (registrar.Kept after)
+  pub kept : UnlessStoreFault result (registrar.ledger.Kept after)
   pub of_source : IsRegistryOf (registrar.settings before).source (registrar.ledger.registry before)
       → IsRegistryOf (registrar.settings after).source (registrar.ledger.registry after)

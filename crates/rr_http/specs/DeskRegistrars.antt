@@ -8,18 +8,20 @@ use Rattle.rr_submission.specs.declared.ledger.Ledger as ledger
 use Rattle.rr_desk.specs.declared.desk.Desk.{Desk}
 use Rattle.rr_desk.specs.Desks.{GivesAnswer, desk_state}
 use Rattle.rr_desk.specs.Rows.{KeepsRows}
-use Rattle.rr_desk.specs.Stocks.{StoresUntilStopped, stock_ledger}
+use Rattle.rr_desk.specs.Stocks.{stock_ledger}
 use Rattle.rr_desk.specs.Turns.{Serving}
 use Rattle.rr_http.specs.declared.registrar.Registrar as registrar
 use Rattle.rr_http.specs.Serving.{Serves}
 
--- a desk as a ledger: its registry and its store, whose connection lasts
+-- a desk as a ledger: its registry and its store, which keeps the rows of it until the desk is
+-- stopped, and whose connection lasts
 abbrev pub desk_ledger : {S : Type 0} → store.Ghosts S → ledger.Ghosts (Desk S)
 desk_ledger g = record {
   registry = λ desk. desk.stored.registry;
   is_stopped = λ desk. desk.stored.stopped;
   Stops = λ old secrets item new. (stock_ledger g).Stops old.stored secrets item new.stored;
   Lasts = λ old new. (stock_ledger g).Lasts old.stored new.stored;
+  Kept = λ desk. (stock_ledger g).Kept desk.stored;
 }
 
 -- the text in which a desk answers a query, which changes nothing of it; until it is stopped it
@@ -40,7 +42,6 @@ desk_registrar g = record {
   settings = λ desk. desk.settings;
   Answers = λ before query text after. IsDeskAnswer g before query text after;
   dumped = λ desk. dump false desk.stored.registry;
-  Kept = λ desk. StoresUntilStopped g desk.stored;
 }
 
 -- what serving a connection of a desk does

@@ -23,8 +23,7 @@ impl Service for Both {
         conn: &mut C,
     ) -> Result<(), ConnFault> {
         let end = serve_one(alloc, desk, conn);
-        // Called for its contract: the rows are those of the registry.
-        let _ = desk.stopped();
+        prove!(desk.keeps_its_rows());
         end
     }
 }

@@ -19,8 +19,6 @@ impl<S: Alter> Registrar for Desk<S> {
 
     ghost dumped = { (desk_registrar S.Store).dumped };
 
-    ghost Kept = { (desk_registrar S.Store).Kept };
-
     ghost lasts_still = { λ _. database_still _ };
 
     ghost answer_leaves = { λ _ _ _ _ is. desk_answer_leaves _ _ _ _ _ is };

@@ -16,7 +16,7 @@ use std::alloc::Global;
 
 /// What answers queries, gives the public dump, and takes submissions, as a desk does.
 pub trait Registrar {
-    // How it decides items and what lasts of it, the registry that it keeps, and whether it is
+    // How it decides items, what lasts of it and what it keeps, its registry, and whether it is
     // stopped: then it takes no submission and gives no dump.
     ghost ledger: { Ghosts Self };
 
@@ -28,9 +28,6 @@ pub trait Registrar {
 
     // The public dump.
     ghost dumped: { Self → List ℕ };
-
-    // Until it is stopped, the rows that it keeps are those of its registry.
-    ghost Kept: { Self → Type 0 };
 
     /// Whether it is stopped.
     fn stopped(&self) -> bool
@@ -72,7 +69,7 @@ pub trait Registrar {
             → UnlessStoreFault result (ledger.is_stopped self.new ≡ false) }
         ensures leaves { Leaves ledger settings self.old self.new }
         ensures kept { ledger.is_stopped self.old ≡ false
-            → UnlessStoreFault result (Kept self.new) }
+            → UnlessStoreFault result (ledger.Kept self.new) }
         ensures of_source { IsRegistryOf (settings self.old).source (ledger.registry self.old)
             → IsRegistryOf (settings self.new).source (ledger.registry self.new) };
 

@@ -105,35 +105,37 @@ fn take_in<D: Registrar, C: Connection>(
         return refuse(conn, Refusal::Unavailable);
     }
     match read_body(alloc, conn, buffered, size) {
-        Ok((body, end)) => submit_read(alloc, desk, &body, size, end, conn),
+        Ok((body, end)) => {
+            let failed = submit_read(alloc, desk, &body, size, conn);
+            end_by(end, failed)
+        }
         Err(_) => refuse(conn, Refusal::Unavailable),
     }
 }
 
-/// Submits a body of this size whose reading ended so, and writes the report after the head of the
-/// reply. That head is written first, because each line of the report is written once its item is
-/// decided.
+/// Submits a body of this size of which these bytes came, writes the report after the head of the
+/// reply, and says whether a write failed. That head is written first, because each line of the
+/// report is written once its item is decided.
 fn submit_read<D: Registrar, W: Sink>(
     alloc: Global,
     desk: &mut D,
     body: &[u8],
     size: BodySize,
-    end: BodyEnd,
     writer: &mut W,
-) -> Result<(), ConnFault>
+) -> bool
     requires within { length body.now ≤ size }
     requires running { D.ledger.is_stopped desk.old ≡ false }
-    ensures { SubmitsRead D.Registrar body.now size end desk.old desk.new
-        (W.told writer.old) (W.told writer.new) result }
+    ensures { (end : BodyEnd) → SubmitsRead D.Registrar body.now size end desk.old desk.new
+        (W.told writer.old) (W.told writer.new) (end_by end result) }
 {
     let failed = writer.failed_writes();
     match write_ok_head(writer) {
         Ok(()) => {
             // The report tells what became of it.
             let _ = submit_body(alloc, desk, body, size.bytes() - body.len(), writer);
-            end_by(end, failed < writer.failed_writes())
+            failed < writer.failed_writes()
         }
-        Err(_) => end_by(end, true),
+        Err(_) => true,
     }
 }
 

@@ -11,6 +11,7 @@ use Rattle.rr_book.specs.SetIndexes.{is_meant, stands_under}
 use Rattle.rr_book.specs.SetLists.{names_set}
 use Rattle.rr_index.specs.NamingIndexes.{count_at, namings_by}
 use Rattle.rr_index.specs.OriginIndexes.{HasOrigins}
+use Rattle.rr_index.specs.Private.{is_crossed}
 use Rattle.rr_index.specs.SpanIndexes.{HasSpans}
 use Rattle.rr_index.specs.declared.indexes.Indexes.{Indexes}
 use Rattle.rr_index.specs.declared.origin_index.OriginIndex.{OriginIndex}
@@ -20,6 +21,27 @@ use Rattle.rr_index.specs.declared.span_index.SpanIndex.{SpanIndex}
 abbrev pub IsUnderNone : BTreeMap (List ℕ) (BTreeSet Key) → Obj → Type 0
 IsUnderNone sets o = (name : List ℕ) (key : Key)
     → IsTrue (is_meant o (λ other. false) name key) → stands_under sets name key ≡ false
+
+-- No span that is held crosses the key.
+abbrev pub IsUncrossed : SpanIndex → Key → Type 0
+IsUncrossed of_spans k = is_crossed of_spans.inetnums of_spans.blocks k ≡ false
+
+-- An object can be entered: its key stands under none of the sets that it names, and no span that
+-- is held crosses it.
+pub record CanEnter (kept : Indexes) (o : Obj) : Type 0 where
+  pub fresh : IsUnderNone kept.referrers.keys o
+  pub apart : IsUncrossed kept.spans o.key
+
+-- Only what is found by an object's own key changes: spans, origins and names.
+pub record ChangesOwnKeys (before after : Indexes) : Type 0 where
+  pub referrers : after.referrers ≡ before.referrers
+  pub namings : after.namings ≡ before.namings
+
+-- Only the spans and the origins change.
+pub record ChangesPlaces (before after : Indexes) : Type 0 where
+  pub names : after.names ≡ before.names
+  pub referrers : after.referrers ≡ before.referrers
+  pub namings : after.namings ≡ before.namings
 
 -- Whether the object, if there is one, names the set.
 abbrev pub is_named_by : Option Obj → List ℕ → Bool

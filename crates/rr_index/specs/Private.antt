@@ -1,9 +1,10 @@
 -- What private functions of the indexes promise each other. No public clause cites these.
-use Rattle.std.specs.Prelude.{◌≡◌, ℕ, Bool, true, false, not, ◌&&◌, Some}
-use Rattle.std.specs.FinMap.{contains_key, get, remove}
+use Rattle.std.specs.Prelude.{◌≡◌, ℕ, Bool, true, false, not, ◌&&◌, Some, Result, OnOk, OnErr}
+use Rattle.std.specs.FinMap.{contains_key, get, insert, remove}
 use Rattle.std.specs.Ordering.{is_le, is_lt}
 use Rattle.rr_number.specs.Addresses.{greatest_address}
 use Rattle.rr_number.specs.Prefixes.{PrefixParts, masked}
+use Rattle.rr_number.specs.Spans.{Ends}
 use Rattle.rr_object.specs.declared.key.Key.{Key}
 use Rattle.rr_object.specs.declared.key.Key.TheVariants.{AsBlock, Inetnum, Route}
 use Rattle.rr_object.specs.Objects.{Obj}
@@ -31,3 +32,15 @@ abbrev pub IsTold : Reg → Key → Bool → Type 0
 IsTold r (Route p n) true = (m : ℕ) × (contains_key (remove r (Route p n)) (Route p m) ≡ true)
 IsTold r (Route p n) false = (m : ℕ) → contains_key (remove r (Route p n)) (Route p m) ≡ false
 IsTold r _ told = Unit {0}
+
+-- The object is put under its key; or nothing changes.
+pub record PutsObject {X E : Type 0} (old : Reg) (o : Obj) (new : Reg)
+    (result : Result X E) : Type 0 where
+  pub ok : OnOk result (new ≡ insert old o.key o)
+  pub err : OnErr result (new ≡ old)
+
+-- The span is held then; or nothing changes.
+pub record HoldsSpan {X E : Type 0} (old : SpanMap (Unit {0})) (s : Ends)
+    (new : SpanMap (Unit {0})) (result : Result X E) : Type 0 where
+  pub ok : OnOk result (new ≡ insert old s tt)
+  pub err : OnErr result (new ≡ old)

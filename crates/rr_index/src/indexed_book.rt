@@ -1,9 +1,10 @@
 //! A registry as objects by key, with what answers questions about spans, origins, sets and
 //! maintainers beside them.
 
-ghost use Rattle.std.specs.Prelude.{◌≡◌, OnErr, OnOk, None, true, is_some};
+ghost use Rattle.std.specs.Prelude.{◌≡◌, None, true, is_some};
 ghost use Rattle.std.specs.FinMap.{get, insert};
 ghost use Rattle.rr_auth.specs.Registries.{Sound};
+ghost use Rattle.rr_index.specs.Private.{PutsObject};
 
 use crate::indexes::Indexes;
 use crate::object_map::ObjectMap;
@@ -50,8 +51,7 @@ impl IndexedBook {
     fn change(&mut self, alloc: Global, object: Object) -> Result<(), AllocError>
         requires sound { Sound (insert self.old object.key object) }
         requires stands { is_some (get self.old object.key) ≡ true }
-        ensures ok { OnOk result (self.new ≡ insert self.old object.key object) }
-        ensures err { OnErr result (self.new ≡ self.old) }
+        ensures { PutsObject self.old object self.new result }
     {
         let standing = self.objects.get(object.key());
         let sets = self.indexes.enter_names(alloc, &object, standing)?;
@@ -69,8 +69,7 @@ impl IndexedBook {
     fn add(&mut self, alloc: Global, object: Object) -> Result<(), AllocError>
         requires sound { Sound (insert self.old object.key object) }
         requires free { get self.old object.key ≡ None }
-        ensures ok { OnOk result (self.new ≡ insert self.old object.key object) }
-        ensures err { OnErr result (self.new ≡ self.old) }
+        ensures { PutsObject self.old object self.new result }
     {
         self.indexes.enter(alloc, &object)?;
         match self.objects.add(alloc, object) {
@@ -106,7 +105,7 @@ impl Book for IndexedBook {
 
     fn closest_block(&self, span: Span) -> Option<&Object> {
         match self.indexes.spans.closest_block(span) {
-            Some(own) => self.objects.get(&Key::AsBlock(block_of(own))),
+            Some(own) => self.objects.get(&Key::AsBlock(AsSpan::of(own))),
             None => None,
         }
     }
@@ -194,11 +193,4 @@ impl Keeper for IndexedBook {
     fn inside(&self, alloc: Global, span: Span) -> Result<Vec<&Object>, AllocError> {
         self.objects.inside(alloc, span)
     }
-}
-
-/// The block of AS numbers from the first number of the span to its last.
-fn block_of(span: Span) -> AsSpan
-    ensures { result ≡ span }
-{
-    AsSpan::new(AsNumber::new(span.first()), AsNumber::new(span.last()))
 }

@@ -12,11 +12,10 @@ ghost use Rattle.rr_auth.specs.Registries.{Reg, Sound};
 ghost use Rattle.rr_book.specs.Books.{IsBook, book_of};
 ghost use Rattle.rr_book.specs.SetIndexes.{is_meant, stands_under};
 ghost use Rattle.rr_book.specs.SetLists.{names_set};
-ghost use Rattle.rr_index.specs.EnteringParts.{HasNamed, HasPlaces, HasUnnamed, IsUnderNone};
-ghost use Rattle.rr_index.specs.EnteringParts.{is_named_by};
+ghost use Rattle.rr_index.specs.EnteringParts.{CanEnter, ChangesOwnKeys, ChangesPlaces, HasNamed};
+ghost use Rattle.rr_index.specs.EnteringParts.{HasPlaces, HasUnnamed, IsUncrossed, is_named_by};
 ghost use Rattle.rr_index.specs.Indexes.{HasIndexes, HasKeys};
 ghost use Rattle.rr_index.specs.NameIndexes.{HasNames};
-ghost use Rattle.rr_index.specs.Private.{is_crossed};
 
 use crate::name_index::NameIndex;
 use crate::naming_index::NamingIndex;
@@ -70,9 +69,7 @@ impl Indexes {
     /// span that is held. The error is that memory ran out, and it leaves the indexes those of the
     /// same objects.
     pub(crate) fn enter(&mut self, alloc: Global, object: &Object) -> Result<(), AllocError>
-        requires fresh { IsUnderNone self.old.referrers.keys object.now }
-        requires apart { is_crossed self.old.spans.inetnums self.old.spans.blocks object.now.key
-            ≡ false }
+        requires { CanEnter self.old object.now }
         ensures ok { OnOk result ((r : Reg) → HasIndexes r self.old → get r object.now.key
             ≡ None → HasIndexes (insert r object.now.key object.now) self.new) }
         ensures err { OnErr result ((r : Reg) → HasIndexes r self.old
@@ -90,9 +87,7 @@ impl Indexes {
 
     /// Enters the key of the object, under the sets that it names too.
     fn enter_keys(&mut self, alloc: Global, object: &Object) -> Result<(), AllocError>
-        requires fresh { IsUnderNone self.old.referrers.keys object.now }
-        requires apart { is_crossed self.old.spans.inetnums self.old.spans.blocks object.now.key
-            ≡ false }
+        requires { CanEnter self.old object.now }
         ensures ok { OnOk result ((r : Reg) → HasKeys r self.old.spans self.old.origins
             self.old.names self.old.referrers → get r object.now.key ≡ None
             → HasKeys (insert r object.now.key object.now) self.new.spans self.new.origins
@@ -115,8 +110,7 @@ impl Indexes {
 
     /// Enters the name, the origin and the span of the object.
     fn enter_key(&mut self, alloc: Global, object: &Object) -> Result<(), AllocError>
-        requires { is_crossed self.old.spans.inetnums self.old.spans.blocks object.now.key
-            ≡ false }
+        requires { IsUncrossed self.old.spans object.now.key }
         ensures ok { OnOk result ((r : Reg) → HasPlaces r self.old.spans self.old.origins
             → HasNames r self.old.names.keys
             → HasPlaces (insert r object.now.key object.now) self.new.spans self.new.origins
@@ -124,8 +118,7 @@ impl Indexes {
         ensures err { OnErr result ((r : Reg) → HasPlaces r self.old.spans self.old.origins
             → HasNames r self.old.names.keys → get r object.now.key ≡ None
             → HasPlaces r self.new.spans self.new.origins × HasNames r self.new.names.keys) }
-        ensures aside { self.new.referrers ≡ self.old.referrers }
-        ensures uncounted { self.new.namings ≡ self.old.namings }
+        ensures aside { ChangesOwnKeys self.old self.new }
     {
         let key = object.key();
         self.names.add(alloc, key)?;
@@ -140,16 +133,13 @@ impl Indexes {
 
     /// Enters the origin and the span of the object.
     fn enter_place(&mut self, object: &Object) -> Result<(), AllocError>
-        requires { is_crossed self.old.spans.inetnums self.old.spans.blocks object.now.key
-            ≡ false }
+        requires { IsUncrossed self.old.spans object.now.key }
         ensures ok { OnOk result ((r : Reg) → HasPlaces r self.old.spans self.old.origins
             → HasPlaces (insert r object.now.key object.now) self.new.spans self.new.origins) }
         ensures err { OnErr result ((r : Reg) → HasPlaces r self.old.spans self.old.origins
             → get r object.now.key ≡ None
             → HasPlaces r self.new.spans self.new.origins) }
-        ensures named { self.new.names ≡ self.old.names }
-        ensures aside { self.new.referrers ≡ self.old.referrers }
-        ensures uncounted { self.new.namings ≡ self.old.namings }
+        ensures aside { ChangesPlaces self.old self.new }
     {
         let key = object.key();
         self.origins.add(key)?;

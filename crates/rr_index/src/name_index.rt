@@ -1,15 +1,14 @@
 //! The maintainers of a registry, by name.
 
-ghost use Rattle.std.specs.Prelude.{◌≡◌, OnErr, OnOk};
+ghost use Rattle.std.specs.Prelude.{◌≡◌};
 ghost use Rattle.std.specs.BTreeMap.{get as key_at};
 ghost use Rattle.std.specs.Cmp.Lexicographic.{slice_cmp};
-ghost use Rattle.std.specs.FinMap.{empty, insert, remove};
+ghost use Rattle.std.specs.FinMap.{empty, remove};
 ghost use Rattle.std.specs.Option.{option_copied};
 ghost use Rattle.std.specs.Ordering.{nat_cmp};
 ghost use Rattle.rr_object.specs.declared.key.Key.TheVariants.{Mntner};
-ghost use Rattle.rr_object.specs.Objects.{Obj};
 ghost use Rattle.rr_auth.specs.Registries.{Reg};
-ghost use Rattle.rr_index.specs.NameIndexes.{HasNames};
+ghost use Rattle.rr_index.specs.NameIndexes.{EntersName, HasNames};
 
 use rr_number::Name;
 use rr_object::Key;
@@ -43,10 +42,7 @@ impl NameIndex {
     /// Enters the key of an object that is registered. The error is that memory ran out, and
     /// nothing changes.
     pub(crate) fn add(&mut self, alloc: Global, key: &Key) -> Result<(), AllocError>
-        ensures ok { OnOk result ((r : Reg) (o : Obj) → HasNames r self.old.keys
-            → HasNames (insert r key.now o) self.new.keys) }
-        ensures err { OnErr result
-            ((r : Reg) → HasNames r self.old.keys → HasNames r self.new.keys) }
+        ensures { EntersName self.old.keys key.now self.new.keys result }
     {
         match key {
             Key::Mntner(name) => self.put(alloc, name, key),
@@ -57,10 +53,7 @@ impl NameIndex {
     /// Puts the key under the name.
     fn put(&mut self, alloc: Global, name: &Name, key: &Key) -> Result<(), AllocError>
         requires { key.now ≡ Mntner name.now }
-        ensures ok { OnOk result ((r : Reg) (o : Obj) → HasNames r self.old.keys
-            → HasNames (insert r (Mntner name.now) o) self.new.keys) }
-        ensures err { OnErr result
-            ((r : Reg) → HasNames r self.old.keys → HasNames r self.new.keys) }
+        ensures { EntersName self.old.keys (Mntner name.now) self.new.keys result }
     {
         let under = name.copy(alloc)?;
         let kept = key.copy(alloc)?;

@@ -3,7 +3,7 @@
 ghost use Rattle.std.specs.Prelude.{◌≡◌, ◌&&◌, ◌||◌, [], ◌∷◌, None, Some};
 ghost use Rattle.std.specs.Prelude.{false, true, filter, is_some, map, IfErr, IfOk, OnErr, OnOk};
 ghost use Rattle.std.specs.BTreeSet.{contains};
-ghost use Rattle.std.specs.FinMap.{contains_key, empty, entries, get, insert, remove, values};
+ghost use Rattle.std.specs.FinMap.{contains_key, empty, entries, get, remove, values};
 ghost use Rattle.std.specs.List.{filter_map, list_any};
 ghost use Rattle.std.specs.List.Sorted.{IsStrictlySortedBy};
 ghost use Rattle.std.specs.Map.{values_of};
@@ -26,7 +26,7 @@ ghost use Rattle.rr_index.specs.InsideParts.{inetnum_at, is_inetnum_in, is_route
 ghost use Rattle.rr_index.specs.InsideParts.{routes_from, routes_to};
 ghost use Rattle.rr_index.specs.KeyRangeParts.{lies_between};
 ghost use Rattle.rr_index.specs.OriginIndexes.{origin_cmp};
-ghost use Rattle.rr_index.specs.Private.{is_from, IsTold};
+ghost use Rattle.rr_index.specs.Private.{is_from, IsTold, PutsObject};
 
 use crate::origin_index::OriginIndex;
 use rr_book::listings::lies_in;
@@ -98,8 +98,7 @@ impl ObjectMap {
     /// Puts the object under its key. The error is that memory ran out; nothing changes, and it
     /// gives the object back.
     pub(crate) fn add(&mut self, alloc: Global, object: Object) -> Result<(), AllocFailed<Object>>
-        ensures ok { OnOk result (self.new ≡ insert self.old object.key object) }
-        ensures err { OnErr result (self.new ≡ self.old) }
+        ensures puts { PutsObject self.old object self.new result }
         ensures returned { IfErr result (λ refused. refused.value ≡ object) }
     {
         let Ok(key) = object.key().copy(alloc) else {
@@ -117,9 +116,8 @@ impl ObjectMap {
     /// Puts the object in place of the one of its key, which is given back; it takes no memory.
     /// Where there is none, the object comes back.
     pub(crate) fn replace(&mut self, object: Object) -> Result<Object, Object>
-        ensures ok { OnOk result (self.new ≡ insert self.old object.key object) }
+        ensures puts { PutsObject self.old object self.new result }
         ensures old { IfOk result (λ old. get self.old object.key ≡ Some old) }
-        ensures err { OnErr result (self.new ≡ self.old) }
         ensures none { OnErr result (get self.old object.key ≡ None) }
         ensures back { IfErr result (λ back. back ≡ object) }
     {

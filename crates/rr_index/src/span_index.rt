@@ -9,7 +9,7 @@ ghost use Rattle.rr_object.specs.Objects.{Obj};
 ghost use Rattle.rr_auth.specs.Registries.{Reg, Sound};
 ghost use Rattle.rr_auth.specs.Closest.{closest_routes};
 ghost use Rattle.rr_auth.specs.Conditions.{crosses_registered as crosses_key};
-ghost use Rattle.rr_index.specs.Private.{IsTold, is_crossed};
+ghost use Rattle.rr_index.specs.Private.{HoldsSpan, IsTold, is_crossed};
 ghost use Rattle.rr_index.specs.SpanIndexes.{HasSpans};
 
 use rr_cover::{InsertFault, PrefixTree, SpanNest};
@@ -152,8 +152,7 @@ fn closest_prefix(tree: &PrefixTree<()>, prefix: Prefix) -> Option<Prefix>
 /// changes.
 fn hold(nest: &mut SpanNest<()>, span: Span) -> Result<(), AllocError>
     requires { crosses_some nest.old span ≡ false }
-    ensures ok { OnOk result (nest.new ≡ insert nest.old span tt) }
-    ensures err { OnErr result (nest.new ≡ nest.old) }
+    ensures { HoldsSpan nest.old span nest.new result }
 {
     nest.insert_uncrossed(span, ())?;
     Ok(())
@@ -161,8 +160,7 @@ fn hold(nest: &mut SpanNest<()>, span: Span) -> Result<(), AllocError>
 
 /// Puts the prefix into the tree; the error is that memory ran out, and nothing changes.
 fn hold_prefix(tree: &mut PrefixTree<()>, prefix: Prefix) -> Result<(), AllocError>
-    ensures ok { OnOk result (tree.new ≡ insert tree.old (span_of prefix) tt) }
-    ensures err { OnErr result (tree.new ≡ tree.old) }
+    ensures { HoldsSpan tree.old (span_of prefix) tree.new result }
 {
     match tree.insert(prefix, ()) {
         Ok(_) => Ok(()),

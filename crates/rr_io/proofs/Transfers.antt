@@ -2,11 +2,11 @@
 use Rattle.std.proofs.Common.{◌≡◌, ℕ, ◌+◌, ◌<◌, List, [], ◌++◌, length, refl, ap, sym, ◌∙◌}
 use Rattle.std.proofs.Common.{append_assoc, length-append, arith, add-one, get_or, drop, drop-cons}
 use Rattle.std.specs.List.{flat_map}
-use Rattle.std.specs.Prelude.{Result, Ok, Err, IfOk}
+use Rattle.std.specs.Prelude.{Result, Ok, Err}
 use Rattle.std.proofs.lemmas.List.{append-nil}
 use Rattle.rr_io.specs.Told.{Beside, Told, Fails, set_beside}
-use Rattle.rr_io.specs.Sending.{Takes, TakesPrefix}
-use Rattle.rr_io.specs.Receiving.{Gives, IsSpent}
+use Rattle.rr_io.specs.Sending.{Takes, TakesPrefix, WritesOnce}
+use Rattle.rr_io.specs.Receiving.{Gives, ReadsOnce}
 
 -- nothing was written yet
 pub Takes-none : (told : Told) → Takes told told []
@@ -84,13 +84,43 @@ Gives-then xs ys p q = record {
   aside = q.aside ∙ p.aside;
 }
 
--- a reader is spent whatever stands beside it
-pub spent-beside : {E : Type 0} (result : Result ℕ E) (room : ℕ) (other : Beside) (told : Told) →
-    IfOk result (λ count. count ≡ 0 → 0 < room → IsSpent told) →
-    IfOk result (λ count. count ≡ 0 → 0 < room → IsSpent (set_beside other told))
-spent-beside (Ok count) room other told spent = λ none some.
-    record { none_left = (spent none some).none_left }
-spent-beside (Err error) room other told spent = tt
+-- a read is the same whatever stands beside the reader
+pub ReadsOnce-beside : {E : Type 0} (result : Result ℕ E) (buf : List ℕ) (other : Beside)
+    (old new : Told) → ReadsOnce old new buf result →
+    ReadsOnce (set_beside other old) (set_beside other new) buf result
+ReadsOnce-beside (Ok count) buf other old new p = record {
+  bound = p.bound;
+  gives = record { consumed = p.gives.consumed; no_fault = p.gives.no_fault; aside = refl };
+  spent = λ none some. record { none_left = (p.spent none some).none_left };
+  counts = p.counts;
+}
+ReadsOnce-beside (Err error) buf other old new p = record {
+  bytes_stay = p.bytes_stay;
+  counted = p.counted;
+  no_read = p.no_read;
+  aside = refl;
+}
+
+-- a write is the same whatever stands beside the writer
+pub WritesOnce-beside : {E : Type 0} (result : Result ℕ E) (bytes : List ℕ) (other : Beside)
+    (old new : Told) → WritesOnce old new bytes result →
+    WritesOnce (set_beside other old) (set_beside other new) bytes result
+WritesOnce-beside (Ok count) bytes other old new p = record {
+  bound = p.bound;
+  some = p.some;
+  takes = record {
+    appended = p.takes.appended;
+    no_fault = p.takes.no_fault;
+    no_read = p.takes.no_read;
+    aside = refl;
+  };
+}
+WritesOnce-beside (Err error) bytes other old new p = record {
+  bytes_stay = p.bytes_stay;
+  counted = p.counted;
+  no_read = p.no_read;
+  aside = refl;
+}
 
 -- the next piece, and those after it
 pub flat_map-next : {X : Type 0} (f : X → List ℕ) (xs : List X) (i : ℕ) (d : X) → i < length xs →

@@ -1,6 +1,6 @@
 -- What a cut reader or writer has inside, and how it is cut.
 use Rattle.std.specs.Prelude.{◌≡◌, ℕ, ◌+◌, ◌-◌, ◌^◌, ◌<◌, ◌≤◌}
-use Rattle.std.specs.Prelude.{◌⊎◌, min}
+use Rattle.std.specs.Prelude.{◌⊎◌, min, Result, Ok, Err}
 use Rattle.rr_io.specs.Told.{Told, Counts, Fails}
 use Rattle.rr_io.specs.declared.cutting.Cut.{Cut}
 
@@ -34,8 +34,9 @@ cut_told told own c = record {
   aside = (told c.inner).aside;
 }
 
--- so many bytes passed in a call, which did not fail
+-- so many bytes passed in a call before the cut, which did not fail
 pub record Passes {T : Type 0} (own : Cut T → ℕ) (old new : Cut T) (count : ℕ) : Type 0 where
+  pub uncut : 0 < cut_left old
   pub step : count ≤ cut_step old
   pub left : cut_left new + count ≡ cut_left old
   pub same_step : cut_step new ≡ cut_step old
@@ -60,3 +61,10 @@ abbrev pub FailsSomewhere : {T : Type 0} → (T → Told) → (Cut T → ℕ) �
 FailsSomewhere told own old new =
     (FailsAtCut own old new ⊎ FailsInside told own old new)
     × (cut_left new ≡ cut_left old) × (cut_step new ≡ cut_step old)
+
+-- one call: bytes passed where it is `Ok`, which it is only before the cut; it failed at the cut or
+-- inside where it is `Err`
+abbrev pub PassesUntilCut : {T E : Type 0} → (T → Told) → (Cut T → ℕ) → Cut T → Cut T
+    → Result ℕ E → Type 0
+PassesUntilCut told own old new (Ok count) = Passes own old new count
+PassesUntilCut told own old new (Err _) = FailsSomewhere told own old new

@@ -1,6 +1,6 @@
 -- What a reader gives.
 use Rattle.std.specs.Prelude.{◌≡◌, ℕ, ◌+◌, ◌<◌, ◌≤◌, List, []}
-use Rattle.std.specs.Prelude.{◌++◌, length, Some}
+use Rattle.std.specs.Prelude.{◌++◌, length, take, Some, Result, Ok, Err}
 use Rattle.rr_io.specs.Told.{Told, Counts, Fails}
 use Rattle.rr_io.specs.declared.receiving.ReadEnd.{ReadEnd}
 use Rattle.rr_io.specs.declared.receiving.ReadEnd.TheVariants.{Whole, Broken, Endless}
@@ -19,6 +19,19 @@ CountsReads old new count = Counts old.reads new.reads count
 -- no byte is left
 pub record IsSpent (told : Told) : Type 0 where
   pub none_left : (xs : List ℕ) → told.bytes ≡ Some xs → xs ≡ []
+
+-- so many bytes were given into the beginning of a buffer: none only at the end, or into an empty
+-- buffer
+pub record GivesInto (old new : Told) (buf : List ℕ) (count : ℕ) : Type 0 where
+  pub bound : count ≤ length buf
+  pub gives : Gives old new (take count buf)
+  pub spent : count ≡ 0 → 0 < length buf → IsSpent new
+  pub counts : CountsReads old new 1
+
+-- one read into a buffer: it gave bytes where it is `Ok`, and failed where it is `Err`
+abbrev pub ReadsOnce : {E : Type 0} → Told → Told → List ℕ → Result ℕ E → Type 0
+ReadsOnce old new buf (Ok count) = GivesInto old new buf count
+ReadsOnce old new buf (Err _) = Fails old new
 
 -- these bytes were given, and then a call failed
 pub record BreaksOff (old new : Told) (bytes : List ℕ) : Type 0 where

@@ -1,5 +1,5 @@
 -- What a writer takes.
-use Rattle.std.specs.Prelude.{◌≡◌, ℕ, ◌<◌, List, ◌++◌, length, Result, Ok, Err}
+use Rattle.std.specs.Prelude.{◌≡◌, ℕ, ◌<◌, ◌≤◌, List, ◌++◌, length, take, Result, Ok, Err}
 use Rattle.std.specs.Prelude.{Some, ◌⊎◌}
 use Rattle.rr_io.specs.Told.{Told, Fails}
 
@@ -9,6 +9,17 @@ pub record Takes (old new : Told) (bytes : List ℕ) : Type 0 where
   pub no_fault : new.faults ≡ old.faults
   pub no_read : new.reads ≡ old.reads
   pub aside : new.aside ≡ old.aside
+
+-- so many bytes were taken from the beginning of these: none only where there are none
+pub record TakesFirst (old new : Told) (bytes : List ℕ) (count : ℕ) : Type 0 where
+  pub bound : count ≤ length bytes
+  pub some : 0 < length bytes → 0 < count
+  pub takes : Takes old new (take count bytes)
+
+-- one write of these bytes: it took some where it is `Ok`, and failed where it is `Err`
+abbrev pub WritesOnce : {E : Type 0} → Told → Told → List ℕ → Result ℕ E → Type 0
+WritesOnce old new bytes (Ok count) = TakesFirst old new bytes count
+WritesOnce old new bytes (Err _) = Fails old new
 
 -- the beginning of these bytes was taken, and not all of them: then a call failed
 pub record TakesPrefix (old new : Told) (bytes : List ℕ) : Type 0 where

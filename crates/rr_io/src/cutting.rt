@@ -1,9 +1,7 @@
 //! A reader or a writer that is cut short, for tests.
-ghost use Rattle.std.specs.Prelude.{◌≡◌, ◌<◌, ◌≤◌, length, take, min, IfOk, OnErr};
-ghost use Rattle.std.specs.Prelude.{IsErr};
-ghost use Rattle.rr_io.specs.Told.{Counts, Fails};
-ghost use Rattle.rr_io.specs.Sending.{Takes};
-ghost use Rattle.rr_io.specs.Receiving.{CountsReads, Gives, IsSpent};
+ghost use Rattle.std.specs.Prelude.{◌≡◌, ◌<◌, min};
+ghost use Rattle.rr_io.specs.Sending.{WritesOnce};
+ghost use Rattle.rr_io.specs.Receiving.{ReadsOnce};
 
 use super::{Sink, Source};
 use crate::counting::count_one;
@@ -60,36 +58,19 @@ impl<T> Cut<T> {
     }
 }
 
-/// The failure of a call at the cut, counted.
-fn fail(count: &mut u64) -> io::Error
-    ensures { Counts count.old count.new 1 }
-{
-    count_one(count);
-    io::Error::from(ErrorKind::BrokenPipe)
-}
-
 impl<T: Source> Source for Cut<T> {
-    ghost use Rattle.rr_io.specs.Cut.{cut_inner, cut_left, cut_told, reads_cut, FailsSomewhere};
-    ghost use Rattle.rr_io.specs.Cut.{Passes};
+    ghost use Rattle.rr_io.specs.Cut.{cut_told, reads_cut, PassesUntilCut};
 
     ghost told = { cut_told T.told reads_cut };
 
     fn read(&mut self, buf: &mut [u8]) -> io::Result<usize>
-        ensures bound { IfOk result (λ count. count ≤ length buf.new) }
-        ensures gives { IfOk result (λ count. Gives (cut_told T.told reads_cut self.old)
-            (cut_told T.told reads_cut self.new) (take count buf.new)) }
-        ensures spent { IfOk result (λ count. count ≡ 0 → 0 < length buf.new
-            → IsSpent (cut_told T.told reads_cut self.new)) }
-        ensures counts { IfOk result (λ _. CountsReads (cut_told T.told reads_cut self.old)
-            (cut_told T.told reads_cut self.new) 1) }
-        ensures fails { OnErr result
-            (Fails (cut_told T.told reads_cut self.old) (cut_told T.told reads_cut self.new)) }
-        ensures passes { IfOk result (λ count. Passes reads_cut self.old self.new count) }
-        ensures cut { cut_left self.old ≡ 0 → IsErr result }
-        ensures only { OnErr result (FailsSomewhere T.told reads_cut self.old self.new) }
+        ensures reads { ReadsOnce (cut_told T.told reads_cut self.old)
+            (cut_told T.told reads_cut self.new) buf.new result }
+        ensures cut { PassesUntilCut T.told reads_cut self.old self.new result }
     {
         if self.left == 0 {
-            return Err(fail(&mut self.failed_reads));
+            count_one(&mut self.failed_reads);
+            return Err(io::Error::from(ErrorKind::BrokenPipe));
         }
         let passing = self.passing(buf.len());
         let count = self.inner.read(&mut buf[..passing])?;
@@ -103,24 +84,18 @@ impl<T: Source> Source for Cut<T> {
 }
 
 impl<T: Sink> Sink for Cut<T> {
-    ghost use Rattle.rr_io.specs.Cut.{cut_inner, cut_left, cut_told, writes_cut, FailsSomewhere};
-    ghost use Rattle.rr_io.specs.Cut.{Passes};
+    ghost use Rattle.rr_io.specs.Cut.{cut_told, writes_cut, PassesUntilCut};
 
     ghost told = { cut_told T.told writes_cut };
 
     fn write(&mut self, bytes: &[u8]) -> io::Result<usize>
-        ensures bound { IfOk result (λ count. count ≤ length bytes.now) }
-        ensures some { IfOk result (λ count. 0 < length bytes.now → 0 < count) }
-        ensures takes { IfOk result (λ count. Takes (cut_told T.told writes_cut self.old)
-            (cut_told T.told writes_cut self.new) (take count bytes.now)) }
-        ensures fails { OnErr result
-            (Fails (cut_told T.told writes_cut self.old) (cut_told T.told writes_cut self.new)) }
-        ensures passes { IfOk result (λ count. Passes writes_cut self.old self.new count) }
-        ensures cut { cut_left self.old ≡ 0 → IsErr result }
-        ensures only { OnErr result (FailsSomewhere T.told writes_cut self.old self.new) }
+        ensures writes { WritesOnce (cut_told T.told writes_cut self.old)
+            (cut_told T.told writes_cut self.new) bytes.now result }
+        ensures cut { PassesUntilCut T.told writes_cut self.old self.new result }
     {
         if self.left == 0 {
-            return Err(fail(&mut self.failed_writes));
+            count_one(&mut self.failed_writes);
+            return Err(io::Error::from(ErrorKind::BrokenPipe));
         }
         let passing = self.passing(bytes.len());
         let count = self.inner.write(&bytes[..passing])?;

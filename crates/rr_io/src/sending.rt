@@ -1,5 +1,5 @@
 //! Writing whole texts.
-ghost use Rattle.std.specs.Prelude.{◌≡◌, flat_map};
+ghost use Rattle.std.specs.Prelude.{flat_map};
 ghost use Rattle.rr_io.specs.Sending.{Writes};
 
 use super::Sink;

@@ -1,8 +1,8 @@
 //! Readers and writers as contracts see them.
-ghost use Rattle.std.specs.Prelude.{◌≡◌, ◌<◌, ◌≤◌, take, length, IfOk, OnErr};
-ghost use Rattle.rr_io.specs.Told.{Told, Fails, beside};
-ghost use Rattle.rr_io.specs.Sending.{Takes};
-ghost use Rattle.rr_io.specs.Receiving.{CountsReads, Gives, IsSpent};
+ghost use Rattle.std.specs.Prelude.{◌≡◌};
+ghost use Rattle.rr_io.specs.Told.{Told, beside};
+ghost use Rattle.rr_io.specs.Sending.{WritesOnce};
+ghost use Rattle.rr_io.specs.Receiving.{ReadsOnce};
 
 use std::io;
 
@@ -15,13 +15,7 @@ pub trait Source {
     /// Reads some bytes into the beginning of `buf` and says how many: none only at the end, or
     /// into an empty `buf`.
     fn read(&mut self, buf: &mut [u8]) -> io::Result<usize>
-        ensures bound { IfOk result (λ count. count ≤ length buf.new) }
-        ensures gives { IfOk result
-            (λ count. Gives (told self.old) (told self.new) (take count buf.new)) }
-        ensures spent { IfOk result
-            (λ count. count ≡ 0 → 0 < length buf.new → IsSpent (told self.new)) }
-        ensures counts { IfOk result (λ _. CountsReads (told self.old) (told self.new) 1) }
-        ensures fails { OnErr result (Fails (told self.old) (told self.new)) };
+        ensures { ReadsOnce (told self.old) (told self.new) buf.new result };
 
     /// How many reads failed, up to `u64::MAX`.
     fn failed_reads(&self) -> u64
@@ -36,11 +30,7 @@ pub trait Sink {
 
     /// Takes some bytes from the beginning of `bytes` and says how many: none only of no bytes.
     fn write(&mut self, bytes: &[u8]) -> io::Result<usize>
-        ensures bound { IfOk result (λ count. count ≤ length bytes.now) }
-        ensures some { IfOk result (λ count. 0 < length bytes.now → 0 < count) }
-        ensures takes { IfOk result
-            (λ count. Takes (told self.old) (told self.new) (take count bytes.now)) }
-        ensures fails { OnErr result (Fails (told self.old) (told self.new)) };
+        ensures { WritesOnce (told self.old) (told self.new) bytes.now result };
 
     /// How many writes failed, up to `u64::MAX`: apart from the failed reads of a reader in the
     /// same value.

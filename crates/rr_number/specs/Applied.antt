@@ -24,6 +24,10 @@ pub record IsRanged (text : List ℕ) (prefix : PrefixParts) (operator : Operato
   pub first : IsPrefix before prefix
   pub second : IsOperator rest operator
 
+-- A prefix and an operator as a text spells them both (RFC 2622, 2).
+abbrev pub IsRangedText : List ℕ → PrefixParts × Operator → Type 0
+IsRangedText text ranged = IsRanged text ranged.0 ranged.1
+
 -- The prefix and the operator of two texts, if they spell them (RFC 2622, 2).
 unfoldable pub ranged_from : List ℕ → List ℕ → Option (PrefixParts × Operator)
 ranged_from before rest =

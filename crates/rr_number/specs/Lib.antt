@@ -6,7 +6,9 @@ pub mod AsSpans
 pub mod Bounds
 pub mod Dashes
 pub mod EndsTexts
+pub mod ExactReads
 pub mod Names
+pub mod NumberTextParts
 pub mod Numerals
 pub mod Operators
 pub mod Parents
@@ -16,6 +18,7 @@ pub mod RangeLaws
 pub mod Ranges
 pub mod SetNameLaws
 pub mod SetNames
+pub mod Shown
 pub mod SpanLaws
 pub mod SpanTexts
 pub mod Spans

@@ -1,13 +1,14 @@
 //! Addresses.
-ghost use Rattle.std.specs.Prelude.{◌≡◌, ◌+◌, ◌<◌, ◌≤◌, ◌^◌, ◌++◌, ℕ};
-ghost use Rattle.std.specs.Prelude.{IfSome, length, Some};
+ghost use Rattle.std.specs.Prelude.{◌≡◌, ◌<◌, ◌^◌, Some};
 ghost use Rattle.rr_io.specs.Sending.{Writes};
 ghost use Rattle.rr_number.specs.Addresses.{IsAddress, address_of, address_text, joined_of};
 ghost use Rattle.rr_number.specs.Addresses.{octet_of};
+ghost use Rattle.rr_number.specs.ExactReads.{ReadsExactly};
+ghost use Rattle.rr_number.specs.Shown.{Shows};
 
 use crate::digits::read_number;
 use crate::ends::End;
-use crate::number_text::{NUMBER_SIZE, NumberText};
+use crate::number_text::NumberText;
 use rr_bytes::cut_at;
 use rr_io::{Sink, write_all};
 use std::marker::Model;
@@ -39,8 +40,7 @@ impl Address {
 
     /// The address as a number.
     pub fn to_bits(self) -> u32
-        ensures value { result ≡ self }
-        ensures fits { self < 2 ^ 32 }
+        ensures { Shows (λ bits. bits < 2 ^ 32) self self result }
     {
         self.bits
     }
@@ -48,9 +48,7 @@ impl Address {
     /// The address that the whole text spells: four numbers below 256, of one to three digits each,
     /// joined by dots. There is none where the text is spelled otherwise (RFC 2622, 2).
     pub fn read(text: &[u8]) -> Option<Address>
-        ensures found { IfSome result (λ address. IsAddress text.now address) }
-        ensures only { (address : ℕ) → IsAddress text.now address → result ≡ Some address }
-        ensures exact { result ≡ address_of text.now }
+        ensures { ReadsExactly IsAddress address_of text.now result }
     {
         read_address(text)
     }
@@ -60,7 +58,7 @@ impl Address {
         ensures { result ≡ address_text self }
     {
         let mut text = NumberText::new();
-        self.push_to(&mut text);
+        Address::push_end(self.bits, &mut text);
         text
     }
 
@@ -70,23 +68,6 @@ impl Address {
             (address_text self.now) result }
     {
         write_all(writer, self.text().as_bytes())
-    }
-
-    /// Appends the address's text, at most 15 bytes.
-    #[tactic(auto, unfolding(crate::specs::Addresses::address_text))]
-    pub(crate) fn push_to(self, text: &mut NumberText)
-        requires { length text.old + 15 ≤ NUMBER_SIZE }
-        ensures value { text.new ≡ text.old ++ address_text self }
-        ensures short { length text.new ≤ length text.old + 15 }
-    {
-        let [first, second, third, fourth] = self.bits.to_be_bytes();
-        text.push_byte(first);
-        text.push_str(".");
-        text.push_byte(second);
-        text.push_str(".");
-        text.push_byte(third);
-        text.push_str(".");
-        text.push_byte(fourth);
     }
 }
 
@@ -100,8 +81,16 @@ impl End for Address {
         Some(Address::read(text)?.to_bits())
     }
 
+    #[tactic(auto, unfolding(crate::specs::Addresses::address_text))]
     fn push_end(number: u32, text: &mut NumberText) {
-        Address::from_bits(number).push_to(text);
+        let [first, second, third, fourth] = number.to_be_bytes();
+        text.push_byte(first);
+        text.push_str(".");
+        text.push_byte(second);
+        text.push_str(".");
+        text.push_byte(third);
+        text.push_str(".");
+        text.push_byte(fourth);
     }
 }
 

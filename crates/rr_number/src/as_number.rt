@@ -1,10 +1,13 @@
 //! AS numbers.
-ghost use Rattle.std.specs.Prelude.{◌≡◌, ◌++◌, length, ◌+◌, ◌≤◌, ℕ, IfSome};
+ghost use Rattle.std.specs.Prelude.{◌≡◌, length, ◌+◌, ◌≤◌};
 ghost use Rattle.std.specs.Prelude.{Some};
 ghost use Rattle.rr_io.specs.Sending.{Writes};
+ghost use Rattle.rr_number.specs.ExactReads.{ReadsExactly};
+ghost use Rattle.rr_number.specs.NumberTextParts.{Appends};
 ghost use Rattle.rr_number.specs.Numerals.{number_of};
 ghost use Rattle.rr_number.specs.AsNumbers.{as_number_of, as_number_text, greatest_as_number};
 ghost use Rattle.rr_number.specs.AsNumbers.{IsAsNumber};
+ghost use Rattle.rr_number.specs.Shown.{Shows};
 
 use crate::digits::read_number;
 use crate::ends::End;
@@ -49,8 +52,7 @@ impl AsNumber {
 
     /// The number.
     pub fn number(self) -> u32
-        ensures value { result ≡ self }
-        ensures bound { self ≤ greatest_as_number }
+        ensures { Shows (λ number. number ≤ greatest_as_number) self self result }
     {
         self.number
     }
@@ -58,9 +60,7 @@ impl AsNumber {
     /// The AS number that the bytes spell: `AS`, in any letter case, and 1 to 10 digits of a number
     /// of at most 4294967295 (RFC 2622, 2; RFC 6793, 3; the count of digits: profile).
     pub fn read(bytes: &[u8]) -> Option<Self>
-        ensures exact { result ≡ as_number_of bytes.now }
-        ensures found { IfSome result (IsAsNumber bytes.now) }
-        ensures only { (n : ℕ) → IsAsNumber bytes.now n → result ≡ Some n }
+        ensures { ReadsExactly IsAsNumber as_number_of bytes.now result }
     {
         match number_at(bytes) {
             Some(number) => Some(AsNumber { number }),
@@ -103,8 +103,7 @@ impl End for AsNumber {
 /// Appends the printed text of the number, at most 12 bytes.
 fn push_text(number: u32, text: &mut NumberText)
     requires { length text.old + 12 ≤ NUMBER_SIZE }
-    ensures value { text.new ≡ text.old ++ as_number_text number }
-    ensures short { length text.new ≤ length text.old + 12 }
+    ensures { Appends 12 (as_number_text number) text.old text.new }
 {
     text.push_str("AS");
     text.push_number(number);

@@ -1,9 +1,10 @@
 //! Blocks of AS numbers, the keys of as-blocks.
 
-ghost use Rattle.std.specs.Prelude.{◌≡◌, ◌≤◌, IfSome, Some};
+ghost use Rattle.std.specs.Prelude.{◌≡◌, Some};
 ghost use Rattle.rr_io.specs.Sending.{Writes};
 ghost use Rattle.rr_number.specs.AsSpans.{IsAsSpan, IsAsSpanText, as_span_of, as_span_text};
-ghost use Rattle.rr_number.specs.Spans.{Ends};
+ghost use Rattle.rr_number.specs.ExactReads.{ReadsExactly};
+ghost use Rattle.rr_number.specs.Shown.{Shows};
 
 use crate::dash::cut_at_dash;
 use crate::ends::{ends_text, read_between};
@@ -34,34 +35,18 @@ impl Model for AsSpan {
 }
 
 impl AsSpan {
-    /// The block from `first` to `last`.
-    pub fn new(first: AsNumber, last: AsNumber) -> Self
-        requires { first ≤ last }
-        ensures { result ≡ record { first = first; last = last } }
+    /// The block of the AS numbers of this span.
+    pub fn of(span: Span) -> Self
+        ensures { result ≡ span }
     {
-        AsSpan {
-            span: Span::new(first.number(), last.number()),
-        }
-    }
-
-    /// The first AS number.
-    pub fn first(self) -> AsNumber
-        ensures { result ≡ self.first }
-    {
-        AsNumber::new(self.span.first())
-    }
-
-    /// The last AS number.
-    pub fn last(self) -> AsNumber
-        ensures { result ≡ self.last }
-    {
-        AsNumber::new(self.span.last())
+        // No number of a span is above the greatest AS number.
+        let _last = span.last();
+        AsSpan { span }
     }
 
     /// The block's numbers.
     pub fn span(self) -> Span
-        ensures value { result ≡ self }
-        ensures bound { IsAsSpan self }
+        ensures { Shows IsAsSpan self self result }
     {
         self.span
     }
@@ -69,9 +54,7 @@ impl AsSpan {
     /// The block that the text spells: two AS numbers with `-` between them, which may have blanks
     /// on either side, the first not above the last (profile).
     pub fn read(text: &[u8]) -> Option<Self>
-        ensures found { IfSome result (λ block. IsAsSpanText text.now block) }
-        ensures only { (block : Ends) → IsAsSpanText text.now block → result ≡ Some block }
-        ensures exact { result ≡ as_span_of text.now }
+        ensures { ReadsExactly IsAsSpanText as_span_of text.now result }
     {
         read_block(text)
     }

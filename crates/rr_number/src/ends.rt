@@ -1,8 +1,9 @@
 //! Spans as texts: two ends with a dash between them.
 
-ghost use Rattle.std.specs.Prelude.{◌≡◌, ◌+◌, ◌++◌, ◌≤◌, List, Option, length};
+ghost use Rattle.std.specs.Prelude.{◌≡◌, ◌+◌, ◌≤◌, List, Option, length};
 ghost use Rattle.std.specs.Prelude.{ℕ};
 ghost use Rattle.rr_number.specs.EndsTexts.{ends_between, ends_text};
+ghost use Rattle.rr_number.specs.NumberTextParts.{Appends};
 
 use crate::number_text::{NUMBER_SIZE, NumberText};
 use crate::span::Span;
@@ -22,8 +23,7 @@ pub(crate) trait End {
     /// Appends the number's text, at most 15 bytes.
     fn push_end(number: u32, text: &mut NumberText)
         requires { length text.old + 15 ≤ NUMBER_SIZE }
-        ensures value { text.new ≡ text.old ++ end_text number }
-        ensures short { length text.new ≤ length text.old + 15 };
+        ensures { Appends 15 (end_text number) text.old text.new };
 }
 
 /// The span between the ends that two texts spell, if they do and the first is not above the last.

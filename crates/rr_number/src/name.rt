@@ -7,11 +7,12 @@ ghost use Rattle.rr_io.specs.Sending.{Writes};
 ghost use Rattle.rr_bytes.specs.LetterCase.{upper};
 ghost use Rattle.rr_number.specs.Names.{is_maintainer_name, is_reserved, maintainer_name_of};
 ghost use Rattle.rr_number.specs.Names.{name_of, IsUpperName};
+ghost use Rattle.rr_number.specs.Shown.{Shows};
 
 use crate::any_set::{AS_ANY, RS_ANY};
 use crate::name_text::NameText;
 use rr_bytes::{is_keyword, is_name, to_upper};
-use rr_io::Sink;
+use rr_io::{Sink, write_all};
 use std::alloc::{AllocError, Global};
 use std::marker::Model;
 use std::{fmt, io};
@@ -70,7 +71,7 @@ impl Name {
             return Ok(None);
         }
         let bytes = to_upper(alloc, bytes)?;
-        let text = NameText::from_vec(bytes);
+        let text = NameText { bytes };
         Ok(Some(Name { text }))
     }
 
@@ -87,10 +88,10 @@ impl Name {
 
     /// The name's bytes, in upper case.
     pub fn as_bytes(&self) -> &[u8]
-        ensures value { result.now ≡ self.now }
-        ensures name { IsUpperName self.now }
+        ensures { Shows IsUpperName self.now self.now result.now }
     {
-        self.text.as_bytes()
+        let text = &self.text;
+        &text.bytes
     }
 
     /// Whether the name is a word that RPSL keeps for itself (RFC 2622, 2).
@@ -113,14 +114,15 @@ impl Name {
     pub fn print_to<W: Sink>(&self, writer: &mut W) -> io::Result<()>
         ensures { Writes (W.told writer.old) (W.told writer.new) self.now result }
     {
-        self.text.print_to(writer)
+        write_all(writer, self.as_bytes())
     }
 
     /// An equal name.
     pub fn copy(&self, alloc: Global) -> Result<Self, AllocError>
         ensures { IfOk result (λ name. name ≡ self.now) }
     {
-        let text = self.text.copy(alloc)?;
+        let bytes = Vec::from_slice(alloc, self.as_bytes())?;
+        let text = NameText { bytes };
         Ok(Name { text })
     }
 }

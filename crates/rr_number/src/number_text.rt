@@ -1,6 +1,8 @@
 //! Printed text on the stack.
 ghost use Rattle.std.specs.Prelude.{◌≡◌, ◌+◌, ◌≤◌, [], ◌++◌, length};
 ghost use Rattle.std.specs.Fmt.{decimal};
+ghost use Rattle.rr_number.specs.NumberTextParts.{Appends};
+ghost use Rattle.rr_number.specs.Shown.{Shows};
 
 use arrayvec::ArrayString;
 use itoa::Buffer;
@@ -55,24 +57,21 @@ impl NumberText {
     #[tactic(auto, using(crate::proofs::Decimals::three_digits))]
     pub(crate) fn push_byte(&mut self, number: u8)
         requires { length self.old + 3 ≤ NUMBER_SIZE }
-        ensures value { self.new ≡ self.old ++ decimal number }
-        ensures short { length self.new ≤ length self.old + 3 }
+        ensures { Appends 3 (decimal number) self.old self.new }
     {
         self.push_number(u32::from(number));
     }
 
     /// The text.
     pub fn as_str(&self) -> &str
-        ensures value { result.now ≡ self.now }
-        ensures short { length self.now ≤ NUMBER_SIZE }
+        ensures { Shows (λ text. length text ≤ NUMBER_SIZE) self.now self.now result.now }
     {
         self.text.as_str()
     }
 
     /// The bytes of the text.
     pub fn as_bytes(&self) -> &[u8]
-        ensures value { result.now ≡ self.now }
-        ensures short { length self.now ≤ NUMBER_SIZE }
+        ensures { Shows (λ text. length text ≤ NUMBER_SIZE) self.now self.now result.now }
     {
         self.text.as_str().as_bytes()
     }

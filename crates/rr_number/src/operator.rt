@@ -1,15 +1,17 @@
 //! Range operators.
-ghost use Rattle.std.specs.Prelude.{◌≡◌, ◌+◌, ◌<◌, ◌≤◌, ◌↔◌, ◌++◌};
+ghost use Rattle.std.specs.Prelude.{◌≡◌, ◌+◌, ◌<◌, ◌≤◌, ◌↔◌};
 ghost use Rattle.std.specs.Prelude.{IsSome, IfSome, length, Some};
 ghost use Rattle.rr_io.specs.Sending.{Writes};
 ghost use Rattle.rr_number.specs.Applied.{applied};
 ghost use Rattle.rr_number.specs.Bounds.{IsBounds};
 ghost use Rattle.rr_bytes.specs.Cuts.{cut_at};
 ghost use Rattle.rr_number.specs.Dashes.{dash};
+ghost use Rattle.rr_number.specs.ExactReads.{ReadsExactly};
+ghost use Rattle.rr_number.specs.NumberTextParts.{Appends};
 ghost use Rattle.rr_number.specs.Operators.{IsOperator, carried_of, lengths_cut_of, lengths_text};
 ghost use Rattle.rr_number.specs.Operators.{one_length_of, operator_of, operator_text};
 ghost use Rattle.rr_number.specs.Operators.{two_lengths_of};
-ghost use Rattle.rr_number.specs.declared.operator.Operator.{Operator};
+ghost use Rattle.rr_number.specs.Shown.{Shows};
 
 use crate::number_text::{NUMBER_SIZE, NumberText};
 use crate::prefix::read_length;
@@ -75,16 +77,14 @@ impl LengthBounds {
 
     /// The least length.
     pub fn low(self) -> u8
-        ensures value { result ≡ self.low }
-        ensures bounds { IsBounds self }
+        ensures { Shows IsBounds self self.low result }
     {
         self.low
     }
 
     /// The greatest length, at most 32.
     pub fn high(self) -> u8
-        ensures value { result ≡ self.high }
-        ensures bounds { IsBounds self }
+        ensures { Shows IsBounds self self.high result }
     {
         self.high
     }
@@ -95,10 +95,7 @@ impl Operator {
     /// of one or two digits, n not above m and m at most 32. There is none where the text is
     /// spelled otherwise (RFC 2622, 2).
     pub fn read(text: &[u8]) -> Option<Operator>
-        ensures found { IfSome result (λ operator. IsOperator text.now operator) }
-        ensures only { (operator : Operator) → IsOperator text.now operator
-            → result ≡ Some operator }
-        ensures exact { result ≡ operator_of text.now }
+        ensures { ReadsExactly IsOperator operator_of text.now result }
     {
         read_operator(text)
     }
@@ -141,8 +138,7 @@ impl Operator {
     #[tactic(auto, unfolding(crate::specs::Operators::operator_text))]
     pub(crate) fn push_to(self, text: &mut NumberText)
         requires { length text.old + 8 ≤ NUMBER_SIZE }
-        ensures value { text.new ≡ text.old ++ operator_text self }
-        ensures short { length text.new ≤ length text.old + 8 }
+        ensures { Appends 8 (operator_text self) text.old text.new }
     {
         match self {
             Operator::Plain => {}
@@ -163,8 +159,7 @@ impl fmt::Display for Operator {
 
 fn push_lengths(text: &mut NumberText, low: u8, high: u8)
     requires { length text.old + 8 ≤ NUMBER_SIZE }
-    ensures value { text.new ≡ text.old ++ lengths_text low high }
-    ensures short { length text.new ≤ length text.old + 8 }
+    ensures { Appends 8 (lengths_text low high) text.old text.new }
 {
     text.push_str("^");
     text.push_byte(low);

@@ -1,13 +1,17 @@
 //! Prefixes.
-ghost use Rattle.std.specs.Prelude.{◌≡◌, ◌+◌, ◌<◌, ◌≤◌, ◌++◌, IfSome};
+ghost use Rattle.std.specs.Prelude.{◌≡◌, ◌+◌, ◌<◌, ◌≤◌, IfSome};
 ghost use Rattle.std.specs.Prelude.{length, Some};
 ghost use Rattle.rr_io.specs.Sending.{Writes};
-ghost use Rattle.rr_number.specs.Prefixes.{PrefixParts, count_of, masked, masked_of, length_of};
+ghost use Rattle.rr_number.specs.ExactReads.{ReadsExactly};
+ghost use Rattle.rr_number.specs.NumberTextParts.{Appends};
+ghost use Rattle.rr_number.specs.Prefixes.{count_of, masked, masked_of, length_of};
 ghost use Rattle.rr_number.specs.Prefixes.{prefix_of, prefix_text, span_of, IsMasked, IsPrefix};
+ghost use Rattle.rr_number.specs.Shown.{Shows};
 ghost use Rattle.rr_number.specs.Spans.{covers};
 
 use crate::address::Address;
 use crate::digits::read_number;
+use crate::ends::End;
 use crate::number_text::{NUMBER_SIZE, NumberText};
 use crate::span::Span;
 use rr_bytes::cut_at;
@@ -51,16 +55,14 @@ impl Prefix {
 
     /// The first address of the prefix.
     pub fn address(self) -> Address
-        ensures value { result ≡ self.address }
-        ensures masked { IsMasked self }
+        ensures { Shows IsMasked self self.address result }
     {
         self.address
     }
 
     /// How many bits the addresses of the prefix share, at most 32.
     pub fn length(self) -> u8
-        ensures value { result ≡ self.length }
-        ensures masked { IsMasked self }
+        ensures { Shows IsMasked self self.length result }
     {
         self.length
     }
@@ -85,10 +87,7 @@ impl Prefix {
     /// digits, at most 32. Bits past the length are read as zero. There is none where the text is
     /// spelled otherwise (RFC 2622, 2; for the bits profile).
     pub fn read(text: &[u8]) -> Option<Prefix>
-        ensures found { IfSome result (λ prefix. IsPrefix text.now prefix) }
-        ensures only { (prefix : PrefixParts) → IsPrefix text.now prefix
-            → result ≡ Some prefix }
-        ensures exact { result ≡ prefix_of text.now }
+        ensures { ReadsExactly IsPrefix prefix_of text.now result }
     {
         read_prefix(text)
     }
@@ -114,10 +113,9 @@ impl Prefix {
     #[tactic(auto, unfolding(crate::specs::Prefixes::prefix_text))]
     pub(crate) fn push_to(self, text: &mut NumberText)
         requires { length text.old + 19 ≤ NUMBER_SIZE }
-        ensures value { text.new ≡ text.old ++ prefix_text self }
-        ensures short { length text.new ≤ length text.old + 19 }
+        ensures { Appends 19 (prefix_text self) text.old text.new }
     {
-        self.address.push_to(text);
+        Address::push_end(self.address.to_bits(), text);
         text.push_str("/");
         text.push_byte(self.length);
     }

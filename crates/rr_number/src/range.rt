@@ -1,12 +1,12 @@
 //! Ranges of prefixes.
-ghost use Rattle.std.specs.Prelude.{◌≡◌, ◌≤◌, IfSome};
+ghost use Rattle.std.specs.Prelude.{◌≡◌, ◌≤◌};
 ghost use Rattle.std.specs.Prelude.{if◌then◌else◌, length, nat_le, Some};
 ghost use Rattle.rr_io.specs.Sending.{Writes};
-ghost use Rattle.rr_number.specs.Applied.{IsRanged, operator_for, ranged_from, range_text};
+ghost use Rattle.rr_number.specs.Applied.{IsRangedText, operator_for, ranged_from, range_text};
 ghost use Rattle.rr_number.specs.Applied.{ranged_of};
-ghost use Rattle.rr_number.specs.Prefixes.{PrefixParts};
+ghost use Rattle.rr_number.specs.ExactReads.{ReadsExactly};
 ghost use Rattle.rr_number.specs.Ranges.{admits, bare, IsRange};
-ghost use Rattle.rr_number.specs.declared.operator.Operator.{Operator};
+ghost use Rattle.rr_number.specs.Shown.{Shows};
 
 use crate::number_text::NumberText;
 use crate::operator::{LengthBounds, Operator};
@@ -78,24 +78,21 @@ impl Range {
 
     /// The prefix that covers all prefixes of the range.
     pub fn prefix(self) -> Prefix
-        ensures value { result ≡ self.prefix }
-        ensures range { IsRange self }
+        ensures { Shows IsRange self self.prefix result }
     {
         self.prefix
     }
 
     /// The least length, not below that of the prefix.
     pub fn low(self) -> u8
-        ensures value { result ≡ self.low }
-        ensures range { IsRange self }
+        ensures { Shows IsRange self self.low result }
     {
         self.low
     }
 
     /// The greatest length, at most 32.
     pub fn high(self) -> u8
-        ensures value { result ≡ self.high }
-        ensures range { IsRange self }
+        ensures { Shows IsRange self self.high result }
     {
         self.high
     }
@@ -145,10 +142,7 @@ impl fmt::Display for Range {
 /// The prefix and its operator that the whole text spells, one right after the other. There is none
 /// where the text is spelled otherwise, as with two operators (RFC 2622, 2).
 pub fn read_ranged(text: &[u8]) -> Option<(Prefix, Operator)>
-    ensures found { IfSome result (λ ranged. IsRanged text.now ranged.0 ranged.1) }
-    ensures only { (prefix : PrefixParts) (operator : Operator)
-        → IsRanged text.now prefix operator → result ≡ Some (prefix, operator) }
-    ensures exact { result ≡ ranged_of text.now }
+    ensures { ReadsExactly IsRangedText ranged_of text.now result }
 {
     read_both(text)
 }

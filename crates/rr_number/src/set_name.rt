@@ -10,6 +10,7 @@ ghost use Rattle.rr_number.specs.SetNames.{has_word_start, kind_of, IsSetText, c
 ghost use Rattle.rr_number.specs.SetNames.{components, is_any_set, is_as_number, is_component};
 ghost use Rattle.rr_number.specs.SetNames.{is_name_of_kind, is_set_name, is_set_word, word_start};
 ghost use Rattle.rr_number.specs.SetNames.{set_name_of, set_text};
+ghost use Rattle.rr_number.specs.Shown.{Shows};
 
 mod parent;
 
@@ -19,7 +20,7 @@ use crate::name_text::NameText;
 use crate::{AsNumber, SetKind};
 pub use parent::Parent;
 use rr_bytes::{cut_at, is_keyword, is_name, to_upper};
-use rr_io::Sink;
+use rr_io::{Sink, write_all};
 use std::alloc::{AllocError, Global};
 use std::marker::Model;
 use std::{fmt, io};
@@ -58,16 +59,16 @@ impl SetName {
             return Ok(None);
         }
         let bytes = printed(alloc, bytes)?;
-        let text = NameText::from_vec(bytes);
+        let text = NameText { bytes };
         Ok(Some(SetName { text }))
     }
 
     /// The name's bytes, as it is printed.
     pub fn as_bytes(&self) -> &[u8]
-        ensures value { result.now ≡ self.now }
-        ensures name { IsSetText self.now }
+        ensures { Shows IsSetText self.now self.now result.now }
     {
-        self.text.as_bytes()
+        let text = &self.text;
+        &text.bytes
     }
 
     /// The kind of the set.
@@ -106,14 +107,15 @@ impl SetName {
     pub fn print_to<W: Sink>(&self, writer: &mut W) -> io::Result<()>
         ensures { Writes (W.told writer.old) (W.told writer.new) self.now result }
     {
-        self.text.print_to(writer)
+        write_all(writer, self.as_bytes())
     }
 
     /// An equal name.
     pub fn copy(&self, alloc: Global) -> Result<Self, AllocError>
         ensures { IfOk result (λ name. name ≡ self.now) }
     {
-        let text = self.text.copy(alloc)?;
+        let bytes = Vec::from_slice(alloc, self.as_bytes())?;
+        let text = NameText { bytes };
         Ok(SetName { text })
     }
 }

@@ -1,9 +1,11 @@
 //! Spans of numbers of 32 bits: of addresses, and of AS numbers.
 
-ghost use Rattle.std.specs.Prelude.{◌≡◌, ◌≤◌, IfSome, Some};
+ghost use Rattle.std.specs.Prelude.{◌≡◌, ◌≤◌, Some};
 ghost use Rattle.rr_io.specs.Sending.{Writes};
+ghost use Rattle.rr_number.specs.ExactReads.{ReadsExactly};
+ghost use Rattle.rr_number.specs.Shown.{Shows};
 ghost use Rattle.rr_number.specs.SpanTexts.{IsSpanText, spelled_span, span_text};
-ghost use Rattle.rr_number.specs.Spans.{Ends, IsSpan, covers, crosses, meets, size};
+ghost use Rattle.rr_number.specs.Spans.{IsSpan, covers, crosses, meets, size};
 
 pub mod laws;
 
@@ -54,8 +56,7 @@ impl Span {
 
     /// The last number of the span, which is not below the first.
     pub fn last(self) -> u32
-        ensures value { result ≡ self.last }
-        ensures ordered { IsSpan self }
+        ensures { Shows IsSpan self self.last result }
     {
         self.last
     }
@@ -92,9 +93,7 @@ impl Span {
     /// the first not above the last, with or without blanks beside the dash; or a prefix. There is
     /// none where the text is spelled otherwise (profile).
     pub fn read(text: &[u8]) -> Option<Span>
-        ensures found { IfSome result (λ span. IsSpanText text.now span) }
-        ensures only { (span : Ends) → IsSpanText text.now span → result ≡ Some span }
-        ensures exact { result ≡ spelled_span text.now }
+        ensures { ReadsExactly IsSpanText spelled_span text.now result }
     {
         read_span(text)
     }

@@ -1,10 +1,16 @@
 -- Why a paragraph is not an object.
+use Rattle.std.specs.Prelude.{◌≡◌, ◌≢◌, Result, Ok, Err, IfOk, IfErr}
 use Rattle.rr_object.specs.declared.object_fault.ObjectFault.{ObjectFault}
 use Rattle.rr_object.specs.declared.object_fault.ObjectFault.TheVariants.{UnknownClass, BadKey}
 use Rattle.rr_object.specs.declared.object_fault.ObjectFault.TheVariants.{BadCount, BadValue}
 use Rattle.rr_object.specs.declared.object_fault.ObjectFault.TheVariants.{OtherSource, Memory}
 use Rattle.rr_object.specs.declared.code.Code.{Code}
 use Rattle.rr_object.specs.declared.code.Code.TheVariants.{E02, E03, E04, E05, E06, E90}
+
+-- the answer is this one, unless memory ran out
+pub record GivesUnlessMemory {X : Type 0} (expected answer : Result X ObjectFault) : Type 0 where
+  pub ok : IfOk answer (λ x. expected ≡ Ok x)
+  pub fault : IfErr answer (λ fault. fault ≢ Memory → expected ≡ Err fault)
 
 -- the code of an item that is refused for a fault (profile)
 abbrev pub code_of : ObjectFault → Code

@@ -23,8 +23,7 @@ impl Model for ByRef {
 impl ByRef {
     /// These maintainers' objects, or anybody's.
     pub(crate) fn new(any: bool, names: Vec<Name>) -> ByRef
-        ensures any { result.any ≡ any }
-        ensures names { result.names ≡ names.items }
+        ensures { result ≡ record { any = any; names = names.items } }
     {
         ByRef { any, names }
     }

@@ -4,7 +4,7 @@ ghost use Rattle.std.specs.Prelude.{◌≡◌, not, IfOk, map};
 ghost use Rattle.rr_bytes.specs.Parts.{is_filled};
 ghost use Rattle.rr_object.specs.Items.{values_of};
 ghost use Rattle.rr_object.specs.Kinds.{kind_name};
-ghost use Rattle.rr_object.specs.Readings.{breaks, is_miscounted, is_miscounted_in, items_of};
+ghost use Rattle.rr_object.specs.Readings.{breaks, is_miscounted, is_miscounted_in};
 ghost use Rattle.rr_object.specs.Readings.{items_read, list_text};
 ghost use Rattle.rr_object.specs.declared.kind.Kind.TheVariants as kinds;
 ghost use Rattle.rr_object.specs.declared.kind.Occurs.TheVariants.{Once};
@@ -44,25 +44,17 @@ fn is_missing(listed: &[&[u8]]) -> bool
 }
 
 /// Whether the `source` stands more or less often than once, or has no item; its values were read.
+#[tactic(auto, unfolding(crate::specs::Readings::items_of))]
 fn breaks_once(alloc: Global, paragraph: &Paragraph, sources: &[Text]) -> Result<bool, AllocError>
     requires { sources.now ≡ values_of (kind_name kinds.Source) paragraph.now }
     ensures { IfOk result (λ breaking. breaking ≡ breaks Once kinds.Source paragraph.now) }
 {
-    if count_named(paragraph, Kind::Source.name().as_bytes()) == 1 {
-        Ok(!has_item(alloc, paragraph, sources)?)
-    } else {
-        Ok(true)
+    if count_named(paragraph, Kind::Source.name().as_bytes()) != 1 {
+        return Ok(true);
     }
-}
-
-#[tactic(auto, unfolding(crate::specs::Readings::items_of))]
-fn has_item(alloc: Global, paragraph: &Paragraph, sources: &[Text]) -> Result<bool, AllocError>
-    requires { sources.now ≡ values_of (kind_name kinds.Source) paragraph.now }
-    ensures { IfOk result (λ has. has ≡ is_filled (items_of kinds.Source paragraph.now)) }
-{
     let text = joined(alloc, sources)?;
     let listed = items(alloc, &text)?;
-    Ok(!listed.is_empty())
+    Ok(is_missing(&listed))
 }
 
 /// Whether an object of the class needs an `auth` and has none.

@@ -28,9 +28,7 @@ impl Grant {
 
     /// The entry of this maintainer: for each prefix, or for those that one of the ranges admits.
     pub(crate) fn new(name: Name, any: bool, ranges: Vec<Range>) -> Grant
-        ensures name { result.name ≡ name }
-        ensures any { result.any ≡ any }
-        ensures ranges { result.ranges ≡ ranges.items }
+        ensures { result ≡ record { name = name; any = any; ranges = ranges.items } }
     {
         Grant { name, any, ranges }
     }

@@ -1,13 +1,12 @@
 //! Keys as texts.
 
-ghost use Rattle.std.specs.Prelude.{◌≡◌, ◌≤◌, ◌∷◌, ◌++◌, IfOk, OnOk};
+ghost use Rattle.std.specs.Prelude.{◌≡◌, ◌∷◌, ◌++◌, IfOk, OnOk};
 ghost use Rattle.std.specs.List.{list_all};
 ghost use Rattle.std.specs.Option.{option_map};
 ghost use Rattle.rr_io.specs.Sending.{Writes};
 ghost use Rattle.rr_number.specs.AsNumbers.{as_number_text};
 ghost use Rattle.rr_number.specs.Prefixes.{prefix_text};
-ghost use Rattle.rr_number.specs.Spans.{IsSpan};
-ghost use Rattle.rr_object.specs.KeyOrders.{HasKeyParts, IsRoute};
+ghost use Rattle.rr_object.specs.KeyOrders.{HasKeyParts};
 ghost use Rattle.rr_object.specs.KeyTexts.{bytes_with, eight_digits, key_bytes, key_text};
 ghost use Rattle.rr_object.specs.KeyTexts.{length_bytes, route_bytes, span_bytes};
 ghost use Rattle.rr_object.specs.OldKeys.{four_digits, has_two_octets, numbers_among, numbers_in};
@@ -15,6 +14,7 @@ ghost use Rattle.rr_object.specs.OldKeys.{old_key_bytes};
 ghost use Rattle.rr_object.specs.KeyParts.{digits_of, is_old_component};
 
 use crate::key::Key;
+use crate::laws::a_key_has_its_parts;
 use rr_io::{Sink, write_pieces};
 use rr_number::{AsNumber, Prefix, Span};
 use std::alloc::{AllocError, Global};
@@ -49,6 +49,7 @@ impl Key {
         ensures value { IfOk result (λ bytes. bytes.items ≡ key_bytes self.now) }
         ensures parts { HasKeyParts self.now }
     {
+        a_key_has_its_parts(self);
         bytes_with(alloc, Digits::Eight, self)
     }
 
@@ -77,8 +78,7 @@ pub(crate) enum Digits {
 
 /// The bytes of a key, with so many digits for an AS number.
 fn bytes_with(alloc: Global, digits: Digits, key: &Key) -> Result<Vec<u8>, AllocError>
-    ensures value { IfOk result (λ bytes. bytes.items ≡ bytes_with (digits_of digits) key.now) }
-    ensures parts { HasKeyParts key.now }
+    ensures { IfOk result (λ bytes. bytes.items ≡ bytes_with (digits_of digits) key.now) }
 {
     match key {
         Key::Mntner(name) => Vec::from_slice(alloc, name.as_bytes()),
@@ -95,18 +95,21 @@ fn has_old_bytes(key: &Key) -> bool
     ensures { result ≡ list_all has_two_octets (numbers_in key.now) }
 {
     match key {
-        Key::AsBlock(block) => has_two_octets(block.first()) && has_two_octets(block.last()),
-        Key::AutNum(number) => has_two_octets(*number),
-        Key::Route(_, origin) => has_two_octets(*origin),
+        Key::AsBlock(block) => {
+            let span = block.span();
+            has_two_octets(span.first()) && has_two_octets(span.last())
+        }
+        Key::AutNum(number) => has_two_octets(number.number()),
+        Key::Route(_, origin) => has_two_octets(origin.number()),
         Key::AsSet(name) | Key::RouteSet(name) => numbers_have_two_octets(name.as_bytes()),
         Key::Mntner(_) | Key::Inetnum(_) => true,
     }
 }
 
-fn has_two_octets(number: AsNumber) -> bool
+fn has_two_octets(number: u32) -> bool
     ensures { result ≡ has_two_octets number }
 {
-    number.number() <= u32::from(u16::MAX)
+    number <= u32::from(u16::MAX)
 }
 
 /// Whether each AS number among the components of a set's name has two octets.
@@ -121,7 +124,7 @@ fn is_old_component(component: &[u8]) -> bool
     ensures { result ≡ is_old_component component.now }
 {
     match AsNumber::read(component) {
-        Some(number) => has_two_octets(number),
+        Some(number) => has_two_octets(number.number()),
         None => true,
     }
 }
@@ -171,10 +174,10 @@ fn push_digits(text: &mut Vec<u8>, digits: Digits, number: u32) -> Result<(), Al
     }
 }
 
-fn push_length(text: &mut Vec<u8>, length: u8) -> Result<(), AllocError>
-    requires { length ≤ 32 }
-    ensures { OnOk result (text.new.items ≡ text.old.items ++ length_bytes length) }
+fn push_length(text: &mut Vec<u8>, prefix: Prefix) -> Result<(), AllocError>
+    ensures { OnOk result (text.new.items ≡ text.old.items ++ length_bytes prefix.length) }
 {
+    let length = prefix.length();
     text.extend_from_slice(&[b'0' + length / 10, b'0' + length % 10])
 }
 
@@ -187,14 +190,12 @@ fn number_bytes(alloc: Global, digits: Digits, number: u32) -> Result<Vec<u8>, A
 }
 
 fn span_bytes(alloc: Global, digits: Digits, span: Span) -> Result<Vec<u8>, AllocError>
-    ensures value { IfOk result (λ bytes. bytes.items ≡ span_bytes (digits_of digits) span) }
-    ensures ordered { IsSpan span }
+    ensures { IfOk result (λ bytes. bytes.items ≡ span_bytes (digits_of digits) span) }
 {
-    let last = span.last();
     let mut bytes = Vec::with_capacity(alloc, SPAN_LENGTH)?;
     push_digits(&mut bytes, digits, span.first())?;
     bytes.push(b'-')?;
-    push_digits(&mut bytes, digits, last)?;
+    push_digits(&mut bytes, digits, span.last())?;
     Ok(bytes)
 }
 
@@ -204,17 +205,14 @@ fn route_bytes(
     prefix: Prefix,
     origin: AsNumber,
 ) -> Result<Vec<u8>, AllocError>
-    ensures value { IfOk result
+    ensures { IfOk result
         (λ bytes. bytes.items ≡ route_bytes (digits_of digits) prefix origin) }
-    ensures parts { IsRoute prefix origin }
 {
-    let length = prefix.length();
-    let number = origin.number();
     let mut bytes = Vec::with_capacity(alloc, ROUTE_LENGTH)?;
     push_digits(&mut bytes, Digits::Eight, prefix.address().to_bits())?;
     bytes.push(b'/')?;
-    push_length(&mut bytes, length)?;
+    push_length(&mut bytes, prefix)?;
     bytes.push(b'-')?;
-    push_digits(&mut bytes, digits, number)?;
+    push_digits(&mut bytes, digits, origin.number())?;
     Ok(bytes)
 }

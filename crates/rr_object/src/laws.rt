@@ -92,7 +92,8 @@ pub fn a_key_has_its_parts(key: &Key)
     }
 }
 
-/// The same of any two keys.
+/// Any two keys are ordered by the numbers of their classes, then by their bytes, and two keys of a
+/// class have equal bytes only if they are equal.
 pub fn any_two_keys_compare_as_their_bytes(key: &Key, other: &Key)
     ensures order { ⟦<Key as Ord>⟧.cmp key.now other.now
         ≡ class_and_bytes_cmp key.now other.now }

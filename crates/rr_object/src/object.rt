@@ -1,6 +1,7 @@
 //! Objects of the registry.
 
 ghost use Rattle.std.specs.Prelude.{◌≡◌, ◌≢◌, Err, IfErr, IfOk, Ok, Some};
+ghost use Rattle.rr_object.specs.Faults.{GivesUnlessMemory};
 ghost use Rattle.rr_object.specs.KeyOrders.{IsKeyValue};
 ghost use Rattle.rr_object.specs.KeySpellings.{key_of};
 ghost use Rattle.rr_object.specs.ObjectParts.{said};
@@ -61,16 +62,14 @@ impl Object {
     /// The fault is the first that fits, in the order of `ObjectFault`, or that memory ran out.
     #[tactic(auto, using(crate::proofs::Parsed::keyless))]
     pub fn read(alloc: Global, paragraph: Paragraph, source: &Name) -> Result<Object, ObjectFault>
-        ensures ok { IfOk result (λ object. object_of paragraph source.now ≡ Ok object) }
-        ensures fault { IfErr result
-            (λ fault. fault ≢ Memory → object_of paragraph source.now ≡ Err fault) }
+        ensures { GivesUnlessMemory (object_of paragraph source.now) result }
     {
         let key = key_of(alloc, &paragraph)?;
         Object::read_with_key(alloc, key, paragraph, source)
     }
 
-    /// The same of a paragraph whose key was read: the faults of the class and the key are after
-    /// it.
+    /// The object that a paragraph of this key is in the registry of this source, or its first
+    /// fault; the class and the key, which were read, have none.
     #[tactic(auto, unfolding(crate::specs::Readings::object_of))]
     pub fn read_with_key(
         alloc: Global,
@@ -79,9 +78,7 @@ impl Object {
         source: &Name,
     ) -> Result<Object, ObjectFault>
         requires { key_of paragraph ≡ Ok key }
-        ensures ok { IfOk result (λ object. object_of paragraph source.now ≡ Ok object) }
-        ensures fault { IfErr result
-            (λ fault. fault ≢ Memory → object_of paragraph source.now ≡ Err fault) }
+        ensures { GivesUnlessMemory (object_of paragraph source.now) result }
     {
         let read = read_of_any_source(alloc, key, paragraph)?;
         if read.source.as_bytes() == source.as_bytes() {

@@ -1,9 +1,9 @@
 //! The keys of paragraphs.
 
-ghost use Rattle.std.specs.Prelude.{◌≡◌, ◌≢◌, Err, IfErr, IfOk, Ok};
+ghost use Rattle.std.specs.Prelude.{◌≡◌, IfOk};
+ghost use Rattle.rr_object.specs.Faults.{GivesUnlessMemory};
 ghost use Rattle.rr_object.specs.Items.{only};
 ghost use Rattle.rr_object.specs.KeySpellings.{key_at, key_from, key_of, route_key_of};
-ghost use Rattle.rr_object.specs.declared.object_fault.ObjectFault.TheVariants.{Memory};
 ghost use Rattle.rr_object.specs.declared.class.Class.TheVariants as class;
 ghost use Rattle.std.specs.Option.{option_and_then};
 
@@ -21,9 +21,7 @@ use std::alloc::{AllocError, Global};
 /// is no attribute or the first names no class, `BadKey` where what it says is not a key of the
 /// class, or that memory ran out.
 pub fn key_of(alloc: Global, paragraph: &Paragraph) -> Result<Key, ObjectFault>
-    ensures ok { IfOk result (λ key. key_of paragraph.now ≡ Ok key) }
-    ensures fault { IfErr result
-        (λ fault. fault ≢ Memory → key_of paragraph.now ≡ Err fault) }
+    ensures { GivesUnlessMemory (key_of paragraph.now) result }
 {
     match paragraph.attributes().next() {
         Some(first) => key_by(alloc, paragraph, &first),
@@ -33,9 +31,7 @@ pub fn key_of(alloc: Global, paragraph: &Paragraph) -> Result<Key, ObjectFault>
 
 /// The key of a paragraph of which this is the first attribute.
 fn key_by(alloc: Global, paragraph: &Paragraph, first: &Attribute) -> Result<Key, ObjectFault>
-    ensures ok { IfOk result (λ key. key_from first.now paragraph.now ≡ Ok key) }
-    ensures fault { IfErr result
-        (λ fault. fault ≢ Memory → key_from first.now paragraph.now ≡ Err fault) }
+    ensures { GivesUnlessMemory (key_from first.now paragraph.now) result }
 {
     let Some(class) = Class::named(first.name()) else {
         return Err(ObjectFault::UnknownClass);

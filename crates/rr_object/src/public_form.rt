@@ -1,9 +1,9 @@
 //! Objects as they are shown to everybody.
 
-ghost use Rattle.std.specs.Prelude.{◌≡◌, ◌++◌, IfOk, OnOk, OnErr};
-ghost use Rattle.std.specs.Io.{StartsWith};
+ghost use Rattle.std.specs.Prelude.{◌≡◌, IfOk};
 ghost use Rattle.rr_object.specs.Readings.{public_of};
 ghost use Rattle.rr_text.specs.CanonicalText.{canonical};
+ghost use Rattle.rr_text.specs.Outputs.{MayAdd};
 
 use crate::object::Object;
 use rr_text::{Paragraph, print_onto_with_values};
@@ -28,8 +28,7 @@ pub fn public(alloc: Global, object: &Object) -> Result<Paragraph, AllocError>
 /// out: then some bytes may have been appended.
 #[tactic(auto, unfolding(crate::specs::Readings::public_of))]
 pub fn print_public(out: &mut Vec<u8>, object: &Object) -> Result<(), AllocError>
-    ensures ok { OnOk result (out.new.items ≡ out.old.items ++ canonical (public_of object.now)) }
-    ensures err { OnErr result (StartsWith out.new.items out.old.items) }
+    ensures { MayAdd (canonical (public_of object.now)) out.old.items out.new.items result }
 {
     print_onto_with_values(out, object.paragraph(), SECRET, FILTERED)
 }

@@ -16,6 +16,7 @@ use Rattle.rr_auth.specs.declared.verdict.Verdict.{Verdict}
 use Rattle.rr_auth.specs.declared.verdict.Verdict.TheVariants.{Refuse}
 use Rattle.rr_auth.specs.declared.known.Known.{Known}
 use Rattle.rr_auth.specs.Known.{IsKnown}
+use Rattle.rr_auth.specs.Laws.{IsItem}
 use Rattle.rr_auth.specs.Registries.{Reg, Sound, keys_cross}
 use Rattle.rr_auth.specs.Verdicts.{verdict}
 use Rattle.rr_book.specs.Books.{book_of, entry, is_in_order}
@@ -90,3 +91,10 @@ pub record IsKept (r : Reg) (known : Known) : Type 0 where
 -- The verdict on an item, or a refusal with E90 if memory runs out (profile).
 abbrev pub IsJudged : Reg → List (List ℕ) → Item → Verdict → Type 0
 IsJudged r secrets item judged = (judged ≡ verdict r secrets item) ⊎ (judged ≡ Refuse E90)
+
+-- A well formed item is judged, and the secrets stay as they were.
+pub record JudgesItem (r : Reg) (secrets : List (List ℕ)) (item : Item) (judged : Verdict)
+    (after : List (List ℕ)) : Type 0 where
+  pub verdict_is : IsJudged r secrets item judged
+  pub formed : IsItem item
+  pub same_secrets : after ≡ secrets

@@ -1,5 +1,6 @@
 -- What becomes of what is submitted: the outcome of each, and the registry after it.
-use Rattle.std.specs.Prelude.{◌≡◌, ℕ, ◌⊎◌, List, [], ◌∷◌, Result, Ok, Err}
+use Rattle.std.specs.Prelude.{◌≡◌, ℕ, ◌⊎◌, List, [], ◌∷◌, IfOk, OnErr, Result, Ok, Err}
+use Rattle.std.specs.Global.{Vec}
 use Rattle.rr_object.specs.declared.code.Code.{Code}
 use Rattle.rr_object.specs.declared.code.Code.TheVariants.{E90}
 use Rattle.rr_auth.specs.declared.item.Item.{Item}
@@ -58,3 +59,9 @@ Run before (submitted ∷ later) [] then = ⊥
 Run before (submitted ∷ later) (outcome ∷ outcomes) then =
     (between : Reg) × Decides before submitted.secrets submitted.action outcome between
     × Run between later outcomes then
+
+-- What is submitted is run, or nothing changes where memory runs out for the outcomes (profile).
+pub record MayRun {E : Type 0} (before : Reg) (submitted : List Submitted) (then : Reg)
+    (result : Result (Vec Outcome) E) : Type 0 where
+  pub run : IfOk result (λ outcomes. Run before submitted outcomes.items then)
+  pub err : OnErr result (then ≡ before)

@@ -6,7 +6,7 @@ ghost use Rattle.rr_auth.specs.declared.verdict.Verdict.TheVariants.{Add, Change
 ghost use Rattle.rr_auth.specs.Verdicts.{is_met_by};
 ghost use Rattle.rr_auth.specs.Laws.{IsItem};
 ghost use Rattle.rr_registry.specs.ConfinementLaws.{LeavesOthers};
-ghost use Rattle.rr_registry.specs.Private.{IsJudged};
+ghost use Rattle.rr_registry.specs.Private.{JudgesItem};
 ghost use Rattle.rr_registry.specs.Runs.{IsCarriedOut, IsOutOfMemory, IsStep};
 
 use crate::outcome::Outcome;
@@ -43,7 +43,7 @@ impl<B: Keeper> Model for Registry<B> {
 }
 
 impl<B: Keeper> Registry<B> {
-    ghost use Rattle.rr_auth.specs.Registries.{Sound};
+    ghost use Rattle.rr_auth.specs.Registries.{ListsOf, Sound};
     ghost use Rattle.rr_book.specs.Listings.{covering, inside};
     ghost use Rattle.rr_sets.specs.Lists.{lent};
 
@@ -76,10 +76,20 @@ impl<B: Keeper> Registry<B> {
         &self.book
     }
 
+    /// Whether it is sound, as each registry is. `prove!` asks this where a proof needs it and the
+    /// code does not.
+    pub fn is_sound(&self) -> bool
+        ensures always { result ≡ true }
+        ensures sound { Sound self.now }
+    {
+        // A proof has the invariant where a field is read.
+        let _ = &self.known;
+        true
+    }
+
     /// The objects in the order of class and key; the error is that memory ran out.
     pub fn objects(&self, alloc: Global) -> Result<Vec<&Object>, AllocError>
-        ensures all { IfOk result (λ objects. lent objects.items ≡ values self.now) }
-        ensures sound { Sound self.now }
+        ensures { ListsOf self.now (λ objects. lent objects.items ≡ values self.now) result }
     {
         self.book.objects(alloc)
     }
@@ -104,20 +114,10 @@ impl<B: Keeper> Registry<B> {
     /// these secrets (RFC 2725, 9; profile). If memory runs out the item is refused with E90 and
     /// nothing changes. What the holders of a prefix hold stays as it was where none of the secrets
     /// is theirs.
+    #[tactic(auto, using(crate::proofs::Judged::carried_out))]
     pub fn apply(&mut self, alloc: Global, secrets: &mut Secrets, item: Item) -> Outcome
         ensures step { IsStep self.old secrets.old item result self.new }
         ensures leaves { LeavesOthers self.old secrets.old self.new }
-        ensures formed { IsItem item }
-        ensures same_secrets { secrets.new ≡ secrets.old }
-    {
-        self.carry_out(alloc, secrets, item)
-    }
-
-    /// Does with the item what its verdict says.
-    #[tactic(auto, using(crate::proofs::Judged::carried_out))]
-    fn carry_out(&mut self, alloc: Global, secrets: &mut Secrets, item: Item) -> Outcome
-        ensures step { IsStep self.old secrets.old item result self.new }
-        ensures sound { Sound self.old }
         ensures formed { IsItem item }
         ensures same_secrets { secrets.new ≡ secrets.old }
     {
@@ -130,10 +130,8 @@ impl<B: Keeper> Registry<B> {
 
     /// The verdict on the item, which is a refusal with E90 if memory runs out.
     fn verdict(&mut self, alloc: Global, secrets: &mut Secrets, item: &Item) -> Verdict
-        ensures judged { IsJudged self.old secrets.old item.now result }
+        ensures judged { JudgesItem self.old secrets.old item.now result secrets.new }
         ensures sound { Sound self.old }
-        ensures formed { IsItem item.now }
-        ensures same_secrets { secrets.new ≡ secrets.old }
         ensures same { self.new ≡ self.old }
     {
         match judge(alloc, &self.book, secrets, &mut self.known, item) {

@@ -1,6 +1,6 @@
 //! Runs of what is submitted.
 
-ghost use Rattle.std.specs.Prelude.{◌≡◌, IfOk, OnOk, OnErr};
+ghost use Rattle.std.specs.Prelude.{IfOk, OnOk};
 
 use crate::outcome::Outcome;
 use crate::registry::Registry;
@@ -23,7 +23,7 @@ impl<B: Keeper> Registry<B> {
     ghost use Rattle.rr_auth.specs.Laws.{IsItem};
     ghost use Rattle.rr_registry.specs.Confined.{Confines};
     ghost use Rattle.rr_registry.specs.RunLaws.{AreFormed};
-    ghost use Rattle.rr_registry.specs.Runs.{Decides, Run};
+    ghost use Rattle.rr_registry.specs.Runs.{Decides, MayRun};
 
     /// Decides in turn what was submitted and gives the outcome of each; the error is that memory
     /// ran out for the outcomes, before the first item, and leaves the registry as it was. The
@@ -33,10 +33,9 @@ impl<B: Keeper> Registry<B> {
         alloc: Global,
         items: Vec<Submitted>,
     ) -> Result<Vec<Outcome>, AllocError>
-        ensures run { IfOk result (λ outcomes. Run self.old items.items outcomes.items self.new) }
+        ensures run { MayRun self.old items.items self.new result }
         ensures confined { IfOk result
             (λ outcomes. Confines self.old items.items outcomes.items self.new) }
-        ensures err { OnErr result (self.new ≡ self.old) }
     {
         // opened, so that it is known to be sound
         let _ = &self.book;
@@ -45,9 +44,8 @@ impl<B: Keeper> Registry<B> {
 
     /// Decides in turn what was submitted.
     fn run_each(&mut self, alloc: Global, items: Vec<Submitted>) -> Result<Vec<Outcome>, AllocError>
-        ensures run { IfOk result (λ outcomes. Run self.old items.items outcomes.items self.new) }
+        ensures run { MayRun self.old items.items self.new result }
         ensures formed { OnOk result (AreFormed items.items) }
-        ensures err { OnErr result (self.new ≡ self.old) }
     {
         let mut outcomes = Vec::with_capacity(alloc, items.len())?;
         for submitted in items {

@@ -1,9 +1,8 @@
 //! What the tests do with the store in a database, and texts of its objects.
-ghost use Rattle.std.specs.Prelude.{◌≡◌, false, IfOk};
 
 use rr_number::Name;
 use rr_object::Object;
-use rr_store::{CreateFault, MigrateFault, OpenFault, Store};
+use rr_store::{CreateFault, IdleConnection, MigrateFault, OpenFault, Store};
 use rr_text::{next_paragraph, print};
 use sqlite::{Alter, Connection, Error};
 use sqlite_value::value::ValueRef;
@@ -133,8 +132,8 @@ impl<S: Alter + Drop> Database for Connection<S> {
 
     fn created(self, alloc: Global) -> Result<(Option<CreateFault>, Connection<S>), Fail> {
         match made(alloc, self)? {
-            Ok(store) => Ok((None, store.close())),
-            Err((fault, conn)) => Ok((Some(fault), conn)),
+            Ok(store) => Ok((None, store.close().into_connection())),
+            Err((fault, conn)) => Ok((Some(fault), conn.into_connection())),
         }
     }
 
@@ -145,8 +144,11 @@ impl<S: Alter + Drop> Database for Connection<S> {
     ) -> Result<(Result<Vec<u8>, OpenFault>, Connection<S>), Fail> {
         let source = name(alloc, source)?;
         match Store::open_all(alloc, settled(self)?, &source) {
-            Ok((store, objects)) => Ok((Ok(text_of(alloc, &objects)?), store.close())),
-            Err((fault, conn)) => Ok((Err(fault), conn)),
+            Ok((store, objects)) => Ok((
+                Ok(text_of(alloc, &objects)?),
+                store.close().into_connection(),
+            )),
+            Err((fault, conn)) => Ok((Err(fault), conn.into_connection())),
         }
     }
 
@@ -154,30 +156,30 @@ impl<S: Alter + Drop> Database for Connection<S> {
         let source = name(alloc, "TEST")?;
         let mut store = opened_alone(alloc, self, &source)?;
         let objects = store.all(alloc, &source)?;
-        Ok((text_of(alloc, &objects)?, store.close()))
+        Ok((text_of(alloc, &objects)?, store.close().into_connection()))
     }
 
     fn naming(self, alloc: Global, maintainer: &str) -> Result<(Vec<u8>, Connection<S>), Fail> {
         let source = name(alloc, "TEST")?;
         let mut store = opened_alone(alloc, self, &source)?;
         let text = text_naming(alloc, &mut store, &source, maintainer)?;
-        Ok((text, store.close()))
+        Ok((text, store.close().into_connection()))
     }
 
     fn changed(self, alloc: Global, put: &str, removed: &str) -> Result<Connection<S>, Fail> {
         let source = name(alloc, "TEST")?;
         let mut store = opened_alone(alloc, self, &source)?;
         exchange(alloc, &mut store, put, removed)?;
-        Ok(store.close())
+        Ok(store.close().into_connection())
     }
 
     fn written(self, alloc: Global) -> Result<(usize, Connection<S>), Fail> {
         match made(alloc, self)? {
             Ok(mut store) => {
                 let done = put_and_removed(alloc, &mut store)?;
-                Ok((done, store.close()))
+                Ok((done, store.close().into_connection()))
             }
-            Err((_fault, conn)) => Ok((0, conn)),
+            Err((_fault, conn)) => Ok((0, conn.into_connection())),
         }
     }
 
@@ -189,8 +191,8 @@ impl<S: Alter + Drop> Database for Connection<S> {
         let root = name(alloc, root)?;
         let source = name(alloc, "TEST")?;
         match Store::migrate(alloc, settled(self)?, &root, &source) {
-            Ok(store) => Ok((None, store.close())),
-            Err((fault, conn)) => Ok((Some(fault), conn)),
+            Ok(store) => Ok((None, store.close().into_connection())),
+            Err((fault, conn)) => Ok((Some(fault), conn.into_connection())),
         }
     }
 
@@ -198,23 +200,21 @@ impl<S: Alter + Drop> Database for Connection<S> {
         let source = name(alloc, "TEST")?;
         let mut conn = settled(self)?;
         let objects = Store::old_objects(alloc, &mut conn, &source)?;
-        Ok((text_of(alloc, &objects)?, conn))
+        Ok((text_of(alloc, &objects)?, conn.into_connection()))
     }
 }
 
 /// The database, which is in no transaction.
-fn settled<S: Alter + Drop>(conn: Connection<S>) -> Result<Connection<S>, Fail>
-    ensures { IfOk result (λ c. c.in_transaction ≡ false) }
-{
+fn settled<S: Alter + Drop>(conn: Connection<S>) -> Result<IdleConnection<S>, Fail> {
     if conn.is_autocommit() {
-        Ok(conn)
+        Ok(IdleConnection::of(conn))
     } else {
         Err("in a transaction".into())
     }
 }
 
 /// A store of the four objects in this database, or why there is none, with the database.
-type Made<S> = Result<Store<S>, (CreateFault, Connection<S>)>;
+type Made<S> = Result<Store<S>, (CreateFault, IdleConnection<S>)>;
 
 fn made<S: Alter + Drop>(alloc: Global, conn: Connection<S>) -> Result<Made<S>, Fail> {
     let objects = four(alloc)?;

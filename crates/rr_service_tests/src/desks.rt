@@ -1,5 +1,4 @@
 //! What the tests do with a desk, and desks over databases in memory.
-ghost use Rattle.std.specs.Prelude.{◌≡◌, false, IfOk};
 
 use crate::texts::full_dump;
 use rr_desk::{
@@ -8,6 +7,7 @@ use rr_desk::{
 };
 use rr_http::{Both, Registrar, serve_one};
 use rr_io::{Counted, Cut, Joined, Sink, Source};
+use rr_store::IdleConnection;
 use sqlite::{Alter, Connection, Error};
 use std::alloc::{AllocError, Global};
 use std::process::Abort;
@@ -126,11 +126,11 @@ impl<S: Alter + Drop> Office for Desk<S> {
     }
 
     fn after(self, alloc: Global, statements: &[&str]) -> Result<Desk<S>, Fail> {
-        opened(alloc, executed(self.close(), statements)?)
+        opened(alloc, executed(self.close().into_connection(), statements)?)
     }
 
     fn refused_another(self, alloc: Global) -> Result<Option<CreateFault>, Fail> {
-        Ok(created(alloc, self.close())?.err())
+        Ok(created(alloc, self.close().into_connection())?.err())
     }
 }
 
@@ -181,7 +181,7 @@ fn connected<D: Registrar>(
 
 /// The desk, or why there is none.
 fn desk_of<S: Alter + Drop, E: Drop>(
-    found: Result<Desk<S>, (E, Connection<S>)>,
+    found: Result<Desk<S>, (E, IdleConnection<S>)>,
 ) -> Result<Desk<S>, E> {
     match found {
         Ok(desk) => Ok(desk),
@@ -201,11 +201,9 @@ fn executed<S: Alter + Drop>(
 }
 
 /// The database, which is in no transaction.
-fn settled<S: Alter + Drop>(conn: Connection<S>) -> Result<Connection<S>, Fail>
-    ensures { IfOk result (λ c. c.in_transaction ≡ false) }
-{
+fn settled<S: Alter + Drop>(conn: Connection<S>) -> Result<IdleConnection<S>, Fail> {
     if conn.is_autocommit() {
-        Ok(conn)
+        Ok(IdleConnection::of(conn))
     } else {
         Err("in a transaction".into())
     }

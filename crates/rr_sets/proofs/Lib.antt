@@ -3,3 +3,4 @@ pub mod Numbers
 pub mod RangeLists
 pub mod ReferenceLists
 pub mod ReferenceOrder
+pub mod Expanding

@@ -3,7 +3,7 @@ use Rattle.std.specs.Prelude.{◌≡◌, ℕ, Bool, ◌||◌, List, [], ◌∷�
 use Rattle.std.specs.Prelude.{Some, false, is_some}
 use Rattle.std.specs.FinMap.{get}
 use Rattle.std.specs.Str.{bytes_eq}
-use Rattle.std.specs.Prelude.{◌⊎◌, ◌↔◌}
+use Rattle.std.specs.Prelude.{◌⊎◌}
 use Rattle.rr_auth.specs.Registries.{Reg}
 use Rattle.rr_graph.specs.Chain.{IsReached}
 use Rattle.rr_number.specs.AnySets.{as_any}
@@ -52,12 +52,3 @@ has_as_set r name = is_some (get r (AsSet name)) || bytes_eq name as_any
 -- A chain of listed names leads to a name that is no such set (profile).
 abbrev pub IsMissing : Reg → List ℕ → List ℕ → Type 0
 IsMissing r start name = IsReachedSet r start name × (has_as_set r name ≡ false)
-
--- The numbers are exactly those that are in the as-set.
-abbrev pub AreNumbersIn : Reg → List ℕ → List ℕ → Type 0
-AreNumbersIn r start numbers = (n : ℕ) → Contains numbers n ↔ InAsSet r start n
-
--- The names are exactly those that chains of listed names lead to, and that are no such set's
--- (profile).
-abbrev pub AreMissing : Reg → List ℕ → List (List ℕ) → Type 0
-AreMissing r start names = (name : List ℕ) → Contains names name ↔ IsMissing r start name

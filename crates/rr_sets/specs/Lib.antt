@@ -3,6 +3,7 @@ pub mod Lists
 pub mod SetObjects
 pub mod AsSets
 pub mod RouteSets
+pub mod SetMeanings
 pub mod KeyParts
 pub mod MemberParts
 pub mod Orders

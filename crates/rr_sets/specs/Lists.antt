@@ -2,11 +2,8 @@
 use Rattle.std.specs.Prelude.{◌≡◌, ◌↔◌, ◌==◌, ℕ, Bool, false, List, Contains}
 use Rattle.std.specs.Prelude.{Some}
 use Rattle.std.proofs.Common.{Bor}
-use Rattle.std.specs.Cmp.Lexicographic.{slice_cmp}
 use Rattle.std.specs.FinMap.{get}
-use Rattle.std.specs.List.Sorted.{IsStrictlySortedBy}
 use Rattle.std.specs.Option.{option_map_or}
-use Rattle.std.specs.Ordering.{nat_cmp}
 use Rattle.rr_auth.specs.Registries.{Reg}
 use Rattle.rr_graph.specs.Chain.{HasNoRepeats}
 use Rattle.rr_number.specs.Prefixes.{PrefixParts}
@@ -20,10 +17,6 @@ use Rattle.rr_sets.specs.KeyParts.{origin_of}
 pub record ListsOnce (P : Obj → Type 0) (objects : List (Bor Obj)) : Type 0 where
   pub same : (o : Obj) → Contains (lent objects) o ↔ P o
   pub once : HasNoRepeats (lent objects)
-
--- The names stand in ascending order, each once.
-abbrev pub AreAscendingNames : List (List ℕ) → Type 0
-AreAscendingNames names = IsStrictlySortedBy (slice_cmp nat_cmp) names
 
 -- The object is a registered aut-num.
 abbrev pub IsAutNum : Reg → Obj → Type 0

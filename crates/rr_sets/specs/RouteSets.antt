@@ -109,15 +109,6 @@ IsReachedFrom r start set = carried.IsReachedFrom (Refers r) (Set start) set
 abbrev pub IsMissingName : Reg → List ℕ → List ℕ → Type 0
 IsMissingName r start name = IsReachedFrom r start (Set name) × (has_set r name ≡ false)
 
--- The ranges are exactly those that the set stands for.
-abbrev pub AreRangesIn : Reg → List ℕ → List RangeParts → Type 0
-AreRangesIn r start ranges = (range : RangeParts) → Contains ranges range ↔ InRouteSet r start range
-
--- The names are exactly those that chains of references lead to, and that are no set's (profile).
-abbrev pub AreMissingNames : Reg → List ℕ → List (List ℕ) → Type 0
-AreMissingNames r start names =
-    (name : List ℕ) → Contains names name ↔ IsMissingName r start name
-
 -- References lead to more than `limit` sets, or to more than `limit` pairs of such a set and a
 -- range that it stands for (profile).
 abbrev pub HasTooMany : Reg → ℕ → List ℕ → Type 0

@@ -3,19 +3,19 @@
 ghost use Rattle.std.specs.Prelude.{◌≡◌, ◌↔◌, ◌||◌, ◌++◌, ◌∷◌, [], ℕ, List, not, true, false};
 ghost use Rattle.std.specs.Prelude.{Contains, IfOk, OnOk, filter, is_some};
 ghost use Rattle.std.specs.BTreeSet.{IsFromIterResult};
+ghost use Rattle.std.specs.Cmp.Lexicographic.{slice_cmp};
 ghost use Rattle.std.specs.FinMap.{get};
 ghost use Rattle.std.specs.Option.{option_copied};
+ghost use Rattle.std.specs.Ordering.{nat_cmp};
 ghost use Rattle.std.specs.List.{filter_map};
-ghost use Rattle.std.specs.List.Sorted.{IsStrictlySortedBy};
 ghost use Rattle.std.specs.Str.{bytes_eq};
-ghost use Rattle.std.proofs.lemmas.Map.Lookups.{CmpEqualImpliesEq};
 ghost use Rattle.rr_number.specs.AnySets.{as_any};
 ghost use Rattle.rr_object.specs.declared.key.Key.TheVariants.{AsSet};
 ghost use Rattle.rr_auth.specs.Registries.{Reg};
-ghost use Rattle.rr_graph.specs.Chain.{MoreThan};
-ghost use Rattle.rr_sets.specs.AsSets.{AreMissing, AreNumbersIn, IsDirect, IsReachedSet};
-ghost use Rattle.rr_sets.specs.AsSets.{ListsSet, has_as_set};
-ghost use Rattle.rr_sets.specs.Lists.{AreAscendingNames};
+ghost use Rattle.rr_graph.specs.Answered.{FindsWithin, ListsInOrder, PutsInOrder};
+ghost use Rattle.rr_graph.specs.Chain.{AreReached, MoreThan};
+ghost use Rattle.rr_sets.specs.AsSets.{IsDirect, IsReachedSet, ListsSet, has_as_set};
+ghost use Rattle.rr_sets.specs.SetMeanings.{Expands, as_set_at};
 ghost use Rattle.rr_sets.specs.SetObjects.{set_listed};
 
 use crate::book::SetBook;
@@ -45,21 +45,7 @@ pub fn expand_as_set<B: SetBook>(
     name: &SetName,
     limit: usize,
 ) -> Result<Members<AsNumber>, ExpandFault>
-    ensures found { IfOk result
-        (λ members. AreNumbersIn (B.contents book.now) name.now members.found.items) }
-    ensures missing { IfOk result
-        (λ members. AreMissing (B.contents book.now) name.now members.missing.items) }
-    ensures found_sorted { IfOk result
-        (λ members. IsStrictlySortedBy ⟦<AsNumber as Ord>⟧.cmp members.found.items) }
-    ensures missing_sorted { IfOk result (λ members. AreAscendingNames members.missing.items) }
-    ensures known { OnOk result (has_as_set (B.contents book.now) name.now ≡ true) }
-    ensures few { OnOk result (¬ MoreThan limit (IsReachedSet (B.contents book.now) name.now)) }
-    ensures unknown { result ≡ Err ExpandFault.NoSuchSet
-        → has_as_set (B.contents book.now) name.now ≡ false }
-    ensures many_known { result ≡ Err ExpandFault.TooMany
-        → has_as_set (B.contents book.now) name.now ≡ true }
-    ensures many { result ≡ Err ExpandFault.TooMany
-        → MoreThan limit (IsReachedSet (B.contents book.now) name.now) }
+    ensures { Expands nat_cmp (as_set_at (B.contents book.now) limit name.now) result }
 {
     if !has_as_set(alloc, book, name)? {
         return Err(ExpandFault::NoSuchSet);
@@ -74,17 +60,8 @@ fn expand_known<B: SetBook>(
     name: &SetName,
     limit: usize,
 ) -> Result<Members<AsNumber>, ExpandFault>
-    ensures found { IfOk result
-        (λ members. AreNumbersIn (B.contents book.now) name.now members.found.items) }
-    ensures missing { IfOk result
-        (λ members. AreMissing (B.contents book.now) name.now members.missing.items) }
-    ensures found_sorted { IfOk result
-        (λ members. IsStrictlySortedBy ⟦<AsNumber as Ord>⟧.cmp members.found.items) }
-    ensures missing_sorted { IfOk result (λ members. AreAscendingNames members.missing.items) }
-    ensures few { OnOk result (¬ MoreThan limit (IsReachedSet (B.contents book.now) name.now)) }
-    ensures known { result ≡ Err ExpandFault.NoSuchSet → ⊥ }
-    ensures many { result ≡ Err ExpandFault.TooMany
-        → MoreThan limit (IsReachedSet (B.contents book.now) name.now) }
+    ensures { has_as_set (B.contents book.now) name.now ≡ true
+        → Expands nat_cmp (as_set_at (B.contents book.now) limit name.now) result }
 {
     let names = reached_sets(alloc, book, name, limit)?;
     let members = members_of(alloc, book, &names)?;
@@ -97,13 +74,10 @@ fn members_of<B: SetBook>(
     book: &B,
     names: &[SetName],
 ) -> Result<Members<AsNumber>, AllocError>
-    ensures found { IfOk result (λ members. (n : ℕ) → Contains members.found.items n
-        ↔ ((s : List ℕ) × Contains names.now s × IsDirect (B.contents book.now) s n)) }
-    ensures missing { IfOk result (λ members. (s : List ℕ) → Contains members.missing.items s
-        ↔ (Contains names.now s × (has_as_set (B.contents book.now) s ≡ false))) }
-    ensures found_sorted { IfOk result
-        (λ members. IsStrictlySortedBy ⟦<AsNumber as Ord>⟧.cmp members.found.items) }
-    ensures missing_sorted { IfOk result (λ members. AreAscendingNames members.missing.items) }
+    ensures found { IfOk result (λ members. ListsInOrder nat_cmp (λ n. (s : List ℕ)
+        × Contains names.now s × IsDirect (B.contents book.now) s n) members.found.items) }
+    ensures missing { IfOk result (λ members. ListsInOrder (slice_cmp nat_cmp) (λ s. Contains
+        names.now s × (has_as_set (B.contents book.now) s ≡ false)) members.missing.items) }
 {
     let Members { found, missing } = own_members(alloc, book, names)?;
     let found = sorted(alloc, found)?;
@@ -143,11 +117,8 @@ fn reached_sets<B: SetBook>(
     name: &SetName,
     limit: usize,
 ) -> Result<Vec<SetName>, ReachFault>
-    ensures found { IfOk result (λ names. (s : List ℕ)
-        → Contains names.items s ↔ IsReachedSet (B.contents book.now) name.now s) }
-    ensures few { OnOk result (¬ MoreThan limit (IsReachedSet (B.contents book.now) name.now)) }
-    ensures many { result ≡ Err ReachFault.TooMany
-        → MoreThan limit (IsReachedSet (B.contents book.now) name.now) }
+    ensures { FindsWithin (λ names. AreReached (ListsSet (B.contents book.now)) (name.now ∷ [])
+        names.items) (MoreThan limit (IsReachedSet (B.contents book.now) name.now)) result }
 {
     let mut starts = Vec::new(alloc);
     starts.push(name.copy(alloc)?)?;
@@ -246,9 +217,7 @@ fn add_missing(
 
 /// The list in ascending order, without repeats.
 pub fn sorted<T: Ord + Drop>(alloc: Global, list: Vec<T>) -> Result<Vec<T>, AllocError>
-    ensures same { CmpEqualImpliesEq T.cmp
-        → IfOk result (λ sorted. (x : T) → Contains sorted.items x ↔ Contains list.items x) }
-    ensures sorted { IfOk result (λ sorted. IsStrictlySortedBy T.cmp sorted.items) }
+    ensures { IfOk result (λ sorted. PutsInOrder T.cmp list.items sorted.items) }
 {
     ascending(alloc, distinct(alloc, list)?)
 }

@@ -12,22 +12,20 @@ use std::alloc::{AllocError, Global};
 /// A registry that can be asked for the objects that speak of sets. The errors are that memory ran
 /// out.
 pub trait SetBook: Book {
-    ghost use Rattle.rr_auth.specs.Registries.{Sound};
+    ghost use Rattle.rr_auth.specs.Registries.{ListsOf};
     ghost use Rattle.rr_sets.specs.KeyParts.{prefix_from};
     ghost use Rattle.rr_sets.specs.Lists.{IsAutNum, IsReferrer, IsRegisteredRoute, ListsOnce};
     ghost use Rattle.rr_sets.specs.Lists.{is_originated, lent};
 
     /// Lists the aut-nums, each once, in any order.
     fn aut_nums(&self, alloc: Global) -> Result<Vec<&Object>, AllocError>
-        ensures lists { IfOk result
-            (λ objects. ListsOnce (IsAutNum (Self.contents self.now)) objects.items) }
-        ensures sound { Sound (Self.contents self.now) };
+        ensures { ListsOf (Self.contents self.now) (λ objects.
+            ListsOnce (IsAutNum (Self.contents self.now)) objects.items) result };
 
     /// Lists the routes, each once, in any order.
     fn routes(&self, alloc: Global) -> Result<Vec<&Object>, AllocError>
-        ensures lists { IfOk result
-            (λ objects. ListsOnce (IsRegisteredRoute (Self.contents self.now)) objects.items) }
-        ensures sound { Sound (Self.contents self.now) };
+        ensures { ListsOf (Self.contents self.now) (λ objects.
+            ListsOnce (IsRegisteredRoute (Self.contents self.now)) objects.items) result };
 
     /// Lists the routes of the origin, in the order of class and key.
     fn routes_of(&self, alloc: Global, origin: AsNumber) -> Result<Vec<&Object>, AllocError>
@@ -38,15 +36,13 @@ pub trait SetBook: Book {
     /// asks for those of each AS number that it reaches, so a book should find them without a look
     /// at each object.
     fn prefixes_of(&self, alloc: Global, origin: AsNumber) -> Result<Vec<Prefix>, AllocError>
-        ensures found { IfOk result (λ prefixes. prefixes.items
-            ≡ filter_map (λ o. prefix_from origin o.key) (values (Self.contents self.now))) }
-        ensures sound { Sound (Self.contents self.now) };
+        ensures { ListsOf (Self.contents self.now) (λ prefixes. prefixes.items ≡ filter_map
+            (λ o. prefix_from origin o.key) (values (Self.contents self.now))) result };
 
     /// Lists the objects whose `member-of` names the set, each once, in any order. An expansion
     /// asks for those of each set that it reaches and that has `mbrs-by-ref`, so a book should not
     /// look at all its objects for them.
     fn referrers(&self, alloc: Global, name: &SetName) -> Result<Vec<&Object>, AllocError>
-        ensures lists { IfOk result
-            (λ objects. ListsOnce (IsReferrer (Self.contents self.now) name.now) objects.items) }
-        ensures sound { Sound (Self.contents self.now) };
+        ensures { ListsOf (Self.contents self.now) (λ objects.
+            ListsOnce (IsReferrer (Self.contents self.now) name.now) objects.items) result };
 }

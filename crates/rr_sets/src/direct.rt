@@ -1,10 +1,9 @@
 //! The AS numbers that are in an as-set itself.
 
-ghost use Rattle.std.specs.Prelude.{◌≡◌, ◌↔◌, ◌⊎◌, ℕ, Contains, IfOk, OnOk};
-ghost use Rattle.std.specs.FinMap.{get};
+ghost use Rattle.std.specs.Prelude.{◌≡◌, ◌↔◌, ◌⊎◌, ℕ, Contains, IfOk};
 ghost use Rattle.std.specs.List.{filter_map};
 ghost use Rattle.std.specs.Option.{option_copied};
-ghost use Rattle.rr_auth.specs.Registries.{Sound};
+ghost use Rattle.rr_auth.specs.Registries.{LooksUp};
 ghost use Rattle.rr_sets.specs.AsSets.{BelongsTo, IsAnyNumber, IsDirect, ListsNumber};
 ghost use Rattle.rr_sets.specs.KeyParts.{number_of_key};
 ghost use Rattle.rr_sets.specs.SetObjects.{number_listed};
@@ -23,8 +22,7 @@ pub fn direct_numbers<B: SetBook>(
     name: &SetName,
     set: Option<&Object>,
 ) -> Result<Vec<AsNumber>, AllocError>
-    requires found { option_copied set ≡ get (B.contents book.now) (Key.AsSet name.now) }
-    requires sound { Sound (B.contents book.now) }
+    requires { LooksUp (B.contents book.now) (Key.AsSet name.now) (option_copied set) }
     ensures { IfOk result (λ numbers. (n : ℕ)
         → Contains numbers.items n ↔ IsDirect (B.contents book.now) name.now n) }
 {
@@ -41,8 +39,7 @@ fn registered_numbers<B: SetBook>(
     name: &SetName,
     set: Option<&Object>,
 ) -> Result<Vec<AsNumber>, AllocError>
-    requires found { option_copied set ≡ get (B.contents book.now) (Key.AsSet name.now) }
-    requires sound { Sound (B.contents book.now) }
+    requires { LooksUp (B.contents book.now) (Key.AsSet name.now) (option_copied set) }
     ensures { IfOk result (λ numbers. (n : ℕ) → Contains numbers.items n ↔ (ListsNumber
         (B.contents book.now) name.now n ⊎ BelongsTo (B.contents book.now) name.now n)) }
 {
@@ -79,9 +76,8 @@ pub fn as_set<'a, B: SetBook>(
     book: &'a B,
     name: &SetName,
 ) -> Result<Option<&'a Object>, AllocError>
-    ensures found { IfOk result
-        (λ object. option_copied object ≡ get (B.contents book.now) (Key.AsSet name.now)) }
-    ensures sound { OnOk result (Sound (B.contents book.now)) }
+    ensures { IfOk result (λ object.
+        LooksUp (B.contents book.now) (Key.AsSet name.now) (option_copied object)) }
 {
     let key = Key::AsSet(name.copy(alloc)?);
     Ok(book.get(&key))

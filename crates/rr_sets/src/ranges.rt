@@ -1,14 +1,16 @@
 //! The ranges that are in a set itself.
 
-ghost use Rattle.std.specs.Prelude.{◌≡◌, ◌↔◌, ◌⊎◌, Contains, IfOk, OnOk, map};
+ghost use Rattle.std.specs.Prelude.{◌≡◌, ◌↔◌, ◌⊎◌, Contains, IfOk, map};
 ghost use Rattle.std.specs.List.{filter_map};
 ghost use Rattle.std.specs.Option.{option_copied};
 ghost use Rattle.rr_number.specs.Ranges.{RangeParts, bare};
-ghost use Rattle.rr_auth.specs.Registries.{Sound};
+ghost use Rattle.rr_number.specs.SetNames.{kind_of};
+ghost use Rattle.rr_object.specs.Keys.{key_of_kind};
+ghost use Rattle.rr_auth.specs.Registries.{LooksUp};
 ghost use Rattle.rr_sets.specs.KeyParts.{range_of_key};
 ghost use Rattle.rr_sets.specs.MemberParts.{range_listed};
 ghost use Rattle.rr_sets.specs.RouteSets.{HasRange, IsAnyRange, IsByReference, IsOriginated};
-ghost use Rattle.rr_sets.specs.RouteSets.{ListsRange, has_set, registered_set};
+ghost use Rattle.rr_sets.specs.RouteSets.{ListsRange, has_set};
 ghost use Rattle.rr_object.specs.declared.member.MemberSet.{MemberSet};
 
 use crate::book::SetBook;
@@ -82,9 +84,8 @@ pub fn registered_set<'a, B: SetBook>(
     book: &'a B,
     name: &SetName,
 ) -> Result<Option<&'a Object>, AllocError>
-    ensures found { IfOk result
-        (λ object. option_copied object ≡ registered_set (B.contents book.now) name.now) }
-    ensures sound { OnOk result (Sound (B.contents book.now)) }
+    ensures { IfOk result (λ object. LooksUp (B.contents book.now)
+        (key_of_kind (kind_of name.now) name.now) (option_copied object)) }
 {
     let key = Key::of_kind(name.kind(), name.copy(alloc)?);
     Ok(book.get(&key))

@@ -2,11 +2,11 @@
 
 ghost use Rattle.std.specs.Prelude.{◌≡◌, ◌↔◌, ◌++◌, Contains, IfOk, map};
 ghost use Rattle.std.specs.List.{filter_map};
-ghost use Rattle.std.specs.List.Sorted.{IsStrictlySortedBy};
+ghost use Rattle.rr_graph.specs.Answered.{ListsInOrder};
 ghost use Rattle.rr_number.specs.declared.operator.Operator.{Operator};
 ghost use Rattle.rr_object.specs.declared.member.MemberSet.{MemberSet};
 ghost use Rattle.rr_sets.specs.MemberParts.{reference_of, number_reference, set_reference};
-ghost use Rattle.rr_sets.specs.RouteSets.{AreReferences, AsSetRefers, RouteSetRefers};
+ghost use Rattle.rr_sets.specs.RouteSets.{AreReferences, AsSetRefers, Refers, RouteSetRefers};
 
 use crate::as_sets::names_listed;
 use crate::book::SetBook;
@@ -26,10 +26,8 @@ pub fn references_of<B: SetBook>(
     book: &B,
     set: &MemberSet,
 ) -> Result<Vec<Reference>, AllocError>
-    ensures same { IfOk result
-        (λ references. AreReferences (B.contents book.now) set.now references.items) }
-    ensures sorted { IfOk result (λ references.
-        IsStrictlySortedBy ⟦<Edge<MemberSet, Operator> as Ord>⟧.cmp references.items) }
+    ensures { IfOk result (λ references. ListsInOrder ⟦<Edge<MemberSet, Operator> as Ord>⟧.cmp
+        (λ e. Refers (B.contents book.now) set.now e.to e.label) references.items) }
 {
     let mut references = all_references(alloc, book, set)?;
     put_in_order(&mut references);

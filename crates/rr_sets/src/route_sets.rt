@@ -1,16 +1,15 @@
 //! The expansion of sets into ranges of prefixes.
 
-ghost use Rattle.std.specs.Prelude.{◌≡◌, ◌↔◌, true, false, Contains, IfOk};
-ghost use Rattle.std.specs.Prelude.{OnOk};
+ghost use Rattle.std.specs.Prelude.{◌≡◌, true, IfOk};
 ghost use Rattle.std.specs.List.{filter_map};
-ghost use Rattle.std.specs.List.Sorted.{IsStrictlySortedBy};
 ghost use Rattle.std.specs.Option.{option_copied};
+ghost use Rattle.rr_graph.specs.Answered.{FindsWithin};
+ghost use Rattle.rr_graph.specs.Carried.{IsGathered};
+ghost use Rattle.rr_number.specs.Applied.{applied};
 ghost use Rattle.rr_number.specs.Ranges.{range_cmp};
-ghost use Rattle.rr_object.specs.declared.member.MemberSet.{MemberSet};
-ghost use Rattle.rr_sets.specs.Lists.{AreAscendingNames};
 ghost use Rattle.rr_sets.specs.MemberParts.{missing_name};
-ghost use Rattle.rr_sets.specs.RouteSets.{AreMissingNames, AreRangesIn, HasTooMany};
-ghost use Rattle.rr_sets.specs.RouteSets.{IsReachedFrom, has_set};
+ghost use Rattle.rr_sets.specs.RouteSets.{HasRange, HasTooMany, Refers, has_set};
+ghost use Rattle.rr_sets.specs.SetMeanings.{Expands, route_set_at};
 
 use crate::as_sets::sorted;
 use crate::book::SetBook;
@@ -48,21 +47,7 @@ pub fn expand_route_set<B: SetBook>(
     name: &SetName,
     limit: usize,
 ) -> Result<Members<Range>, ExpandFault>
-    ensures found { IfOk result
-        (λ members. AreRangesIn (B.contents book.now) name.now members.found.items) }
-    ensures missing { IfOk result
-        (λ members. AreMissingNames (B.contents book.now) name.now members.missing.items) }
-    ensures found_sorted { IfOk result
-        (λ members. IsStrictlySortedBy range_cmp members.found.items) }
-    ensures missing_sorted { IfOk result (λ members. AreAscendingNames members.missing.items) }
-    ensures known { OnOk result (has_set (B.contents book.now) name.now ≡ true) }
-    ensures few { OnOk result (¬ HasTooMany (B.contents book.now) limit name.now) }
-    ensures unknown { result ≡ Err ExpandFault.NoSuchSet
-        → has_set (B.contents book.now) name.now ≡ false }
-    ensures many_known { result ≡ Err ExpandFault.TooMany
-        → has_set (B.contents book.now) name.now ≡ true }
-    ensures many { result ≡ Err ExpandFault.TooMany
-        → HasTooMany (B.contents book.now) limit name.now }
+    ensures { Expands range_cmp (route_set_at (B.contents book.now) limit name.now) result }
 {
     if !has_set(alloc, book, name)? {
         return Err(ExpandFault::NoSuchSet);
@@ -77,17 +62,8 @@ fn expand_known<B: SetBook>(
     name: &SetName,
     limit: usize,
 ) -> Result<Members<Range>, ExpandFault>
-    ensures found { IfOk result
-        (λ members. AreRangesIn (B.contents book.now) name.now members.found.items) }
-    ensures missing { IfOk result
-        (λ members. AreMissingNames (B.contents book.now) name.now members.missing.items) }
-    ensures found_sorted { IfOk result
-        (λ members. IsStrictlySortedBy range_cmp members.found.items) }
-    ensures missing_sorted { IfOk result (λ members. AreAscendingNames members.missing.items) }
-    ensures few { OnOk result (¬ HasTooMany (B.contents book.now) limit name.now) }
-    ensures known { result ≡ Err ExpandFault.NoSuchSet → ⊥ }
-    ensures many { result ≡ Err ExpandFault.TooMany
-        → HasTooMany (B.contents book.now) limit name.now }
+    ensures { has_set (B.contents book.now) name.now ≡ true
+        → Expands range_cmp (route_set_at (B.contents book.now) limit name.now) result }
 {
     let gathered = gathered(alloc, book, name, limit)?;
     let missing = sorted(alloc, missing_names(alloc, book, &gathered.nodes)?)?;
@@ -187,14 +163,9 @@ fn gathered<B: SetBook>(
     name: &SetName,
     limit: usize,
 ) -> Result<Gathered<MemberSet, Range>, ReachFault>
-    ensures nodes { IfOk result (λ gathered. (set : MemberSet) → Contains gathered.nodes.items
-        set ↔ IsReachedFrom (B.contents book.now) name.now set) }
-    ensures values { IfOk result
-        (λ gathered. AreRangesIn (B.contents book.now) name.now gathered.values.items) }
-    ensures sorted { IfOk result (λ gathered. IsStrictlySortedBy range_cmp gathered.values.items) }
-    ensures few { OnOk result (¬ HasTooMany (B.contents book.now) limit name.now) }
-    ensures many { result ≡ Err ReachFault.TooMany
-        → HasTooMany (B.contents book.now) limit name.now }
+    ensures { FindsWithin (IsGathered (Refers (B.contents book.now))
+        (HasRange (B.contents book.now)) applied range_cmp (MemberSet.Set name.now))
+        (HasTooMany (B.contents book.now) limit name.now) result }
 {
     let start = MemberSet::Set(name.copy(alloc)?);
     gather(alloc, &RouteSets { book }, &start, limit)

@@ -11,13 +11,14 @@ use Rattle.sqlite.specs.Held.{Held, state}
 use Rattle.sqlite.proofs.StateLemmas.{survives_then}
 use Rattle.rr_store.specs.Contents.{IsTidy, Alters, Adds, RunsOn, Removes, is_name_among}
 use Rattle.rr_store.specs.Contents.{is_name_of}
+use Rattle.rr_store.specs.StepParts.{IsOver}
 use Rattle.rr_store.proofs.OtherLemmas.{others_itself, others_then}
 
 -- the rows of `named` were altered in a transaction that goes on
 pub record HasAltered {S : Type 0} (g : Ghosts S) (old new : Held S) (Change : List Row →
     List Row → Type 0) : Type 0 where
-  pub done : HasCleanDisk (state g new) → IsTrue (state g old).is_open → Alters (state g old).now
-      (state g new).now 4 Change
+  pub done : IsOver g IsTidy old → HasCleanDisk (state g new) → IsTrue (state g old).is_open →
+      Alters (state g old).now (state g new).now 4 Change
   pub step : HasCleanDisk (state g new) → IsTrue (state g old).is_open → RunsOn (state g old)
       (state g new)
   pub kept : HasCleanDisk (state g new) → KeepsCommit (state g old) (state g new)
@@ -45,12 +46,10 @@ keeps_then a b c p q = record {
 }
 
 none_altered : {S : Type 0} (g : Ghosts S) (old : Held S) (Change : List Row → List Row → Type 0) →
-    ((rows : List Row) → Change rows rows)
-    → (HasCleanDisk (state g old) → IsTrue (state g old).is_open → IsTidy (state g old).now) →
-    HasAltered g old old Change
-none_altered g old Change none tidy = record {
-  done = λ clean on. record {
-    tidy = tidy clean on;
+    ((rows : List Row) → Change rows rows) → HasAltered g old old Change
+none_altered g old Change none = record {
+  done = λ over clean on. record {
+    tidy = over clean on;
     change = none _;
     meta = λ _. refl;
     object =
@@ -66,7 +65,8 @@ none_altered g old Change none tidy = record {
 altered_more : {S : Type 0} (g : Ghosts S) (old mid new : Held S) (First Second Both : List Row →
     List Row → Type 0) → ((a b c : List Row) → First a b → Second b c → Both a c) →
     HasAltered g old mid First
-    → (HasCleanDisk (state g new) → Alters (state g mid).now (state g new).now 4 Second) →
+    → (IsOver g IsTidy mid → HasCleanDisk (state g new) → Alters (state g mid).now
+    (state g new).now 4 Second) →
     (HasCleanDisk (state g new) → RunsOn (state g mid) (state g new))
     → (HasCleanDisk (state g new) → KeepsCommit (state g mid) (state g new)) →
     Survives (state g mid) (state g new) (λ _. ⊥) → HasAltered g old new Both
@@ -74,9 +74,9 @@ altered_more g old mid new First Second Both joined had alters step kept survive
     let earlier : HasCleanDisk (state g new) → HasCleanDisk (state g mid) = λ clean.
     omega (arith, survives.clean) in
     record {
-      done = λ clean on.
-          let one = had.done (earlier clean) on in
-          let two = alters clean in
+      done = λ over clean on.
+          let one = had.done over (earlier clean) on in
+          let two = alters (λ mid on. one.tidy) clean in
           record {
             tidy = two.tidy;
             change = joined _ _ _ one.change two.change;
@@ -100,10 +100,8 @@ altered_more g old mid new First Second Both joined had alters step kept survive
 
 -- ---- added
 
-pub none_added : {S : Type 0} (g : Ghosts S) (old : Held S) →
-    (HasCleanDisk (state g old) → IsTrue (state g old).is_open → IsTidy (state g old).now) →
-    HasAltered g old old (Adds [])
-none_added g old tidy = none_altered g old (Adds []) (λ rows. IsPermutation-refl rows) tidy
+pub none_added : {S : Type 0} (g : Ghosts S) (old : Held S) → HasAltered g old old (Adds [])
+none_added g old = none_altered g old (Adds []) (λ rows. IsPermutation-refl rows)
 
 one_more : (rows : List Row) (row : Row) (before mid after : List Row) → Adds rows before mid →
     Adds (row ∷ []) mid after → Adds (rows ++ row ∷ []) before after
@@ -113,7 +111,8 @@ one_more rows row before mid after first last =
 
 pub added_more : {S : Type 0} (g : Ghosts S) (old mid new : Held S) (rows : List Row) (row : Row) →
     HasAltered g old mid (Adds rows)
-    → (HasCleanDisk (state g new) → Alters (state g mid).now (state g new).now 4 (Adds (row ∷ [])))
+    → (IsOver g IsTidy mid → HasCleanDisk (state g new) → Alters (state g mid).now
+    (state g new).now 4 (Adds (row ∷ [])))
     → (HasCleanDisk (state g new) → RunsOn (state g mid) (state g new))
     → (HasCleanDisk (state g new) → KeepsCommit (state g mid) (state g new)) →
     Survives (state g mid) (state g new) (λ _. ⊥) → HasAltered g old new
@@ -152,9 +151,8 @@ or_not false = refl
 
 module _ (class : ℕ) (key : List ℕ) where
   pub none_removed : {S : Type 0} (g : Ghosts S) (old : Held S) →
-      (HasCleanDisk (state g old) → IsTrue (state g old).is_open → IsTidy (state g old).now) →
       HasAltered g old old (Removes (is_name_among class key []))
-  none_removed g old tidy = none_altered g old (Removes (is_name_among class key [])) all_kept tidy
+  none_removed g old = none_altered g old (Removes (is_name_among class key [])) all_kept
 
   one_less : (names : List (List ℕ)) (name : List ℕ) (before mid after : List Row) →
       Removes (is_name_among class key names) before mid → Removes (is_name_of class key name) mid
@@ -171,8 +169,8 @@ module _ (class : ℕ) (key : List ℕ) where
 
   pub removed_more : {S : Type 0} (g : Ghosts S) (old mid new : Held S) (names : List (List ℕ))
       (name : List ℕ) → HasAltered g old mid (Removes (is_name_among class key names))
-      → (HasCleanDisk (state g new) → Alters (state g mid).now (state g new).now 4
-      (Removes (is_name_of class key name))) →
+      → (IsOver g IsTidy mid → HasCleanDisk (state g new) → Alters (state g mid).now
+      (state g new).now 4 (Removes (is_name_of class key name))) →
       (HasCleanDisk (state g new) → RunsOn (state g mid) (state g new))
       → (HasCleanDisk (state g new) → KeepsCommit (state g mid) (state g new)) →
       Survives (state g mid) (state g new) (λ _. ⊥) → HasAltered g old new

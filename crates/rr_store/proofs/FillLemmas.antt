@@ -11,24 +11,23 @@ use Rattle.rr_store.specs.Contents.{IsTidy, RunsOn}
 use Rattle.rr_object.specs.Objects.{Obj}
 use Rattle.rr_store.specs.Entries.{Entry, IsAdded, entry_of}
 use Rattle.rr_store.specs.Maps.{IsObject}
+use Rattle.rr_store.specs.StepParts.{IsOver}
 use Rattle.rr_store.proofs.AddedLemmas.{none_added, added_then}
 use Rattle.rr_store.proofs.AddingLemmas.{keeps_itself, survives_itself, keeps_then}
 
 -- the rows of these were added in a transaction that goes on
 pub record HasFilled {S : Type 0} (g : Ghosts S) (old new : Held S) (entries : List Entry) :
     Type 0 where
-  pub done : HasCleanDisk (state g new) → IsTrue (state g old).is_open →
+  pub done : IsOver g IsTidy old → HasCleanDisk (state g new) → IsTrue (state g old).is_open →
       IsAdded entries (state g old).now (state g new).now
   pub step : HasCleanDisk (state g new) → IsTrue (state g old).is_open → RunsOn (state g old)
       (state g new)
   pub kept : HasCleanDisk (state g new) → KeepsCommit (state g old) (state g new)
   pub survives : Survives (state g old) (state g new) (λ _. ⊥)
 
-pub none_filled : {S : Type 0} (g : Ghosts S) (old : Held S) →
-    (HasCleanDisk (state g old) → IsTrue (state g old).is_open → IsTidy (state g old).now) →
-    HasFilled g old old []
-none_filled g old tidy = record {
-  done = λ clean on. none_added _ (tidy clean on);
+pub none_filled : {S : Type 0} (g : Ghosts S) (old : Held S) → HasFilled g old old []
+none_filled g old = record {
+  done = λ over clean on. none_added _ (over clean on);
   step = λ clean on. record { is_open = on; mode = refl; committed = refl };
   kept = λ clean. keeps_itself (state g old);
   survives = survives_itself (state g old);
@@ -36,7 +35,8 @@ none_filled g old tidy = record {
 
 pub filled_more : {S : Type 0} (g : Ghosts S) (old mid new : Held S) (entries : List Entry)
     (entry : Entry) → HasFilled g old mid entries
-    → (HasCleanDisk (state g new) → IsAdded (entry ∷ []) (state g mid).now (state g new).now) →
+    → (IsOver g IsTidy mid → HasCleanDisk (state g new) → IsAdded (entry ∷ []) (state g mid).now
+    (state g new).now) →
     (HasCleanDisk (state g new) → RunsOn (state g mid) (state g new))
     → (HasCleanDisk (state g new) → KeepsCommit (state g mid) (state g new)) →
     Survives (state g mid) (state g new) (λ _. ⊥) → HasFilled g old new (entries ++ entry ∷ [])
@@ -44,8 +44,8 @@ filled_more g old mid new entries entry had added step kept survives =
     let earlier : HasCleanDisk (state g new) → HasCleanDisk (state g mid) = λ clean.
     omega (arith, survives.clean) in
     record {
-      done = λ clean on. added_then entries (entry ∷ []) _ _ _ (had.done (earlier clean) on)
-          (added clean);
+      done = λ over clean on. let one = had.done over (earlier clean) on in
+          added_then entries (entry ∷ []) _ _ _ one (added (λ mid on. one.tidy) clean);
       step = λ clean on. let one = had.step (earlier clean) on in let two = step clean in
           record {
             is_open = two.is_open;
@@ -67,8 +67,9 @@ pub record AreFilled {S : Type 0} (g : Ghosts S) (old new : Held S) (objects : L
 
 pub object_filled : {S : Type 0} (g : Ghosts S) (old mid new : Held S) (objects : List Obj)
     (object : Obj) → IsObject object → AreFilled g old mid objects
-    → (HasCleanDisk (state g new) → IsAdded (entry_of object ∷ []) (state g mid).now
-    (state g new).now) → (HasCleanDisk (state g new) → RunsOn (state g mid) (state g new))
+    → (IsOver g IsTidy mid → HasCleanDisk (state g new) → IsAdded (entry_of object ∷ [])
+    (state g mid).now (state g new).now) →
+    (HasCleanDisk (state g new) → RunsOn (state g mid) (state g new))
     → (HasCleanDisk (state g new) → KeepsCommit (state g mid) (state g new)) →
     Survives (state g mid) (state g new) (λ _. ⊥) → AreFilled g old new (objects ++ object ∷ [])
 object_filled g old mid new objects object is had added step kept survives = record {

@@ -22,7 +22,7 @@ use Rattle.rr_store.specs.VacancyParts.{SaysBare, SaysEmpty}
 use Rattle.rr_store.specs.Calls.{FailsOverTidy, Rests, database}
 use Rattle.rr_store.specs.CheckParts.{HasBadRow}
 use Rattle.rr_store.specs.Faults.{no_tables}
-use Rattle.rr_store.specs.LookParts.{Counts, IsIdle, IsTabled, Selects}
+use Rattle.rr_store.specs.LookParts.{Counts, IsSeen, IsTabled, Selects}
 use Rattle.rr_store.specs.Opening.{IfStore, Inspects}
 use Rattle.rr_store.specs.StreamParts.{FailsAfterRows, FailsToCount, GivesRest, HasStreamed}
 use Rattle.rr_store.specs.declared.store_fault.OpenFault.{OpenFault}
@@ -165,11 +165,10 @@ module _ {S : Type 0} (g : Ghosts S) (a b : Held S) where
 
 -- without the three tables that is told
 pub untabled : {S X : Type 0} (g : Ghosts S) (conn : Held S) (Read : Database → X → Type 0)
-    (Bad : Database → Type 0) → conn.in_transaction ≡ false →
-    (HasTables (database g conn).schema → ⊥) →
+    (Bad : Database → Type 0) → (HasTables (database g conn).schema → ⊥) →
     Inspects g conn conn (Err (Store no_tables)) Read (HasBadRow Bad)
-untabled g conn Read Bad mode none = record {
-  looks = record { rests = rests_itself g conn mode; same = λ clean. tt };
+untabled g conn Read Bad none = record {
+  looks = record { rests = rests_itself g conn; same = λ clean. tt };
   read = λ clean. tt;
   why = λ clean. no_bad_row Bad (database g conn) no_tables;
   cause = λ error is tidy clean. absurd (none tidy.has);
@@ -177,13 +176,10 @@ untabled g conn Read Bad mode none = record {
 
 module _ {S : Type 0} (g : Ghosts S) (a b : Held S) (one : Rests g a b)
     (same : HasCleanDisk (state g b) → IsUnchanged (state g a) (state g b)) where
-  -- after a call that changed nothing the connection is idle over the same database
-  pub idle_then : (Over : Database → Type 0) → IsIdle g Over a → IsIdle g Over b
-  idle_then Over had = record {
-    autocommit = one.autocommit;
-    over = λ clean. subst Over (sym (same clean).0.now_is)
-        (had.over (omega (arith, clean, one.crash.clean)));
-  }
+  -- after a call that changed nothing this is still true of the database
+  pub seen_then : (Seen : Database → Type 0) → IsSeen g Seen a → IsSeen g Seen b
+  seen_then Seen had clean = subst Seen (sym (same clean).0.now_is)
+      (had (omega (arith, clean, one.crash.clean)))
 
   -- and what is read then was to be read before
   pub inspects_then : {X : Type 0} (c : Held S) (r : Result X OpenFault)
@@ -215,12 +211,12 @@ module _ {S : Type 0} (g : Ghosts S) (a b : Held S) (one : Rests g a b)
 
 -- whether the three tables have no row is found by asking for each
 pub selects_bare : {S : Type 0} (g : Ghosts S) (old one two new : Held S)
-    (meta object named is : Bool) → IsIdle g IsTabled old →
+    (meta object named is : Bool) → IsSeen g IsTabled old →
     Selects g old one (Ok meta) (λ db e. SaysEmpty (db.trees meta_tree) e) →
     Selects g one two (Ok object) (λ db e. SaysEmpty (db.trees object_tree) e) →
     Selects g two new (Ok named) (λ db e. SaysEmpty (db.trees named_tree) e) →
     is ≡ (meta && object && named) → Selects g old new (Ok is) SaysBare
-selects_bare g old one two new meta object named is idle first second third value =
+selects_bare g old one two new meta object named is tabled first second third value =
     let seconds = selects_then g old one first.looks.rests first.looks.same two _ _ second in
     let thirds = selects_then g old one first.looks.rests first.looks.same new _ _
     (selects_then g one two second.looks.rests second.looks.same new _ _ third) in
@@ -234,7 +230,7 @@ selects_bare g old one two new meta object named is idle first second third valu
           let before = on_one clean in
           subst (SaysBare (database g old)) (sym value)
           (bare_of (database g old) meta object named
-          (idle.over (omega (arith, before, first.looks.rests.crash.clean)))
+          (tabled (omega (arith, before, first.looks.rests.crash.clean)))
           (first.found before) (seconds.found (on_two clean)) (thirds.found clean));
       cause = tt;
     }
@@ -245,13 +241,13 @@ module _ {S : Type 0} (g : Ghosts S) (text : List ℕ) (params : Row) (told : Is
     (settled : IsTrue (state g old).is_open → (state g old).now ≡ (state g old).committed) where
   -- that was refused
   module _ (plain : HasCleanDisk (state g old) → IsPlain (understood old.schema text))
-      (mode : new.in_transaction ≡ false) (error : Error)
+      (error : Error)
       (failed : HasCleanDisk (state g new) →
       FailsToQuery text params (state g old) (state g new) error)
       (survives : Survives (state g old) (state g new)
       (CommitsShowing text params (state g old))) where
     rested : Rests g old new
-    rested = rests_failed g text params old new plain settled mode
+    rested = rests_failed g text params old new plain settled
         (λ clean. (error, failed clean)) survives
 
     pub not_counted : (tree : ℕ) → Counts g tree old new (Err error)
@@ -273,8 +269,7 @@ module _ {S : Type 0} (g : Ghosts S) (text : List ℕ) (params : Row) (told : Is
     }
 
   -- that began, and whose rows were read one at a time
-  module _ (begun : Held S) (b : Begins g text params old begun)
-      (mode : begun.in_transaction ≡ false) where
+  module _ (begun : Held S) (b : Begins g text params old begun) where
     pub inspected : {X : Type 0} (r : Result X OpenFault) (Read : Database → X → Type 0)
         (Why : Database → OpenFault → Type 0) → HasStreamed g begun new r →
         (HasCleanDisk (state g new) → IfOk r (Read (database g old))) →
@@ -282,7 +277,7 @@ module _ {S : Type 0} (g : Ghosts S) (text : List ℕ) (params : Row) (told : Is
         (HasCleanDisk (state g new) → IfErr r (IfStore (FailsAfterRows g begun new))) →
         Inspects g old new r Read Why
     inspected r Read Why streams read why fails = record {
-      looks = streamed g r old begun new b.same b.survives streams mode settled;
+      looks = streamed g r old begun new b.same b.survives streams settled;
       read = read;
       why = why;
       cause = reads_fail g text params told old new begun b streams.survives r fails;
@@ -308,7 +303,7 @@ module _ {S : Type 0} (g : Ghosts S) (text : List ℕ) (params : Row) (told : Is
 
       pub counted : Counts g tree old new r
       counted = record {
-        looks = streamed g r old begun new b.same b.survives streams mode settled;
+        looks = streamed g r old begun new b.same b.survives streams settled;
         numbered = λ clean. on_each r _ _ (numbered clean) (λ count rest.
             keyed_by ((state g old).now.trees tree) rest.0 (ranked clean rest.0 rest.1).same
             rest.2);

@@ -16,6 +16,7 @@ use Rattle.sqlite.specs.declared.error.Error.{Error}
 use Rattle.sqlite.specs.Given.{Advances, HasBegun, HasGiven}
 use Rattle.sqlite.specs.Held.{Held, state}
 use Rattle.sqlite.specs.Listing.{understood}
+use Rattle.sqlite.specs.Stream.{returned}
 use Rattle.sqlite.specs.State.{State, CommitsShowing, Fails, HasCleanDisk, IsRolledBack}
 use Rattle.sqlite.specs.State.{IsStatement, IsUnchanged, Shown, Survives}
 use Rattle.sqlite.proofs.Callers.{EndsIn, IsPlain, begins_shown, begun_plain, command_of}
@@ -27,7 +28,7 @@ use Rattle.rr_store.specs.Calls.{Looks}
 use Rattle.rr_store.specs.StreamParts.{GivesMore, GivesRest, HasStreamed}
 use Rattle.rr_store.proofs.AddingLemmas.{survives_itself}
 use Rattle.rr_store.proofs.BodyLemmas.{then_ok}
-use Rattle.rr_store.proofs.LookLemmas.{looks}
+use Rattle.rr_store.proofs.LookLemmas.{looks, shown_on}
 
 pub unchanged_itself : (s : State) → IsTrue s.is_open → IsUnchanged s s
 unchanged_itself s on = (
@@ -106,14 +107,13 @@ module _ {S : Type 0} (g : Ghosts S) where
       (same : HasCleanDisk (state g begun) → IsUnchanged (state g old) (state g begun))
       (first : Survives (state g old) (state g begun) (λ _. ⊥))
       (two : HasStreamed g begun new r) where
-    pub streamed : begun.in_transaction ≡ false → (IsTrue (state g old).is_open → (state g old).now
-        ≡ (state g old).committed) → Looks g old new r
-    streamed mode settled =
+    pub streamed : (IsTrue (state g old).is_open → (state g old).now ≡ (state g old).committed) →
+        Looks g old new r
+    streamed settled =
         let before : HasCleanDisk (state g new) → HasCleanDisk (state g begun) = λ clean.
         omega (arith, clean, two.survives.clean) in
         record {
           rests = record {
-            autocommit = two.autocommit mode;
             opened = λ clean on. (same (before clean)).0.was_open;
             same = λ clean on. kept (same (before clean)) (two.left clean) on;
             crash = survives_then (state g old) (state g begun) (state g new) (λ _. ⊥) (λ _. ⊥)
@@ -234,6 +234,12 @@ pub record Begins {S : Type 0} (g : Ghosts S) (text : List ℕ) (params : Row) (
   pub survives : Survives (state g old) (state g now) (λ _. ⊥)
 
 module _ {S : Type 0} (g : Ghosts S) (text : List ℕ) (params : Row) (old now : Held S) where
+  -- the connection is open
+  pub begun_open : HasBegun g text params old now → IsTrue (state g now).is_open
+  begun_open (inl given) = given.1.0.is_open
+  begun_open (inr shown) = shown_on text params (state g old) (state g now) (returned now.reading)
+      shown.1
+
   pub begins : (HasCleanDisk (state g old) → IsPlain (understood old.schema text)) →
       (HasCleanDisk (state g now) → HasBegun g text params old now)
       → Survives (state g old) (state g now) (CommitsShowing text params (state g old)) →

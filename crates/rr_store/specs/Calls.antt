@@ -1,5 +1,5 @@
 -- What a call leaves of a connection.
-use Rattle.std.specs.Prelude.{◌≡◌, ◌⊎◌, false, Result, IsSome, IsTrue, OnErr, OnOk}
+use Rattle.std.specs.Prelude.{◌≡◌, ◌⊎◌, Result, IsSome, IsTrue, OnErr, OnOk}
 use Rattle.sqlite_trees.specs.declared.error.StoreError.{StoreError}
 use Rattle.sqlite_trees.specs.declared.store.Store.{Ghosts}
 use Rattle.sqlite_trees.specs.Tree.{Trees}
@@ -56,7 +56,6 @@ module _ {S : Type 0} (g : Ghosts S) where
 
   -- nothing changes, and a stop leaves what it left before
   pub record Rests (old new : Held S) : Type 0 where
-    pub autocommit : new.in_transaction ≡ false
     pub opened : WhileOpen new (IsTrue (state g old).is_open)
     pub same : WhileOpen new (database new ≡ database old)
     pub crash : Survives (state g old) (state g new) (λ _. ⊥)
@@ -70,7 +69,6 @@ module _ {S : Type 0} (g : Ghosts S) where
   -- connection is open; a stop leaves one of the two, and the change only where it was open before
   pub record Transacts {X E : Type 0} (Change : Database → Database → Type 0) (old new : Held S)
       (result : Result X E) : Type 0 where
-    pub autocommit : old.in_transaction ≡ false → new.in_transaction ≡ false
     pub opened : WhileOpen new (IsTrue (state g old).is_open)
     pub done : OnCleanDisk new (OnOk result (Change (database old) (database new)))
     pub is_open : OnCleanDisk new (OnOk result (IsTrue (state g new).is_open))

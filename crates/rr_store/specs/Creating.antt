@@ -1,5 +1,5 @@
 -- What becomes of a call that makes a store.
-use Rattle.std.specs.Prelude.{◌≡◌, ◌≢◌, false, IsTrue, List, map}
+use Rattle.std.specs.Prelude.{◌≡◌, ◌≢◌, IsTrue, List, map}
 use Rattle.std.specs.List.{AllByRecursion}
 use Rattle.sqlite_trees.specs.declared.store.Store.{Ghosts}
 use Rattle.sqlite.specs.declared.error.Error.{Error}
@@ -50,7 +50,6 @@ module _ {S : Type 0} (g : Ghosts S) (objects : List Obj) (conn : Held S) where
   -- the rows are as they were, while the connection is open; where one stood in the tables, that is
   -- the fault, unless the database failed; where other tables stood, that is the fault
   pub record FailsToMake (left : Held S) (fault : CreateFault) : Type 0 where
-    pub autocommit : left.in_transaction ≡ false
     pub was_open : WhileOpen g left (IsTrue (state g conn).is_open)
     pub kept : WhileOpen g left (database g left ≡ database g conn)
     pub settled : IsSettled g left

@@ -5,6 +5,7 @@ pub mod Contents
 pub mod Creating
 pub mod Entries
 pub mod Faults
+pub mod FillingParts
 pub mod Kept
 pub mod Listing
 pub mod LookParts
@@ -17,6 +18,7 @@ pub mod Opening
 pub mod Queries
 pub mod ReadingParts
 pub mod StepParts
+pub mod Storing
 pub mod StreamParts
 pub mod Tables
 pub mod Texts

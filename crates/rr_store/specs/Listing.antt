@@ -1,5 +1,5 @@
 -- The objects that a store lists.
-use Rattle.std.specs.Prelude.{◌≡◌, ℕ, List, filter}
+use Rattle.std.specs.Prelude.{◌≡◌, ℕ, List, Result, IfErr, filter}
 use Rattle.std.specs.FinMap.{FinMap, values}
 use Rattle.sqlite_trees.specs.declared.store.Store.{Ghosts}
 use Rattle.sqlite.specs.declared.error.Error.{Error}
@@ -8,7 +8,7 @@ use Rattle.sqlite.specs.Held.{Held}
 use Rattle.rr_object.specs.KeyOrders.{key_cmp}
 use Rattle.rr_object.specs.Objects.{Obj, object_names}
 use Rattle.rr_store.specs.Maps.{AreStored, HasRows}
-use Rattle.rr_store.specs.Calls.{FailsFor, database}
+use Rattle.rr_store.specs.Calls.{FailsFor, IsSettled, Looks, database}
 use Rattle.rr_store.specs.declared.store_fault.StoreFault.{StoreFault}
 use Rattle.rr_store.specs.declared.store_fault.StoreFault.TheVariants.{Store}
 
@@ -31,3 +31,11 @@ abbrev pub FailsToList : {S : Type 0} → Ghosts S → List ℕ → Held S → H
 FailsToList g source old new fault =
     (objects : List Obj) → AreStored source objects (database g old)
     → (error : Error) → fault ≡ Store error → FailsFor g old new error
+
+-- a store is asked for objects of the source: rows are read, and nothing changes; why that fails is
+-- told; and a stop after that, while the connection is open, leaves the rows that stand
+pub record Asks {S X : Type 0} (g : Ghosts S) (source : List ℕ) (old new : Held S)
+    (result : Result X StoreFault) : Type 0 where
+  pub looks : Looks g old new result
+  pub cause : IfErr result (FailsToList g source old new)
+  pub settled : IsSettled g new

@@ -1,5 +1,5 @@
 -- What private functions that ask the tables promise each other. No public clause cites these.
-use Rattle.std.specs.Prelude.{◌≡◌, ℕ, false, length, Result, IfErr, IfOk, OnOk}
+use Rattle.std.specs.Prelude.{◌≡◌, ℕ, length, Result, IfErr, IfOk, OnOk}
 use Rattle.sqlite_trees.specs.declared.store.Store.{Ghosts}
 use Rattle.sqlite.specs.declared.error.Error.{Error}
 use Rattle.sqlite.specs.Effect.{Database}
@@ -13,11 +13,13 @@ abbrev pub IsTabled : Database → Type 0
 IsTabled db = HasTables db.schema
 
 module _ {S : Type 0} (g : Ghosts S) where
-  -- no transaction is under way, over a database of which this is true where the disk has returned
-  -- what was written
-  pub record IsIdle (Over : Database → Type 0) (conn : Held S) : Type 0 where
-    pub autocommit : conn.in_transaction ≡ false
-    pub over : OnCleanDisk g conn (Over (database g conn))
+  -- where the disk has returned what was written, this is true of the database
+  abbrev pub IsSeen : (Database → Type 0) → Held S → Type 0
+  IsSeen Seen conn = OnCleanDisk g conn (Seen (database g conn))
+
+  -- over such a database that holds
+  abbrev pub Over : (Database → Type 0) → Held S → Type 0 → Type 0
+  Over Seen conn Then = IsSeen Seen conn → Then
 
   -- a query finds this in the tables, and nothing changes; it fails for a cause outside the rows
   pub record Selects {X : Type 0} (old new : Held S) (result : Result X Error)

@@ -102,7 +102,6 @@ module _ {S : Type 0} (g : Ghosts S) (root source : List ℕ) (conn : Held S) wh
   -- the rows are as they were, while the connection is open, and a fault of the rows says why they
   -- are not migrated
   pub record FailsToMigrate (left : Held S) (fault : MigrateFault) : Type 0 where
-    pub autocommit : left.in_transaction ≡ false
     pub was_open : WhileOpen g left (IsTrue (state g conn).is_open)
     pub kept : WhileOpen g left (database g left ≡ database g conn)
     pub settled : IsSettled g left

@@ -82,6 +82,13 @@ pub record Inspects {S : Type 0} (g : Ghosts S) {X : Type 0} (old new : Held S)
   pub why : OnCleanDisk g new (IfErr result (Why (database g old)))
   pub cause : IfErr result (IfStore (FailsOverTidy g old new))
 
+-- rows are inspected so, and in any case what is read is listed so
+pub record Lists {S : Type 0} (g : Ghosts S) {X : Type 0} (old new : Held S)
+    (result : Result X OpenFault) (Listed : X → Type 0) (Read : Database → X → Type 0)
+    (Why : Database → OpenFault → Type 0) : Type 0 where
+  pub inspects : Inspects g old new result Read Why
+  pub listed : IfOk result Listed
+
 module _ {S : Type 0} (g : Ghosts S) (source : List ℕ) (conn : Held S) where
   -- the store of these objects is open, in order of class and key, with the rows as they were, over
   -- a connection that was open (profile)

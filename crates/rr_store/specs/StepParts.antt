@@ -10,31 +10,27 @@ use Rattle.rr_store.specs.Contents.{RunsOn}
 use Rattle.rr_store.specs.Calls.{OnCleanDisk, WhileOpen, database}
 
 module _ {S : Type 0} (g : Ghosts S) where
-  -- the database was changed so
-  abbrev pub Made : {X E : Type 0} → (Database → Database → Type 0) → Held S → Held S
-      → Result X E
-      → Type 0
-  Made Change old new result = OnCleanDisk g new
-      (OnOk result (Change (database g old) (database g new)))
+  -- while the connection is open, this is true of the database
+  abbrev pub IsOver : (Database → Type 0) → Held S → Type 0
+  IsOver Seen conn = WhileOpen g conn (Seen (database g conn))
 
-  -- while the connection is open, the transaction is over a database of which this is true
-  abbrev pub IsOver : (Database → Type 0) → Transaction S → Type 0
-  IsOver P tx = WhileOpen g tx.conn.now (P (database g tx.conn.now))
-
-  -- a step of a transaction: the database was changed so, and the transaction goes on; nothing was
-  -- committed, and a stop leaves what it left before
-  pub record Step {X E : Type 0} (Change : Database → Database → Type 0) (old new : Held S)
-      (result : Result X E) : Type 0 where
-    pub made : Made Change old new result
+  -- a step of a transaction: over a database of which this is true, it was changed so; the
+  -- transaction goes on, nothing was committed, and a stop leaves what it left before
+  pub record Step {X E : Type 0} (Seen : Database → Type 0)
+      (Change : Database → Database → Type 0) (old new : Held S) (result : Result X E)
+      : Type 0 where
+    pub made : IsOver Seen old
+        → OnCleanDisk g new (OnOk result (Change (database g old) (database g new)))
     pub goes_on : OnCleanDisk g new (OnOk result (RunsOn (state g old) (state g new)))
     pub kept : OnCleanDisk g new (KeepsCommit (state g old) (state g new))
     pub survives : Survives (state g old) (state g new) (λ _. ⊥)
 
-  -- some steps or none: where the connection was open, the database was changed so, and the
-  -- transaction goes on; nothing was committed, and a stop leaves what it left before
-  pub record StepWhereOpen {X E : Type 0} (Change : Database → Database → Type 0)
-      (old new : Held S) (result : Result X E) : Type 0 where
-    pub made : OnCleanDisk g new (IsTrue (state g old).is_open
+  -- some steps or none: where the connection was open, over such a database, it was changed so, and
+  -- the transaction goes on; nothing was committed, and a stop leaves what it left before
+  pub record StepWhereOpen {X E : Type 0} (Seen : Database → Type 0)
+      (Change : Database → Database → Type 0) (old new : Held S) (result : Result X E)
+      : Type 0 where
+    pub made : IsOver Seen old → OnCleanDisk g new (IsTrue (state g old).is_open
         → OnOk result (Change (database g old) (database g new)))
     pub goes_on : OnCleanDisk g new (IsTrue (state g old).is_open
         → OnOk result (RunsOn (state g old) (state g new)))
@@ -42,16 +38,18 @@ module _ {S : Type 0} (g : Ghosts S) where
     pub survives : Survives (state g old) (state g new) (λ _. ⊥)
 
   -- a call of a transaction made such a step, and it is the same transaction
-  pub record Steps {X E : Type 0} (Change : Database → Database → Type 0)
-      (old new : Transaction S) (result : Result X E) : Type 0 where
+  pub record Steps {X E : Type 0} (Seen : Database → Type 0)
+      (Change : Database → Database → Type 0) (old new : Transaction S) (result : Result X E)
+      : Type 0 where
     pub same_reference : new.conn.ghost_name ≡ old.conn.ghost_name
-    pub step : Step Change old.conn.now new.conn.now result
+    pub step : Step Seen Change old.conn.now new.conn.now result
 
   -- a call of a transaction made such steps or none, and it is the same transaction
-  pub record StepsWhereOpen {X E : Type 0} (Change : Database → Database → Type 0)
-      (old new : Transaction S) (result : Result X E) : Type 0 where
+  pub record StepsWhereOpen {X E : Type 0} (Seen : Database → Type 0)
+      (Change : Database → Database → Type 0) (old new : Transaction S) (result : Result X E)
+      : Type 0 where
     pub same_reference : new.conn.ghost_name ≡ old.conn.ghost_name
-    pub step : StepWhereOpen Change old.conn.now new.conn.now result
+    pub step : StepWhereOpen Seen Change old.conn.now new.conn.now result
 
   -- the end of a transaction: where its work was done and the database did not fail, that is
   -- committed; else the rows are those last committed, while the connection is open

@@ -6,8 +6,7 @@ ghost use Rattle.rr_store.specs.Contents.{is_named_of, named_values};
 ghost use Rattle.rr_store.specs.Entries.{IsAdded, IsPut, IsTakenOut};
 ghost use Rattle.rr_store.specs.Maps.{AreOfObjects};
 ghost use Rattle.rr_store.specs.Tables.{named_tree};
-ghost use Rattle.rr_store.specs.StepParts.{Steps, StepsWhereOpen};
-ghost use Rattle.rr_store.specs.StepParts.{IsOver};
+ghost use Rattle.rr_store.specs.StepParts.{IsOver, Steps, StepsWhereOpen};
 
 use crate::entry::Entry;
 use crate::leaving_names::names_of_rows;
@@ -24,8 +23,7 @@ fn add_names<S: Alter>(
     class: u8,
     key: &[u8],
 ) -> Result<(), Error>
-    requires { IsOver S.Store IsTidy tx.old }
-    ensures { StepsWhereOpen S.Store
+    ensures { StepsWhereOpen S.Store IsTidy
         (λ old new. Alters old new named_tree
         (Adds (map (λ name. named_values name class key.now) names.now)))
         tx.old tx.new result }
@@ -42,8 +40,7 @@ pub(crate) fn add_rows<S: Alter>(
     tx: &mut Transaction<'_, S>,
     entry: &Entry,
 ) -> Result<(), StoreFault>
-    requires { IsOver S.Store IsTidy tx.old }
-    ensures { Steps S.Store (IsAdded (entry.now ∷ []))
+    ensures { Steps S.Store IsTidy (IsAdded (entry.now ∷ []))
         tx.old tx.new result }
 {
     let class = entry.class();
@@ -61,8 +58,7 @@ fn remove_names<S: Alter>(
     class: u8,
     key: &[u8],
 ) -> Result<(), Error>
-    requires { IsOver S.Store IsTidy tx.old }
-    ensures { StepsWhereOpen S.Store
+    ensures { StepsWhereOpen S.Store IsTidy
         (λ old new. Alters old new named_tree (Removes (is_name_among class key.now names.now)))
         tx.old tx.new result }
 {
@@ -81,8 +77,8 @@ fn forget_names<S: Alter>(
     class: u8,
     key: &[u8],
 ) -> Result<(), StoreFault>
-    requires { IsOver S.Store AreOfObjects tx.old }
-    ensures { Steps S.Store
+    requires { IsOver S.Store AreOfObjects tx.old.conn.now }
+    ensures { Steps S.Store AreOfObjects
         (λ old new. Alters old new named_tree (Removes (is_named_of class key.now)))
         tx.old tx.new result }
 {
@@ -99,8 +95,8 @@ pub(crate) fn remove_rows<S: Alter>(
     class: u8,
     key: &[u8],
 ) -> Result<(), StoreFault>
-    requires { IsOver S.Store AreOfObjects tx.old }
-    ensures { Steps S.Store (IsTakenOut class key.now)
+    requires { IsOver S.Store AreOfObjects tx.old.conn.now }
+    ensures { Steps S.Store AreOfObjects (IsTakenOut class key.now)
         tx.old tx.new result }
 {
     forget_names(tx, alloc, class, key)?;
@@ -115,8 +111,8 @@ pub(crate) fn put_rows<S: Alter>(
     alloc: Global,
     entry: &Entry,
 ) -> Result<(), StoreFault>
-    requires { IsOver S.Store AreOfObjects tx.old }
-    ensures { Steps S.Store (IsPut entry.now) tx.old tx.new result }
+    requires { IsOver S.Store AreOfObjects tx.old.conn.now }
+    ensures { Steps S.Store AreOfObjects (IsPut entry.now) tx.old tx.new result }
 {
     remove_rows(tx, alloc, entry.class(), entry.key())?;
     add_rows(tx, entry)

@@ -1,6 +1,6 @@
 //! What the rows of the three tables say, each table by itself.
 
-ghost use Rattle.std.specs.Prelude.{◌≡◌, [], ◌∷◌, codes, false, IfErr, IfOk};
+ghost use Rattle.std.specs.Prelude.{◌≡◌, [], ◌∷◌, codes, IfErr, IfOk};
 ghost use Rattle.std.specs.Prelude.{OnOk};
 ghost use Rattle.std.specs.Prelude.{IsSorted};
 ghost use Rattle.sqlite.specs.Held.{state};
@@ -17,11 +17,12 @@ ghost use Rattle.rr_store.specs.Versions.{version_text};
 ghost use Rattle.rr_store.specs.declared.store_fault.OpenFault.TheVariants.{BadRow, Memory};
 ghost use Rattle.rr_store.specs.declared.store_fault.OpenFault.TheVariants.{WrongVersion};
 ghost use Rattle.rr_store.specs.declared.version.Version.TheVariants.{Current};
-ghost use Rattle.rr_store.specs.LookParts.{IsIdle, IsTabled};
-ghost use Rattle.rr_store.specs.Opening.{AreListed, Inspects};
+ghost use Rattle.rr_store.specs.LookParts.{IsTabled, Over};
+ghost use Rattle.rr_store.specs.Opening.{AreListed, Inspects, Lists};
 ghost use Rattle.rr_store.specs.CheckParts.{HasBadRow, TableGives};
 ghost use Rattle.rr_store.specs.ReadingParts.{IsRowFault};
 
+use crate::idle_connection::IdleConnection;
 use crate::meta::{is_version_row_alone, other_version};
 use crate::namings::are_named;
 use crate::objects::in_order;
@@ -34,7 +35,7 @@ use crate::store_fault::{NO_TABLES, OpenFault};
 use crate::version::Version;
 use rr_number::Name;
 use rr_object::Object;
-use sqlite::{Alter, Connection, Row};
+use sqlite::{Alter, Row};
 use std::alloc::Global;
 
 /// Checks that the rows of `meta` are the one that says the version asked for.
@@ -56,13 +57,13 @@ fn judge_version(rows: &[Row], version: Version) -> Result<(), OpenFault>
 
 /// Checks that the tables are of the version asked for.
 pub(crate) fn check_version<S: Alter>(
-    conn: &mut Connection<S>,
+    conn: &mut IdleConnection<S>,
     version: Version,
 ) -> Result<(), OpenFault>
-    requires { IsIdle S.Store IsTabled conn.old }
-    ensures { Inspects S.Store conn.old conn.new result
+    ensures { Over S.Store IsTabled conn.old
+        (Inspects S.Store conn.old conn.new result
         (λ db _. HasVersion (version_text version) db)
-        (λ db. IsVersionFault version (meta_rows (db.trees meta_tree))) }
+        (λ db. IsVersionFault version (meta_rows (db.trees meta_tree)))) }
 {
     let rows = meta_rows(conn)?;
     judge_version(&rows, version)
@@ -71,16 +72,16 @@ pub(crate) fn check_version<S: Alter>(
 /// The objects that `object` holds, in the order of the numbers of its rows, which have numbers of
 /// their own.
 pub(crate) fn check_objects<S: Alter>(
-    conn: &mut Connection<S>,
+    conn: &mut IdleConnection<S>,
     alloc: Global,
     source: &Name,
     version: Version,
 ) -> Result<Vec<Object>, OpenFault>
-    requires { IsIdle S.Store IsTabled conn.old }
-    ensures inspects { Inspects S.Store conn.old conn.new result
+    ensures inspects { Over S.Store IsTabled conn.old
+        (Inspects S.Store conn.old conn.new result
         (λ db objects. AreNumbered (db.trees object_tree)
         × TableGives version source.now objects.items db)
-        (HasBadRow (TableHoldsNone version source.now)) }
+        (HasBadRow (TableHoldsNone version source.now))) }
     ensures of_source { IfOk result (λ objects. AreObjectsOf source.now objects.items) }
 {
     let count = count_object(conn)?;
@@ -89,16 +90,15 @@ pub(crate) fn check_objects<S: Alter>(
 
 /// The objects that tables of version 2 hold, in order of class and key.
 pub(crate) fn all_objects<S: Alter>(
-    conn: &mut Connection<S>,
+    conn: &mut IdleConnection<S>,
     alloc: Global,
     source: &Name,
 ) -> Result<Vec<Object>, OpenFault>
-    requires autocommit { conn.old.in_transaction ≡ false }
-    ensures inspects { Inspects S.Store conn.old conn.new result
+    ensures { Lists S.Store conn.old conn.new result
+        (λ objects. AreListed source.now objects.items)
         (λ db objects. HoldsObjects current_form source.now objects.items
         (contents (db.trees object_tree)))
         (HasBadRow (HoldNone Current source.now)) }
-    ensures listed { IfOk result (λ objects. AreListed source.now objects.items) }
 {
     if !has_tables(conn.schema()) {
         return Err(OpenFault::Store(NO_TABLES));
@@ -130,15 +130,15 @@ fn judge_names(
 /// Checks that the rows of `named` are those that the objects name, asked for in order of
 /// maintainer, class and key.
 fn check_sorted_names<S: Alter>(
-    conn: &mut Connection<S>,
+    conn: &mut IdleConnection<S>,
     alloc: Global,
     objects: &[Object],
     version: Version,
 ) -> Result<(), OpenFault>
-    requires { IsIdle S.Store IsTabled conn.old }
-    ensures { Inspects S.Store conn.old conn.new result
+    ensures { Over S.Store IsTabled conn.old
+        (Inspects S.Store conn.old conn.new result
         (λ db _. NamesAre version objects.now db)
-        (HasBadRow (λ db. NamesAre version objects.now db → ⊥)) }
+        (HasBadRow (λ db. NamesAre version objects.now db → ⊥))) }
 {
     let rows = sorted_named_rows(conn)?;
     judge_names(alloc, &rows, objects, version)
@@ -146,15 +146,15 @@ fn check_sorted_names<S: Alter>(
 
 /// Checks the rows of `named` as they stand, and only if these differ in order.
 fn check_maintainers<S: Alter>(
-    conn: &mut Connection<S>,
+    conn: &mut IdleConnection<S>,
     alloc: Global,
     objects: &[Object],
     version: Version,
 ) -> Result<(), OpenFault>
-    requires { IsIdle S.Store IsTabled conn.old }
-    ensures { Inspects S.Store conn.old conn.new result
+    ensures { Over S.Store IsTabled conn.old
+        (Inspects S.Store conn.old conn.new result
         (λ db _. NamesAre version objects.now db)
-        (HasBadRow (λ db. NamesAre version objects.now db → ⊥)) }
+        (HasBadRow (λ db. NamesAre version objects.now db → ⊥))) }
 {
     if names_in_turn(conn, alloc, objects, version)? {
         return Ok(());
@@ -165,15 +165,15 @@ fn check_maintainers<S: Alter>(
 /// Checks the rows of `named`, and that each has a rowid of its own. They stand in the order of the
 /// objects unless others wrote them: only then are they asked for once more, and compared in order.
 pub(crate) fn check_named_table<S: Alter>(
-    conn: &mut Connection<S>,
+    conn: &mut IdleConnection<S>,
     alloc: Global,
     objects: &[Object],
     version: Version,
 ) -> Result<(), OpenFault>
-    requires { IsIdle S.Store IsTabled conn.old }
-    ensures { Inspects S.Store conn.old conn.new result
+    ensures { Over S.Store IsTabled conn.old
+        (Inspects S.Store conn.old conn.new result
         (λ db _. AreNumbered (db.trees named_tree) × NamesAre version objects.now db)
-        (HasBadRow (λ db. NamesAre version objects.now db → ⊥)) }
+        (HasBadRow (λ db. NamesAre version objects.now db → ⊥))) }
 {
     // the count is not needed: the clause says that the rows have numbers of their own
     let _count = count_named(conn)?;
@@ -182,16 +182,15 @@ pub(crate) fn check_named_table<S: Alter>(
 
 /// The objects that name a maintainer, in order of class and key.
 pub(crate) fn naming_objects<S: Alter>(
-    conn: &mut Connection<S>,
+    conn: &mut IdleConnection<S>,
     alloc: Global,
     source: &Name,
     name: &Name,
 ) -> Result<Vec<Object>, OpenFault>
-    requires autocommit { conn.old.in_transaction ≡ false }
-    ensures inspects { Inspects S.Store conn.old conn.new result
+    ensures lists { Lists S.Store conn.old conn.new result
+        (λ objects. AreListed source.now objects.items)
         (λ db objects. NamedPointsTo source.now name.now objects.items db)
         (HasBadRow (HoldNone Current source.now)) }
-    ensures listed { IfOk result (λ objects. AreListed source.now objects.items) }
     ensures memory { OnCleanDisk S.Store conn.new (IfErr result (λ fault. fault ≡ Memory →
         IsUnchanged (state S.Store conn.old) (state S.Store conn.new))) }
 {

@@ -10,58 +10,57 @@ ghost use Rattle.rr_store.specs.Faults.{no_tables};
 ghost use Rattle.rr_object.specs.Objects.{lent};
 ghost use Rattle.rr_store.specs.declared.store_fault.CreateFault.TheVariants.{Memory, NotEmpty};
 ghost use Rattle.rr_store.specs.declared.store_fault.CreateFault.TheVariants.{Store};
-ghost use Rattle.rr_store.specs.LookParts.{IsIdle, IsTabled};
+ghost use Rattle.rr_store.specs.LookParts.{IsSeen};
 
-use crate::committed::note_committed;
 use crate::ending::end;
 use crate::filling::{fill, make_filled};
+use crate::idle_connection::IdleConnection;
 use crate::schema::has_tables;
 use crate::store_fault::{CreateFault, NO_TABLES, StoreFault};
 use crate::vacancy::{is_bare, is_blank};
 use rr_object::Object;
-use sqlite::{Alter, Connection};
+use sqlite::Alter;
 use std::alloc::Global;
 
 /// Makes a store in a database with nothing in it.
 fn create_in_blank<S: Alter>(
-    conn: &mut Connection<S>,
+    conn: &mut IdleConnection<S>,
     alloc: Global,
     objects: &[&Object],
 ) -> Result<(), StoreFault>
-    requires autocommit { conn.old.in_transaction ≡ false }
-    requires blank { conn.old.schema ≡ no_schema }
+    requires { conn.old.schema ≡ no_schema }
     ensures { Transacts S.Store (IsMadeWith (IsStoreOf (lent objects.now)))
         conn.old conn.new result }
 {
-    note_committed(conn);
-    let mut tx = conn.transaction();
+    conn.note_committed();
+    let mut tx = conn.inner.transaction();
     let work = make_filled(&mut tx, alloc, objects);
     end(tx, work)
 }
 
 /// Makes a store in a database with the three tables and no row in them.
 fn create_in_bare<S: Alter>(
-    conn: &mut Connection<S>,
+    conn: &mut IdleConnection<S>,
     alloc: Global,
     objects: &[&Object],
 ) -> Result<(), StoreFault>
-    requires { IsIdle S.Store IsBare conn.old }
+    requires { IsSeen S.Store IsBare conn.old }
     ensures { Transacts S.Store (IsMadeWith (IsStoreOf (lent objects.now)))
         conn.old conn.new result }
 {
-    note_committed(conn);
-    let mut tx = conn.transaction();
+    conn.note_committed();
+    let mut tx = conn.inner.transaction();
     let work = fill(&mut tx, alloc, objects);
     end(tx, work)
 }
 
 /// Makes a store in a database that has the three tables.
 fn create_in_tables<S: Alter>(
-    conn: &mut Connection<S>,
+    conn: &mut IdleConnection<S>,
     alloc: Global,
     objects: &[&Object],
 ) -> Result<(), CreateFault>
-    requires { IsIdle S.Store IsTabled conn.old }
+    requires { HasTables conn.old.schema }
     ensures makes { Transacts S.Store (IsMadeWith (IsStoreOf (lent objects.now)))
         conn.old conn.new result }
     ensures filled { OnCleanDisk S.Store conn.new (IfErr result (λ fault. fault ≡ NotEmpty →
@@ -80,11 +79,10 @@ fn create_in_tables<S: Alter>(
 
 /// Makes a store in a database with nothing in it, or with the three tables and no row in them.
 pub(crate) fn create_where_vacant<S: Alter>(
-    conn: &mut Connection<S>,
+    conn: &mut IdleConnection<S>,
     alloc: Global,
     objects: &[&Object],
 ) -> Result<(), CreateFault>
-    requires autocommit { conn.old.in_transaction ≡ false }
     ensures makes { Transacts S.Store (IsMadeWith (IsStoreOf (lent objects.now)))
         conn.old conn.new result }
     ensures filled { OnCleanDisk S.Store conn.new (IfErr result (λ fault. fault ≡ NotEmpty →

@@ -1,15 +1,15 @@
 //! The rows of a list of objects, as a transaction adds them to tables without a row.
 
-ghost use Rattle.std.specs.Prelude.{◌≡◌, map, OnOk};
+ghost use Rattle.std.specs.Prelude.{map, OnOk};
 ghost use Rattle.std.specs.List.{AllByRecursion};
-ghost use Rattle.rr_store.specs.Contents.{IsTidy, KeepsOthers};
+ghost use Rattle.rr_store.specs.Contents.{IsTidy};
 ghost use Rattle.rr_store.specs.Entries.{IsAdded, entry_of};
-ghost use Rattle.rr_store.specs.Made.{HasItsTables, IsBare, no_schema};
+ghost use Rattle.rr_store.specs.FillingParts.{IsBlank, IsFilledWith};
+ghost use Rattle.rr_store.specs.Made.{IsBare, IsMadeWith};
 ghost use Rattle.rr_store.specs.Maps.{IsObject};
 ghost use Rattle.rr_store.specs.Creating.{IsStoreOf};
 ghost use Rattle.rr_object.specs.Objects.{lent};
-ghost use Rattle.rr_store.specs.StepParts.{Made, Steps, StepsWhereOpen};
-ghost use Rattle.rr_store.specs.StepParts.{IsOver};
+ghost use Rattle.rr_store.specs.StepParts.{Steps, StepsWhereOpen};
 
 use crate::bodies::add_rows;
 use crate::entry::Entry;
@@ -27,8 +27,7 @@ pub(crate) fn add_objects<S: Alter>(
     alloc: Global,
     objects: &[&Object],
 ) -> Result<(), StoreFault>
-    requires { IsOver S.Store IsTidy tx.old }
-    ensures steps { StepsWhereOpen S.Store (IsAdded (map entry_of (lent objects.now)))
+    ensures steps { StepsWhereOpen S.Store IsTidy (IsAdded (map entry_of (lent objects.now)))
         tx.old tx.new result }
     ensures read { OnOk result (AllByRecursion IsObject (lent objects.now)) }
 {
@@ -45,10 +44,7 @@ pub(crate) fn fill<S: Alter>(
     alloc: Global,
     objects: &[&Object],
 ) -> Result<(), StoreFault>
-    requires { IsOver S.Store IsBare tx.old }
-    ensures steps { Steps S.Store (λ _. IsStoreOf (lent objects.now))
-        tx.old tx.new result }
-    ensures others { Made S.Store KeepsOthers tx.old.conn.now tx.new.conn.now result }
+    ensures { Steps S.Store IsBare (IsFilledWith (lent objects.now)) tx.old tx.new result }
 {
     // the count is not asked for: the clause says which rows changed
     let _version = add_meta_row(tx, b"version", Version::Current.text())?;
@@ -61,10 +57,8 @@ pub(crate) fn make_filled<S: Alter>(
     alloc: Global,
     objects: &[&Object],
 ) -> Result<(), StoreFault>
-    requires { IsOver S.Store (λ db. db.schema ≡ no_schema) tx.old }
-    ensures steps { Steps S.Store (λ _. IsStoreOf (lent objects.now))
+    ensures { Steps S.Store IsBlank (IsMadeWith (IsStoreOf (lent objects.now)))
         tx.old tx.new result }
-    ensures tables { Made S.Store HasItsTables tx.old.conn.now tx.new.conn.now result }
 {
     make_tables(tx)?;
     fill(tx, alloc, objects)

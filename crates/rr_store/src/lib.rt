@@ -5,11 +5,11 @@
 mod bodies;
 mod checks;
 mod columns;
-mod committed;
 mod creating;
 mod ending;
 mod entry;
 mod filling;
+mod idle_connection;
 mod leaving_names;
 mod making;
 mod meta;
@@ -30,6 +30,7 @@ mod vacancy;
 mod version;
 mod writes;
 
+pub use idle_connection::IdleConnection;
 pub use meta::is_version_row_alone;
 pub use objects::lent;
 pub use schema::{META_TREE, NAMED_TREE, OBJECT_TREE, has_tables};

@@ -1,17 +1,16 @@
 //! The tables of a new store.
 
 ghost use Rattle.std.specs.Prelude.{◌≡◌, []};
-ghost use Rattle.rr_store.specs.Made.{Creates, IsBare, meta_table, named_table, no_schema};
-ghost use Rattle.rr_store.specs.Made.{object_table, with_meta, with_named, with_object};
-ghost use Rattle.rr_store.specs.StepParts.{Made, Steps};
-ghost use Rattle.rr_store.specs.StepParts.{IsOver};
+ghost use Rattle.rr_store.specs.FillingParts.{HasNewTables, IsBlank};
+ghost use Rattle.rr_store.specs.Made.{Creates, meta_table, named_table, no_schema, object_table};
+ghost use Rattle.rr_store.specs.Made.{with_meta, with_object};
+ghost use Rattle.rr_store.specs.StepParts.{Steps};
 
 use sqlite::{Alter, Error, Transaction};
 
 /// Makes the table `meta`, of the tables' version.
 fn create_meta<S: Alter>(tx: &mut Transaction<'_, S>) -> Result<usize, Error>
-    requires { IsOver S.Store (λ db. db.schema ≡ no_schema) tx.old }
-    ensures { Steps S.Store (Creates no_schema meta_table)
+    ensures { Steps S.Store IsBlank (Creates no_schema meta_table)
         tx.old tx.new result }
 {
     tx.execute(
@@ -23,8 +22,7 @@ fn create_meta<S: Alter>(tx: &mut Transaction<'_, S>) -> Result<usize, Error>
 
 /// Makes the table `object`, of the texts of objects.
 fn create_object<S: Alter>(tx: &mut Transaction<'_, S>) -> Result<usize, Error>
-    requires { IsOver S.Store (λ db. db.schema ≡ with_meta) tx.old }
-    ensures { Steps S.Store (Creates with_meta object_table)
+    ensures { Steps S.Store (λ db. db.schema ≡ with_meta) (Creates with_meta object_table)
         tx.old tx.new result }
 {
     tx.execute(
@@ -37,8 +35,7 @@ fn create_object<S: Alter>(tx: &mut Transaction<'_, S>) -> Result<usize, Error>
 
 /// Makes the table `named`: which objects name which maintainers.
 fn create_named<S: Alter>(tx: &mut Transaction<'_, S>) -> Result<usize, Error>
-    requires { IsOver S.Store (λ db. db.schema ≡ with_object) tx.old }
-    ensures { Steps S.Store (Creates with_object named_table)
+    ensures { Steps S.Store (λ db. db.schema ≡ with_object) (Creates with_object named_table)
         tx.old tx.new result }
 {
     tx.execute(
@@ -50,10 +47,7 @@ fn create_named<S: Alter>(tx: &mut Transaction<'_, S>) -> Result<usize, Error>
 
 /// Makes the three tables.
 pub(crate) fn make_tables<S: Alter>(tx: &mut Transaction<'_, S>) -> Result<(), Error>
-    requires { IsOver S.Store (λ db. db.schema ≡ no_schema) tx.old }
-    ensures steps { Steps S.Store (λ _. IsBare) tx.old tx.new result }
-    ensures schema { Made S.Store (λ _ new. new.schema ≡ with_named)
-        tx.old.conn.now tx.new.conn.now result }
+    ensures { Steps S.Store IsBlank (λ _. HasNewTables) tx.old tx.new result }
 {
     // the counts are not asked for: the clauses say which tables were made
     let _first = create_meta(tx)?;

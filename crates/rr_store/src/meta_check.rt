@@ -1,19 +1,19 @@
 //! Whether a database has the three tables, with numbers of their own for the rows of `meta`.
 
-ghost use Rattle.std.specs.Prelude.{◌≡◌, false, IfErr, OnOk};
+ghost use Rattle.std.specs.Prelude.{◌≡◌, IfErr, OnOk};
 ghost use Rattle.rr_store.specs.Tables.{HasTables};
 ghost use Rattle.rr_store.specs.Calls.{FailsOverTidy, Looks, OnCleanDisk, database};
 ghost use Rattle.rr_store.specs.CheckParts.{HasNumberedMeta};
 ghost use Rattle.rr_store.specs.Faults.{no_tables};
 
+use crate::idle_connection::IdleConnection;
 use crate::row_reading::count_meta;
 use crate::schema::has_tables;
 use crate::store_fault::NO_TABLES;
-use sqlite::{Alter, Connection, Error};
+use sqlite::{Alter, Error};
 
 /// Checks that the three tables are there, and the rows of `meta` have numbers of their own.
-pub(crate) fn check_meta<S: Alter>(conn: &mut Connection<S>) -> Result<(), Error>
-    requires autocommit { conn.old.in_transaction ≡ false }
+pub(crate) fn check_meta<S: Alter>(conn: &mut IdleConnection<S>) -> Result<(), Error>
     ensures looks { Looks S.Store conn.old conn.new result }
     ensures meta { OnCleanDisk S.Store conn.new (OnOk result
         (HasNumberedMeta (database S.Store conn.old))) }

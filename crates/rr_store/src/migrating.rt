@@ -1,22 +1,20 @@
 //! Tables of version 1, written anew in one transaction as those of version 2.
 
-ghost use Rattle.std.specs.Prelude.{◌≡◌, [], ◌∷◌, ◌++◌, false, map, IfErr, IfOk};
-ghost use Rattle.rr_store.specs.Contents.{IsTidy, KeepsOthers};
+ghost use Rattle.std.specs.Prelude.{◌≡◌, [], ◌∷◌, ◌++◌, map, IfErr, IfOk};
+ghost use Rattle.rr_store.specs.Contents.{IsTidy};
 ghost use Rattle.rr_store.specs.Entries.{entry_of};
-ghost use Rattle.rr_store.specs.Made.{IsBare};
 ghost use Rattle.rr_store.specs.Calls.{OnCleanDisk, Transacts, database};
 ghost use Rattle.rr_object.specs.Objects.{lent};
 ghost use Rattle.rr_store.specs.Migrating.{FailsOverOldRows, IsMigrated, RefusesOldTables};
 ghost use Rattle.rr_store.specs.Migrating.{has_mntner};
-ghost use Rattle.rr_store.specs.MigratingParts.{IsReplaced, IsRewritten};
+ghost use Rattle.rr_store.specs.MigratingParts.{IsCleared, IsReplaced, IsRewritten};
 ghost use Rattle.rr_store.specs.declared.store_fault.MigrateFault.TheVariants.{Store};
-ghost use Rattle.rr_store.specs.StepParts.{Made, Steps};
-ghost use Rattle.rr_store.specs.LookParts.{IsIdle};
-ghost use Rattle.rr_store.specs.StepParts.{IsOver};
+ghost use Rattle.rr_store.specs.StepParts.{Steps};
+ghost use Rattle.rr_store.specs.LookParts.{IsSeen};
 
-use crate::committed::note_committed;
 use crate::ending::end;
 use crate::filling::fill;
+use crate::idle_connection::IdleConnection;
 use crate::objects::lent;
 use crate::opening::stored_objects;
 use crate::statements::{clear_meta, clear_names, clear_objects};
@@ -25,14 +23,12 @@ use crate::upper::upper_object;
 use crate::version::Version;
 use rr_number::Name;
 use rr_object::Object;
-use sqlite::{Alter, Connection, Error, Transaction};
+use sqlite::{Alter, Error, Transaction};
 use std::alloc::{AllocError, Global};
 
 /// Takes out all rows of the three tables, and no others.
 fn clear_rows<S: Alter>(tx: &mut Transaction<'_, S>) -> Result<(), Error>
-    requires { IsOver S.Store IsTidy tx.old }
-    ensures steps { Steps S.Store (λ _. IsBare) tx.old tx.new result }
-    ensures others { Made S.Store KeepsOthers tx.old.conn.now tx.new.conn.now result }
+    ensures { Steps S.Store IsTidy IsCleared tx.old tx.new result }
 {
     // the counts are not asked for: the clauses say which rows changed
     let _meta = clear_meta(tx)?;
@@ -47,8 +43,7 @@ fn refill<S: Alter>(
     alloc: Global,
     objects: &[&Object],
 ) -> Result<(), StoreFault>
-    requires { IsOver S.Store IsTidy tx.old }
-    ensures { Steps S.Store (IsReplaced (map entry_of (lent objects.now)))
+    ensures { Steps S.Store IsTidy (IsReplaced (map entry_of (lent objects.now)))
         tx.old tx.new result }
 {
     clear_rows(tx)?;
@@ -57,16 +52,16 @@ fn refill<S: Alter>(
 
 /// Puts the rows of the objects in place of all rows, in one transaction.
 fn replace<S: Alter>(
-    conn: &mut Connection<S>,
+    conn: &mut IdleConnection<S>,
     alloc: Global,
     objects: &[&Object],
 ) -> Result<(), StoreFault>
-    requires { IsIdle S.Store IsTidy conn.old }
+    requires { IsSeen S.Store IsTidy conn.old }
     ensures { Transacts S.Store (IsReplaced (map entry_of (lent objects.now)))
         conn.old conn.new result }
 {
-    note_committed(conn);
-    let mut tx = conn.transaction();
+    conn.note_committed();
+    let mut tx = conn.inner.transaction();
     let work = refill(&mut tx, alloc, objects);
     end(tx, work)
 }
@@ -82,13 +77,13 @@ fn with_upper(mut objects: Vec<Object>, upper: Object) -> Result<Vec<Object>, Al
 /// Puts the rows of the objects and of the block of the AS numbers of more than 16 bits in place of
 /// all rows, in one transaction.
 fn rewrite<S: Alter>(
-    conn: &mut Connection<S>,
+    conn: &mut IdleConnection<S>,
     alloc: Global,
     objects: Vec<Object>,
     root: &Name,
     source: &Name,
 ) -> Result<(), StoreFault>
-    requires { IsIdle S.Store IsTidy conn.old }
+    requires { IsSeen S.Store IsTidy conn.old }
     ensures { Transacts S.Store (IsRewritten root.now source.now objects.items)
         conn.old conn.new result }
 {
@@ -110,12 +105,11 @@ fn has_mntner(objects: &[Object], name: &Name) -> bool
 /// Writes tables of version 1 that hold objects of the source anew as those of version 2, with the
 /// block of the AS numbers of more than 16 bits, which the root maintains.
 pub(crate) fn migrate_rows<S: Alter>(
-    conn: &mut Connection<S>,
+    conn: &mut IdleConnection<S>,
     alloc: Global,
     root: &Name,
     source: &Name,
 ) -> Result<(), MigrateFault>
-    requires autocommit { conn.old.in_transaction ≡ false }
     ensures migrates { Transacts S.Store (IsMigrated root.now source.now)
         conn.old conn.new result }
     ensures why { OnCleanDisk S.Store conn.new (IfErr result

@@ -1,38 +1,37 @@
 //! The objects that the tables hold.
 
-ghost use Rattle.std.specs.Prelude.{◌≡◌, false, IfOk};
 ghost use Rattle.rr_store.specs.Maps.{HasVersion};
 ghost use Rattle.rr_store.specs.CheckParts.{HasNumberedMeta};
 ghost use Rattle.rr_store.specs.Opening.{AreStoredAs, HoldNone};
 ghost use Rattle.rr_store.specs.Opening.{RefusesTables};
 ghost use Rattle.rr_store.specs.Versions.{version_text};
-ghost use Rattle.rr_store.specs.LookParts.{IsIdle};
-ghost use Rattle.rr_store.specs.Opening.{AreListed, Inspects};
+ghost use Rattle.rr_store.specs.LookParts.{Over};
+ghost use Rattle.rr_store.specs.Opening.{AreListed, Lists};
 ghost use Rattle.rr_store.specs.CheckParts.{HasBadRow};
 
 use crate::checks::{check_named_table, check_objects, check_version};
+use crate::idle_connection::IdleConnection;
 use crate::meta_check::check_meta;
 use crate::objects::in_order;
 use crate::store_fault::OpenFault;
 use crate::version::Version;
 use rr_number::Name;
 use rr_object::Object;
-use sqlite::{Alter, Connection};
+use sqlite::Alter;
 use std::alloc::Global;
 
 /// The objects whose rows `object` and `named` hold, whatever the version that `meta` says.
 fn checked_objects<S: Alter>(
-    conn: &mut Connection<S>,
+    conn: &mut IdleConnection<S>,
     alloc: Global,
     source: &Name,
     version: Version,
 ) -> Result<Vec<Object>, OpenFault>
-    requires { IsIdle S.Store HasNumberedMeta conn.old }
-    ensures inspects { Inspects S.Store conn.old conn.new result
+    ensures { Over S.Store HasNumberedMeta conn.old (Lists S.Store conn.old conn.new result
+        (λ objects. AreListed source.now objects.items)
         (λ db objects. HasVersion (version_text version) db →
         AreStoredAs version source.now objects.items db)
-        (HasBadRow (HoldNone version source.now)) }
-    ensures listed { IfOk result (λ objects. AreListed source.now objects.items) }
+        (HasBadRow (HoldNone version source.now))) }
 {
     let objects = check_objects(conn, alloc, source, version)?;
     check_named_table(conn, alloc, &objects, version)?;
@@ -41,16 +40,15 @@ fn checked_objects<S: Alter>(
 
 /// The objects of the source that tables hold whose rows of `meta` have numbers of their own.
 fn read_tables<S: Alter>(
-    conn: &mut Connection<S>,
+    conn: &mut IdleConnection<S>,
     alloc: Global,
     source: &Name,
     version: Version,
 ) -> Result<Vec<Object>, OpenFault>
-    requires { IsIdle S.Store HasNumberedMeta conn.old }
-    ensures inspects { Inspects S.Store conn.old conn.new result
+    ensures { Over S.Store HasNumberedMeta conn.old (Lists S.Store conn.old conn.new result
+        (λ objects. AreListed source.now objects.items)
         (λ db objects. AreStoredAs version source.now objects.items db)
-        (RefusesTables version source.now) }
-    ensures listed { IfOk result (λ objects. AreListed source.now objects.items) }
+        (RefusesTables version source.now)) }
 {
     check_version(conn, version)?;
     checked_objects(conn, alloc, source, version)
@@ -58,16 +56,15 @@ fn read_tables<S: Alter>(
 
 /// The objects of the source that tables of this version hold, in order of class and key.
 pub(crate) fn stored_objects<S: Alter>(
-    conn: &mut Connection<S>,
+    conn: &mut IdleConnection<S>,
     alloc: Global,
     source: &Name,
     version: Version,
 ) -> Result<Vec<Object>, OpenFault>
-    requires autocommit { conn.old.in_transaction ≡ false }
-    ensures inspects { Inspects S.Store conn.old conn.new result
+    ensures { Lists S.Store conn.old conn.new result
+        (λ objects. AreListed source.now objects.items)
         (λ db objects. AreStoredAs version source.now objects.items db)
         (RefusesTables version source.now) }
-    ensures listed { IfOk result (λ objects. AreListed source.now objects.items) }
 {
     check_meta(conn)?;
     read_tables(conn, alloc, source, version)

@@ -1,6 +1,6 @@
 //! Queries on the three tables.
 
-ghost use Rattle.std.specs.Prelude.{◌≡◌, [], false, map, IfErr, IfOk};
+ghost use Rattle.std.specs.Prelude.{◌≡◌, [], map, IfErr, IfOk};
 ghost use Rattle.std.specs.Prelude.{IsTrue};
 ghost use Rattle.sqlite.specs.Given.{IsPlain};
 ghost use Rattle.sqlite.specs.Held.{state};
@@ -16,43 +16,42 @@ ghost use Rattle.rr_store.specs.CheckParts.{NamedPointsTo, NamedPointsToNone, Na
 ghost use Rattle.rr_store.specs.CheckParts.{TableHoldsNone};
 ghost use Rattle.rr_store.specs.Opening.{AreObjectsOf};
 ghost use Rattle.rr_store.specs.declared.store_fault.OpenFault.TheVariants.{Memory};
-ghost use Rattle.rr_store.specs.LookParts.{Counts, IsIdle, IsTabled, Selects};
+ghost use Rattle.rr_store.specs.LookParts.{Counts, IsTabled, Over, Selects};
 ghost use Rattle.rr_store.specs.Opening.{Inspects};
 ghost use Rattle.rr_store.specs.CheckParts.{HasBadRow, TableGives};
 
-use crate::committed::note_committed;
+use crate::idle_connection::IdleConnection;
 use crate::row_streams::{count_numbered, take_all_names, take_objects};
 use crate::store_fault::OpenFault;
 use crate::version::Version;
 use rr_number::Name;
 use rr_object::Object;
-use sqlite::{Alter, Connection, Error, Row};
+use sqlite::{Alter, Error, Row};
 use sqlite_value::value::ValueRef;
 use std::alloc::Global;
 
 /// The answer of a query, which changes nothing and commits nothing.
 fn look<S: Alter>(
-    conn: &mut Connection<S>,
+    conn: &mut IdleConnection<S>,
     sql: &str,
     params: &[ValueRef<'_>],
 ) -> Result<Vec<Row>, Error>
-    requires autocommit { conn.old.in_transaction ≡ false }
-    requires plain { OnCleanDisk S.Store conn.old (IsPlain (understood conn.old.schema sql.now)) }
-    ensures looks { Looks S.Store conn.old conn.new result }
+    ensures looks { OnCleanDisk S.Store conn.old (IsPlain (understood conn.old.schema sql.now))
+        → Looks S.Store conn.old conn.new result }
     ensures shown { OnCleanDisk S.Store conn.new (IfOk result (λ rows. Shown sql.now
         (bound params.now) (state S.Store conn.old) (state S.Store conn.new) rows.items)) }
     ensures refused { OnCleanDisk S.Store conn.new (IfErr result (FailsToQuery sql.now
         (bound params.now) (state S.Store conn.old) (state S.Store conn.new))) }
 {
-    note_committed(conn);
-    conn.query_all(sql, params)
+    conn.note_committed();
+    conn.inner.query_all(sql, params)
 }
 
 /// The names and values of the rows of `meta`, in order of the names.
-pub(crate) fn meta_rows<S: Alter>(conn: &mut Connection<S>) -> Result<Vec<Row>, Error>
-    requires { IsIdle S.Store IsTabled conn.old }
-    ensures { Selects S.Store conn.old conn.new result (λ db rows.
-        IsInRank by_two (meta_rows (db.trees meta_tree)) rows.items) }
+pub(crate) fn meta_rows<S: Alter>(conn: &mut IdleConnection<S>) -> Result<Vec<Row>, Error>
+    ensures { Over S.Store IsTabled conn.old
+        (Selects S.Store conn.old conn.new result (λ db rows.
+        IsInRank by_two (meta_rows (db.trees meta_tree)) rows.items)) }
 {
     look(
         conn,
@@ -62,10 +61,10 @@ pub(crate) fn meta_rows<S: Alter>(conn: &mut Connection<S>) -> Result<Vec<Row>, 
 }
 
 /// The rows of `named` without their numbers, by maintainer, class and key.
-pub(crate) fn sorted_named_rows<S: Alter>(conn: &mut Connection<S>) -> Result<Vec<Row>, Error>
-    requires { IsIdle S.Store IsTabled conn.old }
-    ensures { Selects S.Store conn.old conn.new result (λ db rows.
-        IsInRank by_three (contents (db.trees named_tree)) rows.items) }
+pub(crate) fn sorted_named_rows<S: Alter>(conn: &mut IdleConnection<S>) -> Result<Vec<Row>, Error>
+    ensures { Over S.Store IsTabled conn.old
+        (Selects S.Store conn.old conn.new result (λ db rows.
+        IsInRank by_three (contents (db.trees named_tree)) rows.items)) }
 {
     look(
         conn,
@@ -75,79 +74,85 @@ pub(crate) fn sorted_named_rows<S: Alter>(conn: &mut Connection<S>) -> Result<Ve
 }
 
 /// The numbers of the rows of `meta`, in order.
-pub(crate) fn meta_numbers<S: Alter>(conn: &mut Connection<S>) -> Result<Vec<Row>, Error>
-    requires { IsIdle S.Store IsTabled conn.old }
-    ensures { Selects S.Store conn.old conn.new result (λ db rows.
-        IsInRank by_one (map number (db.trees meta_tree)) rows.items) }
+pub(crate) fn meta_numbers<S: Alter>(conn: &mut IdleConnection<S>) -> Result<Vec<Row>, Error>
+    ensures { Over S.Store IsTabled conn.old
+        (Selects S.Store conn.old conn.new result (λ db rows.
+        IsInRank by_one (map number (db.trees meta_tree)) rows.items)) }
 {
     look(conn, "SELECT rowid FROM meta ORDER BY rowid", &[])
 }
 
 /// The numbers of the rows of `object`, in order.
-pub(crate) fn object_numbers<S: Alter>(conn: &mut Connection<S>) -> Result<Vec<Row>, Error>
-    requires { IsIdle S.Store IsTabled conn.old }
-    ensures { Selects S.Store conn.old conn.new result (λ db rows.
-        IsInRank by_one (map number (db.trees object_tree)) rows.items) }
+pub(crate) fn object_numbers<S: Alter>(conn: &mut IdleConnection<S>) -> Result<Vec<Row>, Error>
+    ensures { Over S.Store IsTabled conn.old
+        (Selects S.Store conn.old conn.new result (λ db rows.
+        IsInRank by_one (map number (db.trees object_tree)) rows.items)) }
 {
     look(conn, "SELECT rowid FROM object ORDER BY rowid", &[])
 }
 
 /// The numbers of the rows of `named`, in order.
-pub(crate) fn named_numbers<S: Alter>(conn: &mut Connection<S>) -> Result<Vec<Row>, Error>
-    requires { IsIdle S.Store IsTabled conn.old }
-    ensures { Selects S.Store conn.old conn.new result (λ db rows.
-        IsInRank by_one (map number (db.trees named_tree)) rows.items) }
+pub(crate) fn named_numbers<S: Alter>(conn: &mut IdleConnection<S>) -> Result<Vec<Row>, Error>
+    ensures { Over S.Store IsTabled conn.old
+        (Selects S.Store conn.old conn.new result (λ db rows.
+        IsInRank by_one (map number (db.trees named_tree)) rows.items)) }
 {
     look(conn, "SELECT rowid FROM named ORDER BY rowid", &[])
 }
 
 /// How many rows `meta` has, which have to have numbers of their own.
-pub(crate) fn count_meta<S: Alter>(conn: &mut Connection<S>) -> Result<usize, Error>
-    requires { IsIdle S.Store IsTabled conn.old }
-    ensures { Counts S.Store meta_tree conn.old conn.new result }
+pub(crate) fn count_meta<S: Alter>(conn: &mut IdleConnection<S>) -> Result<usize, Error>
+    ensures { Over S.Store IsTabled conn.old
+        (Counts S.Store meta_tree conn.old conn.new result) }
 {
-    note_committed(conn);
-    let mut rows = conn.query("SELECT rowid FROM meta ORDER BY rowid", &[])?;
+    conn.note_committed();
+    let mut rows = conn
+        .inner
+        .query("SELECT rowid FROM meta ORDER BY rowid", &[])?;
     count_numbered(&mut rows)
 }
 
 /// How many rows `object` has, which have to have numbers of their own.
-pub(crate) fn count_object<S: Alter>(conn: &mut Connection<S>) -> Result<usize, Error>
-    requires { IsIdle S.Store IsTabled conn.old }
-    ensures { Counts S.Store object_tree conn.old conn.new result }
+pub(crate) fn count_object<S: Alter>(conn: &mut IdleConnection<S>) -> Result<usize, Error>
+    ensures { Over S.Store IsTabled conn.old
+        (Counts S.Store object_tree conn.old conn.new result) }
 {
-    note_committed(conn);
-    let mut rows = conn.query("SELECT rowid FROM object ORDER BY rowid", &[])?;
+    conn.note_committed();
+    let mut rows = conn
+        .inner
+        .query("SELECT rowid FROM object ORDER BY rowid", &[])?;
     count_numbered(&mut rows)
 }
 
 /// How many rows `named` has, which have to have numbers of their own.
-pub(crate) fn count_named<S: Alter>(conn: &mut Connection<S>) -> Result<usize, Error>
-    requires { IsIdle S.Store IsTabled conn.old }
-    ensures { Counts S.Store named_tree conn.old conn.new result }
+pub(crate) fn count_named<S: Alter>(conn: &mut IdleConnection<S>) -> Result<usize, Error>
+    ensures { Over S.Store IsTabled conn.old
+        (Counts S.Store named_tree conn.old conn.new result) }
 {
-    note_committed(conn);
-    let mut rows = conn.query("SELECT rowid FROM named ORDER BY rowid", &[])?;
+    conn.note_committed();
+    let mut rows = conn
+        .inner
+        .query("SELECT rowid FROM named ORDER BY rowid", &[])?;
     count_numbered(&mut rows)
 }
 
 /// The objects that `object` holds, in the order of the numbers of its rows: one walk over the
 /// table, with room made for so many at first.
 pub(crate) fn read_objects<S: Alter>(
-    conn: &mut Connection<S>,
+    conn: &mut IdleConnection<S>,
     alloc: Global,
     count: usize,
     source: &Name,
     version: Version,
 ) -> Result<Vec<Object>, OpenFault>
-    requires { IsIdle S.Store IsTabled conn.old }
-    ensures inspects { Inspects S.Store conn.old conn.new result
+    ensures inspects { Over S.Store IsTabled conn.old
+        (Inspects S.Store conn.old conn.new result
         (λ db objects. TableGives version source.now objects.items db)
-        (HasBadRow (TableHoldsNone version source.now)) }
+        (HasBadRow (TableHoldsNone version source.now))) }
     ensures of_source { IfOk result (λ objects. AreObjectsOf source.now objects.items) }
 {
-    note_committed(conn);
-    let mut rows = conn.query(
+    conn.note_committed();
+    let mut rows = conn.inner.query(
         "SELECT rowid, class, okey, body FROM object ORDER BY rowid",
         &[],
     )?;
@@ -156,17 +161,17 @@ pub(crate) fn read_objects<S: Alter>(
 
 /// Whether the rows of `named`, in their order, are those of the maintainers that the objects name.
 pub(crate) fn names_in_turn<S: Alter>(
-    conn: &mut Connection<S>,
+    conn: &mut IdleConnection<S>,
     alloc: Global,
     objects: &[Object],
     version: Version,
 ) -> Result<bool, OpenFault>
-    requires { IsIdle S.Store IsTabled conn.old }
-    ensures { Inspects S.Store conn.old conn.new result
-        (λ db are. IsTrue are → NamesAre version objects.now db) (HasBadRow (λ _. ⊥)) }
+    ensures { Over S.Store IsTabled conn.old
+        (Inspects S.Store conn.old conn.new result
+        (λ db are. IsTrue are → NamesAre version objects.now db) (HasBadRow (λ _. ⊥))) }
 {
-    note_committed(conn);
-    let mut rows = conn.query(
+    conn.note_committed();
+    let mut rows = conn.inner.query(
         "SELECT rowid, maintainer, class, okey FROM named ORDER BY rowid",
         &[],
     )?;
@@ -175,21 +180,22 @@ pub(crate) fn names_in_turn<S: Alter>(
 
 /// The objects that name a maintainer.
 pub(crate) fn read_naming<S: Alter>(
-    conn: &mut Connection<S>,
+    conn: &mut IdleConnection<S>,
     alloc: Global,
     source: &Name,
     name: &[u8],
 ) -> Result<Vec<Object>, OpenFault>
-    requires { IsIdle S.Store IsTabled conn.old }
-    ensures inspects { Inspects S.Store conn.old conn.new result
+    ensures inspects { Over S.Store IsTabled conn.old
+        (Inspects S.Store conn.old conn.new result
         (λ db objects. NamedPointsTo source.now name.now objects.items db)
-        (HasBadRow (NamedPointsToNone source.now name.now)) }
+        (HasBadRow (NamedPointsToNone source.now name.now))) }
     ensures of_source { IfOk result (λ objects. AreObjectsOf source.now objects.items) }
-    ensures memory { OnCleanDisk S.Store conn.new (IfErr result (λ fault. fault ≡ Memory →
-        IsUnchanged (state S.Store conn.old) (state S.Store conn.new))) }
+    ensures memory { Over S.Store IsTabled conn.old
+        (OnCleanDisk S.Store conn.new (IfErr result (λ fault. fault ≡ Memory →
+        IsUnchanged (state S.Store conn.old) (state S.Store conn.new)))) }
 {
-    note_committed(conn);
-    let mut rows = conn.query(
+    conn.note_committed();
+    let mut rows = conn.inner.query(
         "SELECT o.rowid, o.class, o.okey, o.body FROM named n JOIN object o \
          ON o.class = n.class AND o.okey = n.okey WHERE n.maintainer = ?1 \
          ORDER BY o.class, o.okey",

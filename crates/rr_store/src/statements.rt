@@ -19,8 +19,7 @@ pub(crate) fn add_meta_row<'x, S: Alter>(
     name: &'x [u8],
     value: &'x [u8],
 ) -> Result<usize, Error>
-    requires { IsOver S.Store IsTidy tx.old }
-    ensures { Steps S.Store
+    ensures { Steps S.Store IsTidy
         (λ old new. Alters old new meta_tree (Adds (meta_values name.now value.now ∷ [])))
         tx.old tx.new result }
 {
@@ -37,8 +36,7 @@ pub(crate) fn add_object<'x, S: Alter>(
     key: &'x [u8],
     body: &'x [u8],
 ) -> Result<usize, Error>
-    requires { IsOver S.Store IsTidy tx.old }
-    ensures { Steps S.Store
+    ensures { Steps S.Store IsTidy
         (λ old new. Alters old new object_tree (Adds (object_values class key.now body.now ∷ [])))
         tx.old tx.new result }
 {
@@ -59,8 +57,7 @@ pub(crate) fn add_name<'x, S: Alter>(
     class: u8,
     key: &'x [u8],
 ) -> Result<usize, Error>
-    requires { IsOver S.Store IsTidy tx.old }
-    ensures { Steps S.Store
+    ensures { Steps S.Store IsTidy
         (λ old new. Alters old new named_tree (Adds (named_values name.now class key.now ∷ [])))
         tx.old tx.new result }
 {
@@ -80,8 +77,7 @@ pub(crate) fn remove_object<S: Alter>(
     class: u8,
     key: &[u8],
 ) -> Result<usize, Error>
-    requires { IsOver S.Store IsTidy tx.old }
-    ensures { Steps S.Store
+    ensures { Steps S.Store IsTidy
         (λ old new. Alters old new object_tree (Removes (is_object_of class key.now)))
         tx.old tx.new result }
 {
@@ -98,8 +94,7 @@ pub(crate) fn remove_name<'x, S: Alter>(
     class: u8,
     key: &'x [u8],
 ) -> Result<usize, Error>
-    requires { IsOver S.Store IsTidy tx.old }
-    ensures { Steps S.Store
+    ensures { Steps S.Store IsTidy
         (λ old new. Alters old new named_tree (Removes (is_name_of class key.now name.now)))
         tx.old tx.new result }
 {
@@ -119,11 +114,12 @@ pub(crate) fn rows_of_key<S: Alter>(
     class: u8,
     key: &[u8],
 ) -> Result<Vec<Row>, Error>
-    requires { IsOver S.Store IsTidy tx.old }
+    requires { IsOver S.Store IsTidy tx.old.conn.now }
     ensures rows { OnCleanDisk S.Store tx.new.conn.now (IfOk result (λ rows. IsPermutation
         (filter (is_object_of class key.now)
         (contents ((database S.Store tx.old.conn.now).trees object_tree))) rows.items)) }
-    ensures steps { Steps S.Store (λ old new. new ≡ old) tx.old tx.new result }
+    ensures steps { Steps S.Store IsTidy
+        (λ old new. new ≡ old) tx.old tx.new result }
 {
     tx.query_all(
         "SELECT class, okey, body FROM object WHERE class = ?1 AND okey = ?2",
@@ -133,8 +129,8 @@ pub(crate) fn rows_of_key<S: Alter>(
 
 /// Takes out all rows of `meta`.
 pub(crate) fn clear_meta<S: Alter>(tx: &mut Transaction<'_, S>) -> Result<usize, Error>
-    requires { IsOver S.Store IsTidy tx.old }
-    ensures { Steps S.Store (λ old new. Alters old new meta_tree (Removes (λ _. true)))
+    ensures { Steps S.Store IsTidy
+        (λ old new. Alters old new meta_tree (Removes (λ _. true)))
         tx.old tx.new result }
 {
     tx.execute("DELETE FROM meta", &[])
@@ -142,8 +138,8 @@ pub(crate) fn clear_meta<S: Alter>(tx: &mut Transaction<'_, S>) -> Result<usize,
 
 /// Takes out all rows of `object`.
 pub(crate) fn clear_objects<S: Alter>(tx: &mut Transaction<'_, S>) -> Result<usize, Error>
-    requires { IsOver S.Store IsTidy tx.old }
-    ensures { Steps S.Store (λ old new. Alters old new object_tree (Removes (λ _. true)))
+    ensures { Steps S.Store IsTidy
+        (λ old new. Alters old new object_tree (Removes (λ _. true)))
         tx.old tx.new result }
 {
     tx.execute("DELETE FROM object", &[])
@@ -151,8 +147,8 @@ pub(crate) fn clear_objects<S: Alter>(tx: &mut Transaction<'_, S>) -> Result<usi
 
 /// Takes out all rows of `named`.
 pub(crate) fn clear_names<S: Alter>(tx: &mut Transaction<'_, S>) -> Result<usize, Error>
-    requires { IsOver S.Store IsTidy tx.old }
-    ensures { Steps S.Store (λ old new. Alters old new named_tree (Removes (λ _. true)))
+    ensures { Steps S.Store IsTidy
+        (λ old new. Alters old new named_tree (Removes (λ _. true)))
         tx.old tx.new result }
 {
     tx.execute("DELETE FROM named", &[])

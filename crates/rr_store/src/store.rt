@@ -1,32 +1,31 @@
 //! The store.
 
-ghost use Rattle.std.specs.Prelude.{◌≡◌, [], ◌∷◌, false, List, IfErr, IfOk};
+ghost use Rattle.std.specs.Prelude.{◌≡◌, [], ◌∷◌, List, IfErr, IfOk};
 ghost use Rattle.sqlite.specs.Held.{state};
 ghost use Rattle.sqlite.specs.State.{IsUnchanged};
 ghost use Rattle.rr_object.specs.Classes.{class_number};
 ghost use Rattle.rr_object.specs.Keys.{class_of};
-ghost use Rattle.rr_object.specs.KeyOrders.{HasKeyParts, IsKeyValue};
 ghost use Rattle.rr_object.specs.KeyTexts.{key_bytes};
 ghost use Rattle.rr_object.specs.Objects.{Obj, lent};
 ghost use Rattle.rr_store.specs.Entries.{IsAdded, IsPut, IsTakenOut, entry_of};
-ghost use Rattle.rr_store.specs.Maps.{AreOldStored, IsObject};
+ghost use Rattle.rr_store.specs.Maps.{AreOldStored};
 ghost use Rattle.rr_store.specs.Maps.{Puts, TakesOut};
 ghost use Rattle.rr_store.specs.Adding.{AddsTo};
-ghost use Rattle.rr_store.specs.Calls.{IsSettled, Looks, OnCleanDisk, Transacts};
-ghost use Rattle.rr_store.specs.Calls.{database};
+ghost use Rattle.rr_store.specs.Calls.{OnCleanDisk, database};
 ghost use Rattle.rr_store.specs.Creating.{FailsToMake, MakesStore};
-ghost use Rattle.rr_store.specs.Listing.{AreAll, AreNaming, FailsToList};
+ghost use Rattle.rr_store.specs.Listing.{AreAll, AreNaming, Asks};
 ghost use Rattle.rr_store.specs.Migrating.{FailsToMigrate, MigratesStore};
 ghost use Rattle.rr_store.specs.Opening.{AreObjectsOf, FailsToOpen, OpensStore};
 ghost use Rattle.rr_store.specs.Opening.{RefusesTables};
 ghost use Rattle.rr_store.specs.declared.version.Version.TheVariants.{Old};
 ghost use Rattle.rr_store.specs.declared.store_fault.StoreFault.TheVariants.{Memory};
-ghost use Rattle.rr_store.specs.Opening.{AreListed, Inspects};
+ghost use Rattle.rr_store.specs.Opening.{AreListed, Lists};
+ghost use Rattle.rr_store.specs.Storing.{Stores, Writes};
 
 use crate::checks::{all_objects, naming_objects};
-use crate::committed::note_committed;
 use crate::creating::create_where_vacant;
 use crate::entry::Entry;
+use crate::idle_connection::IdleConnection;
 use crate::migrating::migrate_rows;
 use crate::opening::stored_objects;
 use crate::store_fault::{CreateFault, MigrateFault, OpenFault, StoreFault};
@@ -34,7 +33,7 @@ use crate::version::Version;
 use crate::writes::{insert_entry, put_entry, remove_entry};
 use rr_number::Name;
 use rr_object::{Key, Object};
-use sqlite::{Alter, Connection};
+use sqlite::Alter;
 use std::alloc::Global;
 use std::marker::Model;
 
@@ -42,7 +41,7 @@ use std::marker::Model;
 /// connection.
 #[derive(Drop)]
 pub struct Store<S: Alter> {
-    conn: Connection<S>,
+    conn: IdleConnection<S>,
 }
 
 impl<S: Alter> Model for Store<S> {
@@ -61,24 +60,22 @@ impl<S: Alter> Model for Store<S> {
 
 impl<S: Alter> Store<S> {
     /// Makes the store of the objects in a database with nothing in it, or with the three tables
-    /// and no row, by one transaction. Call it only when the connection is in no transaction. No
-    /// clause says whether two objects of one key are refused. After a fault the connection is
-    /// given back, and the rows are as they were, while it is open. `NotEmpty` says that one of the
-    /// three tables has a row. Unless one has, or other tables stand in place of the three, no
-    /// clause says why the call fails. A stop during the call leaves the rows and tables before it
-    /// or, where there was room for them, those of the store; one after it, while the connection is
-    /// open, those that stand.
+    /// and no row, by one transaction. No clause says whether two objects of one key are refused.
+    /// After a fault the connection is given back, and the rows are as they were, while it is open.
+    /// `NotEmpty` says that one of the three tables has a row. Unless one has, or other tables
+    /// stand in place of the three, no clause says why the call fails. A stop during the call
+    /// leaves the rows and tables before it or, where there was room for them, those of the store;
+    /// one after it, while the connection is open, those that stand.
     pub fn create(
         alloc: Global,
-        mut conn: Connection<S>,
+        mut conn: IdleConnection<S>,
         objects: &[&Object],
-    ) -> Result<Store<S>, (CreateFault, Connection<S>)>
-        requires autocommit { conn.in_transaction ≡ false }
+    ) -> Result<Store<S>, (CreateFault, IdleConnection<S>)>
         ensures makes { IfOk result (MakesStore S.Store (lent objects.now) conn) }
         ensures fails { IfErr result (λ e. FailsToMake S.Store (lent objects.now) conn e.1 e.0) }
     {
         let made = create_where_vacant(&mut conn, alloc, objects);
-        note_committed(&conn);
+        conn.note_committed();
         match made {
             Ok(()) => Ok(Store { conn }),
             Err(fault) => Err((fault, conn)),
@@ -86,21 +83,20 @@ impl<S: Alter> Store<S> {
     }
 
     /// Opens the store of the objects of the source that the tables of version 2 hold, and gives
-    /// these in order of class and key. Call it only when the connection is in no transaction.
-    /// After a fault it is given back; `WrongVersion` and `BadRow` say why the tables are refused.
-    /// No row is changed in either case: a stop during the call leaves what one before it left; one
-    /// after it, while the connection is open, the rows that stand.
+    /// these in order of class and key. After a fault the connection is given back; `WrongVersion`
+    /// and `BadRow` say why the tables are refused. No row is changed in either case: a stop during
+    /// the call leaves what one before it left; one after it, while the connection is open, the
+    /// rows that stand.
     pub fn open_all(
         alloc: Global,
-        mut conn: Connection<S>,
+        mut conn: IdleConnection<S>,
         source: &Name,
-    ) -> Result<(Store<S>, Vec<Object>), (OpenFault, Connection<S>)>
-        requires autocommit { conn.in_transaction ≡ false }
+    ) -> Result<(Store<S>, Vec<Object>), (OpenFault, IdleConnection<S>)>
         ensures opens { IfOk result (λ s. OpensStore S.Store source.now conn s.0 s.1.items) }
         ensures fails { IfErr result (λ e. FailsToOpen S.Store source.now conn e.1 e.0) }
     {
         let stored = stored_objects(&mut conn, alloc, source, Version::Current);
-        note_committed(&conn);
+        conn.note_committed();
         match stored {
             Ok(objects) => Ok((Store { conn }, objects)),
             Err(fault) => Err((fault, conn)),
@@ -111,10 +107,9 @@ impl<S: Alter> Store<S> {
     /// objects.
     pub fn open(
         alloc: Global,
-        conn: Connection<S>,
+        conn: IdleConnection<S>,
         source: &Name,
-    ) -> Result<Store<S>, (OpenFault, Connection<S>)>
-        requires autocommit { conn.in_transaction ≡ false }
+    ) -> Result<Store<S>, (OpenFault, IdleConnection<S>)>
         ensures opens { IfOk result (λ s. (objects : List Obj) ×
             OpensStore S.Store source.now conn s objects) }
         ensures fails { IfErr result (λ e. FailsToOpen S.Store source.now conn e.1 e.0) }
@@ -126,42 +121,39 @@ impl<S: Alter> Store<S> {
     }
 
     /// The objects of the source that tables of version 1 hold, in order of class and key, or why
-    /// they were not read; `WrongVersion` and `BadRow` say why the tables are refused. Call it only
-    /// when the connection is in no transaction. Nothing changes, nor what a stop leaves.
+    /// they were not read; `WrongVersion` and `BadRow` say why the tables are refused. Nothing
+    /// changes, nor what a stop leaves.
     pub fn old_objects(
         alloc: Global,
-        conn: &mut Connection<S>,
+        conn: &mut IdleConnection<S>,
         source: &Name,
     ) -> Result<Vec<Object>, OpenFault>
-        requires autocommit { conn.old.in_transaction ≡ false }
-        ensures inspects { Inspects S.Store conn.old conn.new result
+        ensures { Lists S.Store conn.old conn.new result
+            (λ objects. AreListed source.now objects.items)
             (λ db objects. AreOldStored source.now objects.items db)
             (RefusesTables Old source.now) }
-        ensures listed { IfOk result (λ objects. AreListed source.now objects.items) }
     {
         stored_objects(conn, alloc, source, Version::Old)
     }
 
     /// The store of the objects that tables of version 1 hold, written anew as those of version 2,
     /// and of the block of the AS numbers of more than 16 bits, which the root maintains (RFC
-    /// 6793), by one transaction; all else in the file stays. Call it only when the connection is
-    /// in no transaction. After a fault it is given back, and the rows are as they were, while it
-    /// is open; `WrongVersion`, `BadRow` and `NoRoot` say why the tables are refused. A stop during
-    /// the call leaves the rows before it or the new ones; one after it, while the connection is
-    /// open, those that stand.
+    /// 6793), by one transaction; all else in the file stays. After a fault the connection is given
+    /// back, and the rows are as they were, while it is open; `WrongVersion`, `BadRow` and `NoRoot`
+    /// say why the tables are refused. A stop during the call leaves the rows before it or the new
+    /// ones; one after it, while the connection is open, those that stand.
     pub fn migrate(
         alloc: Global,
-        mut conn: Connection<S>,
+        mut conn: IdleConnection<S>,
         root: &Name,
         source: &Name,
-    ) -> Result<Store<S>, (MigrateFault, Connection<S>)>
-        requires autocommit { conn.in_transaction ≡ false }
+    ) -> Result<Store<S>, (MigrateFault, IdleConnection<S>)>
         ensures migrates { IfOk result (MigratesStore S.Store root.now source.now conn) }
         ensures fails { IfErr result (λ e.
             FailsToMigrate S.Store root.now source.now conn e.1 e.0) }
     {
         let migrated = migrate_rows(&mut conn, alloc, root, source);
-        note_committed(&conn);
+        conn.note_committed();
         match migrated {
             Ok(()) => Ok(Store { conn }),
             Err(fault) => Err((fault, conn)),
@@ -173,20 +165,18 @@ impl<S: Alter> Store<S> {
     /// connection is open. A stop during the call leaves the rows before or after it; one after it,
     /// while the connection is open, those that stand. No clause says why it fails.
     pub fn put(&mut self, alloc: Global, object: &Object) -> Result<(), StoreFault>
-        ensures rows { Transacts S.Store (IsPut (entry_of object.now)) self.old self.new result }
-        ensures puts { Transacts S.Store (Puts object.now.key object.now) self.old self.new result }
-        ensures settled { IsSettled S.Store self.new }
+        ensures { Stores S.Store (IsPut (entry_of object.now)) (Puts object.now.key object.now)
+            self.old self.new result }
     {
         let written = self.put_rows_of(alloc, object);
-        note_committed(&self.conn);
+        self.conn.note_committed();
         written
     }
 
     /// Puts the rows of the object, which is such as readers make.
     fn put_rows_of(&mut self, alloc: Global, object: &Object) -> Result<(), StoreFault>
-        ensures rows { Transacts S.Store (IsPut (entry_of object.now)) self.old self.new result }
-        ensures object { IsObject object.now }
-        ensures formed { IsKeyValue object.now.key }
+        ensures { Writes S.Store (IsPut (entry_of object.now)) (Puts object.now.key object.now)
+            self.old self.new result }
     {
         let entry = Entry::of(alloc, object)?;
         put_entry(&mut self.conn, alloc, &entry)
@@ -197,23 +187,18 @@ impl<S: Alter> Store<S> {
     /// [`Store::create`] makes refuses them. What a fault and a stop leave is as at [`Store::put`].
     /// No clause says why it fails.
     pub fn add(&mut self, alloc: Global, object: &Object) -> Result<(), StoreFault>
-        ensures rows { Transacts S.Store (IsAdded (entry_of object.now ∷ []))
-            self.old self.new result }
-        ensures adds { Transacts S.Store (AddsTo object.now.key object.now)
-            self.old self.new result }
-        ensures settled { IsSettled S.Store self.new }
+        ensures { Stores S.Store (IsAdded (entry_of object.now ∷ []))
+            (AddsTo object.now.key object.now) self.old self.new result }
     {
         let written = self.add_rows_of(alloc, object);
-        note_committed(&self.conn);
+        self.conn.note_committed();
         written
     }
 
     /// Adds the rows of the object, which is such as readers make.
     fn add_rows_of(&mut self, alloc: Global, object: &Object) -> Result<(), StoreFault>
-        ensures rows { Transacts S.Store (IsAdded (entry_of object.now ∷ []))
-            self.old self.new result }
-        ensures object { IsObject object.now }
-        ensures formed { IsKeyValue object.now.key }
+        ensures { Writes S.Store (IsAdded (entry_of object.now ∷ []))
+            (AddsTo object.now.key object.now) self.old self.new result }
     {
         let entry = Entry::of(alloc, object)?;
         insert_entry(&mut self.conn, &entry)
@@ -222,23 +207,20 @@ impl<S: Alter> Store<S> {
     /// Takes out the rows of the object with this key, and so the object of the map, if there is
     /// one. What a fault and a stop leave is as at [`Store::put`]. No clause says why it fails.
     pub fn remove(&mut self, alloc: Global, key: &Key) -> Result<(), StoreFault>
-        ensures rows { Transacts S.Store
-            (IsTakenOut (class_number (class_of key.now)) (key_bytes key.now))
+        ensures { Stores S.Store
+            (IsTakenOut (class_number (class_of key.now)) (key_bytes key.now)) (TakesOut key.now)
             self.old self.new result }
-        ensures takes { Transacts S.Store (TakesOut key.now) self.old self.new result }
-        ensures settled { IsSettled S.Store self.new }
     {
         let written = self.remove_rows_of(alloc, key);
-        note_committed(&self.conn);
+        self.conn.note_committed();
         written
     }
 
     /// Takes out the rows of the object with this key, which has the parts of its class.
     fn remove_rows_of(&mut self, alloc: Global, key: &Key) -> Result<(), StoreFault>
-        ensures rows { Transacts S.Store
-            (IsTakenOut (class_number (class_of key.now)) (key_bytes key.now))
+        ensures { Writes S.Store
+            (IsTakenOut (class_number (class_of key.now)) (key_bytes key.now)) (TakesOut key.now)
             self.old self.new result }
-        ensures parts { HasKeyParts key.now }
     {
         let class = key.class().number();
         let bytes = key.bytes(alloc)?;
@@ -251,15 +233,13 @@ impl<S: Alter> Store<S> {
     /// fault of the store has a cause outside the rows. Nothing changes, nor what a stop during the
     /// call leaves; one after it, while the connection is open, leaves the rows that stand.
     pub fn all(&mut self, alloc: Global, source: &Name) -> Result<Vec<Object>, StoreFault>
-        ensures looks { Looks S.Store self.old self.new result }
+        ensures asks { Asks S.Store source.now self.old self.new result }
         ensures all { OnCleanDisk S.Store self.new (IfOk result (λ all.
             AreAll (database S.Store self.old) all.items)) }
         ensures of_source { IfOk result (λ all. AreObjectsOf source.now all.items) }
-        ensures cause { IfErr result (FailsToList S.Store source.now self.old self.new) }
-        ensures settled { IsSettled S.Store self.new }
     {
         let objects = all_objects(&mut self.conn, alloc, source);
-        note_committed(&self.conn);
+        self.conn.note_committed();
         Ok(objects?)
     }
 
@@ -272,24 +252,21 @@ impl<S: Alter> Store<S> {
         source: &Name,
         name: &Name,
     ) -> Result<Vec<Object>, StoreFault>
-        ensures looks { Looks S.Store self.old self.new result }
+        ensures asks { Asks S.Store source.now self.old self.new result }
         ensures naming { OnCleanDisk S.Store self.new (IfOk result (λ those.
             AreNaming name.now (database S.Store self.old) those.items)) }
         ensures of_source { IfOk result (λ those. AreObjectsOf source.now those.items) }
-        ensures cause { IfErr result (FailsToList S.Store source.now self.old self.new) }
         ensures memory { OnCleanDisk S.Store self.new (IfErr result (λ fault. fault ≡ Memory →
             IsUnchanged (state S.Store self.old) (state S.Store self.new))) }
-        ensures settled { IsSettled S.Store self.new }
     {
         let objects = naming_objects(&mut self.conn, alloc, source, name);
-        note_committed(&self.conn);
+        self.conn.note_committed();
         Ok(objects?)
     }
 
-    /// Gives the connection back, in no transaction, with its rows as they are.
-    pub fn close(self) -> Connection<S>
-        ensures same { result ≡ self }
-        ensures autocommit { result.in_transaction ≡ false }
+    /// Gives the connection back, with its rows as they are.
+    pub fn close(self) -> IdleConnection<S>
+        ensures { result ≡ self }
     {
         let Store { conn } = self;
         conn

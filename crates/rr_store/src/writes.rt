@@ -6,26 +6,26 @@ ghost use Rattle.rr_store.specs.Calls.{Transacts};
 ghost use Rattle.rr_store.specs.Kept.{IsKept};
 
 use crate::bodies::{add_rows, put_rows, remove_rows};
-use crate::committed::note_committed;
 use crate::ending::end;
 use crate::entry::Entry;
+use crate::idle_connection::IdleConnection;
 use crate::store_fault::StoreFault;
-use sqlite::{Alter, Connection};
+use sqlite::Alter;
 use std::alloc::Global;
 
 /// Puts the rows of an object in place of those with its class and key. After an error the rows are
 /// as they were, while the connection is open; a stop leaves those that stood before or those with
 /// this one.
 pub(crate) fn put_entry<S: Alter>(
-    conn: &mut Connection<S>,
+    conn: &mut IdleConnection<S>,
     alloc: Global,
     entry: &Entry,
 ) -> Result<(), StoreFault>
     requires { IsKept S.Store conn.old }
     ensures { Transacts S.Store (IsPut entry.now) conn.old conn.new result }
 {
-    note_committed(conn);
-    let mut tx = conn.transaction();
+    conn.note_committed();
+    let mut tx = conn.inner.transaction();
     let work = put_rows(&mut tx, alloc, entry);
     end(tx, work)
 }
@@ -33,14 +33,14 @@ pub(crate) fn put_entry<S: Alter>(
 /// Adds the rows of an object. After an error the rows are as they were, while the connection is
 /// open; a stop leaves those that stood before or those with this one.
 pub(crate) fn insert_entry<S: Alter>(
-    conn: &mut Connection<S>,
+    conn: &mut IdleConnection<S>,
     entry: &Entry,
 ) -> Result<(), StoreFault>
     requires { IsKept S.Store conn.old }
     ensures { Transacts S.Store (IsAdded (entry.now ∷ [])) conn.old conn.new result }
 {
-    note_committed(conn);
-    let mut tx = conn.transaction();
+    conn.note_committed();
+    let mut tx = conn.inner.transaction();
     let work = add_rows(&mut tx, entry);
     end(tx, work)
 }
@@ -49,7 +49,7 @@ pub(crate) fn insert_entry<S: Alter>(
 /// rows are as they were, while the connection is open; a stop leaves those that stood before or
 /// those without this one.
 pub(crate) fn remove_entry<S: Alter>(
-    conn: &mut Connection<S>,
+    conn: &mut IdleConnection<S>,
     alloc: Global,
     class: u8,
     key: &[u8],
@@ -57,8 +57,8 @@ pub(crate) fn remove_entry<S: Alter>(
     requires { IsKept S.Store conn.old }
     ensures { Transacts S.Store (IsTakenOut class key.now) conn.old conn.new result }
 {
-    note_committed(conn);
-    let mut tx = conn.transaction();
+    conn.note_committed();
+    let mut tx = conn.inner.transaction();
     let work = remove_rows(&mut tx, alloc, class, key);
     end(tx, work)
 }

@@ -22,8 +22,10 @@ use Rattle.rr_registry.specs.declared.outcome.Outcome.{Outcome}
 use Rattle.rr_registry.specs.Runs.{Decides, Run}
 use Rattle.rr_submission.specs.declared.ledger.Ledger.{Ghosts}
 use Rattle.rr_submission.specs.declared.handling_fault.HandlingFault.{HandlingFault}
+use Rattle.rr_submission.specs.declared.handling_fault.HandlingFault.TheVariants.{Memory}
 use Rattle.rr_submission.specs.declared.handling_fault.HandlingFault.TheVariants.{Unwritten}
 use Rattle.rr_submission.specs.declared.handling_fault.HandlingFault.TheVariants.{LedgerStopped}
+use Rattle.rr_submission.specs.declared.handling.Course.{Course}
 use Rattle.rr_submission.specs.declared.submission.Done.{Done}
 use Rattle.rr_submission.specs.Requests.{Asked}
 use Rattle.rr_submission.specs.SubmissionItems.{AreItems, ItemRequest, submitted}
@@ -33,6 +35,13 @@ use Rattle.rr_submission.specs.Reports.{item_line, lines_from, stop_lines}
 use Rattle.rr_submission.specs.Handled.{StopsAt, ReadsItems, HandlesStopped, HandlesUnwritten}
 use Rattle.rr_submission.specs.HandledParts.{HandlesItems, HandlesAll, HandlesOne}
 use Rattle.rr_submission.proofs.Confining.{all_items_confined, items_confined}
+
+-- items were decided by a ledger, which runs on: what lasts of it lasts, and what was so of it is
+-- so
+pub record GoesOn {L : Type 0} (g : Ghosts L) (old new : L) : Type 0 where
+  pub running : g.is_stopped new ≡ false
+  pub lasts : g.Lasts old new
+  pub kept : g.Kept old → g.Kept new
 
 -- one item more is decided
 pub Run-more : (old between new : Reg) (items : List ItemRequest) (outcomes : List Outcome)
@@ -275,19 +284,21 @@ HandlesThenStops-cut g {source} old between new {before} {middle} start now p af
 
 -- an item could not be handled
 pub Handles-cut : {L : Type 0} (g : Ghosts L) {source : List ℕ} {given : List Entry}
-    (old between new : L) {before middle : Told} {secrets : List (List ℕ)} {done : Done}
-    (start now : Told) (p : Paragraphs) (after : Told) (then_secrets : List (List ℕ))
+    (old between new : L) {before middle : Told} {secrets : List (List ℕ)}
+    (start now : Told) (p : Paragraphs) (after : Told) (course then : Course)
     (request : Asked) (stop : HandlingFault) →
-    ComesTo source given (g.registry old) (g.registry between) before middle secrets done →
-    g.is_stopped between ≡ false → FindsItem source start now p given secrets then_secrets
+    ComesTo source given (g.registry old) (g.registry between) before middle secrets course.done →
+    g.is_stopped between ≡ false → FindsItem source start now p given secrets course.secrets
     request →
-    HandlesOne g then_secrets request done between new middle after (Err stop) →
+    HandlesOne g request course then between new middle after (Err stop) →
     HandlesItems g old new source start now before after (Err stop)
-Handles-cut g old between new start now p after then_secrets request (Unwritten count) so running
+Handles-cut g old between new start now p after course then request Memory so running found one =
+    absurd one
+Handles-cut g old between new start now p after course then request (Unwritten count) so running
     found one =
-    HandlesSome-cut start now p _ after then_secrets count request one.outcome so found one.decides
-    one.items one.writes
-Handles-cut g old between new start now p after then_secrets request (LedgerStopped count) so
+    HandlesSome-cut start now p _ after course.secrets count request one.outcome so found
+    one.decides one.items one.writes
+Handles-cut g old between new start now p after course then request (LedgerStopped count) so
     running found one =
-    HandlesThenStops-cut g old between new start now p after then_secrets count request so running
+    HandlesThenStops-cut g old between new start now p after course.secrets count request so running
     found one.stops one.items one.writes

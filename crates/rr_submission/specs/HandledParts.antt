@@ -5,8 +5,7 @@ use Rattle.std.specs.Prelude.{if◌then◌else◌}
 use Rattle.rr_io.specs.Told.{Told}
 use Rattle.rr_io.specs.Sending.{Takes, TakesPrefix, TakesSome}
 use Rattle.rr_io.specs.declared.receiving.ReadEnd.{ReadEnd}
-use Rattle.rr_text.specs.ParagraphReaders.{HasEnded, HasGiven}
-use Rattle.rr_text.specs.declared.paragraphs.Paragraphs.{Paragraphs}
+use Rattle.rr_text.specs.ParagraphReaders.{HasEnded}
 use Rattle.rr_text.specs.Fields.{Field}
 use Rattle.rr_text.specs.declared.text_fault.TextFault.{TextFault}
 use Rattle.rr_auth.specs.Registries.{Reg, Sound}
@@ -14,11 +13,11 @@ use Rattle.rr_registry.specs.declared.outcome.Outcome.{Outcome}
 use Rattle.rr_registry.specs.Runs.{Decides, Run}
 use Rattle.rr_submission.specs.declared.ledger.Ledger.{Ghosts}
 use Rattle.rr_submission.specs.declared.handling_fault.HandlingFault.{HandlingFault}
+use Rattle.rr_submission.specs.declared.handling_fault.HandlingFault.TheVariants.{Memory}
 use Rattle.rr_submission.specs.declared.handling_fault.HandlingFault.TheVariants.{Unwritten}
 use Rattle.rr_submission.specs.declared.handling_fault.HandlingFault.TheVariants.{LedgerStopped}
+use Rattle.rr_submission.specs.declared.handling.Course.{Course}
 use Rattle.rr_submission.specs.declared.submission.Done.{Done}
-use Rattle.rr_submission.specs.declared.submission.DeskFault.{DeskFault}
-use Rattle.rr_submission.specs.declared.submission.DeskFault.TheVariants as fault
 use Rattle.rr_submission.specs.SubmissionItems.{AreItems, ItemRequest, submitted}
 use Rattle.rr_submission.specs.SubmissionLaws.{ConfinesItems}
 use Rattle.rr_submission.specs.Refusals.{is_refusal, refusals}
@@ -26,12 +25,10 @@ use Rattle.rr_submission.specs.Reports.{item_line, lines_from, stop_lines}
 use Rattle.rr_submission.specs.Requests.{Asked}
 use Rattle.rr_submission.specs.Handled.{StopsAt, HandlesStopped, HandlesUnwritten}
 
--- a ledger that runs, whose registry is sound, and a text of which nothing was read
-pub record Begins {L : Type 0} (g : Ghosts L) (ledger : L) (reader : Told)
-    (paragraphs : Paragraphs) : Type 0 where
+-- a ledger that runs, whose registry is sound
+pub record Begins {L : Type 0} (g : Ghosts L) (ledger : L) : Type 0 where
   pub running : g.is_stopped ledger ≡ false
   pub sound : Sound (g.registry ledger)
-  pub unread : HasGiven reader reader paragraphs []
 
 -- one item more can be counted, refused or not
 pub record CanCount (done : Done) : Type 0 where
@@ -58,13 +55,22 @@ pub record HandlesRead (source : List ℕ) (start now : Told) (end : ReadEnd) (o
   pub ended : HasEnded start now end given
   pub handles : HandlesAll source given old new writer_old writer_new done
 
--- all of the items, with what is counted; those up to the one whose line could not be written, with
--- their number; or those before the one at which the ledger stopped
+-- memory ran out before the first item: nothing was read, decided or written
+pub record HandlesNone (reader_old reader_new : Told) (old new : Reg) (writer_old writer_new : Told)
+    : Type 0 where
+  pub unread : reader_new ≡ reader_old
+  pub same : new ≡ old
+  pub unwritten : writer_new ≡ writer_old
+
+-- all of the items, with what is counted; none of them; those up to the one whose line could not be
+-- written, with their number; or those before the one at which the ledger stopped
 abbrev pub HandlesItems : {L : Type 0} → Ghosts L → L → L → List ℕ → Told → Told → Told → Told
     → Result (Done × ReadEnd) HandlingFault → Type 0
 HandlesItems g old new source reader_old reader_new writer_old writer_new (Ok handled) =
     HandlesRead source reader_old reader_new handled.1 (g.registry old) (g.registry new)
     writer_old writer_new handled.0
+HandlesItems g old new source reader_old reader_new writer_old writer_new (Err Memory) =
+    HandlesNone reader_old reader_new (g.registry old) (g.registry new) writer_old writer_new
 HandlesItems g old new source reader_old reader_new writer_old writer_new
     (Err (Unwritten count)) =
     HandlesUnwritten source reader_old reader_new (g.registry old) (g.registry new)
@@ -77,50 +83,51 @@ HandlesItems g old new source reader_old reader_new writer_old writer_new
 -- item
 abbrev pub UnlessStopped : {T : Type 0} → Result T HandlingFault → Type 0 → Type 0
 UnlessStopped (Ok done) fact = fact
+UnlessStopped (Err Memory) fact = fact
 UnlessStopped (Err (Unwritten count)) fact = fact
 UnlessStopped (Err (LedgerStopped count)) fact = Unit {0}
 
--- what lasts of a ledger lasts, and unless it stopped at an item it still runs
+-- what lasts of a ledger lasts, what was so of it between items is so, and unless it stopped at an
+-- item it still runs
 pub record RunsOn {L T : Type 0} (g : Ghosts L) (old new : L) (result : Result T HandlingFault)
     : Type 0 where
   pub running : UnlessStopped result (g.is_stopped new ≡ false)
   pub lasts : g.Lasts old new
+  pub kept : g.Kept old → g.Kept new
 
 -- an item was decided and counted, and its line was written
-pub record IsCounted (secrets : List (List ℕ)) (request : Asked) (done : Done) (old new : Reg)
-    (writer_old writer_new : Told) (counted : Done) : Type 0 where
+pub record IsCounted (request : Asked) (before after : Course) (old new : Reg)
+    (writer_old writer_new : Told) : Type 0 where
   pub outcome : Outcome
-  pub decides : Decides old secrets request.action outcome new
-  pub items : counted.items ≡ done.items + 1
-  pub refused : counted.refused ≡ done.refused + (if is_refusal outcome then 1 else 0)
-  pub writes : Takes writer_old writer_new (item_line counted.items request.key outcome)
+  pub decides : Decides old before.secrets request.action outcome new
+  pub items : after.done.items ≡ before.done.items + 1
+  pub refused : after.done.refused
+      ≡ before.done.refused + (if is_refusal outcome then 1 else 0)
+  pub writes : Takes writer_old writer_new (item_line after.done.items request.key outcome)
 
 -- an item was decided, and its line could not be written
-pub record IsUntold (secrets : List (List ℕ)) (request : Asked) (done : Done) (old new : Reg)
+pub record IsUntold (request : Asked) (before : Course) (old new : Reg)
     (writer_old writer_new : Told) (count : ℕ) : Type 0 where
   pub outcome : Outcome
-  pub decides : Decides old secrets request.action outcome new
-  pub items : count ≡ done.items + 1
+  pub decides : Decides old before.secrets request.action outcome new
+  pub items : count ≡ before.done.items + 1
   pub writes : TakesPrefix writer_old writer_new (item_line count request.key outcome)
 
 -- the ledger stopped at an item, which is not counted
-pub record HasStopped {L : Type 0} (g : Ghosts L) (secrets : List (List ℕ)) (request : Asked)
-    (done : Done) (old new : L) (writer_old writer_new : Told) (count : ℕ) : Type 0 where
-  pub stops : StopsAt g old secrets request.action new
-  pub items : count ≡ done.items
+pub record HasStopped {L : Type 0} (g : Ghosts L) (request : Asked) (before : Course) (old new : L)
+    (writer_old writer_new : Told) (count : ℕ) : Type 0 where
+  pub stops : StopsAt g old before.secrets request.action new
+  pub items : count ≡ before.done.items
   pub writes : TakesSome writer_old writer_new (stop_lines count request.key)
 
--- an item was decided, and its line was written or not, or the ledger stopped
-abbrev pub HandlesOne : {L : Type 0} → Ghosts L → List (List ℕ) → Asked → Done → L
-    → L → Told → Told → Result Done HandlingFault → Type 0
-HandlesOne g secrets request done old new writer_old writer_new (Ok counted) =
-    IsCounted secrets request done (g.registry old) (g.registry new) writer_old writer_new counted
-HandlesOne g secrets request done old new writer_old writer_new (Err (Unwritten count)) =
-    IsUntold secrets request done (g.registry old) (g.registry new) writer_old writer_new count
-HandlesOne g secrets request done old new writer_old writer_new (Err (LedgerStopped count)) =
-    HasStopped g secrets request done old new writer_old writer_new count
-
--- the fault of a submission whose items could not all be handled
-abbrev pub stop_fault : HandlingFault → DeskFault
-stop_fault (Unwritten items) = fault.WriteFault items
-stop_fault (LedgerStopped items) = fault.StoreFault items
+-- an item was decided, and its line was written or not, or the ledger stopped; that memory ran out
+-- is no fault of one item
+abbrev pub HandlesOne : {L : Type 0} → Ghosts L → Asked → Course → Course → L → L → Told
+    → Told → Result (Unit {0}) HandlingFault → Type 0
+HandlesOne g request before after old new writer_old writer_new (Ok done) =
+    IsCounted request before after (g.registry old) (g.registry new) writer_old writer_new
+HandlesOne g request before after old new writer_old writer_new (Err Memory) = ⊥
+HandlesOne g request before after old new writer_old writer_new (Err (Unwritten count)) =
+    IsUntold request before (g.registry old) (g.registry new) writer_old writer_new count
+HandlesOne g request before after old new writer_old writer_new (Err (LedgerStopped count)) =
+    HasStopped g request before old new writer_old writer_new count

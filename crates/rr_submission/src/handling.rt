@@ -48,7 +48,8 @@ use std::io;
 ///
 /// What the holders of a prefix hold is changed by no item of others. Where the ledger stops, this
 /// is said of the items before that one, of which the ledger says what it leaves. What lasts of a
-/// ledger through any items lasts, however the submission ends.
+/// ledger through any items lasts, and what is so of it between items is so, however the submission
+/// ends.
 pub fn submit<L: Ledger, R: Source, W: Sink>(
     alloc: Global,
     ledger: &mut L,
@@ -64,36 +65,30 @@ pub fn submit<L: Ledger, R: Source, W: Sink>(
     ensures running { L.is_stopped ledger.old ≡ false
         → UnlessStoreFault result (L.is_stopped ledger.new ≡ false) }
     ensures lasts { L.Lasts ledger.old ledger.new }
+    ensures kept { L.Kept ledger.new }
 {
     if ledger.stopped() {
         return Err(DeskFault::Stopped);
     }
-    match Paragraphs::new(alloc) {
-        Ok(mut paragraphs) => report(alloc, ledger, source, &mut paragraphs, reader, writer),
-        Err(_) => {
-            // The fault that is told is that of memory, whether or not its line could be written.
-            let _ = write_last_line(writer, Ending::Memory, 0);
-            Err(DeskFault::Memory)
-        }
-    }
+    report(alloc, ledger, source, reader, writer)
 }
 
-/// Submits a text of which nothing was read.
+/// Submits what the reader gives to a ledger that runs.
 fn report<L: Ledger, R: Source, W: Sink>(
     alloc: Global,
     ledger: &mut L,
     source: &Name,
-    paragraphs: &mut Paragraphs,
     reader: &mut R,
     writer: &mut W,
 ) -> Result<Done, DeskFault>
-    requires { Begins L.Ledger ledger.old (R.told reader.old) paragraphs.old }
+    requires { Begins L.Ledger ledger.old }
     ensures submits { SubmitsText L.Ledger ledger.old ledger.new source.now
         (R.told reader.old) (R.told reader.new) (W.told writer.old) (W.told writer.new) result }
     ensures running { UnlessStoreFault result (L.is_stopped ledger.new ≡ false) }
     ensures lasts { L.Lasts ledger.old ledger.new }
+    ensures kept { L.Kept ledger.old → L.Kept ledger.new }
 {
-    match handle_items(alloc, ledger, source, paragraphs, reader, writer) {
+    match handle_items(alloc, ledger, source, reader, writer) {
         Ok((done, end)) => {
             if end.is_whole() {
                 match write_last_line(writer, Ending::Complete, done.items) {
@@ -106,8 +101,22 @@ fn report<L: Ledger, R: Source, W: Sink>(
                 Err(DeskFault::ReadFault { items: done.items })
             }
         }
-        Err(stop) => Err(stop.fault()),
+        Err(HandlingFault::Memory) => {
+            // The fault that is told is that of memory, whether or not its line could be written.
+            let _ = write_last_line(writer, Ending::Memory, 0);
+            Err(DeskFault::Memory)
+        }
+        Err(HandlingFault::Unwritten { items }) => Err(DeskFault::WriteFault { items }),
+        Err(HandlingFault::LedgerStopped { items }) => Err(DeskFault::StoreFault { items }),
     }
+}
+
+/// What a submission has come to: the secrets that it has given, and how many of its items were
+/// decided.
+#[derive(Drop)]
+struct Course {
+    secrets: Secrets,
+    done: Done,
 }
 
 /// Reads, decides and reports the items of a text one by one: each line is written before the next
@@ -116,60 +125,63 @@ fn handle_items<L: Ledger, R: Source, W: Sink>(
     alloc: Global,
     ledger: &mut L,
     source: &Name,
-    paragraphs: &mut Paragraphs,
     reader: &mut R,
     writer: &mut W,
 ) -> Result<(Done, ReadEnd), HandlingFault>
-    requires { Begins L.Ledger ledger.old (R.told reader.old) paragraphs.old }
+    requires { Begins L.Ledger ledger.old }
     ensures handles { HandlesItems L.Ledger ledger.old ledger.new source.now
         (R.told reader.old) (R.told reader.new) (W.told writer.old) (W.told writer.new) result }
     ensures lasts { RunsOn L.Ledger ledger.old ledger.new result }
 {
-    let mut secrets = Secrets::new(alloc);
-    let mut done = Done {
-        items: 0,
-        refused: 0,
+    let Ok(mut paragraphs) = Paragraphs::new(alloc) else {
+        return Err(HandlingFault::Memory);
+    };
+    let mut course = Course {
+        secrets: Secrets::new(alloc),
+        done: Done {
+            items: 0,
+            refused: 0,
+        },
     };
     'items: loop {
-        match next_item(alloc, paragraphs, reader, source, &mut secrets) {
-            Ok(Some(request)) => {
-                done = handle_item(alloc, ledger, &mut secrets, request, done, writer)?;
-            }
-            Ok(None) => return Ok((done, ReadEnd::Whole)),
-            Err(end) => return Ok((done, end)),
+        match next_item(alloc, &mut paragraphs, reader, source, &mut course.secrets) {
+            Ok(Some(request)) => handle_item(alloc, ledger, &mut course, request, writer)?,
+            Ok(None) => return Ok((course.done, ReadEnd::Whole)),
+            Err(end) => return Ok((course.done, end)),
         }
     }
 }
 
-/// Decides an item and writes its line.
+/// Decides an item, counts it, and writes its line.
 fn handle_item<L: Ledger, W: Sink>(
     alloc: Global,
     ledger: &mut L,
-    secrets: &mut Secrets,
+    course: &mut Course,
     request: Request,
-    done: Done,
     writer: &mut W,
-) -> Result<Done, HandlingFault>
-    requires room { CanCount done }
+) -> Result<(), HandlingFault>
+    requires room { CanCount course.old.done }
     requires running { L.is_stopped ledger.old ≡ false }
-    ensures handles { HandlesOne L.Ledger secrets.old request done ledger.old ledger.new
+    ensures handles { HandlesOne L.Ledger request course.old course.new ledger.old ledger.new
         (W.told writer.old) (W.told writer.new) result }
     ensures lasts { RunsOn L.Ledger ledger.old ledger.new result }
-    ensures same_secrets { secrets.new ≡ secrets.old }
+    ensures same_secrets { course.new.secrets ≡ course.old.secrets }
 {
     let Request { key, action } = request;
-    match decide(alloc, ledger, secrets, &key, action) {
+    match decide(alloc, ledger, &mut course.secrets, &key, action) {
         Ok(outcome) => {
-            let done = counted(done, outcome);
-            match write_item_line(writer, done.items, &key, outcome) {
-                Ok(()) => Ok(done),
-                Err(_) => Err(HandlingFault::Unwritten { items: done.items }),
+            course.done = counted(course.done, outcome);
+            let items = course.done.items;
+            match write_item_line(writer, items, &key, outcome) {
+                Ok(()) => Ok(()),
+                Err(_) => Err(HandlingFault::Unwritten { items }),
             }
         }
         Err(Stopped) => {
+            let items = course.done.items;
             // The fault that is told is the ledger's, whether or not its lines could be written.
-            let _ = write_stop(writer, done.items, &key);
-            Err(HandlingFault::LedgerStopped { items: done.items })
+            let _ = write_stop(writer, items, &key);
+            Err(HandlingFault::LedgerStopped { items })
         }
     }
 }
@@ -189,6 +201,7 @@ fn decide<L: Ledger>(
     ensures running { OnOk result (L.is_stopped ledger.new ≡ false) }
     ensures stops { OnErr result (StopsAt L.Ledger ledger.old secrets.old action ledger.new) }
     ensures lasts { L.Lasts ledger.old ledger.new }
+    ensures kept { L.Kept ledger.old → L.Kept ledger.new }
     ensures same_secrets { secrets.new ≡ secrets.old }
 {
     match action {

@@ -29,10 +29,14 @@ pub trait Ledger {
     // What lasts whatever it decides: of the ledger before any items, and the ledger after them.
     ghost Lasts: { Self → Self → Type 0 };
 
+    // What is so of it between items, stopped or not.
+    ghost Kept: { Self → Type 0 };
+
     /// Whether it is stopped. Its registry is sound, stopped or not.
     fn stopped(&self) -> bool
         ensures is { result ≡ is_stopped self.now }
-        ensures sound { Sound (registry self.now) };
+        ensures sound { Sound (registry self.now) }
+        ensures kept { Kept self.now };
 
     /// Decides an item that came with these secrets; the ledger must run. The error is that it
     /// stopped at the item: `Stops` says what that leaves. The secrets stay.
@@ -48,6 +52,7 @@ pub trait Ledger {
         ensures running { OnOk result (is_stopped self.new ≡ false) }
         ensures stops { OnErr result (Stops self.old secrets.old item.entry self.new) }
         ensures lasts { Lasts self.old self.new }
+        ensures kept { Kept self.new }
         ensures same_secrets { secrets.new ≡ secrets.old };
 
     // It lasts where nothing is decided.
@@ -69,13 +74,14 @@ impl<B: Keeper> Ledger for Registry<B> {
 
     ghost Lasts = { λ before after. Unit {0} };
 
+    ghost Kept = { λ kept. Unit {0} };
+
     ghost lasts_still = { λ ledger. tt };
 
     ghost lasts_on = { λ before between after first second. tt };
 
     fn stopped(&self) -> bool {
-        // Called for its contract: the registry is sound.
-        let _book = self.book();
+        prove!(self.is_sound());
         false
     }
 

@@ -115,20 +115,15 @@ fn expect_cut<B: Keeper, R: Abort + AllocGlobal>(
     Ok(())
 }
 
-/// Submits a text to a book whole, and to two others by single bytes and in pieces: the reports are
-/// the same.
-fn expect_alike<P: Keeper, I: Keeper, R: Abort + AllocGlobal>(
+/// Submits a text whole; asserts the lines of the report, and answers with it.
+fn whole_report<B: Keeper, R: Abort + AllocGlobal>(
     rt: &R,
-    plain: &mut Registry<P>,
-    by_bytes: &mut Registry<I>,
-    by_pieces: &mut Registry<I>,
+    registry: &mut Registry<B>,
     text: &[u8],
-    step: usize,
-) -> Result<(), Fail> {
-    let whole = report(rt.alloc(), plain, &mut Counted::new(text))?;
+) -> Result<Vec<u8>, Fail> {
+    let whole = report(rt.alloc(), registry, &mut Counted::new(text))?;
     expect_lines(rt, text, &whole)?;
-    expect_cut(rt, by_bytes, text, 1, &whole)?;
-    expect_cut(rt, by_pieces, text, step, &whole)
+    Ok(whole)
 }
 
 /// Submits the texts to a book whole, and to another kind of book by single bytes and in pieces:
@@ -143,7 +138,9 @@ fn expect_reports<P: Keeper + Drop, I: Keeper + Drop, R: Abort + AllocGlobal>(
     for _ in 0..TEXTS {
         let text = any_text(rt.alloc(), &mut words)?;
         let step = usize::from(words.next_word().to_le_bytes()[0]) + 1;
-        expect_alike(rt, &mut plain, &mut by_bytes, &mut by_pieces, &text, step)?;
+        let whole = whole_report(rt, &mut plain, &text)?;
+        expect_cut(rt, &mut by_bytes, &text, 1, &whole)?;
+        expect_cut(rt, &mut by_pieces, &text, step, &whole)?;
     }
     Ok(())
 }

@@ -35,20 +35,18 @@ fn any_key(words: &mut Pcg32, of_prefixes: bool) -> Span {
     }
 }
 
-/// Takes a value out of both collections, or puts one into both, and asserts that they answer
-/// alike.
+/// Puts a value into both collections, or takes one out of both if none is given, and asserts that
+/// they answer alike.
 fn change_both<R: Abort, C: Collection, D: Collection>(
     rt: &R,
     collection: &mut C,
     other: &mut D,
-    takes: bool,
     span: Span,
-    value: u32,
+    value: Option<u32>,
 ) {
-    if takes {
-        assert_eq!(rt; collection.take(span), other.take(span));
-    } else {
-        assert_eq!(rt; collection.put(span, value), other.put(span, value));
+    match value {
+        Some(value) => assert_eq!(rt; collection.put(span, value), other.put(span, value)),
+        None => assert_eq!(rt; collection.take(span), other.take(span)),
     }
 }
 
@@ -92,7 +90,8 @@ fn expect_as_list<R: Abort + AllocGlobal, C: Collection + Drop>(
     for value in 0..STEPS {
         let span = any_key(&mut words, of_prefixes);
         let takes = words.next_word() % 3 == 0;
-        change_both(rt, &mut collection, &mut list, takes, span, value);
+        let put = if takes { None } else { Some(value) };
+        change_both(rt, &mut collection, &mut list, span, put);
         let asked = any_key(&mut words, of_prefixes);
         expect_alike_at(rt, &collection, &list, asked);
         expect_alike_round(rt, &collection, &list, any_span(&mut words))?;

@@ -21,7 +21,7 @@ use Rattle.rr_text.specs.DraftParts.{IsUnclosed}
 use Rattle.rr_text.specs.ReaderParts.{TakesAll, FillsMore, Fills, Reading, GathersClosed}
 use Rattle.rr_text.specs.ReaderParts.{GathersRest, Gathers, GivesFound, GivesLast}
 use Rattle.rr_text.specs.ParagraphReaders.{Entry, state_of, reads_of, held, IsNew, KeepsApart}
-use Rattle.rr_text.specs.ParagraphReaders.{HasGiven, HasEnded, GivesNext, left_of, Nearer}
+use Rattle.rr_text.specs.ParagraphReaders.{HasGiven, HasEnded, GivesNext, left_of, Nearer, Stays}
 use Rattle.rr_text.proofs.ApartLemmas.{no_entries, no_whole, joins, whole_joined}
 use Rattle.rr_text.proofs.DraftLemmas.{unclosed_whole}
 
@@ -33,6 +33,13 @@ pub record IsGathering (before now : Told) (left : List ℕ) (made : ℕ) (cur :
   pub reading : Reading Open before now made cur given
   pub cut : left ++ given ≡ prefix ++ held cur
   pub unclosed : IsUnclosed prefix cur.draft
+
+-- while a reading goes on, no answer is the same for good
+pub open_stays : {R : Type 0} (state : ReaderState) (before after : R) (old new : Paragraphs)
+    (answer : Result (Option (List Field)) TextFault) → state ≡ Open →
+    Stays state before after old new answer
+open_stays state before after old new answer is =
+    let P : ReaderState → Type 0 = λ s. Stays s before after old new answer in subst P (sym is) tt
 
 -- an entry that is found is the last one
 pub last_found : (text : List ℕ) (answer : Result (Option (List Field)) TextFault) →

@@ -8,6 +8,7 @@ pub mod Entries
 pub mod PrivateParts
 pub mod Meanings
 pub mod CanonicalText
+pub mod Outputs
 pub mod KeptText
 pub mod WholePart
 pub mod Laws

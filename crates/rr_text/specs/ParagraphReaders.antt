@@ -1,7 +1,7 @@
 -- The reading of a text paragraph by paragraph: what was given of it so far (profile).
 use Rattle.std.specs.Prelude.{◌≡◌, ℕ, ◌+◌, ◌-◌, ◌*◌, ◌<◌, ◌≤◌, ⊤}
 use Rattle.std.specs.Prelude.{List, [], ◌∷◌, ◌++◌, length, take, drop, Option, Some, None}
-use Rattle.std.specs.Prelude.{Result, Ok, Err}
+use Rattle.std.specs.Prelude.{Result, Ok, Err, IfOk, IfSome}
 use Rattle.rr_io.specs.Told.{Told}
 use Rattle.rr_io.specs.Receiving.{Gives, IsSpent, CountsReads, Reads, read_limit, read_size}
 use Rattle.rr_io.specs.declared.receiving.ReadEnd.{ReadEnd}
@@ -12,7 +12,7 @@ use Rattle.rr_text.specs.declared.paragraphs.ReaderState.{ReaderState}
 use Rattle.rr_text.specs.declared.paragraphs.ReaderState.TheVariants.{Open, Ended, Broken, Endless}
 use Rattle.rr_text.specs.declared.paragraphs.Paragraphs.{Paragraphs}
 use Rattle.rr_text.specs.declared.paragraph_reader.ParagraphReader.{ParagraphReader}
-use Rattle.rr_text.specs.Fields.{Field}
+use Rattle.rr_text.specs.Fields.{Field, AreFields}
 use Rattle.rr_text.specs.Entries.{entries}
 use Rattle.rr_text.specs.WholePart.{whole_part, whole_entries}
 
@@ -129,6 +129,19 @@ Nearer before after (Err fault.BadName) = after < before
 Nearer before after (Err fault.Memory) = after < before
 Nearer before after (Err fault.Read) = ⊤
 Nearer before after (Err fault.Endless) = ⊤
+
+-- the answer of one call for the next paragraph: it goes on with what was given before, it is the
+-- same for good once the reading ended, it comes nearer to the last one, a paragraph has
+-- attributes,
+-- and what stands beside the reader stays
+pub record Answers {R : Type 0} (told : R → Told) (before after : R) (old new : Paragraphs)
+    (answer : Result (Option (List Field)) TextFault) : Type 0 where
+  pub given : GivesOn (told before) (told after) old new answer
+  pub stays : Stays (state_of old) before after old new answer
+  pub nearer : Nearer (left_of old) (left_of new) answer
+  pub fields : IfOk answer (λ next. IfSome next (λ paragraph. (0 < length paragraph)
+      × AreFields paragraph))
+  pub aside : (told after).aside ≡ (told before).aside
 
 -- the reader of a reader of paragraphs
 abbrev pub reader_of : {R : Type 0} → ParagraphReader R → R

@@ -1,9 +1,10 @@
 -- What private functions alone speak of: no rule of RPSL stands here.
-use Rattle.std.specs.Prelude.{◌≡◌, ◌<◌, ℕ, Bool, true, false, ◌==◌, length, List}
+use Rattle.std.specs.Prelude.{◌≡◌, ◌<◌, ◌+◌, ◌-◌, ℕ, Bool, true, false, ◌==◌, length, max, List}
 use Rattle.std.specs.Prelude.{[], ◌∷◌, Option, Some, None, if◌then◌else◌}
 use Rattle.rr_text.specs.declared.line.LineKind.{LineKind}
 use Rattle.rr_text.specs.declared.line.LineKind.TheVariants.{Blank, Skipped, Continuation, Opening}
 use Rattle.rr_text.specs.Lines.{is_blank_line, is_paragraph_line, line_kind}
+use Rattle.rr_text.specs.CanonicalText.{after_blanks, ended, value_column}
 use Rattle.rr_text.specs.Entries.{added_value}
 
 -- a line of the last kind alone opens an attribute
@@ -39,6 +40,11 @@ added_lines line Blank = []
 added_lines line Skipped = []
 added_lines line Continuation = added_value line ∷ []
 added_lines line Opening = []
+
+-- what is printed after a name: the colon, and the first line of the value with the LF that ends it
+abbrev pub value_after : List ℕ → List ℕ → List ℕ
+value_after name line =
+    ended (58 ∷ after_blanks (max 1 (value_column - (length name + 1))) line)
 
 -- what stands in a text after a prefix, where the text begins with it
 unfoldable pub left_after : List ℕ → List ℕ → Option (List ℕ)

@@ -1,8 +1,7 @@
 //! Attributes: a name, and a value of one line or more.
 
 ghost use Rattle.std.specs.Prelude.{◌≡◌, ◌∷◌, ◌++◌, [], IfOk, IfSome, OnOk, map};
-ghost use Rattle.std.specs.Prelude.{OnErr, false};
-ghost use Rattle.std.specs.Io.{StartsWith};
+ghost use Rattle.std.specs.Prelude.{false};
 ghost use Rattle.rr_text.specs.Lines.{text_lines};
 ghost use Rattle.rr_text.specs.Entries.{continued};
 ghost use Rattle.rr_text.specs.PrivateParts.{added_lines};
@@ -34,6 +33,7 @@ impl<'a> Model for Attribute<'a> {
 impl<'a> Attribute<'a> {
     ghost use Rattle.rr_text.specs.Fields.{has_name, with_value};
     ghost use Rattle.rr_text.specs.CanonicalText.{field_text};
+    ghost use Rattle.rr_text.specs.Outputs.{MayAdd};
     ghost use Rattle.rr_text.specs.KeptText.{kept_field};
 
     /// The attribute that this line opens, where this text stands after it.
@@ -80,23 +80,22 @@ impl<'a> Attribute<'a> {
 
     /// Appends the canonical text of the attribute.
     pub(crate) fn print_onto(&self, out: &mut Vec<u8>) -> Result<(), AllocError>
-        ensures ok { OnOk result (out.new.items ≡ out.old.items ++ field_text self.now) }
-        ensures err { OnErr result (StartsWith out.new.items out.old.items) }
+        ensures { MayAdd (field_text self.now) out.old.items out.new.items result }
     {
         push_opening(out, self.name(), opened_value(self.line))?;
         push_continuations(out, self.after)
     }
 
-    /// The same with this line as its value, if the attribute has this name.
+    /// Appends the canonical text of the attribute, with this line as its value if it has this
+    /// name.
     pub(crate) fn print_onto_with_value(
         &self,
         out: &mut Vec<u8>,
         name: &[u8],
         line: &[u8],
     ) -> Result<(), AllocError>
-        ensures ok { OnOk result (out.new.items
-            ≡ out.old.items ++ field_text (with_value name.now line.now self.now)) }
-        ensures err { OnErr result (StartsWith out.new.items out.old.items) }
+        ensures { MayAdd (field_text (with_value name.now line.now self.now))
+            out.old.items out.new.items result }
     {
         if self.has_name(name) {
             push_opening(out, self.name(), line)

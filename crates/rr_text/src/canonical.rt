@@ -2,11 +2,11 @@
 
 ghost use Rattle.std.specs.Prelude.{◌≡◌, ◌<◌, ◌++◌, IfOk, OnOk, IfSome, Some, List};
 ghost use Rattle.std.specs.Prelude.{OnErr, length, map, true};
-ghost use Rattle.std.specs.Io.{StartsWith};
 ghost use Rattle.rr_text.specs.Fields.{Field, AreFields, with_value};
 ghost use Rattle.rr_text.specs.CanonicalText as canon;
 ghost use Rattle.rr_text.specs.KeptText.{IsKept, fields_in};
 ghost use Rattle.rr_text.specs.Lines.{text_lines};
+ghost use Rattle.rr_text.specs.Outputs.{MayAdd};
 ghost use Rattle.rr_text.specs.PrivateParts.{opens_first};
 
 use crate::comparing::are_printed;
@@ -34,26 +34,12 @@ pub fn print_onto_with_values(
     name: &[u8],
     line: &[u8],
 ) -> Result<(), AllocError>
-    ensures ok { OnOk result (out.new.items
-        ≡ out.old.items ++ canon.canonical (map (with_value name.now line.now) paragraph.now)) }
-    ensures err { OnErr result (StartsWith out.new.items out.old.items) }
+    ensures { MayAdd (canon.canonical (map (with_value name.now line.now) paragraph.now))
+        out.old.items out.new.items result }
 {
     if !paragraph.has(name) {
         return print_onto(out, paragraph);
     }
-    push_with_values(out, paragraph, name, line)
-}
-
-fn push_with_values(
-    out: &mut Vec<u8>,
-    paragraph: &Paragraph,
-    name: &[u8],
-    line: &[u8],
-) -> Result<(), AllocError>
-    ensures ok { OnOk result (out.new.items
-        ≡ out.old.items ++ canon.canonical (map (with_value name.now line.now) paragraph.now)) }
-    ensures err { OnErr result (StartsWith out.new.items out.old.items) }
-{
     for attribute in paragraph.attributes() {
         attribute.print_onto_with_value(out, name, line)?;
     }

@@ -1,9 +1,8 @@
 //! Blocks read as paragraphs.
 
-ghost use Rattle.std.specs.Prelude.{◌≡◌, ◌≢◌, ◌<◌, IfOk, IfErr, None, Ok, Err};
+ghost use Rattle.std.specs.Prelude.{◌≡◌, ◌≢◌, ◌<◌, IfOk, IfErr, Ok, Err};
 ghost use Rattle.std.specs.Prelude.{length, true};
 ghost use Rattle.rr_text.specs.Lines.{text_lines};
-ghost use Rattle.rr_text.specs.Faults as faults;
 ghost use Rattle.rr_text.specs.Fields.{AreFields};
 ghost use Rattle.rr_text.specs.Entries as entries;
 ghost use Rattle.rr_text.specs.KeptText.{printed_lines};
@@ -33,17 +32,6 @@ fn printed(alloc: Global, block: &[u8]) -> Result<Vec<u8>, AllocError>
     Ok(text)
 }
 
-/// The paragraph of a block that has no fault, whatever its size.
-fn read_paragraph(alloc: Global, block: &[u8]) -> Result<Paragraph, AllocError>
-    requires starts { starts_block (text_lines block.now) ≡ true }
-    requires good { faults.block_fault (text_lines block.now) ≡ None }
-    ensures value { IfOk result
-        (λ paragraph. paragraph ≡ entries.block_fields (text_lines block.now)) }
-    ensures fields { IfOk result (λ paragraph. AreFields paragraph) }
-{
-    Ok(Paragraph::kept(printed(alloc, block)?))
-}
-
 /// The entry of a block.
 pub(crate) fn read_entry(alloc: Global, block: &[u8]) -> Result<Paragraph, TextFault>
     requires { starts_block (text_lines block.now) ≡ true }
@@ -59,8 +47,8 @@ pub(crate) fn read_entry(alloc: Global, block: &[u8]) -> Result<Paragraph, TextF
     match block_fault(block) {
         Some(fault) => Err(fault),
         None => {
-            let paragraph = read_paragraph(alloc, block)?;
-            Ok(paragraph)
+            let text = printed(alloc, block)?;
+            Ok(Paragraph::kept(text))
         }
     }
 }

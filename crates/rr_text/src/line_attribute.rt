@@ -25,8 +25,7 @@ impl Model for LineAttribute {
 impl LineAttribute {
     ghost use Rattle.rr_text.specs.Fields.{one_line};
     ghost use Rattle.rr_text.specs.CanonicalText.{field_text};
-    ghost use Rattle.std.specs.Prelude.{◌++◌, OnOk, OnErr};
-    ghost use Rattle.std.specs.Io.{StartsWith};
+    ghost use Rattle.rr_text.specs.Outputs.{MayAdd};
 
     /// The attribute of this name whose value is this line, which are taken as they are; the error
     /// is out of memory.
@@ -40,8 +39,7 @@ impl LineAttribute {
 
     /// Appends its canonical text.
     pub(crate) fn print_onto(&self, out: &mut Vec<u8>) -> Result<(), AllocError>
-        ensures ok { OnOk result (out.new.items ≡ out.old.items ++ field_text self.now) }
-        ensures err { OnErr result (StartsWith out.new.items out.old.items) }
+        ensures { MayAdd (field_text self.now) out.old.items out.new.items result }
     {
         push_opening(out, self.name.as_slice(), self.line.as_slice())
     }

@@ -1,10 +1,7 @@
 //! A reader with the paragraphs of its text.
 
-ghost use Rattle.std.specs.Prelude.{◌≡◌, ◌<◌, List, [], length, IfOk, IfSome};
-ghost use Rattle.rr_io.specs.Told.{Told};
-ghost use Rattle.rr_text.specs.Fields.{AreFields};
-ghost use Rattle.rr_text.specs.ParagraphReaders.{Entry, GivesNext, HasGiven, Nearer, Stays};
-ghost use Rattle.rr_text.specs.ParagraphReaders.{left_of, paragraphs_of, reader_of, state_of};
+ghost use Rattle.std.specs.Prelude.{◌≡◌, [], IfOk};
+ghost use Rattle.rr_text.specs.ParagraphReaders.{Answers, HasGiven, paragraphs_of, reader_of};
 
 use crate::paragraph::Paragraph;
 use crate::paragraphs::Paragraphs;
@@ -37,17 +34,8 @@ impl<R: Source> ParagraphReader<R> {
     /// the answer is the same for good; after another fault the next paragraph follows. `Memory`
     /// passes a paragraph.
     pub fn next(&mut self, alloc: Global) -> Result<Option<Paragraph>, TextFault>
-        ensures given { (start : Told) (given : List Entry)
-            → HasGiven start (R.told (reader_of self.old)) (paragraphs_of self.old) given
-            → GivesNext start (R.told (reader_of self.new))
-            (paragraphs_of self.new) given result }
-        ensures stays { Stays (state_of (paragraphs_of self.old)) (reader_of self.old)
-            (reader_of self.new) (paragraphs_of self.old) (paragraphs_of self.new) result }
-        ensures nearer { Nearer (left_of (paragraphs_of self.old))
-            (left_of (paragraphs_of self.new)) result }
-        ensures fields { IfOk result
-            (λ next. IfSome next (λ paragraph. (0 < length paragraph) × AreFields paragraph)) }
-        ensures aside { (R.told (reader_of self.new)).aside ≡ (R.told (reader_of self.old)).aside }
+        ensures { Answers R.told (reader_of self.old) (reader_of self.new)
+            (paragraphs_of self.old) (paragraphs_of self.new) result }
     {
         self.paragraphs.next(alloc, &mut self.reader)
     }

@@ -39,13 +39,12 @@ pub struct Paragraphs {
 }
 
 impl Paragraphs {
-    ghost use Rattle.std.specs.Prelude.{◌<◌, ℕ, List, [], IfOk, IfSome, true, false};
+    ghost use Rattle.std.specs.Prelude.{◌<◌, ℕ, List, [], IfOk, true, false};
     ghost use Rattle.rr_io.specs.Told.{Told};
-    ghost use Rattle.rr_text.specs.Fields.{AreFields};
     ghost use Rattle.rr_text.specs.DraftParts.{HasEntry, IsUnclosed};
     ghost use Rattle.rr_text.specs.ReaderParts as parts;
-    ghost use Rattle.rr_text.specs.ParagraphReaders.{GivesOn, HasGiven, IsNew, Nearer};
-    ghost use Rattle.rr_text.specs.ParagraphReaders.{Stays, held, left_of, reads_of, state_of};
+    ghost use Rattle.rr_text.specs.ParagraphReaders.{Answers, HasGiven, IsNew, held, reads_of};
+    ghost use Rattle.rr_text.specs.ParagraphReaders.{state_of};
 
     /// The paragraphs of a text of which nothing was read; the error is that memory ran out.
     pub fn new(alloc: Global) -> Result<Paragraphs, AllocError>
@@ -72,12 +71,7 @@ impl Paragraphs {
         alloc: Global,
         reader: &mut R,
     ) -> Result<Option<Paragraph>, TextFault>
-        ensures given { GivesOn (R.told reader.old) (R.told reader.new) self.old self.new result }
-        ensures stays { Stays (state_of self.old) reader.old reader.new self.old self.new result }
-        ensures nearer { Nearer (left_of self.old) (left_of self.new) result }
-        ensures fields { IfOk result
-            (λ next. IfSome next (λ paragraph. (0 < length paragraph) × AreFields paragraph)) }
-        ensures aside { (R.told reader.new).aside ≡ (R.told reader.old).aside }
+        ensures { Answers R.told reader.old reader.new self.old self.new result }
     {
         match self.state {
             ReaderState::Open => self.next_open(alloc, reader),
@@ -93,11 +87,7 @@ impl Paragraphs {
         reader: &mut R,
     ) -> Result<Option<Paragraph>, TextFault>
         requires { state_of self.old ≡ ReaderState.Open }
-        ensures given { GivesOn (R.told reader.old) (R.told reader.new) self.old self.new result }
-        ensures nearer { Nearer (left_of self.old) (left_of self.new) result }
-        ensures fields { IfOk result
-            (λ next. IfSome next (λ paragraph. (0 < length paragraph) × AreFields paragraph)) }
-        ensures aside { (R.told reader.new).aside ≡ (R.told reader.old).aside }
+        ensures { Answers R.told reader.old reader.new self.old self.new result }
     {
         let state = self.gather(reader);
         self.state = state;

@@ -1,15 +1,15 @@
 //! The lines of canonical text (profile).
 
 ghost use Rattle.std.specs.Prelude.{◌≡◌, ◌≤◌, ◌<◌, ◌+◌, ◌-◌, ◌^◌};
-ghost use Rattle.std.specs.Prelude.{◌∷◌, ◌++◌, [], max, OnOk, OnErr, replicate};
-ghost use Rattle.std.specs.Io.{StartsWith};
+ghost use Rattle.std.specs.Prelude.{max, replicate};
 ghost use Rattle.std.specs.List.{flat_map};
 ghost use Rattle.rr_bytes.specs.LetterCase.{lowered};
 ghost use Rattle.rr_text.specs.Lines.{text_lines};
 ghost use Rattle.rr_text.specs.Entries.{continued};
 ghost use Rattle.rr_text.specs.CanonicalText as canon;
 ghost use Rattle.rr_text.specs.KeptText.{printed_by};
-ghost use Rattle.rr_text.specs.PrivateParts.{added_lines};
+ghost use Rattle.rr_text.specs.Outputs.{MayAdd};
+ghost use Rattle.rr_text.specs.PrivateParts.{added_lines, value_after};
 
 use crate::line::{LineKind, added_value, opened_value, split_line, written_name};
 use std::alloc::AllocError;
@@ -39,9 +39,7 @@ pub(crate) fn blanks_after(name_len: usize) -> usize
 /// The first line of a value after its blanks, or nothing where it is empty.
 fn push_first_line(out: &mut Vec<u8>, count: usize, line: &[u8]) -> Result<(), AllocError>
     requires { count ≤ canon.value_column }
-    ensures ok { OnOk result
-        (out.new.items ≡ out.old.items ++ canon.after_blanks count line.now) }
-    ensures err { OnErr result (StartsWith out.new.items out.old.items) }
+    ensures { MayAdd (canon.after_blanks count line.now) out.old.items out.new.items result }
 {
     if line.is_empty() {
         return Ok(());
@@ -50,33 +48,27 @@ fn push_first_line(out: &mut Vec<u8>, count: usize, line: &[u8]) -> Result<(), A
     out.extend_from_slice(line)
 }
 
-/// The colon after a name of this length, and the first line of its value.
-fn push_value(out: &mut Vec<u8>, name_len: usize, line: &[u8]) -> Result<(), AllocError>
-    requires { name_len < 2 ^ 63 }
-    ensures ok { OnOk result (out.new.items
-        ≡ out.old.items
-        ++ (58 ∷ canon.after_blanks (max 1 (canon.value_column - (name_len + 1))) line.now)
-        ++ 10 ∷ []) }
-    ensures err { OnErr result (StartsWith out.new.items out.old.items) }
+/// The colon after a name, and the first line of its value.
+fn push_value(out: &mut Vec<u8>, name: &[u8], line: &[u8]) -> Result<(), AllocError>
+    ensures { MayAdd (value_after name.now line.now) out.old.items out.new.items result }
 {
     out.push(b':')?;
-    push_first_line(out, blanks_after(name_len), line)?;
+    push_first_line(out, blanks_after(name.len()), line)?;
     out.push(b'\n')?;
     Ok(())
 }
 
+/// Appends the first line of an attribute of this name.
 pub(crate) fn push_opening(out: &mut Vec<u8>, name: &[u8], line: &[u8]) -> Result<(), AllocError>
-    ensures ok { OnOk result
-        (out.new.items ≡ out.old.items ++ canon.ended (canon.opening_line name.now line.now)) }
-    ensures err { OnErr result (StartsWith out.new.items out.old.items) }
+    ensures { MayAdd (canon.ended (canon.opening_line name.now line.now))
+        out.old.items out.new.items result }
 {
     out.extend_from_slice(name)?;
-    push_value(out, name.len(), line)
+    push_value(out, name, line)
 }
 
 fn push_lowered(out: &mut Vec<u8>, name: &[u8]) -> Result<(), AllocError>
-    ensures ok { OnOk result (out.new.items ≡ out.old.items ++ lowered name.now) }
-    ensures err { OnErr result (StartsWith out.new.items out.old.items) }
+    ensures { MayAdd (lowered name.now) out.old.items out.new.items result }
 {
     for byte in name {
         out.push(byte.to_ascii_lowercase())?;
@@ -84,20 +76,18 @@ fn push_lowered(out: &mut Vec<u8>, name: &[u8]) -> Result<(), AllocError>
     Ok(())
 }
 
-/// The same of a name in any letter case.
+/// Appends the first line of an attribute whose name, in any letter case, is printed in lower case.
 fn push_lowered_opening(out: &mut Vec<u8>, name: &[u8], line: &[u8]) -> Result<(), AllocError>
-    ensures ok { OnOk result (out.new.items
-        ≡ out.old.items ++ canon.ended (canon.opening_line (lowered name.now) line.now)) }
-    ensures err { OnErr result (StartsWith out.new.items out.old.items) }
+    ensures { MayAdd (canon.ended (canon.opening_line (lowered name.now) line.now))
+        out.old.items out.new.items result }
 {
     push_lowered(out, name)?;
-    push_value(out, name.len(), line)
+    push_value(out, name, line)
 }
 
 fn push_further(out: &mut Vec<u8>, line: &[u8]) -> Result<(), AllocError>
-    ensures ok { OnOk result
-        (out.new.items ≡ out.old.items ++ canon.ended (canon.further_line line.now)) }
-    ensures err { OnErr result (StartsWith out.new.items out.old.items) }
+    ensures { MayAdd (canon.ended (canon.further_line line.now))
+        out.old.items out.new.items result }
 {
     if line.is_empty() {
         out.extend_from_slice(b"+\n")
@@ -111,8 +101,7 @@ fn push_further(out: &mut Vec<u8>, line: &[u8]) -> Result<(), AllocError>
 
 /// What a line of a block adds to the canonical text.
 pub(crate) fn push_line(out: &mut Vec<u8>, line: &[u8], kind: LineKind) -> Result<(), AllocError>
-    ensures ok { OnOk result (out.new.items ≡ out.old.items ++ printed_by line.now kind) }
-    ensures err { OnErr result (StartsWith out.new.items out.old.items) }
+    ensures { MayAdd (printed_by line.now kind) out.old.items out.new.items result }
 {
     match kind {
         LineKind::Blank | LineKind::Skipped => Ok(()),
@@ -123,9 +112,9 @@ pub(crate) fn push_line(out: &mut Vec<u8>, line: &[u8], kind: LineKind) -> Resul
 
 /// What a line adds to the canonical text of the value before it.
 fn push_continuation(out: &mut Vec<u8>, line: &[u8], kind: LineKind) -> Result<(), AllocError>
-    ensures ok { OnOk result (out.new.items ≡ out.old.items
-        ++ flat_map (λ line. canon.ended (canon.further_line line)) (added_lines line.now kind)) }
-    ensures err { OnErr result (StartsWith out.new.items out.old.items) }
+    ensures { MayAdd
+        (flat_map (λ line. canon.ended (canon.further_line line)) (added_lines line.now kind))
+        out.old.items out.new.items result }
 {
     match kind {
         LineKind::Continuation => push_further(out, added_value(line)),
@@ -135,9 +124,9 @@ fn push_continuation(out: &mut Vec<u8>, line: &[u8], kind: LineKind) -> Result<(
 
 /// The lines that continue a value.
 pub(crate) fn push_continuations(out: &mut Vec<u8>, text: &[u8]) -> Result<(), AllocError>
-    ensures ok { OnOk result (out.new.items ≡ out.old.items ++ flat_map
-        (λ line. canon.ended (canon.further_line line)) (continued (text_lines text.now))) }
-    ensures err { OnErr result (StartsWith out.new.items out.old.items) }
+    ensures { MayAdd (flat_map (λ line. canon.ended (canon.further_line line))
+        (continued (text_lines text.now)))
+        out.old.items out.new.items result }
 {
     let mut rest = text;
     'lines: while !rest.is_empty() {

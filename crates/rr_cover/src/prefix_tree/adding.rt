@@ -1,13 +1,13 @@
 //! Putting prefixes into a tree.
 
-ghost use Rattle.std.specs.Prelude.{◌≡◌, true, false, None, Some, IfOk, IfErr, IfSome};
-ghost use Rattle.std.specs.Prelude.{OnOk, OnErr};
+ghost use Rattle.std.specs.Prelude.{◌≡◌, true, false, Some, IfOk, IfSome};
 ghost use Rattle.std.specs.Option.{option_or};
-ghost use Rattle.rr_number.specs.Prefixes.{IsMasked, span_of};
+ghost use Rattle.rr_number.specs.Prefixes.{span_of};
 ghost use Rattle.rr_number.specs.Spans.{Ends, covers};
 ghost use Rattle.rr_cover.specs.PrefixTrees.{IsFork, IsTree};
-ghost use Rattle.rr_cover.specs.TreeParts.{own, standing, is_above, root_of, HoldsWith, IsParting};
-ghost use Rattle.rr_cover.specs.TreeParts.{StaysRooted, StaysRootedWith};
+ghost use Rattle.rr_cover.specs.TreeParts.{own, standing, is_above, root_of, IsParting};
+ghost use Rattle.rr_cover.specs.TreeParts.{StaysRooted, StaysRootedWith, CanPut, CanGrow, Grows};
+ghost use Rattle.rr_cover.specs.TreeParts.{Puts};
 
 use super::parting::parting;
 use super::reading::{is_same, is_upper};
@@ -74,14 +74,10 @@ fn is_above<T>(tree: &Tree<T>, prefix: Prefix) -> bool
 
 /// The node with a value above a tree, all of whose prefixes lie in one half of its prefix.
 fn above<T: Drop>(node: Box<Node<T>>, value: T, root: Prefix, tree: Tree<T>) -> Tree<T>
-    requires masked { IsMasked node.value.prefix }
-    requires tree { IsTree tree }
-    requires root { root_of tree ≡ Some root }
+    requires ready { CanGrow tree root node.value.prefix }
     requires covered { covers (span_of node.value.prefix) (span_of root) ≡ true }
     requires short { covers (span_of root) (span_of node.value.prefix) ≡ false }
-    ensures all { HoldsWith tree (span_of node.value.prefix) value result }
-    ensures tree { IsTree result }
-    ensures root { root_of result ≡ Some node.value.prefix }
+    ensures { Grows tree (span_of node.value.prefix) value node.value.prefix result }
 {
     if is_upper(node.prefix, root.span()) {
         make_root(node, Some(value), Tree::Empty, tree)
@@ -98,13 +94,9 @@ fn beside<T: Drop>(
     root: Prefix,
     tree: Tree<T>,
 ) -> Tree<T>
-    requires masked { IsMasked node.value.prefix }
-    requires tree { IsTree tree }
-    requires root { root_of tree ≡ Some root }
+    requires ready { CanGrow tree root node.value.prefix }
     requires parted { IsParting fork.value.prefix node.value.prefix root }
-    ensures all { HoldsWith tree (span_of node.value.prefix) value result }
-    ensures tree { IsTree result }
-    ensures root { root_of result ≡ Some fork.value.prefix }
+    ensures { Grows tree (span_of node.value.prefix) value fork.value.prefix result }
 {
     let upper = is_upper(fork.prefix, node.prefix.span());
     let leaf = make_root(node, Some(value), Tree::Empty, Tree::Empty);
@@ -124,16 +116,10 @@ fn part<T: Drop>(
     node: Box<Node<T>>,
     value: T,
 ) -> Result<(), T>
-    requires order { IsTree tree.old }
-    requires masked { IsMasked node.value.prefix }
-    requires root { root_of tree.old ≡ Some root }
+    requires ready { CanGrow tree.old root node.value.prefix }
     requires one { covers (span_of node.value.prefix) (span_of root) ≡ false }
     requires other { covers (span_of root) (span_of node.value.prefix) ≡ false }
-    ensures all { OnOk result
-        (HoldsWith tree.old (span_of node.value.prefix) value tree.new) }
-    ensures err { OnErr result (tree.new ≡ tree.old) }
-    ensures back { IfErr result (λ given. given ≡ value) }
-    ensures tree { IsTree tree.new }
+    ensures puts { Puts tree.old (span_of node.value.prefix) value tree.new result }
     ensures root { StaysRootedWith (span_of node.value.prefix) tree.old tree.new }
 {
     let Some(fork) = bare(alloc, parting(node.prefix, node.prefix, root)) else {
@@ -147,13 +133,9 @@ fn part<T: Drop>(
 /// Puts a value at a prefix that the root does not cover. If memory runs out, nothing changes and
 /// the value comes back.
 fn place<T: Drop>(tree: &mut Tree<T>, alloc: Global, prefix: Prefix, value: T) -> Result<(), T>
-    requires order { IsTree tree.old }
-    requires masked { IsMasked prefix }
+    requires ready { CanPut tree.old prefix }
     requires short { is_above tree.old (span_of prefix) ≡ false }
-    ensures all { OnOk result (HoldsWith tree.old (span_of prefix) value tree.new) }
-    ensures err { OnErr result (tree.new ≡ tree.old) }
-    ensures back { IfErr result (λ given. given ≡ value) }
-    ensures tree { IsTree tree.new }
+    ensures puts { Puts tree.old (span_of prefix) value tree.new result }
     ensures root { StaysRootedWith (span_of prefix) tree.old tree.new }
 {
     let Some(node) = bare(alloc, prefix) else {
@@ -180,13 +162,9 @@ pub(super) fn set<T: Drop>(
     prefix: Prefix,
     value: T,
 ) -> Result<Option<T>, T>
-    requires order { IsTree tree.old }
-    requires masked { IsMasked prefix }
+    requires { CanPut tree.old prefix }
     ensures stood { IfOk result (λ old. old ≡ standing tree.old (span_of prefix)) }
-    ensures all { OnOk result (HoldsWith tree.old (span_of prefix) value tree.new) }
-    ensures err { OnErr result (tree.new ≡ tree.old) }
-    ensures back { IfErr result (λ given. given ≡ value) }
-    ensures tree { IsTree tree.new }
+    ensures puts { Puts tree.old (span_of prefix) value tree.new result }
     ensures root { StaysRootedWith (span_of prefix) tree.old tree.new }
 {
     if is_above(tree, prefix) {
@@ -206,14 +184,10 @@ fn set_below<T: Drop>(
     prefix: Prefix,
     value: T,
 ) -> Result<Option<T>, T>
-    requires order { IsTree tree.old }
-    requires masked { IsMasked prefix }
+    requires ready { CanPut tree.old prefix }
     requires over { is_above tree.old (span_of prefix) ≡ true }
     ensures stood { IfOk result (λ old. old ≡ standing tree.old (span_of prefix)) }
-    ensures all { OnOk result (HoldsWith tree.old (span_of prefix) value tree.new) }
-    ensures err { OnErr result (tree.new ≡ tree.old) }
-    ensures back { IfErr result (λ given. given ≡ value) }
-    ensures tree { IsTree tree.new }
+    ensures puts { Puts tree.old (span_of prefix) value tree.new result }
     ensures root { StaysRooted tree.old tree.new }
 {
     match tree {

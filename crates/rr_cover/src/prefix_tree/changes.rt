@@ -1,11 +1,11 @@
 //! Changing a tree of prefixes.
 
-ghost use Rattle.std.specs.Prelude.{◌≡◌, true, None, if◌then◌else◌};
-ghost use Rattle.std.specs.Ordering.{eq_by_cmp};
+ghost use Rattle.std.specs.Prelude.{◌≡◌, true};
 ghost use Rattle.rr_number.specs.Prefixes.{span_of};
-ghost use Rattle.rr_number.specs.Spans.{Ends, span_cmp};
+ghost use Rattle.rr_number.specs.Spans.{Ends};
 ghost use Rattle.rr_cover.specs.PrefixTrees.{IsTree};
 ghost use Rattle.rr_cover.specs.TreeParts.{standing, is_empty, is_idle, only_side, StaysRooted};
+ghost use Rattle.rr_cover.specs.TreeParts.{Takes};
 
 use super::reading::{is_same, is_upper};
 use super::{Node, Tree};
@@ -61,11 +61,7 @@ fn tidy<T: Drop>(tree: Tree<T>) -> Tree<T>
 #[cycle(removal)]
 pub(super) fn take<T: Drop>(tree: &mut Tree<T>, prefix: Prefix) -> Option<T>
     requires { IsTree tree.old }
-    ensures value { result ≡ standing tree.old (span_of prefix) }
-    ensures all { (s : Ends) → standing tree.new s
-        ≡ (if eq_by_cmp span_cmp s (span_of prefix) then None else standing tree.old s) }
-    ensures tree { IsTree tree.new }
-    ensures root { StaysRooted tree.old tree.new }
+    ensures { Takes tree.old (span_of prefix) tree.new result }
 {
     let value = take_below(tree, prefix);
     let whole = mem::replace(tree, Tree::Empty);
@@ -78,11 +74,7 @@ pub(super) fn take<T: Drop>(tree: &mut Tree<T>, prefix: Prefix) -> Option<T>
 #[cycle(removal)]
 fn take_below<T: Drop>(tree: &mut Tree<T>, prefix: Prefix) -> Option<T>
     requires { IsTree tree.old }
-    ensures value { result ≡ standing tree.old (span_of prefix) }
-    ensures all { (s : Ends) → standing tree.new s
-        ≡ (if eq_by_cmp span_cmp s (span_of prefix) then None else standing tree.old s) }
-    ensures tree { IsTree tree.new }
-    ensures root { StaysRooted tree.old tree.new }
+    ensures { Takes tree.old (span_of prefix) tree.new result }
 {
     match tree {
         Tree::Empty => None,

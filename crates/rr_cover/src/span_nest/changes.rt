@@ -1,12 +1,12 @@
 //! Changing a search tree and keeping it balanced (AVL).
 
-ghost use Rattle.std.specs.Prelude.{◌≡◌, nat_le, None, Some, is_some, IfOk, IfErr, IfSome};
-ghost use Rattle.std.specs.Prelude.{IfNone, OnOk, OnErr};
+ghost use Rattle.std.specs.Prelude.{◌≡◌, nat_le, None, Some, is_some, IfOk, IfSome, IfNone};
+ghost use Rattle.std.specs.Prelude.{OnErr};
 ghost use Rattle.std.specs.Option.{option_or};
 ghost use Rattle.rr_number.specs.Spans.{Ends, IsSpan};
-ghost use Rattle.rr_cover.specs.SpanNests.{at_span, is_ahead, standing, Only, Fits, IsBound};
-ghost use Rattle.rr_cover.specs.SpanNests.{HoldsAll, HoldsWith, HoldsWithout, IsNest};
+ghost use Rattle.rr_cover.specs.SpanNests.{at_span, is_ahead, standing, Only, IsBound, IsNest};
 ghost use Rattle.rr_cover.specs.NestParts.{with_before, with_after, IsTakenApart, Precedes};
+ghost use Rattle.rr_cover.specs.NestParts.{CanJoin, Joins, HoldsSame, Lacks, Gains, Loses, Puts};
 
 use super::bounds::Bounds;
 use super::reading::{is_ahead, is_same};
@@ -82,11 +82,9 @@ fn link<T: Drop>(
     before: Nest<T>,
     after: Nest<T>,
 ) -> Nest<T>
-    requires fits { Fits node.value.span before after }
+    requires sides { CanJoin node.value.span before after }
     requires bound { IsBound bounds node.value.span before after }
-    requires nests { IsNest before × IsNest after }
-    ensures all { HoldsAll before node.value.span node.value.value after result }
-    ensures nest { IsNest result }
+    ensures { Joins before node.value.span node.value.value after result }
 {
     node.height = height;
     node.bounds = bounds;
@@ -97,10 +95,8 @@ fn link<T: Drop>(
 
 /// The node as the root of two trees, with its height and bounds by theirs.
 fn make_root<T: Drop>(node: Box<Node<T>>, before: Nest<T>, after: Nest<T>) -> Nest<T>
-    requires fits { Fits node.value.span before after }
-    requires nests { IsNest before × IsNest after }
-    ensures all { HoldsAll before node.value.span node.value.value after result }
-    ensures nest { IsNest result }
+    requires { CanJoin node.value.span before after }
+    ensures { Joins before node.value.span node.value.value after result }
 {
     let height = height(&before).max(height(&after)).saturating_add(1);
     let bounds = bounds_over(node.span, &before, &after);
@@ -109,10 +105,8 @@ fn make_root<T: Drop>(node: Box<Node<T>>, before: Nest<T>, after: Nest<T>) -> Ne
 
 /// The node as the root of two trees, rotated where one is two levels higher than the other.
 fn rebalance<T: Drop>(node: Box<Node<T>>, before: Nest<T>, after: Nest<T>) -> Nest<T>
-    requires fits { Fits node.value.span before after }
-    requires nests { IsNest before × IsNest after }
-    ensures all { HoldsAll before node.value.span node.value.value after result }
-    ensures nest { IsNest result }
+    requires { CanJoin node.value.span before after }
+    ensures { Joins before node.value.span node.value.value after result }
 {
     let (height_before, height_after) = (height(&before), height(&after));
     if height_before > height_after.saturating_add(1) {
@@ -127,10 +121,8 @@ fn rebalance<T: Drop>(node: Box<Node<T>>, before: Nest<T>, after: Nest<T>) -> Ne
 /// The node as the root of two trees, rotated to the right: the root of the one before comes to the
 /// top, or, where the inner side of that one is the higher, the root of this: a double rotation.
 fn rotate_right<T: Drop>(node: Box<Node<T>>, before: Nest<T>, after: Nest<T>) -> Nest<T>
-    requires fits { Fits node.value.span before after }
-    requires nests { IsNest before × IsNest after }
-    ensures all { HoldsAll before node.value.span node.value.value after result }
-    ensures nest { IsNest result }
+    requires { CanJoin node.value.span before after }
+    ensures { Joins before node.value.span node.value.value after result }
 {
     let Some((root, outer, inner)) = open(before) else {
         return make_root(node, Nest::Empty, after);
@@ -151,10 +143,8 @@ fn rotate_right<T: Drop>(node: Box<Node<T>>, before: Nest<T>, after: Nest<T>) ->
 /// The node as the root of two trees, rotated to the left: the root of the one after comes to the
 /// top, or, where the inner side of that one is the higher, the root of this: a double rotation.
 fn rotate_left<T: Drop>(node: Box<Node<T>>, before: Nest<T>, after: Nest<T>) -> Nest<T>
-    requires fits { Fits node.value.span before after }
-    requires nests { IsNest before × IsNest after }
-    ensures all { HoldsAll before node.value.span node.value.value after result }
-    ensures nest { IsNest result }
+    requires { CanJoin node.value.span before after }
+    ensures { Joins before node.value.span node.value.value after result }
 {
     let Some((root, inner, outer)) = open(after) else {
         return make_root(node, before, Nest::Empty);
@@ -175,8 +165,7 @@ fn rotate_left<T: Drop>(node: Box<Node<T>>, before: Nest<T>, after: Nest<T>) -> 
 /// The tree, rotated at its root where one side is two levels higher than the other.
 fn rebalanced<T: Drop>(nest: Nest<T>) -> Nest<T>
     requires { IsNest nest }
-    ensures all { (s : Ends) → standing result s ≡ standing nest s }
-    ensures nest { IsNest result }
+    ensures { HoldsSame nest result }
 {
     let Some((root, before, after)) = open(nest) else {
         return Nest::Empty;
@@ -188,8 +177,7 @@ fn rebalanced<T: Drop>(nest: Nest<T>) -> Nest<T>
 /// nothing is done.
 fn update_height<T>(nest: &mut Nest<T>) -> bool
     requires { IsNest nest.old }
-    ensures all { (s : Ends) → standing nest.new s ≡ standing nest.old s }
-    ensures nest { IsNest nest.new }
+    ensures { HoldsSame nest.old nest.new }
 {
     match nest {
         Nest::Empty => true,
@@ -208,8 +196,7 @@ fn update_height<T>(nest: &mut Nest<T>) -> bool
 /// root's height.
 fn rebalance_root<T: Drop>(nest: &mut Nest<T>)
     requires { IsNest nest.old }
-    ensures all { (s : Ends) → standing nest.new s ≡ standing nest.old s }
-    ensures nest { IsNest nest.new }
+    ensures { HoldsSame nest.old nest.new }
 {
     if !update_height(nest) {
         let whole = mem::replace(nest, Nest::Empty);
@@ -238,11 +225,8 @@ fn grow_after<T>(node: &mut Node<T>, last: u32) -> bool
 /// Inserts a node whose span is not held.
 #[cycle(inserting)]
 fn insert_node<T: Drop>(nest: &mut Nest<T>, leaf: Box<Node<T>>)
-    requires order { IsNest nest.old }
-    requires ends { IsSpan leaf.value.span }
-    requires missing { standing nest.old leaf.value.span ≡ None }
-    ensures all { HoldsWith nest.old leaf.value.span leaf.value.value nest.new }
-    ensures nest { IsNest nest.new }
+    requires { Lacks nest.old leaf.value.span }
+    ensures { Gains nest.old leaf.value.span leaf.value.value nest.new }
 {
     if insert_below(nest, leaf) {
         rebalance_root(nest);
@@ -253,11 +237,8 @@ fn insert_node<T: Drop>(nest: &mut Nest<T>, leaf: Box<Node<T>>)
 /// that is not set anew yet, and the sides may differ by two levels.
 #[cycle(inserting)]
 fn insert_below<T: Drop>(nest: &mut Nest<T>, leaf: Box<Node<T>>) -> bool
-    requires order { IsNest nest.old }
-    requires ends { IsSpan leaf.value.span }
-    requires missing { standing nest.old leaf.value.span ≡ None }
-    ensures all { HoldsWith nest.old leaf.value.span leaf.value.value nest.new }
-    ensures nest { IsNest nest.new }
+    requires { Lacks nest.old leaf.value.span }
+    ensures { Gains nest.old leaf.value.span leaf.value.value nest.new }
 {
     match nest {
         Nest::Empty => {
@@ -283,8 +264,7 @@ fn split_first<T: Drop>(
     before: Nest<T>,
     after: Nest<T>,
 ) -> (Box<Node<T>>, Nest<T>)
-    requires fits { Fits root.value.span before after }
-    requires nests { IsNest before × IsNest after }
+    requires { CanJoin root.value.span before after }
     ensures ends { IsSpan result.0.value.span }
     ensures all { (s : Ends)
         → option_or (at_span result.0.value.span result.0.value.value s) (standing result.1 s)
@@ -328,8 +308,7 @@ fn into_value<T: Drop>(node: Node<T>) -> T
 fn take_out<T: Drop>(nest: Nest<T>, span: Span) -> (Option<T>, Nest<T>)
     requires { IsNest nest }
     ensures value { result.0 ≡ standing nest span }
-    ensures all { HoldsWithout nest span result.1 }
-    ensures nest { IsNest result.1 }
+    ensures rest { Loses nest span result.1 }
 {
     let Some((root, before, after)) = open(nest) else {
         return (None, Nest::Empty);
@@ -351,12 +330,10 @@ fn take_out<T: Drop>(nest: Nest<T>, span: Span) -> (Option<T>, Nest<T>)
 /// back.
 fn replace<T: Drop>(nest: &mut Nest<T>, span: Span, value: T) -> Result<T, T>
     requires { IsNest nest.old }
-    ensures ok { IfOk result (λ old. standing nest.old span ≡ Some old) }
-    ensures all { OnOk result (HoldsWith nest.old span value nest.new) }
-    ensures err { OnErr result ((nest.new ≡ nest.old) × (standing nest.old span ≡ None)) }
-    ensures back { IfErr result (λ given. given ≡ value) }
+    ensures stood { IfOk result (λ old. standing nest.old span ≡ Some old) }
+    ensures puts { Puts nest.old span value nest.new result }
+    ensures missing { OnErr result (standing nest.old span ≡ None) }
     ensures kept { (s : Ends) → is_some (standing nest.new s) ≡ is_some (standing nest.old s) }
-    ensures nest { IsNest nest.new }
 {
     match nest {
         Nest::Empty => Err(value),
@@ -377,10 +354,7 @@ fn replace<T: Drop>(nest: &mut Nest<T>, span: Span, value: T) -> Result<T, T>
 fn add<T: Drop>(nest: &mut Nest<T>, alloc: Global, span: Span, value: T) -> Result<(), T>
     requires order { IsNest nest.old }
     requires missing { standing nest.old span ≡ None }
-    ensures all { OnOk result (HoldsWith nest.old span value nest.new) }
-    ensures err { OnErr result (nest.new ≡ nest.old) }
-    ensures back { IfErr result (λ given. given ≡ value) }
-    ensures nest { IsNest nest.new }
+    ensures { Puts nest.old span value nest.new result }
 {
     let node = Node {
         span,
@@ -413,10 +387,7 @@ pub(super) fn set<T: Drop>(
 ) -> Result<Option<T>, T>
     requires { IsNest nest.old }
     ensures stood { IfOk result (λ old. old ≡ standing nest.old span) }
-    ensures all { OnOk result (HoldsWith nest.old span value nest.new) }
-    ensures err { OnErr result (nest.new ≡ nest.old) }
-    ensures back { IfErr result (λ given. given ≡ value) }
-    ensures nest { IsNest nest.new }
+    ensures puts { Puts nest.old span value nest.new result }
 {
     let value = match replace(nest, span, value) {
         Ok(old) => return Ok(Some(old)),
@@ -432,8 +403,7 @@ pub(super) fn set<T: Drop>(
 pub(super) fn take<T: Drop>(nest: &mut Nest<T>, span: Span) -> Option<T>
     requires { IsNest nest.old }
     ensures value { result ≡ standing nest.old span }
-    ensures all { HoldsWithout nest.old span nest.new }
-    ensures nest { IsNest nest.new }
+    ensures rest { Loses nest.old span nest.new }
 {
     let whole = mem::replace(nest, Nest::Empty);
     let (value, rest) = take_out(whole, span);

@@ -5,7 +5,7 @@ ghost use Rattle.std.specs.Prelude.{IfNone};
 ghost use Rattle.std.specs.Option.{option_copied};
 ghost use Rattle.std.specs.Ordering.{eq_by_cmp};
 ghost use Rattle.rr_number.specs.Spans.{Ends, IsSpan, span_cmp};
-ghost use Rattle.rr_cover.specs.SpanNests.{is_ahead, standing, Only, IsNest, HasNoCrossing};
+ghost use Rattle.rr_cover.specs.SpanNests.{is_ahead, standing, Only, IsNest, IsSound};
 ghost use Rattle.rr_cover.specs.NestParts.{ends_in, begins_in, IsLastReaching, NoneReaches};
 ghost use Rattle.rr_cover.specs.NestParts.{SomeCrosses, NoneCrosses};
 
@@ -93,8 +93,7 @@ pub(super) fn last_reaching_in<T>(
 
 /// Whether a span held begins before the span and ends within it.
 fn ends_within<T>(nest: &Nest<T>, span: Span) -> bool
-    requires order { IsNest nest.now }
-    requires apart { HasNoCrossing nest.now }
+    requires { IsSound nest.now }
     ensures found { result ≡ true → SomeCrosses nest.now span }
     ensures none { result ≡ false
         → (t : Ends) → is_some (standing nest.now t) ≡ true → ends_in t span ≡ false }
@@ -108,8 +107,7 @@ fn ends_within<T>(nest: &Nest<T>, span: Span) -> bool
 
 /// Whether a span held begins within the span and ends after it.
 fn begins_within<T>(nest: &Nest<T>, span: Span) -> bool
-    requires order { IsNest nest.now }
-    requires apart { HasNoCrossing nest.now }
+    requires { IsSound nest.now }
     ensures found { result ≡ true → SomeCrosses nest.now span }
     ensures none { result ≡ false
         → (t : Ends) → is_some (standing nest.now t) ≡ true → begins_in t span ≡ false }
@@ -123,8 +121,7 @@ fn begins_within<T>(nest: &Nest<T>, span: Span) -> bool
 
 /// Whether the span crosses one that is held.
 pub(super) fn crosses_any<T>(nest: &Nest<T>, span: Span) -> bool
-    requires order { IsNest nest.now }
-    requires apart { HasNoCrossing nest.now }
+    requires { IsSound nest.now }
     ensures found { result ≡ true → SomeCrosses nest.now span }
     ensures none { result ≡ false → NoneCrosses nest.now span }
 {

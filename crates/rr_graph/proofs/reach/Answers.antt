@@ -1,4 +1,4 @@
-use Rattle.std.proofs.Common.{◌⊎◌, List, [], Contains, inl, inr, sym, subst, arith}
+use Rattle.std.proofs.Common.{rules, ◌⊎◌, List, [], Contains, inl, inr, sym, subst, arith}
 use Rattle.std.proofs.lemmas.Result.{err_from_is_err_and}
 use Rattle.std.proofs.lemmas.List.Elements.{Contains-get_or}
 use Rattle.rr_graph.specs.Chain.{IsReached, MoreThan}
@@ -28,52 +28,58 @@ loop-done-preserved g c =
     ((c.in_ok-nodes.ensures next).1 step)) c.in_ok-add_all-2.ensures.listing
     c.in_ok-add_all-2.ensures.added
 
-pub returns-in_err-add_all-clause-many : goal.returns-in_err-add_all-clause-many
-returns-in_err-add_all-clause-many g c = λ is.
+pub returns-in_err-add_all : goal.returns-in_err-add_all
+returns-in_err-add_all g c =
     let p = err_from_is_err_and c.from_residual.result c.from_residual.ensures.1 in
     let listed_or_start = λ (list : List g.row.G-Node.Denot). λ (node : g.row.G-Node.Denot).
-    Contains list node ⊎ Contains c.args.starts.items node in
-    MoreThan-weaker c.args.limit (listed_or_start []) (IsReached (g.G.Graph.edge c.args.graph.now)
-    c.args.starts.items)
-    (λ node has. elim has [
-      | inl (k, before, _) ↦ absurd (omega arith)
-      | inr start ↦
-          IsReached-start (g.G.Graph.edge c.args.graph.now) c.args.starts.items node start
-    ])
-    (subst (λ (list : List g.row.G-Node.Denot). MoreThan c.args.limit (listed_or_start list))
-    c.new-found.ensures.list (c.in_err-add_all.ensures.many (cc (is, p.1, p.2))))
+    Contains list node ⊎ Contains c.args.starts.items node in record {
+      found = search rules;
+      few = search rules;
+      many = λ is. MoreThan-weaker c.args.limit (listed_or_start [])
+          (IsReached (g.G.Graph.edge c.args.graph.now) c.args.starts.items)
+          (λ node has. elim has [
+            | inl (k, before, _) ↦ absurd (omega arith)
+            | inr start ↦
+                IsReached-start (g.G.Graph.edge c.args.graph.now) c.args.starts.items node start
+          ])
+          (subst (λ (list : List g.row.G-Node.Denot). MoreThan c.args.limit (listed_or_start list))
+          c.new-found.ensures.list (c.in_err-add_all.ensures.many (cc (is, p.1, p.2))));
+    }
 
-pub returns-in_err-add_all-2-clause-many : goal.returns-in_err-add_all-2-clause-many
-returns-in_err-add_all-2-clause-many g c = λ is.
+pub returns-in_err-add_all-2 : goal.returns-in_err-add_all-2
+returns-in_err-add_all-2 g c =
     let p = err_from_is_err_and c.from_residual-in_err-add_all-2.result
     c.from_residual-in_err-add_all-2.ensures.1 in
-    let found : Contains c.loop-done.found.list.items c.index.result.now =
+    let there : Contains c.loop-done.found.list.items c.index.result.now =
     subst (Contains c.loop-done.found.list.items) (sym c.index.ensures)
     (Contains-get_or c.loop-done.found.list.items c.loop-done.done c.index.result.now
-    (omega arith)) in
-    MoreThan-weaker c.args.limit (λ (node : g.row.G-Node.Denot).
-    Contains c.loop-done.found.list.items node ⊎ Contains c.in_ok-nodes.nodes.items node)
-    (IsReached (g.G.Graph.edge c.args.graph.now) c.args.starts.items)
-    (λ node has. elim has [
-      | inl there ↦ c.loop-done.invariant.sound node there
-      | inr next ↦ IsReached-edge (g.G.Graph.edge c.args.graph.now) c.args.starts.items
-          c.index.result.now node (c.loop-done.invariant.sound c.index.result.now found)
-          ((c.in_ok-nodes.ensures node).0 next)
-    ])
-    (c.in_err-add_all-2.ensures.many (cc (is, p.1, p.2)))
+    (omega arith)) in record {
+      found = search rules;
+      few = search rules;
+      many = λ is. MoreThan-weaker c.args.limit (λ (node : g.row.G-Node.Denot).
+          Contains c.loop-done.found.list.items node ⊎ Contains c.in_ok-nodes.nodes.items node)
+          (IsReached (g.G.Graph.edge c.args.graph.now) c.args.starts.items)
+          (λ node has. elim has [
+            | inl before ↦ c.loop-done.invariant.sound node before
+            | inr next ↦ IsReached-edge (g.G.Graph.edge c.args.graph.now) c.args.starts.items
+                c.index.result.now node (c.loop-done.invariant.sound c.index.result.now there)
+                ((c.in_ok-nodes.ensures node).0 next)
+          ])
+          (c.in_err-add_all-2.ensures.many (cc (is, p.1, p.2)));
+    }
 
-pub returns-clause-found : goal.returns-clause-found
-returns-clause-found g c =
-    rw c.into_list.ensures
-    (IsSearching-all g.G.Node.Ord.cmp (g.G.Graph.edge c.args.graph.now) c.args.starts.items
-    c.args.limit c.loop-done.done c.loop-done.found.list.items c.loop-done.found.index
-    c.loop-done.invariant (omega arith))
-
-pub returns-clause-few : goal.returns-clause-few
-returns-clause-few g c =
-    MoreThan-listed g.met.G.Node.Ord.total g.met.G.Graph.exact c.args.limit
-    c.loop-done.found.list.items (IsReached (g.G.Graph.edge c.args.graph.now)
-    c.args.starts.items) c.loop-done.invariant.listing.few
-    (λ node. (IsSearching-all g.G.Node.Ord.cmp (g.G.Graph.edge c.args.graph.now)
+pub returns : goal.returns
+returns g c =
+    let all = IsSearching-all g.G.Node.Ord.cmp (g.G.Graph.edge c.args.graph.now)
     c.args.starts.items c.args.limit c.loop-done.done c.loop-done.found.list.items
-    c.loop-done.found.index c.loop-done.invariant (omega arith) node).1)
+    c.loop-done.found.index c.loop-done.invariant (omega arith) in record {
+      found = rw c.into_list.ensures (record {
+        all = all;
+        once = c.loop-done.invariant.listing.once;
+      });
+      few = MoreThan-listed g.met.G.Node.Ord.total g.met.G.Graph.exact c.args.limit
+          c.loop-done.found.list.items
+          (IsReached (g.G.Graph.edge c.args.graph.now) c.args.starts.items)
+          c.loop-done.invariant.listing.few (λ node. (all node).1);
+      many = search rules;
+    }

@@ -38,7 +38,7 @@ impl SetName {
             return Ok(Some(Parent::Bare));
         }
         let bytes = Vec::from_slice(alloc, parent)?;
-        let text = NameText::from_vec(bytes);
+        let text = NameText { bytes };
         Ok(Some(Parent::Set(SetName { text })))
     }
 }

@@ -7,9 +7,7 @@ returns-in-Ok-clause-ok g c = inl (record {
   few = c.in-Ok.ensures.few;
   found = c.in-Ok.members.found.items;
   missing = c.in-Ok.members.missing.items;
-  has = c.in-Ok.ensures.found;
-  lacks = c.in-Ok.ensures.missing;
-  found_sorted = c.in-Ok.ensures.found_sorted;
-  missing_sorted = c.in-Ok.ensures.missing_sorted;
+  has = c.in-Ok.ensures.found.found;
+  lacks = c.in-Ok.ensures.found.missing;
   text_is = refl;
 })

@@ -6,7 +6,7 @@ returns-in-Ok g c = inr (record {
   before = c.in-Ok.conn;
   after = c.create_to-conn.result.0;
   between = _;
-  given = c.in-Ok.ensures.opens;
-  did = c.create_to-conn.ensures.creates;
+  given = c.in-Ok.ensures;
+  did = c.create_to-conn.ensures;
   closed = c.close.ensures;
 })

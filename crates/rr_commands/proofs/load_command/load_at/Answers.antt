@@ -6,7 +6,7 @@ returns-in-Ok g c = inr (record {
   before = c.in-Ok.conn;
   after = c.load_file-conn.result.0;
   between = _;
-  given = c.in-Ok.ensures.opens;
+  given = c.in-Ok.ensures;
   did = c.load_file-conn.ensures;
   closed = c.close.ensures;
 })

@@ -1,8 +1,8 @@
 use Rattle.std.proofs.Common.{inl, inr, refl}
 use Rattle.rr_commands.proofs.load_command.load_to.Goals as goal
 
-pub returns-in-Ok-clause-loads : goal.returns-in-Ok-clause-loads
-returns-in-Ok-clause-loads g c = inr (record {
+pub returns-in-Ok : goal.returns-in-Ok
+returns-in-Ok g c = inr (record {
   desk = c.in-Ok.desk;
   runs = c.in-Ok.ensures.runs;
   loaded = c.in-Ok.ensures.loaded;
@@ -11,8 +11,8 @@ returns-in-Ok-clause-loads g c = inr (record {
   tells = rw (← c.registry.ensures) c.tell_loaded-told.ensures;
 })
 
-pub returns-in-Err-clause-loads : goal.returns-in-Err-clause-loads
-returns-in-Err-clause-loads g c = inl (record {
+pub returns-in-Err : goal.returns-in-Err
+returns-in-Err g c = inl (record {
   fault = c.in-Err.fault;
   told = refl;
   fails = c.in-Err.ensures.fails;

@@ -6,11 +6,8 @@ use Rattle.rr_desk.specs.Migrating.{IsGrown}
 use Rattle.rr_desk.proofs.Migrated.{fails_then, migrates_then}
 use Rattle.rr_desk.proofs.desk_migrating.migrate_stored.Goals as goal
 
-pub migrate_tables-requires-clause-autocommit : goal.migrate_tables-requires-clause-autocommit
-migrate_tables-requires-clause-autocommit g c = c.migrated_registry.ensures.looks.rests.autocommit
-
-pub migrate_tables-requires-clause-grown : goal.migrate_tables-requires-clause-grown
-migrate_tables-requires-clause-grown g c = λ clean.
+pub migrate_tables-requires : goal.migrate_tables-requires
+migrate_tables-requires g c = λ clean.
     subst (λ db. IsGrown c.args.settings.now db c.in-Ok.registry)
     (sym (c.in-Ok.ensures.looks.same clean).0.now_is) (c.in-Ok.ensures.grown clean)
 
@@ -40,7 +37,6 @@ pub returns-in-Err-clause-fails : goal.returns-in-Err-clause-fails
 returns-in-Err-clause-fails g c =
     let rests = c.migrated_registry.ensures.looks.rests in record {
       none = record {
-        autocommit = rests.autocommit;
         was_open = rests.opened;
         kept = rests.same;
         crash = survives_weaker _ _ _ _ (λ clean trees none. absurd none) rests.crash;

@@ -3,9 +3,6 @@ use Rattle.std.specs.FinMap.{values}
 use Rattle.rr_desk.proofs.Migrated.{grown_commits, is_rootless, migrated_rows}
 use Rattle.rr_desk.proofs.desk_migrating.migrate_tables.Goals as goal
 
-pub migrate-requires : goal.migrate-requires
-migrate-requires g c = record { autocommit = c.requires.autocommit }
-
 pub of-requires-clause-is_open : goal.of-requires-clause-is_open
 of-requires-clause-is_open g c = c.in-Ok.ensures.migrates.is_open
 
@@ -15,7 +12,7 @@ of-requires-clause-settled g c = c.in-Ok.ensures.migrates.settled
 pub of-requires-clause-rows : goal.of-requires-clause-rows
 of-requires-clause-rows g c = λ clean.
     let kept = c.in-Ok.ensures.migrates.crash.clean in
-    migrated_rows c.args.settings.now c.args.registry _ _ (c.requires.grown (omega (arith, kept)))
+    migrated_rows c.args.settings.now c.args.registry _ _ (c.requires (omega (arith, kept)))
     (rw (c.root.ensures.root, c.source.ensures.source) at (c.in-Ok.ensures.migrates.migrated clean))
 
 pub returns-in-Ok-clause-stock : goal.returns-in-Ok-clause-stock
@@ -26,11 +23,11 @@ returns-in-Ok-clause-migrates g c =
     let kept = c.in-Ok.ensures.migrates.crash.clean in record {
       was_open = rw c.of.ensures.store c.in-Ok.ensures.migrates.was_open;
       grown = rw (c.of.ensures.stock.registry, c.of.ensures.store)
-          (λ clean. c.requires.grown (omega (arith, kept)));
+          (λ clean. c.requires (omega (arith, kept)));
       migrated = rw (c.of.ensures.store, ← c.root.ensures.root, ← c.source.ensures.source)
           c.in-Ok.ensures.migrates.migrated;
       crash = rw c.of.ensures.store (grown_commits g.S.Store c.args.settings.now c.args.registry
-          c.args.conn c.in-Ok.store c.requires.grown
+          c.args.conn c.in-Ok.store c.requires
           (rw (c.root.ensures.root, c.source.ensures.source) at c.in-Ok.ensures.migrates.crash));
     }
 
@@ -38,11 +35,10 @@ pub returns-in-Err-clause-fails : goal.returns-in-Err-clause-fails
 returns-in-Err-clause-fails g c =
     let fails = c.in-Err.ensures.fails in record {
       none = record {
-        autocommit = fails.autocommit;
         was_open = fails.was_open;
         kept = fails.kept;
         crash = grown_commits g.S.Store c.args.settings.now c.args.registry c.args.conn
-            c.in-Err.unmade.1 c.requires.grown (rw (c.root.ensures.root, c.source.ensures.source)
+            c.in-Err.unmade.1 c.requires (rw (c.root.ensures.root, c.source.ensures.source)
             at fails.crash);
       };
       why = λ clean.
@@ -55,7 +51,7 @@ returns-in-Err-clause-fails g c =
             tables = why.tables;
             untabled = why.untabled;
             no_root = λ is. is_rootless c.args.settings.now _ c.args.registry
-                (c.requires.grown (omega (arith, kept))) (why.no_root is);
+                (c.requires (omega (arith, kept))) (why.no_root is);
           };
       store = λ error is tidy clean.
           let kept = fails.crash.clean in
@@ -65,7 +61,7 @@ returns-in-Err-clause-fails g c =
                 inr
                 (record {
                   registry = c.args.registry;
-                  grown = c.requires.grown
+                  grown = c.requires
                       (omega (arith, kept));
                 })
           ];

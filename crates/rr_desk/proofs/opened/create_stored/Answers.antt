@@ -1,8 +1,5 @@
 use Rattle.rr_desk.proofs.opened.create_stored.Goals as goal
 
-pub create_store-requires : goal.create_store-requires
-create_store-requires g c = record { autocommit = c.requires.autocommit }
-
 pub of-requires-clause-is_open : goal.of-requires-clause-is_open
 of-requires-clause-is_open g c = c.in-Ok.ensures.is_open
 

@@ -6,9 +6,6 @@ use Rattle.rr_desk.proofs.Listed.{bad_objects, no_error, no_version, unreadable_
 use Rattle.rr_desk.proofs.Sources.{taken_of_source}
 use Rattle.rr_desk.proofs.opened.open_stored.Goals as goal
 
-pub open_all-requires : goal.open_all-requires
-open_all-requires g c = record { autocommit = c.requires.autocommit }
-
 pub of-requires-clause-is_open : goal.of-requires-clause-is_open
 of-requires-clause-is_open g c = c.in-Ok.ensures.opens.is_open
 
@@ -44,12 +41,11 @@ pub returns-in-Err-from_objects-clause-fails : goal.returns-in-Err-from_objects-
 returns-in-Err-from_objects-clause-fails g c =
     let opens = c.in-Ok.ensures.opens in record {
       none = record {
-        autocommit = c.close.ensures.autocommit;
-        was_open = rw c.close.ensures.same (λ clean on. opens.was_open clean);
-        kept = rw c.close.ensures.same (λ clean on. opens.same clean);
-        crash = rw c.close.ensures.same opens.crash;
+        was_open = rw c.close.ensures (λ clean on. opens.was_open clean);
+        kept = rw c.close.ensures (λ clean on. opens.same clean);
+        crash = rw c.close.ensures opens.crash;
       };
-      why = rw (c.refused.ensures, c.close.ensures.same)
+      why = rw (c.refused.ensures, c.close.ensures)
           (λ clean.
           let stored = rw (opens.same clean) at opens.stored clean in record {
             wrong_version = λ number is. absurd (no_version c.in-Err-from_objects.fault number is);
@@ -67,7 +63,6 @@ pub returns-in-Err-clause-fails : goal.returns-in-Err-clause-fails
 returns-in-Err-clause-fails g c =
     let fails = c.in-Err.ensures.fails in record {
       none = record {
-        autocommit = fails.rests.autocommit;
         was_open = fails.rests.opened;
         kept =
             fails.rests.same;

@@ -17,7 +17,7 @@ pub returns-clause-stays : goal.returns-clause-stays
 returns-clause-stays g c = record {
   settings = c.turns.invariant.settings;
   lasts = c.turns.invariant.lasts;
-  rows = c.stopped.ensures.held;
+  rows = c.keeps_its_rows.ensures.rows;
 }
 
 -- one more turn was taken and counted

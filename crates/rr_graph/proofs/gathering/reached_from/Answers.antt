@@ -7,20 +7,8 @@ pushed : {X : Type 0} (before after : List X) (x y : X) → after ≡ before ++ 
 pushed {X} before after x y push empty same = push ∙ ap (λ (l : List X). l ++ x ∷ []) empty
     ∙ ap (λ (z : X). z ∷ []) same
 
-pub returns-clause-found : goal.returns-clause-found
-returns-clause-found g c =
+pub returns : goal.returns
+returns g c =
     rw (pushed c.new-starts.result.items c.push.new.self.items c.in_ok-copy.field-0
     c.args.start.now c.in_ok-push.ensures.items c.new-starts.ensures.items
-    c.in_ok-copy.ensures) at c.reach.ensures.found
-
-pub returns-clause-few : goal.returns-clause-few
-returns-clause-few g c =
-    rw (pushed c.new-starts.result.items c.push.new.self.items c.in_ok-copy.field-0
-    c.args.start.now c.in_ok-push.ensures.items c.new-starts.ensures.items
-    c.in_ok-copy.ensures) at c.reach.ensures.few
-
-pub returns-clause-many : goal.returns-clause-many
-returns-clause-many g c =
-    rw (pushed c.new-starts.result.items c.push.new.self.items c.in_ok-copy.field-0
-    c.args.start.now c.in_ok-push.ensures.items c.new-starts.ensures.items
-    c.in_ok-copy.ensures) at c.reach.ensures.many
+    c.in_ok-copy.ensures) at c.reach.ensures

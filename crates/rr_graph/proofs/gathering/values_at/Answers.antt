@@ -6,7 +6,7 @@ use Rattle.std.proofs.lemmas.Bool.{true≢false}
 use Rattle.std.proofs.lemmas.Cmp.{eq_by_cmp_equiv}
 use Rattle.std.proofs.lemmas.List.{take_all}
 use Rattle.std.proofs.lemmas.Map.Views.{btree_set_contains_iff, tells_apart}
-use Rattle.std.proofs.lemmas.Result.{IfOk-weaker}
+use Rattle.rr_graph.proofs.Finding.{IfOk-both}
 use Rattle.rr_graph.proofs.OwnPairs.{values_more-other, values_more-same}
 use Rattle.rr_graph.proofs.gathering.values_at.Goals as goal
 use Rattle.rr_graph.proofs.gathering.values_at.Goals.{else-eq, then-eq+in_ok-insert}
@@ -42,8 +42,8 @@ loop-pair-preserved g c =
           c.loop-pair.invariant)
     ]
 
-pub returns-clause-found : goal.returns-clause-found
-returns-clause-found g c =
+pub returns : goal.returns
+returns g c =
     let all : (value : g.row.G-Value.Denot) →
     IsTrue (contains g.G.Value.Ord.cmp c.loop-pair.values value) ↔ Contains c.args.pairs.now
     (c.args.node.now, value) =
@@ -51,15 +51,17 @@ returns-clause-found g c =
     IsTrue (contains g.G.Value.Ord.cmp c.loop-pair.values value)
     ↔ Contains l (c.args.node.now, value)) (take_all c.loop-pair.pair-index c.args.pairs.now
     c.loop-pair-test.false) c.loop-pair.invariant in
-    IfOk-weaker c.ascending.result _ _
-    (λ list is value.
-    let among : IsTrue (contains g.G.Value.Ord.cmp c.loop-pair.values value)
-    ↔ Contains c.loop-pair.values.keys value =
-    btree_set_contains_iff g.met.G.Value.Ord.total g.met.G.Labelled.exact_values c.loop-pair.values
-    value in (
-      λ has.
-          (all value).0 (among.1 (subst (λ (l : List g.row.G-Value.Denot). Contains l value) is
-          has)),
-      λ has. rw is (among.0 ((all value).1 has)),
-    ))
-    c.ascending.ensures.same
+    IfOk-both c.ascending.result _ _ _
+    (λ list is sorted. record {
+      all = λ value.
+          let among : IsTrue (contains g.G.Value.Ord.cmp c.loop-pair.values value)
+          ↔ Contains c.loop-pair.values.keys value =
+          btree_set_contains_iff g.met.G.Value.Ord.total g.met.G.Labelled.exact_values
+          c.loop-pair.values value in (
+            λ has. (all value).0
+                (among.1 (subst (λ (l : List g.row.G-Value.Denot). Contains l value) is has)),
+            λ has. rw is (among.0 ((all value).1 has)),
+          );
+      sorted = sorted;
+    })
+    c.ascending.ensures.same c.ascending.ensures.sorted

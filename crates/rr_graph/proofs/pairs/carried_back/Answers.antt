@@ -28,9 +28,9 @@ returns-then-edges-le-FEW-clause-carried g c =
     c.carried.ensures
 
 pub returns-clause-known : goal.returns-clause-known
-returns-clause-known g c = c.in_ok-made.ensures.known
+returns-clause-known g c = (c.in_ok-made.ensures.made
     (edges_at g.G.Node.Ord.cmp c.args.pairs.now.backward.now.map) (sym c.at-edges.ensures)
-    c.requires
+    c.requires).1
 
 pub returns-clause-carried : goal.returns-clause-carried
 returns-clause-carried g c =
@@ -45,4 +45,4 @@ returns-clause-carried g c =
     subst (λ (l : List (Edge g.row.G-Node.Denot g.row.G-Label.Denot)). IsMadeBut g.G.Labelled.keeps
     g.G.Labelled.passed l c.args.pair.now.1 before c.in_ok-made.made.items) c.at-edges.ensures
     (c.in_ok-made.ensures.made (edges_at g.G.Node.Ord.cmp c.args.pairs.now.backward.now.map)
-    (sym c.at-edges.ensures) c.requires)
+    (sym c.at-edges.ensures) c.requires).0

@@ -25,16 +25,18 @@ loop-done-preserved g c =
           (known_run g.G.Labelled.passed (values_at g.G.Node.Ord.cmp c.args.settled.now.values)
           c.args.edges.now run c.loop-done.done (next - c.loop-done.done) _
           c.in-Some.starts.now refl one (sym c.in-Some.ensures) c.loop-done.invariant.1),
-      subst (λ n. (v : g.row.G-Value.Denot) → Contains c.pass_run.new.values.items v
-          ↔ (Contains c.args.values.now.items v ⊎ IsPassed g.G.Labelled.passed
+      subst (λ n. (v : g.row.G-Value.Denot) → Contains c.pass_run.new.collected.values.items v
+          ↔ (Contains c.args.collected.now.values.items v ⊎ IsPassed g.G.Labelled.passed
           (values_at g.G.Node.Ord.cmp c.args.settled.now.values) (take n c.args.edges.now) v)) same
           (IsPassed-run g.G.Labelled.passed (values_at g.G.Node.Ord.cmp c.args.settled.now.values)
-          c.args.values.now.items c.loop-done.values.items c.pass_run.new.values.items
+          c.args.collected.now.values.items c.loop-done.collected.values.items
+          c.pass_run.new.collected.values.items
           c.args.edges.now run c.loop-done.done (next - c.loop-done.done) refl
           c.loop-done.invariant.2
           (IsPassed-made g.G.Labelled.passed (values_at g.G.Node.Ord.cmp c.args.settled.now.values)
-          c.loop-done.values.items c.pass_run.new.values.items _ run c.in-Some.starts.now one
-          (sym c.in-Some.ensures) c.in_ok-last.ensures)),
+          c.loop-done.collected.values.items c.pass_run.new.collected.values.items _ run
+          c.in-Some.starts.now one
+          (sym c.in-Some.ensures) c.in_ok-pass_run.ensures)),
     )
 
 pub pass_run-requires : goal.pass_run-requires
@@ -53,6 +55,6 @@ returns-clause-known g c = λ _.
 pub returns-clause-passed : goal.returns-clause-passed
 returns-clause-passed g c = λ _.
     subst (λ (l : List (Edge g.row.G-Node.Denot g.row.G-Label.Denot)). (v : g.row.G-Value.Denot) →
-    Contains c.loop-done.values.items v ↔ (Contains c.args.values.now.items v
+    Contains c.loop-done.collected.values.items v ↔ (Contains c.args.collected.now.values.items v
     ⊎ IsPassed g.G.Labelled.passed (values_at g.G.Node.Ord.cmp c.args.settled.now.values) l v))
     (take_all c.loop-done.done c.args.edges.now c.loop-done-test.false) c.loop-done.invariant.2

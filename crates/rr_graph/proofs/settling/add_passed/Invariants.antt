@@ -9,8 +9,8 @@ invariant-loop-done g l =
     (l.done ≤ length l.edges)
     × ((e : Edge g.row.G-Node.Denot g.row.G-Label.Denot) → Contains (take l.done l.edges) e →
     is_some (values_at g.G.Node.Ord.cmp l.settled.values e.to) ≡ true)
-    × ((v : g.row.G-Value.Denot) → Contains l.values.items v
-    ↔ (Contains l.initial.values.items v ⊎ IsPassed g.G.Labelled.passed
+    × ((v : g.row.G-Value.Denot) → Contains l.collected.values.items v
+    ↔ (Contains l.initial.collected.values.items v ⊎ IsPassed g.G.Labelled.passed
     (values_at g.G.Node.Ord.cmp l.settled.values) (take l.done l.edges) v))
 
 abbrev pub decreases-loop-done : goal.decreases-loop-done

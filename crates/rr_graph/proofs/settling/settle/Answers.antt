@@ -1,8 +1,8 @@
-use Rattle.std.proofs.Common.{◌↔◌, Option, Contains, inl, inr, subst, ◌∙◌}
+use Rattle.std.proofs.Common.{Option, Contains, inl, inr, subst, ◌∙◌}
 use Rattle.std.specs.Global.{Vec}
-use Rattle.std.specs.List.Sorted.{IsStrictlySortedBy}
 use Rattle.std.specs.Option.{IfSome}
 use Rattle.std.proofs.lemmas.Result.{err_from_is_err_and}
+use Rattle.rr_graph.specs.Answered.{ListsInOrder}
 use Rattle.rr_graph.specs.Carried.{IsFound}
 use Rattle.rr_graph.specs.SettledParts.{IsHeldOr, values_at}
 use Rattle.rr_graph.proofs.KnownNodes.{HoldsAllValues-entered, only_entered}
@@ -12,21 +12,20 @@ use Rattle.rr_graph.proofs.settling.settle.Goals as goal
 pub returns-in_err-enter-clause-many : goal.returns-in_err-enter-clause-many
 returns-in_err-enter-clause-many g c = λ is.
     let found = subst (λ (o : Option (Vec g.row.G-Value.Denot)).
-    IfSome o (λ values. (v : g.row.G-Value.Denot) → Contains values.items v
-    ↔ IsFound (g.G.Labelled.edge c.args.graph.now) (g.G.Labelled.own c.args.graph.now)
-    g.G.Labelled.passed c.args.tail.now.node.now v)) c.in-Some.is
-    c.in_ok-values.ensures.found in
+    IfSome o (λ values. ListsInOrder g.G.Value.Ord.cmp (IsFound (g.G.Labelled.edge c.args.graph.now)
+    (g.G.Labelled.own c.args.graph.now) g.G.Labelled.passed c.args.node.now) values.items))
+    c.in-Some.is c.in_ok-values.ensures in
     let p = err_from_is_err_and c.from_residual-in_err-enter.result
     c.from_residual-in_err-enter.ensures.1 in
     MoreThan-weaker c.args.limit (IsHeldOr (values_at g.G.Node.Ord.cmp c.args.settled.now.values)
     c.in_ok-copy.field-0 (Contains c.in-Some.values.items))
-    (IsHeldOr (values_at g.G.Node.Ord.cmp c.args.settled.now.values) c.args.tail.now.node.now
+    (IsHeldOr (values_at g.G.Node.Ord.cmp c.args.settled.now.values) c.args.node.now
     (IsFound (g.G.Labelled.edge c.args.graph.now) (g.G.Labelled.own c.args.graph.now)
-    g.G.Labelled.passed c.args.tail.now.node.now))
+    g.G.Labelled.passed c.args.node.now))
     (λ q held. elim held [
       | inl before ↦ inl before
       | inr here ↦
-          inr (here.0 ∙ c.in_ok-copy.ensures, (found q.1).0 here.1)
+          inr (here.0 ∙ c.in_ok-copy.ensures, (found.all q.1).0 here.1)
     ])
     (c.in_err-enter.ensures.many (cc (is, p.1, p.2)))
 
@@ -36,15 +35,12 @@ returns-in_ok-enter-clause-settled g c =
     g.G.Labelled.passed g.G.Value.Ord.cmp
     (values_at g.G.Node.Ord.cmp c.args.settled.now.values) g.met.G.Labelled.exact_nodes
     (values_at g.G.Node.Ord.cmp c.enter.new.self.values)
-    c.args.tail.now.node.now c.in_ok-copy.field-0 c.in_ok-copy.ensures c.in-Some.values.items
+    c.args.node.now c.in_ok-copy.field-0 c.in_ok-copy.ensures c.in-Some.values.items
     c.in_ok-enter.ensures.entered c.requires.settled
     (subst (λ (o : Option (Vec g.row.G-Value.Denot)).
-    IfSome o (λ values. (v : g.row.G-Value.Denot) → Contains values.items v
-    ↔ IsFound (g.G.Labelled.edge c.args.graph.now) (g.G.Labelled.own c.args.graph.now)
-    g.G.Labelled.passed c.args.tail.now.node.now v)) c.in-Some.is c.in_ok-values.ensures.found)
-    (subst (λ (o : Option (Vec g.row.G-Value.Denot)).
-    IfSome o (λ values. IsStrictlySortedBy g.G.Value.Ord.cmp values.items)) c.in-Some.is
-    c.in_ok-values.ensures.sorted)
+    IfSome o (λ values. ListsInOrder g.G.Value.Ord.cmp (IsFound (g.G.Labelled.edge c.args.graph.now)
+    (g.G.Labelled.own c.args.graph.now) g.G.Labelled.passed c.args.node.now) values.items))
+    c.in-Some.is c.in_ok-values.ensures)
 
 pub returns-in_ok-enter-clause-only : goal.returns-in_ok-enter-clause-only
 returns-in_ok-enter-clause-only g c =
@@ -52,5 +48,5 @@ returns-in_ok-enter-clause-only g c =
     g.G.Labelled.passed g.G.Value.Ord.cmp
     (values_at g.G.Node.Ord.cmp c.args.settled.now.values) g.met.G.Labelled.exact_nodes
     (values_at g.G.Node.Ord.cmp c.enter.new.self.values)
-    c.args.tail.now.node.now c.in_ok-copy.field-0 c.in_ok-copy.ensures c.in-Some.values.items
+    c.args.node.now c.in_ok-copy.field-0 c.in_ok-copy.ensures c.in-Some.values.items
     c.in_ok-enter.ensures.entered

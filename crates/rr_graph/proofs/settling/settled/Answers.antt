@@ -7,7 +7,7 @@ use Rattle.rr_graph.specs.declared.settled.Settled.{Settled}
 use Rattle.rr_graph.proofs.KnownNodes.{IsFoundAmong-held, IsTallied-none, among_only}
 use Rattle.rr_graph.proofs.Listings.{MoreThan-weaker}
 use Rattle.rr_graph.proofs.settling.settled.Goals as goal
-use Rattle.rr_graph.proofs.settling.settled.Goals.{in-Some+in_ok-tail+in_ok-settle, in_default}
+use Rattle.rr_graph.proofs.settling.settled.Goals.{in-Some+in_ok-settle, in_default}
 
 pub loop-place-init : goal.loop-place-init
 loop-place-init g c = (
@@ -26,22 +26,20 @@ loop-place-preserved g c =
     λ settled. HoldsAllValues (g.G.Labelled.edge c.args.graph.now)
     (g.G.Labelled.own c.args.graph.now) g.G.Labelled.passed g.G.Value.Ord.cmp
     (values_at g.G.Node.Ord.cmp settled.values)
-    × IsAmong c.args.nodes.now (values_at g.G.Node.Ord.cmp settled.values)
+    × IsAmong c.args.ordered.now.nodes.now (values_at g.G.Node.Ord.cmp settled.values)
     × IsTallied (values_at g.G.Node.Ord.cmp settled.values) c.args.limit settled.pairs in
     elim c.match-get.branch [
-      | in-Some+in_ok-tail+in_ok-settle w ↦
-          let listed : Contains c.args.nodes.now w.in-Some.node.now = (
+      | in-Some+in_ok-settle w ↦
+          let listed : Contains c.args.ordered.now.nodes.now w.in-Some.node.now = (
             _,
             w.in-Some.ensures.lookup.3.0,
             sym (w.in-Some.ensures.lookup.3.1 w.in-Some.node.now),
           ) in
-          let there : Contains c.args.nodes.now w.in_ok-tail.tail.node.now =
-          subst (Contains c.args.nodes.now) (sym w.in_ok-tail.ensures.node) listed in
           subst Kept (sym w.settled-is) (
             w.in_ok-settle.ensures.settled,
-            among_only c.args.nodes.now w.in_ok-tail.tail.node.now
+            among_only c.args.ordered.now.nodes.now w.in-Some.node.now
                 (values_at g.G.Node.Ord.cmp c.loop-place.settled.values)
-                (values_at g.G.Node.Ord.cmp w.settle.new.settled.values) there
+                (values_at g.G.Node.Ord.cmp w.settle.new.settled.values) listed
                 c.loop-place.invariant.1 w.in_ok-settle.ensures.only,
             w.in_ok-settle.ensures.tallied,
           )
@@ -50,19 +48,16 @@ loop-place-preserved g c =
 
 pub returns-in_err-settle-clause-many : goal.returns-in_err-settle-clause-many
 returns-in_err-settle-clause-many g c = λ is.
-    let listed : Contains c.args.nodes.now c.in-Some.node.now =
+    let listed : Contains c.args.ordered.now.nodes.now c.in-Some.node.now =
     (_, c.in-Some.ensures.lookup.3.0, sym (c.in-Some.ensures.lookup.3.1 c.in-Some.node.now)) in
-    let there : Contains c.args.nodes.now c.in_ok-tail.tail.node.now =
-    subst (Contains c.args.nodes.now) (sym c.in_ok-tail.ensures.node) listed in
-    let p = err_from_is_err_and c.from_residual-in_err-settle.result
-    c.from_residual-in_err-settle.ensures.1 in
+    let p = err_from_is_err_and c.from_residual.result c.from_residual.ensures.1 in
     MoreThan-weaker c.args.limit (IsHeldOr (values_at g.G.Node.Ord.cmp c.loop-place.settled.values)
-    c.in_ok-tail.tail.node.now (IsFound (g.G.Labelled.edge c.args.graph.now)
-    (g.G.Labelled.own c.args.graph.now) g.G.Labelled.passed c.in_ok-tail.tail.node.now))
+    c.in-Some.node.now (IsFound (g.G.Labelled.edge c.args.graph.now)
+    (g.G.Labelled.own c.args.graph.now) g.G.Labelled.passed c.in-Some.node.now))
     (IsFoundAmong (g.G.Labelled.edge c.args.graph.now) (g.G.Labelled.own c.args.graph.now)
-    g.G.Labelled.passed c.args.nodes.now)
+    g.G.Labelled.passed c.args.ordered.now.nodes.now)
     (IsFoundAmong-held (g.G.Labelled.edge c.args.graph.now) (g.G.Labelled.own c.args.graph.now)
     g.G.Labelled.passed g.G.Value.Ord.cmp
-    (values_at g.G.Node.Ord.cmp c.loop-place.settled.values) c.args.nodes.now
-    c.in_ok-tail.tail.node.now c.loop-place.invariant.0 c.loop-place.invariant.1 there)
+    (values_at g.G.Node.Ord.cmp c.loop-place.settled.values) c.args.ordered.now.nodes.now
+    c.in-Some.node.now c.loop-place.invariant.0 c.loop-place.invariant.1 listed)
     (c.in_err-settle.ensures.many (cc (is, p.1, p.2)))

@@ -5,5 +5,5 @@ abbrev pub invariant-loop-place : goal.invariant-loop-place
 invariant-loop-place g l =
     HoldsAllValues (g.G.Labelled.edge l.graph) (g.G.Labelled.own l.graph) g.G.Labelled.passed
     g.G.Value.Ord.cmp (values_at g.G.Node.Ord.cmp l.settled.values)
-    × IsAmong l.nodes (values_at g.G.Node.Ord.cmp l.settled.values)
+    × IsAmong l.ordered.nodes.now (values_at g.G.Node.Ord.cmp l.settled.values)
     × IsTallied (values_at g.G.Node.Ord.cmp l.settled.values) l.limit l.settled.pairs

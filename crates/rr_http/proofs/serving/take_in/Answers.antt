@@ -16,10 +16,10 @@ returns-then-stopped g c =
 pub returns-in-Ok : goal.returns-in-Ok
 returns-in-Ok g c =
     let law = g.met.C.Connection in
-    inr (taken_in g.C.Source g.C.Sink law.read_leaves_sink law.write_leaves_source g.D.Registrar _ _
-    _ _ _ _ c.args.conn.now c.read_body.new.reader c.submit_read.new.writer _
-    (sym c.stopped.ensures ∙ c.if-stopped.false) c.in-Ok.ensures.reads
-    (rw c.deref.ensures.value at c.submit_read.ensures))
+    rw c.end_by.ensures (inr (taken_in g.C.Source g.C.Sink law.read_leaves_sink
+    law.write_leaves_source g.D.Registrar _ _ _ _ _ _ c.args.conn.now c.read_body.new.reader
+    c.submit_read-failed.new.writer _ (sym c.stopped.ensures ∙ c.if-stopped.false)
+    c.in-Ok.ensures.reads (rw c.deref.ensures.value at (c.submit_read-failed.ensures c.in-Ok.end))))
 
 pub returns-in-Err : goal.returns-in-Err
 returns-in-Err g c =

@@ -15,7 +15,7 @@ returns g c =
     let r = g.B.Book.contents c.args.book.now in
     let lists : ListsOnce (IsReferrer r c.args.name.now) c.deref.result.now =
     subst (ListsOnce (IsReferrer r c.args.name.now)) (sym c.deref.ensures.value)
-    c.in_ok-referrers.ensures.lists in
+    c.in_ok-referrers.ensures.all in
     IfOk-weaker c.taken.result _ _
     (λ objects is. those_belong r c.args.name.now c.args.set.now.by_ref c.deref.result.now
     objects.items lists is)

@@ -8,7 +8,7 @@ pub returns-in_ok-aut_nums : goal.returns-in_ok-aut_nums
 returns-in_ok-aut_nums g c =
     let lists : ListsOnce (IsAutNum (g.B.Book.contents c.args.book.now)) c.deref.result.now =
     subst (ListsOnce (IsAutNum (g.B.Book.contents c.args.book.now))) (sym c.deref.ensures.value)
-    c.in_ok-aut_nums.ensures.lists in
+    c.in_ok-aut_nums.ensures.all in
     IfOk-weaker c.numbers_of.result _ _
     (λ numbers is n.
     let same = numbers_of_aut_nums (g.B.Book.contents c.args.book.now) c.aut_nums.ensures.sound

@@ -10,7 +10,7 @@ returns-in_ok-routes g c =
     let lists : ListsOnce (IsRegisteredRoute (g.B.Book.contents c.args.book.now))
     c.deref.result.now =
     subst (ListsOnce (IsRegisteredRoute (g.B.Book.contents c.args.book.now)))
-    (sym c.deref.ensures.value) c.in_ok-routes.ensures.lists in
+    (sym c.deref.ensures.value) c.in_ok-routes.ensures.all in
     IfOk-weaker c.ranges_of.result _ _
     (λ ranges is range.
     let same = ranges_of_all (g.B.Book.contents c.args.book.now) c.routes.ensures.sound

@@ -10,7 +10,7 @@ returns g c =
     (λ ranges is range.
     let same = ranges_originated (g.B.Book.contents c.args.book.now) c.prefixes_of.ensures.sound
     c.args.origin c.deref.result.now
-    (c.deref.ensures.value ∙ c.in_ok-prefixes_of.ensures.found) range in (
+    (c.deref.ensures.value ∙ c.in_ok-prefixes_of.ensures.all) range in (
       λ has. same.0 (subst (λ (l : List RangeParts). Contains l range) is has),
       λ originated.
           rw is (same.1 originated),

@@ -9,7 +9,7 @@ use Rattle.rr_store.proofs.AddingLemmas.{HasAltered, added_more, none_added}
 use Rattle.rr_store.proofs.bodies.add_names.Goals as goal
 
 pub loop-name-init : goal.loop-name-init
-loop-name-init g c = (refl, none_added g.S.Store c.args.tx.now.conn.now c.requires)
+loop-name-init g c = (refl, none_added g.S.Store c.args.tx.now.conn.now)
 
 pub loop-name-preserved : goal.loop-name-preserved
 loop-name-preserved g c =
@@ -27,7 +27,8 @@ loop-name-preserved g c =
           (added_more g.S.Store c.args.tx.now.conn.now c.loop-name.tx.conn.now
           c.add_name.new.tx.conn.now (map row (take at names)) (row name)
           c.loop-name.invariant.1
-          (λ clean. rw c.as_bytes.ensures.value at (c.in_ok-_count.ensures.step.made clean))
+          (λ over clean. rw c.as_bytes.ensures.value at (c.in_ok-_count.ensures.step.made over
+          clean))
           c.in_ok-_count.ensures.step.goes_on c.in_ok-_count.ensures.step.kept
           c.in_ok-_count.ensures.step.survives),
     )
@@ -41,10 +42,10 @@ returns g c = record {
       omega (arith, c.loop-name-test.false, c.loop-name.auto.name-index-end) in
       let all = ap (λ n. take n names) last ∙ take-length names in
       record {
-        made = λ clean on. subst (λ xs. Alters (state g.S.Store c.args.tx.now.conn.now).now
+        made = λ over clean on. subst (λ xs. Alters (state g.S.Store c.args.tx.now.conn.now).now
             (state g.S.Store c.loop-name.tx.conn.now).now 4
             (Adds (map (λ name. named_values name c.args.class c.args.key.now) xs))) all
-            (c.loop-name.invariant.1.done clean on);
+            (c.loop-name.invariant.1.done over clean on);
         goes_on = c.loop-name.invariant.1.step;
         kept = c.loop-name.invariant.1.kept;
         survives = c.loop-name.invariant.1.survives;

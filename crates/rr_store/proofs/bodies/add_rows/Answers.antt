@@ -10,7 +10,7 @@ returns g c = record {
       ∙ c.in_ok-_object.ensures.same_reference;
   step =
       steps_ok g.S.Store _ (steps_more g.S.Store c.in_ok-_object.ensures.step
-      c.in_ok-add_names.ensures.step refl (λ clean first second.
+      c.in_ok-add_names.ensures.step refl (λ clean on made. made.tidy) (λ clean first second.
       let added = added_by c.class-class.result c.key-key.result.now c.body.result.now
       c.names.result.now (state g.S.Store c.args.tx.now.conn.now).now
       (state g.S.Store c.add_object.new.tx.conn.now).now

@@ -9,6 +9,7 @@ returns g c = record {
   same_reference = c.add_rows.ensures.same_reference ∙ c.in_ok-remove_rows.ensures.same_reference;
   step =
       steps_then g.S.Store c.in_ok-remove_rows.ensures.step c.add_rows.ensures.step refl
+      (λ clean on made. made.tidy)
       (λ clean first added.
       let taken = rw (c.class.ensures, c.key.ensures) at first in
       put_by c.args.entry.now (state g.S.Store c.args.tx.now.conn.now).now

@@ -9,7 +9,7 @@ use Rattle.rr_store.proofs.bodies.remove_names.Goals as goal
 
 pub loop-name-init : goal.loop-name-init
 loop-name-init g c =
-    (refl, none_removed c.args.class c.args.key.now g.S.Store c.args.tx.now.conn.now c.requires)
+    (refl, none_removed c.args.class c.args.key.now g.S.Store c.args.tx.now.conn.now)
 
 pub loop-name-preserved : goal.loop-name-preserved
 loop-name-preserved g c =
@@ -26,7 +26,8 @@ loop-name-preserved g c =
           (removed_more c.args.class c.args.key.now g.S.Store c.args.tx.now.conn.now
           c.loop-name.tx.conn.now c.remove_name.new.tx.conn.now (take at names) name
           c.loop-name.invariant.1
-          (λ clean. rw c.as_bytes.ensures.value at (c.in_ok-_count.ensures.step.made clean))
+          (λ over clean. rw c.as_bytes.ensures.value at (c.in_ok-_count.ensures.step.made over
+          clean))
           c.in_ok-_count.ensures.step.goes_on c.in_ok-_count.ensures.step.kept
           c.in_ok-_count.ensures.step.survives),
     )
@@ -40,10 +41,10 @@ returns g c = record {
       omega (arith, c.loop-name-test.false, c.loop-name.auto.name-index-end) in
       let all = ap (λ n. take n names) last ∙ take-length names in
       record {
-        made = λ clean on. subst (λ ns. Alters (state g.S.Store c.args.tx.now.conn.now).now
+        made = λ over clean on. subst (λ ns. Alters (state g.S.Store c.args.tx.now.conn.now).now
             (state g.S.Store c.loop-name.tx.conn.now).now 4
             (Removes (is_name_among c.args.class c.args.key.now ns))) all
-            (c.loop-name.invariant.1.done clean on);
+            (c.loop-name.invariant.1.done over clean on);
         goes_on = c.loop-name.invariant.1.step;
         kept = c.loop-name.invariant.1.kept;
         survives = c.loop-name.invariant.1.survives;

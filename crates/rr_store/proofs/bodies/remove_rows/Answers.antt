@@ -10,7 +10,7 @@ returns g c = record {
       ∙ c.in_ok-forget_names.ensures.same_reference;
   step =
       steps_ok g.S.Store _ (steps_then g.S.Store c.in_ok-forget_names.ensures.step
-      c.in_ok-_removed.ensures.step refl (λ clean first second.
+      c.in_ok-_removed.ensures.step refl (λ clean on made. made.tidy) (λ clean first second.
       taken_by c.args.class c.args.key.now (state g.S.Store c.args.tx.now.conn.now).now
       (state g.S.Store c.forget_names.new.tx.conn.now).now
       (state g.S.Store c.remove_object.new.tx.conn.now).now first second)) refl;

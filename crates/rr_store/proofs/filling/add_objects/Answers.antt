@@ -12,7 +12,7 @@ use Rattle.rr_store.proofs.filling.add_objects.Goals as goal
 
 pub loop-object-init : goal.loop-object-init
 loop-object-init g c =
-    (refl, record { read = tt; filled = none_filled g.S.Store c.args.tx.now.conn.now c.requires })
+    (refl, record { read = tt; filled = none_filled g.S.Store c.args.tx.now.conn.now })
 
 pub loop-object-preserved : goal.loop-object-preserved
 loop-object-preserved g c =
@@ -28,7 +28,8 @@ loop-object-preserved g c =
           (object_filled g.S.Store c.args.tx.now.conn.now c.loop-object.tx.conn.now
           c.add_rows.new.tx.conn.now (lent (take at objects)) object.now
           c.in_ok-entry.ensures.object c.loop-object.invariant.1
-          (λ clean. rw c.in_ok-entry.ensures.entry at (c.in_ok-add_rows.ensures.step.made clean))
+          (λ over clean. rw c.in_ok-entry.ensures.entry at (c.in_ok-add_rows.ensures.step.made
+          over clean))
           c.in_ok-add_rows.ensures.step.goes_on c.in_ok-add_rows.ensures.step.kept
           c.in_ok-add_rows.ensures.step.survives),
     )
@@ -42,11 +43,11 @@ returns-clause-steps g c = record {
       omega (arith, c.loop-object-test.false, c.loop-object.auto.object-index-end) in
       let all = ap (λ n. take n objects) last ∙ take-length objects in
       record {
-        made = λ clean on.
+        made = λ over clean on.
             subst (λ xs. IsAdded (map entry_of (lent xs))
             (state g.S.Store c.args.tx.now.conn.now).now
             (state g.S.Store c.loop-object.tx.conn.now).now) all
-            (c.loop-object.invariant.1.filled.done clean on);
+            (c.loop-object.invariant.1.filled.done over clean on);
         goes_on = c.loop-object.invariant.1.filled.step;
         kept = c.loop-object.invariant.1.filled.kept;
         survives = c.loop-object.invariant.1.filled.survives;

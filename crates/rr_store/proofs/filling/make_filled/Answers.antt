@@ -1,27 +1,38 @@
-use Rattle.std.proofs.Common.{◌∙◌, arith, refl}
+use Rattle.std.proofs.Common.{◌∙◌, arith, inl, refl}
 use Rattle.sqlite.specs.Held.{state}
+use Rattle.rr_store.specs.FillingParts.{IsBlank}
+use Rattle.rr_store.specs.StepParts.{Step}
 use Rattle.rr_store.proofs.OtherLemmas.{tables_made}
 use Rattle.rr_store.proofs.BodyLemmas.{then_ok}
 use Rattle.rr_store.proofs.StepLemmas.{steps_then}
 use Rattle.rr_store.proofs.filling.make_filled.Goals as goal
 
-pub returns-clause-tables : goal.returns-clause-tables
-returns-clause-tables g c clean =
-    let last = c.fill.ensures.steps.step.survives.clean in
-    let first = c.in_ok-make_tables.ensures.steps.step.survives.clean in
-    let mid = c.in_ok-make_tables.ensures.steps.step.goes_on (omega (arith, last)) in
-    let blank = c.requires (omega (arith, last, first))
-    ((c.in_ok-make_tables.ensures.steps.step.kept (omega (arith, last))).was_open mid.is_open) in
-    then_ok c.fill.result (c.fill.ensures.others clean) (λ others.
-    tables_made (state g.S.Store c.args.tx.now.conn.now).now
-    (state g.S.Store c.fill.new.tx.conn.now).now blank
-    (others.schema ∙ c.in_ok-make_tables.ensures.schema (omega (arith, last))))
-
-pub returns-clause-steps : goal.returns-clause-steps
-returns-clause-steps g c = record {
-  same_reference = c.fill.ensures.steps.same_reference
-      ∙ c.in_ok-make_tables.ensures.steps.same_reference;
+pub returns : goal.returns
+returns g c = record {
+  same_reference = c.fill.ensures.same_reference ∙ c.in_ok-make_tables.ensures.same_reference;
   step =
-      steps_then g.S.Store c.in_ok-make_tables.ensures.steps.step
-      c.fill.ensures.steps.step refl (λ clean bare store. store);
+      let made = c.in_ok-make_tables.ensures.step in
+      let filled = c.fill.ensures.step in
+      let all : Step g.S.Store IsBlank (λ _ _. Unit {0}) c.args.tx.now.conn.now
+      c.fill.new.tx.conn.now c.fill.result = steps_then g.S.Store made filled refl
+      (λ clean on tables. tables.bare) (λ clean first second. tt) in
+      record {
+        made = λ over clean.
+            let last = filled.survives.clean in
+            let first = made.survives.clean in
+            let mid = made.goes_on (omega (arith, clean, last)) in
+            let tables = made.made over (omega (arith, clean, last)) in
+            let blank = over (omega (arith, clean, last, first))
+            ((made.kept (omega (arith, clean, last))).was_open mid.is_open) in
+            then_ok c.fill.result (filled.made (λ clean on. tables.bare) clean) (λ rows. record {
+              vacant = inl blank;
+              tables = tables_made (state g.S.Store c.args.tx.now.conn.now).now
+                  (state g.S.Store c.fill.new.tx.conn.now).now blank
+                  (rows.others.schema ∙ tables.schema);
+              rows = rows.store;
+            });
+        goes_on = all.goes_on;
+        kept = all.kept;
+        survives = all.survives;
+      };
 }

@@ -14,11 +14,8 @@ use Rattle.rr_store.proofs.migrating.migrate_rows.Goals as goal
 pub rewrite-requires : goal.rewrite-requires
 rewrite-requires g c =
     let held = c.in_ok-objects.ensures.inspects in
-    record {
-      autocommit = held.looks.rests.autocommit;
-      over = λ clean. subst IsTidy (sym (held.looks.same clean).0.now_is)
-          (held.read (omega (arith, clean, held.looks.rests.crash.clean))).rows.tidy;
-    }
+    λ clean. subst IsTidy (sym (held.looks.same clean).0.now_is)
+    (held.read (omega (arith, clean, held.looks.rests.crash.clean))).rows.tidy
 
 pub returns-in_ok-rewrite-clause-migrates : goal.returns-in_ok-rewrite-clause-migrates
 returns-in_ok-rewrite-clause-migrates g c =

@@ -6,41 +6,39 @@ use Rattle.rr_store.proofs.StatementLemmas.{numbers_named}
 use Rattle.rr_store.proofs.CauseLemmas.{named_numbers_told}
 use Rattle.rr_store.proofs.InspectLemmas.{counted, not_counted}
 use Rattle.rr_store.proofs.LookLemmas.{plain_of}
-use Rattle.rr_store.proofs.StreamLemmas.{Begins, begins}
+use Rattle.rr_store.proofs.StreamLemmas.{Begins, begins, begun_open}
 use Rattle.std.proofs.lemmas.Result.{err_from_is_err_and}
 use Rattle.rr_store.proofs.row_reading.count_named.Goals as goal
 
 pub returns-in_err-rows : goal.returns-in_err-rows
 returns-in_err-rows g c =
     let old = c.args.conn.now in
-    let refused = rw c.in_err-rows.was at c.query.follows.holds-at-none in
+    let refused = rw c.conn.view_is at (rw c.in_err-rows.was at c.query.follows.holds-at-none) in
     let exit = err_from_is_err_and c.from_residual.result c.from_residual.ensures.1 in
-    rw (exit.1, exit.2) (not_counted g.S.Store named_numbers [] named_numbers_told old
-    c.query.follows.lender-at-none (c.note_committed.ensures c.requires.autocommit)
-    (λ clean. plain_of old.schema named_numbers _ named_numbers_is (c.requires.over clean))
-    (refused.mode c.requires.autocommit) c.in_err-rows.field-0.0 refused.err refused.survives 4)
+    rw (exit.1, exit.2) (λ over. not_counted g.S.Store named_numbers [] named_numbers_told old
+    c.query.follows.lender-at-none c.note_committed.ensures.committed
+    (λ clean. plain_of old.schema named_numbers _ named_numbers_is (over clean))
+    c.in_err-rows.field-0.0 refused.err refused.survives 4)
 
 pub count_numbered-requires : goal.count_numbered-requires
 count_numbered-requires g c clean =
-    let b : Begins g.S.Store named_numbers [] c.args.conn.now c.in_ok-rows.rows.conn.now =
-    begins g.S.Store named_numbers [] c.args.conn.now c.in_ok-rows.rows.conn.now
-    (λ clean. plain_of c.args.conn.now.schema named_numbers _ named_numbers_is
-    (c.requires.over clean)) c.in_ok-rows.ensures.begun c.in_ok-rows.ensures.survives in
-    (b.same clean).0.is_open
+    begun_open g.S.Store named_numbers [] c.conn.inside.inner c.in_ok-rows.rows.conn.now
+    (c.in_ok-rows.ensures.begun clean)
 
 pub returns : goal.returns
-returns g c =
+returns g c over =
     let old = c.args.conn.now in
     let begun = c.in_ok-rows.rows.conn.now in
     let new = c.count_numbered.new.rows.conn.now in
     let b : Begins g.S.Store named_numbers [] old begun = begins g.S.Store named_numbers [] old
     begun
-    (λ clean. plain_of old.schema named_numbers _ named_numbers_is (c.requires.over clean))
-    c.in_ok-rows.ensures.begun c.in_ok-rows.ensures.survives in
+    (λ clean. plain_of old.schema named_numbers _ named_numbers_is (over clean))
+    (rw c.conn.view_is at c.in_ok-rows.ensures.begun)
+    (rw c.conn.view_is at c.in_ok-rows.ensures.survives) in
     let all : Counts g.S.Store 4 old new c.count_numbered.result =
     counted g.S.Store named_numbers [] named_numbers_told old new
-    (c.note_committed.ensures c.requires.autocommit) begun b
-    (c.in_ok-rows.ensures.mode c.requires.autocommit) c.requires.over c.count_numbered.result
+    c.note_committed.ensures.committed begun b
+    over c.count_numbered.result
     c.count_numbered.ensures.streams.left _ _ named_numbers_is refl 4 numbers_named
     (λ tidy. tidy.named) c.count_numbered.ensures.numbered c.count_numbered.ensures.fails in
     search rules

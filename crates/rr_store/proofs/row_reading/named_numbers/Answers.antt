@@ -1,5 +1,6 @@
 use Rattle.std.proofs.Common.{arith, []}
 use Rattle.sqlite.specs.Held.{state}
+use Rattle.rr_store.specs.Calls.{Looks}
 use Rattle.rr_store.specs.Texts.{named_numbers}
 use Rattle.rr_store.proofs.TextLemmas.{named_numbers_is}
 use Rattle.rr_store.proofs.StatementLemmas.{numbers_named}
@@ -8,22 +9,20 @@ use Rattle.rr_store.proofs.CauseLemmas.{named_numbers_told}
 use Rattle.rr_store.proofs.FailureLemmas.{asks_fail}
 use Rattle.rr_store.proofs.row_reading.named_numbers.Goals as goal
 
-pub look-requires-clause-plain : goal.look-requires-clause-plain
-look-requires-clause-plain g c clean = plain_of c.args.conn.now.schema named_numbers _
-    named_numbers_is (c.requires.over clean)
-
 pub returns : goal.returns
-returns g c =
+returns g c over =
     let old = state g.S.Store c.args.conn.now in
     let new = state g.S.Store c.look.new.conn in
+    let looks : Looks g.S.Store c.args.conn.now c.look.new.conn c.look.result =
+    c.look.ensures.looks (λ clean. plain_of c.args.conn.now.schema named_numbers _ named_numbers_is
+    (over clean)) in
     record {
-      looks = c.look.ensures.looks;
+      looks = looks;
       found = λ clean.
-          let tables =
-          c.requires.over (omega (arith, clean, c.look.ensures.looks.rests.crash.clean)) in
+          let tables = over (omega (arith, clean, looks.rests.crash.clean)) in
           shown_of c.look.result _ _ _ old new _ (c.look.ensures.shown clean)
           (λ rows h. numbers_named old new tables rows.items h);
       cause = asks_fail g.S.Store named_numbers [] named_numbers_told c.args.conn.now
-          c.look.new.conn c.look.result c.requires.over c.look.ensures.looks.rests.crash
+          c.look.new.conn c.look.result over looks.rests.crash
           c.look.ensures.refused;
     }

@@ -5,7 +5,7 @@ use Rattle.sqlite_value.specs.declared.value.Value.TheVariants.{Text}
 use Rattle.rr_store.specs.CheckParts.{HasBadRow, NamedPointsTo, NamedPointsToNone}
 use Rattle.rr_store.specs.Contents.{contents, pointed}
 use Rattle.rr_store.specs.declared.store_fault.OpenFault.TheVariants.{Memory}
-use Rattle.rr_store.proofs.StreamLemmas.{Begins, begins, begun_answer, whole_answer}
+use Rattle.rr_store.proofs.StreamLemmas.{Begins, begins, begun_answer, begun_open, whole_answer}
 use Rattle.std.proofs.lemmas.Result.{IfOk-weaker, err_from_is_err_and}
 use Rattle.sqlite.specs.Held.{state}
 use Rattle.sqlite.specs.State.{HasCleanDisk}
@@ -23,44 +23,41 @@ use Rattle.rr_store.proofs.row_reading.read_naming.Goals as goal
 pub returns-in_err-rows-clause-inspects : goal.returns-in_err-rows-clause-inspects
 returns-in_err-rows-clause-inspects g c =
     let old = c.args.conn.now in
-    let refused = rw c.in_err-rows.was at c.query.follows.holds-at-none in
+    let refused = rw c.conn.view_is at (rw c.in_err-rows.was at c.query.follows.holds-at-none) in
     let exit = err_from_is_err_and c.from_residual.result c.from_residual.ensures.1 in
-    rw (exit.1, exit.2) (not_asked g.S.Store select_naming (Text c.args.name.now ∷ [])
+    rw (exit.1, exit.2) (λ over. not_asked g.S.Store select_naming (Text c.args.name.now ∷ [])
     (select_naming_told c.args.name.now) old
-    c.query.follows.lender-at-none (c.note_committed.ensures c.requires.autocommit)
-    (λ clean. plain_of old.schema select_naming _ select_naming_is (c.requires.over clean))
-    (refused.mode c.requires.autocommit) c.in_err-rows.field-0.0 refused.err refused.survives _ _)
+    c.query.follows.lender-at-none c.note_committed.ensures.committed
+    (λ clean. plain_of old.schema select_naming _ select_naming_is (over clean))
+    c.in_err-rows.field-0.0 refused.err refused.survives _ _)
 
 pub take_objects-requires : goal.take_objects-requires
 take_objects-requires g c clean =
-    let b : Begins g.S.Store select_naming (Text c.args.name.now ∷ []) c.args.conn.now
-    c.in_ok-rows.rows.conn.now =
-    begins g.S.Store select_naming (Text c.args.name.now ∷ []) c.args.conn.now
+    begun_open g.S.Store select_naming (Text c.args.name.now ∷ []) c.conn.inside.inner
     c.in_ok-rows.rows.conn.now
-    (λ clean. plain_of c.args.conn.now.schema select_naming _ select_naming_is
-    (c.requires.over clean)) c.in_ok-rows.ensures.begun c.in_ok-rows.ensures.survives in
-    (b.same clean).0.is_open
+    (c.in_ok-rows.ensures.begun clean)
 
 pub returns-clause-inspects : goal.returns-clause-inspects
-returns-clause-inspects g c =
+returns-clause-inspects g c over =
     let old = c.args.conn.now in
     let begun = c.in_ok-rows.rows.conn.now in
     let new = c.take_objects.new.rows.conn.now in
     let b : Begins g.S.Store select_naming (Text c.args.name.now ∷ []) old begun =
     begins g.S.Store select_naming (Text c.args.name.now ∷ []) old begun
-    (λ clean. plain_of old.schema select_naming _ select_naming_is (c.requires.over clean))
-    c.in_ok-rows.ensures.begun c.in_ok-rows.ensures.survives in
+    (λ clean. plain_of old.schema select_naming _ select_naming_is (over clean))
+    (rw c.conn.view_is at c.in_ok-rows.ensures.begun)
+    (rw c.conn.view_is at c.in_ok-rows.ensures.survives) in
     let first : HasCleanDisk (state g.S.Store new) → HasCleanDisk (state g.S.Store begun) = λ clean.
     omega (arith, clean, c.take_objects.ensures.streams.left.survives.clean) in
     let tables : HasCleanDisk (state g.S.Store new) → HasTables old.schema = λ clean.
-    c.requires.over (let before = first clean in omega (arith, before, b.survives.clean)) in
+    over (let before = first clean in omega (arith, before, b.survives.clean)) in
     let all : Inspects g.S.Store old new c.take_objects.result
     (λ db objects. NamedPointsTo c.args.source.now c.args.name.now objects.items db)
     (HasBadRow (NamedPointsToNone c.args.source.now c.args.name.now)) =
     inspected g.S.Store select_naming (Text c.args.name.now ∷ [])
     (select_naming_told c.args.name.now) old new
-    (c.note_committed.ensures c.requires.autocommit) begun b
-    (c.in_ok-rows.ensures.mode c.requires.autocommit) c.take_objects.result
+    c.note_committed.ensures.committed begun b
+    c.take_objects.result
     (λ db objects. NamedPointsTo c.args.source.now c.args.name.now objects.items db)
     (HasBadRow (NamedPointsToNone c.args.source.now c.args.name.now))
     c.take_objects.ensures.streams.left
@@ -93,14 +90,15 @@ returns-clause-inspects g c =
     search rules
 
 pub returns-clause-memory : goal.returns-clause-memory
-returns-clause-memory g c =
+returns-clause-memory g c over =
     let old = c.args.conn.now in
     let begun = c.in_ok-rows.rows.conn.now in
     let new = c.take_objects.new.rows.conn.now in
     let b : Begins g.S.Store select_naming (Text c.args.name.now ∷ []) old begun =
     begins g.S.Store select_naming (Text c.args.name.now ∷ []) old begun
-    (λ clean. plain_of old.schema select_naming _ select_naming_is (c.requires.over clean))
-    c.in_ok-rows.ensures.begun c.in_ok-rows.ensures.survives in
+    (λ clean. plain_of old.schema select_naming _ select_naming_is (over clean))
+    (rw c.conn.view_is at c.in_ok-rows.ensures.begun)
+    (rw c.conn.view_is at c.in_ok-rows.ensures.survives) in
     let told : HasCleanDisk (state g.S.Store new) → IfErr c.take_objects.result
     (λ fault. fault ≡ Memory → IsUnchanged (state g.S.Store old) (state g.S.Store new)) =
     λ clean.

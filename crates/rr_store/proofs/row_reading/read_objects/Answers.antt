@@ -1,7 +1,7 @@
 use Rattle.std.proofs.Common.{◌++◌, rules, arith, [], map, refl}
 use Rattle.rr_store.specs.CheckParts.{HasBadRow, TableGives, TableHoldsNone}
 use Rattle.rr_store.specs.Contents.{IsInRank, by_one, contents, numbered}
-use Rattle.rr_store.proofs.StreamLemmas.{Begins, begins, begun_answer, whole_answer}
+use Rattle.rr_store.proofs.StreamLemmas.{Begins, begins, begun_answer, begun_open, whole_answer}
 use Rattle.rr_store.proofs.TidyLemmas.{contents_of}
 use Rattle.std.proofs.lemmas.Result.{IfOk-weaker, err_from_is_err_and}
 use Rattle.sqlite.specs.Held.{state}
@@ -20,40 +20,38 @@ use Rattle.rr_store.proofs.row_reading.read_objects.Goals as goal
 pub returns-in_err-rows-clause-inspects : goal.returns-in_err-rows-clause-inspects
 returns-in_err-rows-clause-inspects g c =
     let old = c.args.conn.now in
-    let refused = rw c.in_err-rows.was at c.query.follows.holds-at-none in
+    let refused = rw c.conn.view_is at (rw c.in_err-rows.was at c.query.follows.holds-at-none) in
     let exit = err_from_is_err_and c.from_residual.result c.from_residual.ensures.1 in
-    rw (exit.1, exit.2) (not_asked g.S.Store select_object [] select_object_told old
-    c.query.follows.lender-at-none (c.note_committed.ensures c.requires.autocommit)
-    (λ clean. plain_of old.schema select_object _ select_object_is (c.requires.over clean))
-    (refused.mode c.requires.autocommit) c.in_err-rows.field-0.0 refused.err refused.survives _ _)
+    rw (exit.1, exit.2) (λ over. not_asked g.S.Store select_object [] select_object_told old
+    c.query.follows.lender-at-none c.note_committed.ensures.committed
+    (λ clean. plain_of old.schema select_object _ select_object_is (over clean))
+    c.in_err-rows.field-0.0 refused.err refused.survives _ _)
 
 pub take_objects-requires : goal.take_objects-requires
 take_objects-requires g c clean =
-    let b : Begins g.S.Store select_object [] c.args.conn.now c.in_ok-rows.rows.conn.now =
-    begins g.S.Store select_object [] c.args.conn.now c.in_ok-rows.rows.conn.now
-    (λ clean. plain_of c.args.conn.now.schema select_object _ select_object_is
-    (c.requires.over clean)) c.in_ok-rows.ensures.begun c.in_ok-rows.ensures.survives in
-    (b.same clean).0.is_open
+    begun_open g.S.Store select_object [] c.conn.inside.inner c.in_ok-rows.rows.conn.now
+    (c.in_ok-rows.ensures.begun clean)
 
 pub returns-clause-inspects : goal.returns-clause-inspects
-returns-clause-inspects g c =
+returns-clause-inspects g c over =
     let old = c.args.conn.now in
     let begun = c.in_ok-rows.rows.conn.now in
     let new = c.take_objects.new.rows.conn.now in
     let b : Begins g.S.Store select_object [] old begun = begins g.S.Store select_object [] old
     begun
-    (λ clean. plain_of old.schema select_object _ select_object_is (c.requires.over clean))
-    c.in_ok-rows.ensures.begun c.in_ok-rows.ensures.survives in
+    (λ clean. plain_of old.schema select_object _ select_object_is (over clean))
+    (rw c.conn.view_is at c.in_ok-rows.ensures.begun)
+    (rw c.conn.view_is at c.in_ok-rows.ensures.survives) in
     let first : HasCleanDisk (state g.S.Store new) → HasCleanDisk (state g.S.Store begun) = λ clean.
     omega (arith, clean, c.take_objects.ensures.streams.left.survives.clean) in
     let tables : HasCleanDisk (state g.S.Store new) → HasTables old.schema = λ clean.
-    c.requires.over (let before = first clean in omega (arith, before, b.survives.clean)) in
+    over (let before = first clean in omega (arith, before, b.survives.clean)) in
     let all : Inspects g.S.Store old new c.take_objects.result
     (λ db objects. TableGives c.args.version c.args.source.now objects.items db)
     (HasBadRow (TableHoldsNone c.args.version c.args.source.now)) =
     inspected g.S.Store select_object [] select_object_told old new
-    (c.note_committed.ensures c.requires.autocommit) begun b
-    (c.in_ok-rows.ensures.mode c.requires.autocommit) c.take_objects.result
+    c.note_committed.ensures.committed begun b
+    c.take_objects.result
     (λ db objects. TableGives c.args.version c.args.source.now objects.items db)
     (HasBadRow (TableHoldsNone c.args.version c.args.source.now))
     c.take_objects.ensures.streams.left

@@ -1,5 +1,6 @@
 use Rattle.std.proofs.Common.{arith, []}
 use Rattle.sqlite.specs.Held.{state}
+use Rattle.rr_store.specs.Calls.{Looks}
 use Rattle.rr_store.specs.Texts.{select_sorted_named}
 use Rattle.rr_store.proofs.TextLemmas.{select_sorted_named_is}
 use Rattle.rr_store.proofs.StatementLemmas.{selects_sorted_named}
@@ -8,22 +9,21 @@ use Rattle.rr_store.proofs.CauseLemmas.{select_sorted_named_told}
 use Rattle.rr_store.proofs.FailureLemmas.{asks_fail}
 use Rattle.rr_store.proofs.row_reading.sorted_named_rows.Goals as goal
 
-pub look-requires-clause-plain : goal.look-requires-clause-plain
-look-requires-clause-plain g c clean = plain_of c.args.conn.now.schema select_sorted_named _
-    select_sorted_named_is (c.requires.over clean)
-
 pub returns : goal.returns
-returns g c =
+returns g c over =
     let old = state g.S.Store c.args.conn.now in
     let new = state g.S.Store c.look.new.conn in
+    let looks : Looks g.S.Store c.args.conn.now c.look.new.conn c.look.result =
+    c.look.ensures.looks (λ clean. plain_of c.args.conn.now.schema select_sorted_named _
+    select_sorted_named_is
+    (over clean)) in
     record {
-      looks = c.look.ensures.looks;
+      looks = looks;
       found = λ clean.
-          let tables =
-          c.requires.over (omega (arith, clean, c.look.ensures.looks.rests.crash.clean)) in
+          let tables = over (omega (arith, clean, looks.rests.crash.clean)) in
           shown_of c.look.result _ _ _ old new _ (c.look.ensures.shown clean)
           (λ rows h. selects_sorted_named old new tables rows.items h);
       cause = asks_fail g.S.Store select_sorted_named [] select_sorted_named_told
-          c.args.conn.now c.look.new.conn c.look.result c.requires.over
-          c.look.ensures.looks.rests.crash c.look.ensures.refused;
+          c.args.conn.now c.look.new.conn c.look.result over looks.rests.crash
+          c.look.ensures.refused;
     }

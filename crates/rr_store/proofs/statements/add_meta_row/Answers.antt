@@ -1,4 +1,4 @@
-use Rattle.std.proofs.Common.{arith, [], ◌∷◌}
+use Rattle.std.proofs.Common.{[], ◌∷◌}
 use Rattle.sqlite_value.specs.declared.value.Value.TheVariants.{Text}
 use Rattle.sqlite.specs.Held.{state}
 use Rattle.rr_store.specs.Texts.{insert_meta}
@@ -14,8 +14,7 @@ returns g c = record {
       let new = c.execute.new.self.conn.now in
       statement_steps g.S.Store old new insert_meta (Text c.args.name.now ∷ Text c.args.value.now
       ∷ []) c.execute.result c.execute.ensures.ended c.execute.ensures.runs
-      c.execute.ensures.survives _
-      (λ clean count ran on. inserts_meta c.args.name.now c.args.value.now (state g.S.Store old)
-      (state g.S.Store new) (c.requires (omega (arith, clean, c.execute.ensures.survives.clean))
-      on) count ran);
+      c.execute.ensures.survives _ _
+      (λ clean count ran seen. inserts_meta c.args.name.now c.args.value.now (state g.S.Store old)
+      (state g.S.Store new) seen count ran);
 }

@@ -1,4 +1,4 @@
-use Rattle.std.proofs.Common.{rules, ◌≡◌, w64, pos, arith}
+use Rattle.std.proofs.Common.{rules, ◌≡◌, w64, pos}
 use Rattle.rr_store.specs.Contents.{object_values}
 use Rattle.std.proofs.lemmas.Int.{to_z-of_z}
 use mir.Val.{to_z, of_z}
@@ -19,8 +19,8 @@ returns g c = record {
       statement_steps g.S.Store old new insert_object (object_values c.args.class c.args.key.now
       c.args.body.now) c.execute.result c.execute.ensures.ended
       (λ clean on. (rw (c.from.ensures, same) at (c.execute.ensures.runs clean on)))
-      c.execute.ensures.survives _
-      (λ clean count ran on. inserts_object c.args.class c.args.key.now c.args.body.now
+      c.execute.ensures.survives _ _
+      (λ clean count ran seen. inserts_object c.args.class c.args.key.now c.args.body.now
       (state g.S.Store old) (state g.S.Store new)
-      (c.requires (omega (arith, clean, c.execute.ensures.survives.clean)) on) count ran);
+      seen count ran);
 }

@@ -1,4 +1,4 @@
-use Rattle.std.proofs.Common.{arith, []}
+use Rattle.std.proofs.Common.{[]}
 use Rattle.sqlite.specs.Held.{state}
 use Rattle.rr_store.specs.Texts.{clear_meta}
 use Rattle.rr_store.proofs.StatementLemmas.{clears_meta}
@@ -12,7 +12,7 @@ returns g c = record {
       let old = c.args.tx.now.conn.now in
       let new = c.execute.new.self.conn.now in
       statement_steps g.S.Store old new clear_meta ([]) c.execute.result c.execute.ensures.ended
-      c.execute.ensures.runs c.execute.ensures.survives _
-      (λ clean count ran on. clears_meta (state g.S.Store old) (state g.S.Store new)
-      (c.requires (omega (arith, clean, c.execute.ensures.survives.clean)) on) count ran);
+      c.execute.ensures.runs c.execute.ensures.survives _ _
+      (λ clean count ran seen. clears_meta (state g.S.Store old) (state g.S.Store new)
+      seen count ran);
 }

@@ -1,4 +1,4 @@
-use Rattle.std.proofs.Common.{rules, ◌≡◌, w64, pos, arith, [], ◌∷◌}
+use Rattle.std.proofs.Common.{rules, ◌≡◌, w64, pos, [], ◌∷◌}
 use Rattle.sqlite_value.specs.declared.value.Value.TheVariants.{Int, Text}
 use Rattle.std.proofs.lemmas.Int.{to_z-of_z}
 use mir.Val.{to_z, of_z}
@@ -19,8 +19,7 @@ returns g c = record {
       statement_steps g.S.Store old new delete_object (Int (pos c.args.class) ∷ Text c.args.key.now
       ∷ []) c.execute.result c.execute.ensures.ended
       (λ clean on. (rw (c.from.ensures, same) at (c.execute.ensures.runs clean on)))
-      c.execute.ensures.survives _
-      (λ clean count ran on. deletes_object c.args.class c.args.key.now (state g.S.Store old)
-      (state g.S.Store new) (c.requires (omega (arith, clean, c.execute.ensures.survives.clean))
-      on) count ran);
+      c.execute.ensures.survives _ _
+      (λ clean count ran seen. deletes_object c.args.class c.args.key.now (state g.S.Store old)
+      (state g.S.Store new) seen count ran);
 }

@@ -37,7 +37,8 @@ returns-clause-steps g c = record {
       plain_of old.now.schema select_of_key _ select_of_key_is
       (c.requires (omega (arith, clean, c.query_all.ensures.survives.clean)) on).has in
       record {
-        made = λ clean. then_ok c.query_all.result (asked_same (λ rows. rows.items) select_of_key _
+        made = λ over clean. then_ok c.query_all.result
+            (asked_same (λ rows. rows.items) select_of_key _
             old new (plain clean) c.query_all.result (c.query_all.ensures.ok clean))
             (λ same. same.0.now_is);
         goes_on = λ clean. asked_step (λ rows. rows.items) select_of_key _ old new (plain clean)

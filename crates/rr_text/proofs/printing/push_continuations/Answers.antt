@@ -6,11 +6,13 @@ use Rattle.rr_text.proofs.KeptLemmas.{ended_by, further_more, further_text, step
 use Rattle.rr_text.proofs.PrintLemmas.{starts_more, starts_then}
 use Rattle.rr_text.proofs.printing.push_continuations.Goals as goal
 
-pub returns-then-opens_attribute-clause-ok : goal.returns-then-opens_attribute-clause-ok
-returns-then-opens_attribute-clause-ok c =
-    ended_by _ _ _ c.lines.invariant.0
-    (ap further_text (ap continued c.split_line.ensures.lines
-    ∙ (opened _ _ _ c.of-kind.ensures (cc)).lines))
+pub returns-then-opens_attribute : goal.returns-then-opens_attribute
+returns-then-opens_attribute c = record {
+  ok = ended_by _ _ _ c.lines.invariant.0
+      (ap further_text (ap continued c.split_line.ensures.lines
+      ∙ (opened _ _ _ c.of-kind.ensures (cc)).lines));
+  err = tt;
+}
 
 pub lines-preserved : goal.lines-preserved
 lines-preserved c = (
@@ -20,7 +22,10 @@ lines-preserved c = (
   starts_then _ _ _ c.lines.invariant.1 (starts_more _ _ _ c.in_ok-push_continuation.ensures.ok),
 )
 
-pub returns-clause-ok : goal.returns-clause-ok
-returns-clause-ok c =
-    let none : length c.lines.rest.now ≡ 0 = grind (arith, nat_tests) in
-    ended_by _ _ _ c.lines.invariant.0 (ap further_text (entries_none c.lines.rest.now none).0)
+pub returns : goal.returns
+returns c =
+    let none : length c.lines.rest.now ≡ 0 = grind (arith, nat_tests) in record {
+      ok = ended_by _ _ _ c.lines.invariant.0
+          (ap further_text (entries_none c.lines.rest.now none).0);
+      err = tt;
+    }

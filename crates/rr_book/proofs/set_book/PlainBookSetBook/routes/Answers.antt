@@ -6,9 +6,11 @@ use Rattle.rr_book.specs.SetLists.{is_of_class}
 use Rattle.rr_book.proofs.SetLists.{lists_routes}
 use Rattle.rr_book.proofs.set_book.PlainBookSetBook.routes.Goals as goal
 
-pub returns-clause-lists : goal.returns-clause-lists
-returns-clause-lists c =
-    IfOk-weaker c.objects_of_class.result _ _
-    (λ found is. lists_routes c.args.self.now c.as_slice.ensures.sound found.items
-    (is ∙ ap (filter (is_of_class Route)) c.as_slice.ensures.objects))
-    c.objects_of_class.ensures
+pub returns : goal.returns
+returns c = record {
+  all = IfOk-weaker c.objects_of_class.result _ _
+      (λ found is. lists_routes c.args.self.now c.as_slice.ensures.sound found.items
+      (is ∙ ap (filter (is_of_class Route)) c.as_slice.ensures.objects))
+      c.objects_of_class.ensures;
+  sound = c.as_slice.ensures.sound;
+}

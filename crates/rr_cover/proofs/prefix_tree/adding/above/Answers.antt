@@ -1,4 +1,4 @@
-use Rattle.std.proofs.Common.{◌≡◌, false, sym, ◌∙◌}
+use Rattle.std.proofs.Common.{◌≡◌, false, sym, ◌∙◌, rules}
 use Rattle.std.specs.Ordering.{eq_by_cmp}
 use Rattle.rr_number.specs.Prefixes.{span_of}
 use Rattle.rr_number.specs.Spans.{span_cmp}
@@ -13,20 +13,25 @@ make_root-requires-else-is_upper g c =
     let node = c.args.node.value in
     let apart : in_upper node.prefix (span_of c.args.root) ≡ false =
     sym (rw (c.deref.ensures, c.span.ensures) at c.if-is_upper.ensures) in
-    let lies = lies_lower node.prefix c.args.root c.requires.masked
-    (root_masked c.args.tree c.args.root c.requires.tree c.requires.root) c.requires.covered
+    let lies = lies_lower node.prefix c.args.root c.requires.ready.masked
+    (root_masked c.args.tree c.args.root c.requires.ready.tree c.requires.ready.root)
+    c.requires.covered
     (λ same. one_way node.prefix c.args.root c.requires.short same) apart in (
       record {
-        masked = c.requires.masked;
+        masked = c.requires.ready.masked;
         low = rooted_on c.args.tree c.args.root node.prefix false
-            c.requires.root lies;
+            c.requires.ready.root lies;
         high = tt;
       },
-      (c.requires.tree, tt),
+      (c.requires.ready.tree, tt),
     )
 
-pub returns-else-is_upper-clause-all : goal.returns-else-is_upper-clause-all
-returns-else-is_upper-clause-all g c = λ s.
-    c.make_root-else-is_upper.ensures.all s ∙ above_all
-    (eq_by_cmp span_cmp s (span_of c.args.node.value.prefix)) c.args.value
-    (standing c.args.tree s)
+pub returns-else-is_upper : goal.returns-else-is_upper
+returns-else-is_upper g c = record {
+  all = λ s.
+      c.make_root-else-is_upper.ensures.all s ∙ above_all
+      (eq_by_cmp span_cmp s (span_of c.args.node.value.prefix)) c.args.value
+      (standing c.args.tree s);
+  tree = search rules;
+  root = search rules;
+}

@@ -13,4 +13,4 @@ returns-clause-root g c = λ p side is_p lies rooted.
     (rw c.deref-2.ensures at c.parting.ensures) in
     rooted_on c.beside.result fork.prefix p side c.beside.ensures.root
     (parting_lies p fork.prefix node.prefix c.args.root side is_p parting lies
-    (root_on c.args.tree.now c.args.root p side c.requires.root rooted))
+    (root_on c.args.tree.now c.args.root p side c.requires.ready.root rooted))

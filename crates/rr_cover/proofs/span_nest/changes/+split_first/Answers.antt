@@ -1,22 +1,24 @@
-use Rattle.std.proofs.Common.{◌≡◌, true, sym, ◌∙◌}
+use Rattle.std.proofs.Common.{◌≡◌, true, sym, ◌∙◌, rules}
 use Rattle.rr_cover.specs.SpanNests.{is_ahead, at_span, standing}
 use Rattle.rr_cover.proofs.NestTurns.{only_rest, first_of_all, only_made, after_chain, split_all}
 use Rattle.rr_cover.proofs.span_nest.changes.+split_first.Goals as goal
 
-pub rebalance-rest-requires-clause-fits : goal.rebalance-rest-requires-clause-fits
-rebalance-rest-requires-clause-fits g t c =
-    let root = c.args.root.value in
-    let first = c.split_first-first.result.0.value in
-    let rest = c.split_first-first.result.1 in
-    record {
-      ordered = c.requires.fits.ordered;
-      ahead = only_rest (λ s. is_ahead s root.span) c.args.before first.span first.value rest
-          (record {
-            all = λ s. c.split_first-first.ensures.all s
-                ∙ sym (c.in-Some.ensures.some.all s);
-          }) c.requires.fits.ahead;
-      after = c.requires.fits.after;
-    }
+pub rebalance-rest-requires : goal.rebalance-rest-requires
+rebalance-rest-requires g t c = record {
+  fits = let root = c.args.root.value in
+      let first = c.split_first-first.result.0.value in
+      let rest = c.split_first-first.result.1 in
+      record {
+        ordered = c.requires.fits.ordered;
+        ahead = only_rest (λ s. is_ahead s root.span) c.args.before first.span first.value rest
+            (record {
+              all = λ s. c.split_first-first.ensures.all s
+                  ∙ sym (c.in-Some.ensures.some.all s);
+            }) c.requires.fits.ahead;
+        after = c.requires.fits.after;
+      };
+  nests = search rules;
+}
 
 pub returns-clause-all : goal.returns-clause-all
 returns-clause-all g t c = λ s.

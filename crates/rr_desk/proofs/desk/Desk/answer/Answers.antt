@@ -25,4 +25,5 @@ asks g desk text answer gives writes = record {
 }
 
 pub returns-clause-event : goal.returns-clause-event
-returns-clause-event g c = asks g.S.Store _ _ _ c.found-found.ensures c.write_found.ensures.writes
+returns-clause-event g c = asks g.S.Store _ _ _ c.found-found.ensures.gives
+    c.write_found.ensures.writes

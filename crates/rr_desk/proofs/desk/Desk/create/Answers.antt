@@ -5,14 +5,11 @@ use Rattle.rr_desk.proofs.desk.Desk.create.Goals as goal
 
 pub returns-in_default-clause-fails : goal.returns-in_default-clause-fails
 returns-in_default-clause-fails g c = record {
-  none = untouched_back _ _ _ c.requires.autocommit;
+  none = untouched_back _ _ _;
   not_empty = λ is clean. absurd (cc);
   store = λ error is. absurd (cc);
   untabled = λ error is. absurd (cc);
 }
-
-pub create_stored-requires : goal.create_stored-requires
-create_stored-requires g c = record { autocommit = c.requires.autocommit }
 
 pub same-settings : goal.same-settings
 same-settings g c = refl

@@ -2,9 +2,6 @@ use Rattle.std.proofs.Common.{refl}
 use Rattle.rr_desk.specs.Histories.Happens.{opening, no_opening}
 use Rattle.rr_desk.proofs.desk.Desk.open.Goals as goal
 
-pub open_stored-requires : goal.open_stored-requires
-open_stored-requires g c = record { autocommit = c.requires.autocommit }
-
 pub same-settings : goal.same-settings
 same-settings g c = refl
 

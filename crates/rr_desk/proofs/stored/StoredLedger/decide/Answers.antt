@@ -15,6 +15,15 @@ invariant_of-self g c = λ running.
     (rw c.parts-item.ensures.item at c.apply-outcome.ensures.step))
     c.in-Ok.ensures.follows
 
+pub returns-in-Ok-clause-kept : goal.returns-in-Ok-clause-kept
+returns-in-Ok-clause-kept g c = λ running.
+    still_held g.S.Store c.self.inside.store c.follow.new.store c.self.inside.registry
+    c.apply-outcome.new.self c.parts-item.result.0.now c.apply-outcome.result _
+    (c.self.invariant running)
+    (leads_at _ _ _ _ _ _ c.parts-item.ensures.key
+    (rw c.parts-item.ensures.item at c.apply-outcome.ensures.step))
+    c.in-Ok.ensures.follows
+
 pub follow-requires : goal.follow-requires
 follow-requires g c =
     stands_after c.self.inside.registry c.parts-item.result.0.now c.apply-outcome.result

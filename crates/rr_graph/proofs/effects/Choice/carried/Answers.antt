@@ -1,28 +1,19 @@
-use Rattle.std.proofs.Common.{◌++◌, List, Option, ap, not, subst, ◌∙◌}
+use Rattle.std.proofs.Common.{◌++◌, List, Option, ap, false, subst, ◌∙◌}
 use Rattle.std.specs.Global.{Vec}
 use Rattle.std.specs.List.{filter_map}
 use Rattle.std.specs.Option.{IfSome}
 use Rattle.std.proofs.lemmas.Result.{IfOk-weaker}
 use Rattle.rr_graph.specs.EffectParts.{IsEnough, changed}
 use Rattle.rr_graph.specs.declared.labels.Edge.{Edge}
-use Rattle.rr_graph.proofs.Enough.{IsMadeBut-all, IsMadeBut-chosen, IsMadeBut-keeping, pair_by}
+use Rattle.rr_graph.proofs.Enough.{IsMadeBut-all, IsMadeBut-chosen, pair_by}
 use Rattle.rr_graph.proofs.effects.Choice.carried.Goals as goal
-
-pub returns-then-not-others : goal.returns-then-not-others
-returns-then-not-others g c = λ chosen.
-    IfOk-weaker c.carried.result _ _
-    (λ pairs is. IsMadeBut-keeping g.G.Labelled.keeps g.G.Labelled.passed c.args.edges.now
-    c.args.value c.args.self.now chosen (not c.args.others) pairs.items
-    (ap not c.if-not-others.true)
-    (is ∙ ap (filter_map (pair_by g.G.Labelled.passed c.args.value)) c.deref.ensures.value))
-    c.carried.ensures
 
 pub returns-in_default : goal.returns-in_default
 returns-in_default g c = λ _.
-    IfOk-weaker c.carried-in_default.result _ _
+    IfOk-weaker c.carried.result _ _
     (λ pairs is. IsMadeBut-all g.G.Labelled.keeps g.G.Labelled.passed c.args.edges.now c.args.value
-    (not c.args.others) pairs.items is)
-    c.carried-in_default.ensures
+    false pairs.items is)
+    c.carried.ensures
 
 pub returns : goal.returns
 returns g c = λ chosen.
@@ -35,9 +26,9 @@ returns g c = λ chosen.
     IfSome o (λ kept. IsEnough (changed g.G.Labelled.keeps g.G.Labelled.passed)
     c.args.edges.now c.args.value kept.items)) c.in-Some.is chosen.changing in
     IsMadeBut-chosen g.G.Labelled.keeps g.G.Labelled.passed c.args.edges.now c.args.value
-    c.args.self.now chosen c.in-Some.changing.items enough (not c.args.others)
+    c.args.self.now chosen c.in-Some.changing.items enough false
     c.append.new.self.items
     (c.in_ok-append.ensures.items ∙ ap (λ (l : List P). l ++ c.in_ok-more.more.items)
-    (c.in_ok-pairs.ensures ∙ ap (filter_map by) c.deref-2.ensures.value)
+    (c.in_ok-pairs.ensures ∙ ap (filter_map by) c.deref.ensures.value)
     ∙ ap (λ (l : List P). filter_map by c.args.self.now.keeping.items ++ l)
-    (c.in_ok-more.ensures ∙ ap (filter_map by) c.deref-3.ensures.value))
+    (c.in_ok-more.ensures ∙ ap (filter_map by) c.deref-2.ensures.value))

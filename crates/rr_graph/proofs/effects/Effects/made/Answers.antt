@@ -12,26 +12,6 @@ not-not : (b : Bool) → not (not b) ≡ b
 not-not true = refl
 not-not false = refl
 
-pub returns-clause-known : goal.returns-clause-known
-returns-clause-known g c = λ all same known.
-    let Key : Type 0 = g.row.G-Node.Denot × g.row.G-Kind.Denot in
-    let cmp : Key → Key → Ordering = λ x y. ordering_then (g.G.Node.Ord.cmp x.0 y.0)
-    (g.G.Kind.Ord.cmp x.1 y.1) in
-    c.in_ok-note.ensures.known all same
-    (subst (λ (m : BTreeMap Key (Choice g.row.G-Node.Denot g.row.G-Label.Denot)).
-    IsKnown g.G.Labelled.keeps g.G.Labelled.passed g.G.Labelled.kind_of all (get cmp m))
-    (sym c.mark.ensures.map) known)
-
-pub returns-clause-marked : goal.returns-clause-marked
-returns-clause-marked g c =
-    let Key : Type 0 = g.row.G-Node.Denot × g.row.G-Kind.Denot in
-    let M : Type 0 = Key × g.row.G-Group.Denot in
-    let cmp : M → M → Ordering = λ x y. ordering_then (ordering_then (g.G.Node.Ord.cmp x.0.0 y.0.0)
-    (g.G.Kind.Ord.cmp x.0.1 y.0.1)) (g.G.Group.Ord.cmp x.1 y.1) in
-    subst (λ (m : BTreeSet M). AddsAtMost (contains cmp c.args.self.now.marks) (contains cmp m)
-    ((c.args.node.now, g.G.Labelled.kind_of c.args.value), g.G.Labelled.group_of c.args.value))
-    (sym c.note.ensures.marks) c.in_ok-first.ensures.marked
-
 pub returns-clause-made : goal.returns-clause-made
 returns-clause-made g c = λ all same known.
     let Key : Type 0 = g.row.G-Node.Denot × g.row.G-Kind.Denot in
@@ -41,7 +21,7 @@ returns-clause-made g c = λ all same known.
     let cmp : M → M → Ordering = λ x y. ordering_then (ordering_then (g.G.Node.Ord.cmp x.0.0 y.0.0)
     (g.G.Kind.Ord.cmp x.0.1 y.0.1)) (g.G.Group.Ord.cmp x.1 y.1) in
     let mark : M = (
-      (c.args.node.now, g.G.Labelled.kind_of c.args.value),
+      (c.args.head.now.node.now, g.G.Labelled.kind_of c.args.value),
       g.G.Labelled.group_of
           c.args.value,
     ) in
@@ -52,6 +32,24 @@ returns-clause-made g c = λ all same known.
     IsKnown g.G.Labelled.keeps g.G.Labelled.passed g.G.Labelled.kind_of all (get kind_cmp m))
     (sym c.mark.ensures.map) known) in
     let before : not c.in_ok-first.first ≡ contains cmp c.args.self.now.marks mark =
-    ap not c.in_ok-first.ensures.first ∙ not-not (contains cmp c.args.self.now.marks mark) in
-    subst (λ (b : Bool). IsMadeBut g.G.Labelled.keeps g.G.Labelled.passed c.args.edges.now
-    c.args.value b c.in_ok-pairs.pairs.items) before (c.in_ok-pairs.ensures all same known_now)
+    ap not c.in_ok-first.ensures.marked.is_first ∙ not-not
+    (contains cmp c.args.self.now.marks mark) in (
+      subst (λ (b : Bool). IsMadeBut g.G.Labelled.keeps g.G.Labelled.passed
+          c.args.head.now.edges.now
+          c.args.value b c.in_ok-pairs.pairs.items) before
+          (c.in_ok-pairs.ensures all same known_now),
+      known_now,
+    )
+
+pub returns-clause-marked : goal.returns-clause-marked
+returns-clause-marked g c =
+    let Key : Type 0 = g.row.G-Node.Denot × g.row.G-Kind.Denot in
+    let M : Type 0 = Key × g.row.G-Group.Denot in
+    let cmp : M → M → Ordering = λ x y. ordering_then (ordering_then (g.G.Node.Ord.cmp x.0.0 y.0.0)
+    (g.G.Kind.Ord.cmp x.0.1 y.0.1)) (g.G.Group.Ord.cmp x.1 y.1) in
+    subst (λ (m : BTreeSet M). AddsAtMost (contains cmp c.args.self.now.marks) (contains cmp m) (
+      (c.args.head.now.node.now, g.G.Labelled.kind_of c.args.value),
+      g.G.Labelled.group_of
+          c.args.value,
+    ))
+    (sym c.note.ensures.marks) c.in_ok-first.ensures.marked.marked

@@ -1,11 +1,11 @@
 use Rattle.std.proofs.Common.{◌≡◌, ◌⊎◌, ◌++◌, [], ◌∷◌, List, Contains, append_assoc, sym, ap, ◌∙◌}
-use Rattle.std.proofs.Common.{inl, inr}
+use Rattle.std.proofs.Common.{rules, inl, inr, subst}
 use Rattle.std.proofs.lemmas.List.{append-nil}
 use Rattle.std.proofs.lemmas.List.Elements.{Contains-append_left, Contains-append_right}
 use Rattle.std.proofs.lemmas.List.Elements.{Contains-push}
 use Rattle.std.proofs.lemmas.Result.{err_from_is_err_and}
 use Rattle.rr_graph.specs.ListingParts.{Lists}
-use Rattle.rr_graph.proofs.Listings.{Lists-more, Lists-none, MoreThan-weaker}
+use Rattle.rr_graph.proofs.Listings.{Contains-single, Lists-more, Lists-none, MoreThan-weaker}
 use Rattle.rr_graph.proofs.walk.Found.add_all.Goals as goal
 
 pub loop-node-init : goal.loop-node-init
@@ -31,8 +31,8 @@ loop-node-preserved g c =
 
 -- what the walk had and the node are among what it began with and the nodes
 earlier : {N : Type 0} (old nodes rest taken now : List N) (node : N) → nodes ≡ rest ++ taken →
-    Lists old taken now → Contains rest node → (other : N) → Contains now other ⊎ (other ≡ node) →
-    Contains old other ⊎ Contains nodes other
+    Lists old taken now → Contains rest node → (other : N) →
+    Contains now other ⊎ Contains (node ∷ []) other → Contains old other ⊎ Contains nodes other
 earlier old nodes rest taken now node cut added among other has =
     elim has [
       | inl there ↦ elim (added.only other there) [
@@ -40,17 +40,22 @@ earlier old nodes rest taken now node cut added among other has =
         | inr later ↦
             inr (rw cut (Contains-append_right rest taken other later))
       ]
-      | inr same ↦ inr (rw (cut, same) (Contains-append_left rest taken node among))
+      | inr here ↦ inr (rw cut (Contains-append_left rest taken other
+          (subst (Contains rest) (Contains-single node other here) among)))
     ]
 
-pub returns-in_err-add-clause-many : goal.returns-in_err-add-clause-many
-returns-in_err-add-clause-many g c = λ is.
-    let p = err_from_is_err_and c.from_residual.result c.from_residual.ensures.1 in
-    MoreThan-weaker c.args.limit (λ (other : g.row.N.Denot). Contains c.loop-node.self.list.items
-    other ⊎ (other ≡ c.in-Some.node)) (λ (other : g.row.N.Denot).
-    Contains c.args.self.now.list.items other ⊎ Contains c.args.nodes.items other)
-    (earlier c.args.self.now.list.items c.args.nodes.items c.loop-node.nodes.items
-    c.loop-node.invariant.taken c.loop-node.self.list.items c.in-Some.node
-    c.loop-node.invariant.cut c.loop-node.invariant.added
-    (rw c.in-Some.ensures.items (Contains-push c.pop.new.self.items c.in-Some.node)))
-    (c.in_err-add.ensures.many (cc (is, p.1, p.2)))
+pub returns-in_err-add : goal.returns-in_err-add
+returns-in_err-add g c =
+    let p = err_from_is_err_and c.from_residual.result c.from_residual.ensures.1 in record {
+      listing = search rules;
+      added = search rules;
+      many = λ is. MoreThan-weaker c.args.limit (λ (other : g.row.N.Denot).
+          Contains c.loop-node.self.list.items other ⊎ Contains (c.in-Some.node ∷ []) other)
+          (λ (other : g.row.N.Denot).
+          Contains c.args.self.now.list.items other ⊎ Contains c.args.nodes.items other)
+          (earlier c.args.self.now.list.items c.args.nodes.items c.loop-node.nodes.items
+          c.loop-node.invariant.taken c.loop-node.self.list.items c.in-Some.node
+          c.loop-node.invariant.cut c.loop-node.invariant.added
+          (rw c.in-Some.ensures.items (Contains-push c.pop.new.self.items c.in-Some.node)))
+          (c.in_err-add.ensures.many (cc (is, p.1, p.2)));
+    }

@@ -49,9 +49,11 @@ invariant_of-self-in-Ok c =
     let named = c.in_ok-sets.ensures.ok in
     let left = c.leave_names.ensures in
     record {
-      sound = subst Sound (sym c.in-Ok.ensures.ok) (subst (λ (s : Reg). Sound (insert s o.key o))
+      sound = subst Sound (sym c.in-Ok.ensures.puts.ok)
+          (subst (λ (s : Reg). Sound (insert s o.key o))
           (sym c.self.view_is) c.requires.sound);
-      indexes = subst (λ (s : Reg). HasIndexes s c.leave_names.new.self) (sym c.in-Ok.ensures.ok)
+      indexes = subst (λ (s : Reg). HasIndexes s c.leave_names.new.self)
+          (sym c.in-Ok.ensures.puts.ok)
           (record {
             keys = record {
               spans = subst (λ (spans : SpanIndex). HasSpans (insert r o.key o) spans.inetnums

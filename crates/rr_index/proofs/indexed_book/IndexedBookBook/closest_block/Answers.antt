@@ -8,7 +8,7 @@ use Rattle.rr_index.proofs.indexed_book.IndexedBookBook.closest_block.Goals as g
 pub returns-in-Some : goal.returns-in-Some
 returns-in-Some c =
     c.get.ensures
-    ∙ ap (λ s. get c.self.inside.objects (AsBlock s)) c.block_of.ensures
+    ∙ ap (λ s. get c.self.inside.objects (AsBlock s)) c.of.ensures
     ∙ block_of_closest c.self.inside.objects _ _ _ c.self.invariant.sound
     c.self.invariant.indexes.keys.spans c.args.span c.in-Some.own tt
     c.closest_block.ensures.ordered c.in-Some.ensures.found

@@ -8,9 +8,13 @@ use Rattle.rr_book.specs.SetLists.{is_of_class}
 use Rattle.rr_book.proofs.SetLists.{lists_routes}
 use Rattle.rr_index.proofs.indexed_book.IndexedBookSetBook.routes.Goals as goal
 
-pub returns-clause-lists : goal.returns-clause-lists
-returns-clause-lists c =
-    IfOk-weaker c.routes.result _ _
-    (λ found is. lists_routes c.args.self.now (subst Sound c.self.view_is c.self.invariant.sound)
-    found.items (is ∙ ap (λ r. filter (is_of_class Route) (values r)) c.self.view_is))
-    c.routes.ensures
+pub returns : goal.returns
+returns c =
+    let sound : Sound c.args.self.now = subst Sound c.self.view_is c.self.invariant.sound in
+    record {
+      all = IfOk-weaker c.routes.result _ _
+          (λ found is. lists_routes c.args.self.now sound found.items
+          (is ∙ ap (λ r. filter (is_of_class Route) (values r)) c.self.view_is))
+          c.routes.ensures;
+      sound = sound;
+    }

@@ -9,12 +9,15 @@ use Rattle.rr_index.proofs.object_map.ObjectMap.add.Goals as goal
 pub invariant_of-self : goal.invariant_of-self
 invariant_of-self c = rising c.insert.new.self c.insert.ensures.ordered
 
-pub returns-in-Ok-insert-clause-ok : goal.returns-in-Ok-insert-clause-ok
-returns-in-Ok-insert-clause-ok c =
+pub returns-in-Ok-insert-clause-puts : goal.returns-in-Ok-insert-clause-puts
+returns-in-Ok-insert-clause-puts c =
     let o = c.args.object in
     let update = subst (λ (k : Key). Updates (derived.ghosts).cmp c.self.inside.entries
     c.insert.new.self k (Some o)) (c.in-Ok.ensures ∙ c.key.ensures.value)
     c.in-Ok-insert.ensures.updates in
-    registry_inserted c.self.inside.entries c.insert.new.self o.key o c.self.invariant
-    (rising c.insert.new.self c.insert.ensures.ordered) update
-    ∙ ap (λ r. insert r o.key o) c.self.view_is
+    record {
+      ok = registry_inserted c.self.inside.entries c.insert.new.self o.key o c.self.invariant
+          (rising c.insert.new.self c.insert.ensures.ordered) update
+          ∙ ap (λ r. insert r o.key o) c.self.view_is;
+      err = tt;
+    }

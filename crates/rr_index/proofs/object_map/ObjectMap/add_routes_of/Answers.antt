@@ -16,7 +16,7 @@ loop-key-init c = λ k.
     (c.into_iter-key-iterator.ensures.into_iter_gives ∙ c.between-key-items.ensures)
     ∙ ap (λ b. contains key_cmp c.args.keys.now k || b)
     (routes_between c.args.self.now c.requires c.args.prefix c.first_of.result c.last_of.result
-    c.length-length.ensures.masked c.first_of.ensures c.last_of.ensures k)
+    c.length-length.ensures.holds c.first_of.ensures c.last_of.ensures k)
 
 pub loop-key-preserved : goal.loop-key-preserved
 loop-key-preserved c =

@@ -16,7 +16,7 @@ picked-requires c =
     let low = c.inetnum_at.ensures ∙ ap inetnum_at c.first-first.ensures in
     let high = c.inetnum_at-2.ensures ∙ ap inetnum_at c.last-last.ensures.value in
     (λ i. is_gt (key_cmp (low i) (high i))) ∙ inetnums_forward c.args.span.first c.args.span.last
-    c.last-last.ensures.ordered.ordered
+    c.last-last.ensures.holds.ordered
 
 pub returns : goal.returns
 returns c =

@@ -1,5 +1,5 @@
 use Rattle.std.proofs.Common.{◌≡◌, Some, None, refl, ap, sym, subst, ◌∙◌}
-use Rattle.std.specs.Prelude.{IsSome, OnOk, OnErr, IfErr, IfOk, Result}
+use Rattle.std.specs.Prelude.{IsSome, OnErr, IfErr, IfOk, Result}
 use Rattle.std.specs.BTreeMap.{BTreeMap, get as at_key}
 use Rattle.std.specs.FinMap.{get, insert, is_sorted}
 use Rattle.rr_object.specs.contracts.key.KeyOrd.TheImpl as derived
@@ -8,6 +8,7 @@ use Rattle.rr_object.specs.KeyOrders.{key_cmp}
 use Rattle.rr_object.specs.Objects.{Obj}
 use Rattle.rr_index.specs.declared.object_map.ObjectMap.TheInside.{Inside}
 use Rattle.rr_index.specs.ObjectMaps.{registry_of}
+use Rattle.rr_index.specs.Private.{PutsObject}
 use Rattle.rr_index.proofs.Kept.{looked_up, registry_replaced, rising}
 use Rattle.rr_index.proofs.object_map.ObjectMap.replace.Goals as goal
 use Rattle.rr_index.proofs.object_map.ObjectMap.replace.Goals.{in-Some, in-None}
@@ -24,23 +25,33 @@ invariant_of-self c = elim c.match-get_mut.branch [
       ∙ c.self.invariant
 ]
 
-pub returns-clause-ok : goal.returns-clause-ok
-returns-clause-ok c = elim c.match-get_mut.branch [
+pub returns-clause-puts : goal.returns-clause-puts
+returns-clause-puts c = elim c.match-get_mut.branch [
   | in-Some w ↦
       let o = c.args.object in
       let after = c.get_mut.follows.lender w.replace.new.dest in
-      subst (λ (r : Result Obj Obj). OnOk r (registry_of c.match-get_mut.self-inside.entries
-      ≡ insert c.args.self.now o.key o)) (sym w.result-is)
-      (ap (λ (x : Inside). registry_of x.entries) w.self-inside-is
-      ∙ registry_replaced c.self.inside.entries after c.key.result.now o.key w.replace.new.dest o
-      c.self.invariant (rising after (c.get_mut.follows.holds w.replace.new.dest).4)
-      c.key.ensures.value w.replace.ensures.after ((c.get_mut.follows.holds w.replace.new.dest).3
-      (subst IsSome w.in-Some.ensures.value refl)).0
-      ∙ ap (λ r. insert r o.key o) c.self.view_is)
+      subst (λ (r : Result Obj Obj). PutsObject c.args.self.now o
+      (registry_of c.match-get_mut.self-inside.entries) r) (sym w.result-is)
+      (record {
+        ok = ap (λ (x : Inside). registry_of x.entries) w.self-inside-is
+            ∙ registry_replaced c.self.inside.entries after c.key.result.now o.key
+            w.replace.new.dest o c.self.invariant
+            (rising after (c.get_mut.follows.holds w.replace.new.dest).4)
+            c.key.ensures.value w.replace.ensures.after
+            ((c.get_mut.follows.holds w.replace.new.dest).3
+            (subst IsSome w.in-Some.ensures.value refl)).0
+            ∙ ap (λ r. insert r o.key o) c.self.view_is;
+        err = tt;
+      })
   | in-None w ↦
       let o = c.args.object in
-      subst (λ (r : Result Obj Obj). OnOk r (registry_of c.match-get_mut.self-inside.entries
-      ≡ insert c.args.self.now o.key o)) (sym w.result-is) tt
+      subst (λ (r : Result Obj Obj). PutsObject c.args.self.now o
+      (registry_of c.match-get_mut.self-inside.entries) r) (sym w.result-is)
+      (record {
+        ok = tt;
+        err = ap (λ (x : Inside). registry_of x.entries) w.self-inside-is
+            ∙ ap registry_of c.get_mut.follows.holds-at-none ∙ c.self.view_is;
+      })
 ]
 
 pub returns-clause-old : goal.returns-clause-old

@@ -16,7 +16,7 @@ picked-requires c =
     let low = c.routes_from.ensures ∙ ap routes_from c.first-first.ensures in
     let high = c.routes_to.ensures ∙ ap routes_to c.last-last.ensures.value in
     (λ i. is_gt (key_cmp (low i) (high i))) ∙ routes_forward c.args.span.first c.args.span.last
-    c.last-last.ensures.ordered.ordered
+    c.last-last.ensures.holds.ordered
 
 pub returns : goal.returns
 returns c =

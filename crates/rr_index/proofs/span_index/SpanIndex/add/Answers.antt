@@ -44,7 +44,7 @@ returns-in-Route-clause-ok c =
     (subst (λ (m : SpanMap (Unit {0})).
     HasSpans (insert r (Route c.in-Route.prefix c.in-Route.field-1) o) c.args.self.now.inetnums
     c.args.self.now.blocks m) (sym grown) (added_route r _ _ _ has c.in-Route.prefix
-    c.in-Route.field-1 o c.length-length.ensures.masked))) c.hold_prefix.ensures.ok
+    c.in-Route.field-1 o c.length-length.ensures.holds))) c.hold_prefix.ensures.ok
 
 pub returns-in_default : goal.returns-in_default
 returns-in_default c = record {

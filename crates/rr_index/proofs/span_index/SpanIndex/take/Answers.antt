@@ -33,7 +33,7 @@ returns-then-not-is_routed c = λ r has told.
     (ap (λ t. cond t routes (remove routes (span_of p))) c.if-not-is_routed.true
     ∙ sym c.remove-then-not-is_routed.ensures.rest)
     (removed_told r _ _ routes has c.args.key.now p c.in-Route.field-1 c.args.is_routed
-    c.in-Route.is c.length-length.ensures.masked told)
+    c.in-Route.is c.length-length.ensures.holds told)
 
 pub returns-else-not-is_routed : goal.returns-else-not-is_routed
 returns-else-not-is_routed c = λ r has told.
@@ -43,7 +43,7 @@ returns-else-not-is_routed c = λ r has told.
     c.args.self.now.blocks m)
     (ap (λ t. cond t routes (remove routes (span_of p))) c.if-not-is_routed.false)
     (removed_told r _ _ routes has c.args.key.now p c.in-Route.field-1 c.args.is_routed
-    c.in-Route.is c.length-length.ensures.masked told)
+    c.in-Route.is c.length-length.ensures.holds told)
 
 pub returns-in_default : goal.returns-in_default
 returns-in_default c = λ r has told. removed_rest r _ _ _ has c.args.key.now

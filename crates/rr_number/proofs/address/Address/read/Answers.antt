@@ -4,10 +4,10 @@ use Rattle.rr_number.proofs.AddressLemmas.{address_of-spelled, address_of-read}
 use Rattle.rr_number.proofs.Choices.{IfSome-each}
 use Rattle.rr_number.proofs.address.Address.read.Goals as goal
 
-pub returns-clause-found : goal.returns-clause-found
-returns-clause-found c =
-    IfSome-each _ _ (λ address is. address_of-spelled _ address (sym c.read_address.ensures ∙ is))
-
-pub returns-clause-only : goal.returns-clause-only
-returns-clause-only c = λ address spelled. c.read_address.ensures ∙ address_of-read _ address
-    spelled
+pub returns : goal.returns
+returns c = record {
+  found = IfSome-each _ _ (λ address is. address_of-spelled _ address
+      (sym c.read_address.ensures ∙ is));
+  only = λ address spelled. c.read_address.ensures ∙ address_of-read _ address spelled;
+  exact = c.read_address.ensures;
+}

@@ -4,9 +4,9 @@ use Rattle.rr_number.proofs.AsSpanLemmas.{as_span_of-spelled, as_span_of-read}
 use Rattle.rr_number.proofs.Choices.{IfSome-each}
 use Rattle.rr_number.proofs.as_span.AsSpan.read.Goals as goal
 
-pub returns-clause-found : goal.returns-clause-found
-returns-clause-found c =
-    IfSome-each _ _ (λ block is. as_span_of-spelled _ block (sym c.read_block.ensures ∙ is))
-
-pub returns-clause-only : goal.returns-clause-only
-returns-clause-only c = λ block spelled. c.read_block.ensures ∙ as_span_of-read _ block spelled
+pub returns : goal.returns
+returns c = record {
+  found = IfSome-each _ _ (λ block is. as_span_of-spelled _ block (sym c.read_block.ensures ∙ is));
+  only = λ block spelled. c.read_block.ensures ∙ as_span_of-read _ block spelled;
+  exact = c.read_block.ensures;
+}

@@ -4,11 +4,10 @@ use Rattle.rr_number.proofs.Choices.{IfSome-each}
 use Rattle.rr_number.proofs.OperatorLemmas.{operator_of-spelled, operator_of-read}
 use Rattle.rr_number.proofs.operator.Operator.read.Goals as goal
 
-pub returns-clause-found : goal.returns-clause-found
-returns-clause-found c =
-    IfSome-each _ _ (λ operator is. operator_of-spelled _ operator (sym c.read_operator.ensures
-    ∙ is))
-
-pub returns-clause-only : goal.returns-clause-only
-returns-clause-only c = λ operator spelled. c.read_operator.ensures ∙ operator_of-read _ operator
-    spelled
+pub returns : goal.returns
+returns c = record {
+  found = IfSome-each _ _ (λ operator is. operator_of-spelled _ operator
+      (sym c.read_operator.ensures ∙ is));
+  only = λ operator spelled. c.read_operator.ensures ∙ operator_of-read _ operator spelled;
+  exact = c.read_operator.ensures;
+}

@@ -7,4 +7,4 @@ use Rattle.rr_number.proofs.prefix.Prefix.new.Goals as goal
 pub invariant_of-result : goal.invariant_of-result
 invariant_of-result c =
     let bits : c.from_bits.result ≡ c.args.address - c.args.address % count_of c.args.length = cc in
-    rw bits (IsMasked-masked c.args.address c.args.length c.to_bits.ensures.fits c.requires)
+    rw bits (IsMasked-masked c.args.address c.args.length c.to_bits.ensures.holds c.requires)

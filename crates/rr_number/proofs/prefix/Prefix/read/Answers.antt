@@ -4,9 +4,10 @@ use Rattle.rr_number.proofs.Choices.{IfSome-each}
 use Rattle.rr_number.proofs.PrefixLemmas.{prefix_of-spelled, prefix_of-read}
 use Rattle.rr_number.proofs.prefix.Prefix.read.Goals as goal
 
-pub returns-clause-found : goal.returns-clause-found
-returns-clause-found c =
-    IfSome-each _ _ (λ prefix is. prefix_of-spelled _ prefix (sym c.read_prefix.ensures ∙ is))
-
-pub returns-clause-only : goal.returns-clause-only
-returns-clause-only c = λ prefix spelled. c.read_prefix.ensures ∙ prefix_of-read _ prefix spelled
+pub returns : goal.returns
+returns c = record {
+  found =
+      IfSome-each _ _ (λ prefix is. prefix_of-spelled _ prefix (sym c.read_prefix.ensures ∙ is));
+  only = λ prefix spelled. c.read_prefix.ensures ∙ prefix_of-read _ prefix spelled;
+  exact = c.read_prefix.ensures;
+}

@@ -5,7 +5,7 @@ use Rattle.rr_number.proofs.set_name.SetName.parent.Goals as goal
 
 pub invariant_of-result : goal.invariant_of-result
 invariant_of-result c =
-    rw (c.from_vec-text.ensures, c.in_ok-bytes.ensures.items)
-    (IsSetText-parent c.args.self.now c.in-Some.parent.now c.as_bytes.ensures.name
+    rw c.in_ok-bytes.ensures.items
+    (IsSetText-parent c.args.self.now c.in-Some.parent.now c.as_bytes.ensures.holds
     (ap parent_text (sym c.as_bytes.ensures.value) ∙ sym c.in-Some.ensures)
     (sym c.if-has_as_numbers_alone.ensures))

@@ -1,0 +1,74 @@
+//! A connection in no transaction.
+
+ghost use Rattle.std.specs.Prelude.{◌≡◌, false, IsTrue};
+ghost use Rattle.sqlite.specs.Held.{state};
+ghost use Rattle.sqlite.specs.State.{Survives};
+ghost use Rattle.rr_store.specs.Calls.{IsSettled};
+
+use sqlite::{Alter, Connection, Error, Row};
+use sqlite_schema::schema::Schema;
+use std::marker::Model;
+
+/// A connection to SQLite in no transaction; a contract sees the connection.
+#[derive(Drop)]
+pub struct IdleConnection<S: Alter> {
+    pub(crate) inner: Connection<S>,
+}
+
+impl<S: Alter> Model for IdleConnection<S> {
+    ghost use Rattle.std.specs.Prelude.{◌≡◌, false};
+    ghost use Rattle.sqlite.specs.Held.{Held, held_code};
+
+    ghost Value = { Held S };
+
+    ghost coded = { held_code S.code };
+
+    ghost view = { λ c. c.inner };
+
+    ghost invariant = { λ c. c.inner.in_transaction ≡ false };
+}
+
+impl<S: Alter> IdleConnection<S> {
+    /// The connection as one that is in no transaction, as each is that was just opened.
+    pub fn of(conn: Connection<S>) -> IdleConnection<S>
+        requires { conn.in_transaction ≡ false }
+        ensures { result ≡ conn }
+    {
+        IdleConnection { inner: conn }
+    }
+
+    /// The connection, in no transaction.
+    pub fn into_connection(self) -> Connection<S>
+        ensures same { result ≡ self }
+        ensures autocommit { result.in_transaction ≡ false }
+    {
+        let IdleConnection { inner } = self;
+        inner
+    }
+
+    /// The tables, indexes and views that it sees.
+    pub fn schema(&self) -> &Schema
+        ensures { result.now ≡ self.now.schema }
+    {
+        self.inner.schema()
+    }
+
+    /// The answer of a query, in a transaction that is rolled back, so that nothing is committed.
+    pub fn ask(&mut self, query: &str) -> Result<Vec<Row>, Error>
+        ensures { Survives (state S.Store self.old) (state S.Store self.new) (λ _. ⊥) }
+    {
+        let mut tx = self.inner.transaction();
+        let rows = tx.query_all(query, &[]);
+        tx.rollback();
+        rows
+    }
+
+    /// Tells the caller's proof that the rows are those last committed, and what a stop leaves.
+    pub(crate) fn note_committed(&self)
+        ensures committed { IsTrue (state S.Store self.now).is_open
+            → (state S.Store self.now).now ≡ (state S.Store self.now).committed }
+        ensures settled { IsSettled S.Store self.now }
+    {
+        let _ = self.inner.is_autocommit();
+    }
+}

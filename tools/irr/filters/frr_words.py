@@ -4,9 +4,12 @@ from typing import Iterator
 
 # How a line of a list begins, before its name, and what follows the name.
 BEGINNINGS = (
-    *(("ip", "prefix-list"), ("ipv6", "prefix-list")),
-    *(("access-list",), ("ipv6", "access-list")),
-    *(("bgp", "as-path", "access-list"), ("ip", "as-path", "access-list")),
+    ("ip", "prefix-list"),
+    ("ipv6", "prefix-list"),
+    ("access-list",),
+    ("ipv6", "access-list"),
+    ("bgp", "as-path", "access-list"),
+    ("ip", "as-path", "access-list"),
 )
 WORDS = ("seq", "permit", "deny", "any", "host", "ge", "le", "exact-match", "ip", "remark")
 # What may be a line of a list, by its first letter.

@@ -4,6 +4,7 @@ import os
 import sys
 import tempfile
 import time
+from collections.abc import Callable
 
 import pytest
 
@@ -125,6 +126,12 @@ LISTS = {
     "bird": "C = [ {} ];\n",
     "openbgpd": "allow from any prefix {}\n",
 }
+# Those of FRR that are removed from the end of a list, so many and LONGER times as many.
+FEW = 2_000
+REMOVED = {
+    "prefixes": "ip prefix-list C permit 10.{}.{}.0/24\n",
+    "paths": "bgp as-path access-list C permit ^{}_{}$\n",
+}
 
 
 @pytest.mark.parametrize("kind", list(LISTS))
@@ -137,13 +144,29 @@ def test_the_guard_of_filters_takes_time_by_the_length_of_a_list(kind: str, tell
         expect(sum(one.lost for one in losses(kind.split()[0], text, text)), 0, "what is lost")
         return time.process_time() - begun
 
+    compare(SHORT, took, tell)
+
+
+@pytest.mark.parametrize("kind", list(REMOVED))
+def test_the_guard_takes_time_by_the_number_of_removals_from_an_end(kind: str, tell: Tell) -> None:
+    def took(count: int) -> float:
+        lines = [REMOVED[kind].format(number >> 8, number & 255) for number in range(count)]
+        text, begun = "".join(lines + [f"no {line}" for line in lines[:0:-1]]), time.process_time()
+        expect(losses("frr", text, text), [("C", 0, 1)], "what is lost of the first line")
+        return time.process_time() - begun
+
+    compare(FEW, took, tell)
+
+
+def compare(count: int, took: Callable[[int], float], tell: Tell) -> None:
+    """Looks at the time of so many lines, and at that of LONGER times as many."""
     times = float("inf")
     for _ in range(5):
-        short = took(SHORT)
-        times = min(times, took(LONGER * SHORT) / short)
+        short = took(count)
+        times = min(times, took(LONGER * count) / short)
         if times < TIMES:
             break
-    tell(f"{SHORT:,} lines take {1_000 * short:.0f} ms, {LONGER} times as many {times:.1f} times")
+    tell(f"{count:,} lines take {1_000 * short:.0f} ms, {LONGER} times as many {times:.1f} times")
     expect(times < TIMES, True, f"whether {times:.1f} times the time are less than {TIMES}")
 
 

@@ -1,6 +1,7 @@
 """The lists of filters in the syntax of each router: what they take, and what a new one lacks of an
 older one."""
 import bisect
+import heapq
 import ipaddress
 import re
 import socket
@@ -422,7 +423,16 @@ class Lines:
     def __init__(self) -> None:
         self.lines: dict[int, Words] = {}
         self.numbers: dict[Words, int] = {}
-        self.last = 0
+        # All numbers that were given, the greatest first. Those of lines that are gone stay until
+        # they are the greatest.
+        self.given: list[int] = []
+
+    @property
+    def last(self) -> int:
+        """The greatest number of a line, 0 if there is none."""
+        while self.given and -self.given[0] not in self.lines:
+            heapq.heappop(self.given)
+        return -self.given[0] if self.given else 0
 
     def add(self, number: int, words: Words) -> None:
         """Puts a line in the place of that of its number. FRR passes over one that is there."""
@@ -430,7 +440,7 @@ class Lines:
             self.remove(number)
             self.lines[number] = words
             self.numbers[plain(words)] = number
-            self.last = max(self.last, number)
+            heapq.heappush(self.given, -number)
 
     def number_of(self, words: Words) -> int | None:
         return self.numbers.get(plain(words))
@@ -439,7 +449,6 @@ class Lines:
         words = self.lines.pop(number, None)
         if words is not None:
             del self.numbers[plain(words)]
-            self.last = max(self.lines, default=0) if number == self.last else self.last
 
     def in_order(self) -> Iterator[Words]:
         return (self.lines[number] for number in sorted(self.lines))
@@ -458,8 +467,9 @@ def removed(kind: str, own: Lines, words: str) -> list[int]:
     first one of this pattern, of others that of its number if it has one."""
     entry = FRR_ENTRY.match(words)
     if entry and "as-path" in kind:
-        lines = own.lines
-        return [number for number in sorted(lines) if lines[number].text == entry[3]][:1]
+        same = (own.number_of(Words(takes, entry[3])) for takes in (True, False))
+        found = sorted(number for number in same if number is not None)
+        return [number for number in found if own.lines[number].text == entry[3]][:1]
     if one := FRR_NUMBER.match(words):
         return [int(one[1])]
     if FRR_REMARK.match(words):

@@ -32,7 +32,8 @@ REMEDIES = {
     "mirror-down": "see `systemctl status irrdesk-mirror`",
     "replicas-not-renewed": "fix the cause; the replicas answer meanwhile",
     "replica-old": "see `systemctl status irrdesk-mirror`",
-    "door-down": "`irrdesk-check.service` restarts it; `journalctl --unit irrdesk-door` says why",
+    "door-down": "`irrdesk-check.service` restarts it, unless it was stopped; see"
+    " `journalctl --unit irrdesk-door`",
     "door-in-part": "see http://127.0.0.1:4381/status",
     "unit-failed": "fix what its journal reports, and start it",
     "unit-stopped": "start it, or disable it",

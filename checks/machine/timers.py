@@ -126,6 +126,8 @@ class Timers:
             text = opened.read().partition("## Move to another machine\n")[2]
         lines = re.findall(r"^```sh\n(.*?)^```$", text, re.MULTILINE | re.DOTALL)[:2]
         wanted, settings = service.full_dump(), guest.done(f"cat {SETTINGS}")
+        listed = "ls /etc/systemd/system/*.wants | grep ^irrdesk"
+        units = guest.done(listed)
         guest.done(f"set -e; {lines[0]}", seconds=600)
         replica = "curl --silent --fail http://127.0.0.1:4345/query/ROOT-MNT"
         guest.done(replica)
@@ -140,7 +142,9 @@ class Timers:
             new.done(ASKED)
             guest.done(replica)
             expect(new.done(f"cat {SETTINGS}"), settings, "the settings")
-            new.done("systemctl start irrdesk-backup irrdesk-check", seconds=600)
+            expect(new.done(listed), units, "which units are enabled")
+            new.done("systemctl start irrdesk-backup", seconds=600)
+            new.until("systemctl start irrdesk-check", "that the check finds nothing wrong", AGAIN)
             stands = new.done("cat /var/lib/irrdesk-backup/2*/dump.rpsl").encode("latin-1")
             expect(stands == wanted, True, "whether the registry moved whole")
             expect(

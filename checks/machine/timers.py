@@ -155,6 +155,19 @@ class Timers:
         guest.until("systemctl start irrdesk-check", "that the check finds nothing wrong", AGAIN)
         return f"{len(wanted)} bytes of dump"
 
+    def asked_on(self) -> str:
+        """Clients that ask at the door while the package is upgraded: no port is closed."""
+        service, guest = self.service, self.service.guest
+        main = service.show("irrdesk-door", "MainPID")
+        asking = "until test -e over; do whois -h 127.0.0.1 -p 43 ROOT-MNT; done > asked 2>&1"
+        install = "apt-get install --reinstall --yes /run/given/irrdesk.deb > /dev/null"
+        guest.done(f"({asking}) & {install}; touch over; wait; rm over", seconds=600)
+        expect(service.show("irrdesk-door", "MainPID") != main, True, "whether the door is new")
+        told = guest.done("grep -m 1 'Connection re' asked || true")
+        expect(told, "", "whether a port was closed meanwhile")
+        guest.until("systemctl start irrdesk-check", "that the check finds nothing wrong", AGAIN)
+        return f"{guest.done('grep -c ^mntner asked').strip()} answers"
+
     def dumped(self) -> str:
         service, guest = self.service, self.service.guest
         guest.done("systemctl enable --now irrdesk-dump.timer")

@@ -349,6 +349,15 @@ def test_each_unit_is_bounded_and_may_be_stopped() -> None:
             expect(lines.get("StartLimitBurst"), "100", f"the starts of {path.name}")
 
 
+def test_the_ports_of_the_door_are_those_that_an_upgrade_keeps_open() -> None:
+    """An upgrade restarts no socket. If this one changes, docs/UPGRADING.md has to say that it is
+    to be restarted."""
+    text = Path(UNITS, "irrdesk-door.socket").read_text(encoding="ascii")
+    kept = ["ListenStream=43", "ListenStream=127.0.0.1:4380", "ListenStream=127.0.0.1:4381"]
+    section = text.partition("[Socket]\n")[2].partition("\n\n")[0].splitlines()
+    expect(section, [*kept, "BindIPv6Only=both", "Backlog=1024"], "the socket of 2.0.0")
+
+
 def test_each_unit_may_read_its_settings() -> None:
     """That what a unit reads of /etc/irrdesk, which only the registry's user may enter, is bound
     into the sandbox of each unit of another user."""

@@ -131,8 +131,12 @@ def test_what_is_delegated_is_then_held(trial: Trial, tool: Tool, tell: Tell) ->
         )
         held = tool("held", "198.51.100.0/24", "A-MNT")
         expect(
-            (held.status, b"\n% 198.51.100.0/24 is held by A-MNT\n" in b"\n" + held.printed),
-            (0, True),
+            (
+                held.status,
+                b"\n% 198.51.100.0/24 is held by A-MNT\n" in b"\n" + held.printed,
+                held.reported,
+            ),
+            (0, True, b""),
             f"held: {held.printed!r}",
         )
         inside = tool("delegate", "--known", "B-MNT", "192.0.0.0/16")
@@ -257,8 +261,9 @@ delete: x
                 ran.status,
                 ran.printed.count(b"\n%"),
                 b"mntner C-MNT is not registered" in ran.printed,
+                ran.reported.startswith(b"irr held: a change may be missing for a minute or two"),
             ),
-            (1, 3, True),
+            (1, 3, True, True),
             "of nobody",
         )
         expect(

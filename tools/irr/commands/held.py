@@ -64,6 +64,8 @@ def run(options: argparse.Namespace) -> int:
         if finding.remedy:
             print()
             texts.put(finding.remedy.fitting_text())
+    if holes:
+        texts.note("irr held: a change may be missing for a minute or two, if there are replicas")
     return REFUSED if holes else DONE
 
 

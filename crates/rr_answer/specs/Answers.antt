@@ -19,12 +19,14 @@ use Rattle.rr_answer.specs.Queries.{query_of}
 use Rattle.rr_answer.specs.Selections.{asked}
 use Rattle.rr_answer.specs.Texts.{objects_text}
 
--- The AS numbers of an as-set are listed in ascending order, one a line (profile).
+-- The answer lists the AS numbers of an as-set in ascending order, one a line. It says so if there
+-- is no such set, and is an error if the expansion is over the limit (profile).
 abbrev pub IsNumberAnswer : Reg → ℕ → List ℕ → Result (List ℕ) QueryFault → Type 0
 IsNumberAnswer r limit name answer =
     IsExpansion nat_cmp as_number_text (as_set_at r limit name) answer
 
--- The ranges of a set are listed in ascending order, one a line (profile).
+-- The answer lists the ranges of a set of either kind in ascending order, one a line. It says so if
+-- there is no such set, and is an error if the expansion is over the limit (profile).
 abbrev pub IsRangeAnswer : Reg → ℕ → List ℕ → Result (List ℕ) QueryFault → Type 0
 IsRangeAnswer r limit name answer =
     IsExpansion range_cmp range_text (route_set_at r limit name) answer

@@ -22,7 +22,8 @@ dumped false o = public_text o
 abbrev pub end_line : ℕ → List ℕ
 end_line count = ended (codes "% end " ++ decimal count)
 
--- A dump has each object of a registry, by class and key, and then that line (profile).
+-- A dump has each object of a registry, by class and key, and then the line that counts them
+-- (profile).
 abbrev pub dump : Bool → Reg → List ℕ
 dump full r = flat_map (dumped full) (values r) ++ end_line (length (values r))
 
@@ -34,7 +35,8 @@ pub record TakesPart (old new : Told) (bytes : List ℕ) : Type 0 where
   pub some_left : 0 < length rest
   pub takes : Takes old new prefix
 
--- A dump was cut short: a write failed, or memory ran out (profile).
+-- A dump was cut short: its bytes were written in part before a write failed, or memory ran out
+-- (profile).
 abbrev pub IsCut : List ℕ → Told → Told → DumpFault → Type 0
 IsCut bytes before after Write = TakesPrefix before after bytes
 IsCut bytes before after Memory = TakesPart before after bytes

@@ -21,18 +21,19 @@ pub record IsListed {X : Type 0} (cmp : X → X → Ordering) (line : X → List
   pub lacks : ListsInOrder (slice_cmp nat_cmp) set.Lacks missing
   pub text_is : text ≡ members_text line found missing
 
--- There is no such set (profile).
+-- There is no such set, and the text says that there are no entries (profile).
 pub record IsUnknown {X : Type 0} (set : Meaning X) (text : List ℕ) : Type 0 where
   pub unknown : set.known ≡ false
   pub text_is : text ≡ no_entries
 
--- There is such a set, and its expansion is over the limit (profile).
+-- There is such a set, its expansion is over the limit, and the fault says so (profile).
 pub record IsOver {X : Type 0} (set : Meaning X) (fault : QueryFault) : Type 0 where
   pub known : set.known ≡ true
   pub many : set.Overflows
   pub fault_is : fault ≡ TooMany
 
--- The answer to what a set stands for (profile).
+-- The answer to an expansion: the members of the set and the missing names, or that there is no
+-- such set. It is an error if the expansion is over the limit (profile).
 abbrev pub IsExpansion : {X : Type 0} → (X → X → Ordering) → (X → List ℕ) → Meaning X
     → Result (List ℕ) QueryFault → Type 0
 IsExpansion cmp line set (Ok text) = IsListed cmp line set text ⊎ IsUnknown set text

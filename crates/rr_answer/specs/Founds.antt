@@ -16,11 +16,13 @@ abbrev pub shown : Place → List Field
 shown (Kept paragraph) = paragraph.now
 shown (Made paragraph) = paragraph.value
 
--- Its text and an empty line (profile).
+-- The canonical text of the paragraph that is answered where an object stands, and an empty line
+-- (profile).
 abbrev pub place_text : Place → List ℕ
 place_text place = ended (canonical (shown place))
 
--- The text of what was found (profile).
+-- The text of what was found: of each object, or of the members of a set and the missing names; a
+-- line says so where there is nothing (profile).
 abbrev pub found_text : Found → List ℕ
 found_text (Objects places) = or_else no_entries (flat_map place_text places.items)
 found_text (Numbers members) =

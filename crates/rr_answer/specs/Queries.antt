@@ -23,7 +23,7 @@ use Rattle.rr_answer.specs.declared.query.Query.{Query}
 use Rattle.rr_answer.specs.declared.query.Query.TheVariants.{Object, Exact, Closest, Less, More}
 use Rattle.rr_answer.specs.declared.query.Query.TheVariants.{Naming, Originated, Expand, Prefixes}
 
--- the most bytes of a query (profile)
+-- The most bytes of a query (profile).
 abbrev pub query_limit : ℕ
 query_limit = 1024
 
@@ -59,7 +59,7 @@ query_of_word word =
     (option_or (option_map Object (set_key_of word))
     (option_map Object (key_of_text class.Mntner word))))
 
--- Two words: what is asked, and of which prefix or set (profile).
+-- Two words say what is asked, and of which prefix or set (profile).
 abbrev pub query_of_two : List ℕ → List ℕ → Option Query
 query_of_two verb word =
     if is_keyword (codes "exact") verb then option_map Exact (prefix_spelled word)
@@ -70,15 +70,16 @@ query_of_two verb word =
     else if is_keyword (codes "prefixes") verb then option_map Prefixes (set_name_of word)
     else None
 
--- What names a maintainer, or comes from an AS (profile).
+-- A query for the objects that name a maintainer (`mnt`), or for the routes of an origin (`origin`)
+-- (profile).
 abbrev pub inverse_of : List ℕ → List ℕ → Option Query
 inverse_of attribute word =
     if is_keyword (codes "mnt") attribute then option_map Naming (maintainer_name_of word)
     else if is_keyword (codes "origin") attribute then option_map Originated (as_number_of word)
     else None
 
--- Three words and more: an object by its class and key, or what names a maintainer or an AS
--- (profile).
+-- Three words and more ask for an object by its class and key, or for the objects that name a
+-- maintainer, or for the routes of an origin (profile).
 unfoldable pub query_of_more : List ℕ → List ℕ → List (List ℕ) → Option Query
 query_of_more verb second others =
     if is_keyword (codes "object") verb then option_map Object (key_of_words second others)

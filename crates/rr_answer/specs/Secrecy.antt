@@ -17,7 +17,8 @@ pub record IsRead (r : Reg) : Type 0 where
   pub keyed : (k : Key) (o : Obj) → get r k ≡ Some o → o.key ≡ k
   pub read : (k : Key) (o : Obj) → get r k ≡ Some o → obj_of o.paragraph ≡ Ok o
 
--- A registry of a source is such a registry.
+-- In a registry of a source each object stands under its own key, and is what its paragraph reads
+-- as.
 abbrev pub SourcesAreRead : Type 0
 SourcesAreRead = (source : List ℕ) (r : Reg) → IsRegistryOf source r → IsRead r
 
@@ -26,8 +27,8 @@ SourcesAreRead = (source : List ℕ) (r : Reg) → IsRegistryOf source r → IsR
 abbrev pub LookAlike : Reg → Reg → Type 0
 LookAlike r s = (k : Key) → option_map public_of (get r k) ≡ option_map public_of (get s k)
 
--- Registries that look alike answer each query alike, under the same limit (profile). So an answer
--- is one.
+-- Registries that look alike answer each query alike, under the same limit (profile). With one
+-- registry for both, this says that a query has one answer.
 abbrev pub AnswersKeepSecrets : Type 0
 AnswersKeepSecrets =
     (r s : Reg) → IsRead r → IsRead s → LookAlike r s

@@ -21,7 +21,7 @@ or_else other (b ∷ bs) = b ∷ bs
 abbrev pub no_entries : List ℕ
 no_entries = ended (codes "% no entries")
 
--- Objects as they are answered (profile).
+-- The text of objects, each as it is answered; a line says so where there is none (profile).
 unfoldable pub objects_text : List Obj → List ℕ
 objects_text os = or_else no_entries (flat_map public_text os)
 
@@ -29,15 +29,16 @@ objects_text os = or_else no_entries (flat_map public_text os)
 abbrev pub missing_line : List ℕ → List ℕ
 missing_line name = ended (codes "% missing " ++ name)
 
--- The lines of an AS number and of a range (profile).
+-- The line of an AS number in an expansion (profile).
 abbrev pub number_line : ℕ → List ℕ
 number_line n = ended (as_number_text n)
 
+-- The line of a range in an expansion (profile).
 abbrev pub range_line : RangeParts → List ℕ
 range_line range = ended (range_text range)
 
 -- An expansion as it is answered: a line for each AS number or range, then one for each missing
--- name (profile).
+-- name; `% empty` where there is none of either (profile).
 unfoldable pub members_text : {X : Type 0} → (X → List ℕ) → List X → List (List ℕ)
     → List ℕ
 members_text line found missing =

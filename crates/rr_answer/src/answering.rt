@@ -1,4 +1,4 @@
-//! Answers.
+//! How a query is answered: what it finds in a registry. A desk answers by `find_for`.
 
 ghost use Rattle.std.specs.Prelude.{◌≡◌, ◌≢◌, Err, IfErr, IfOk, Ok, true};
 ghost use Rattle.rr_answer.specs.declared.query_fault.QueryFault.TheVariants.{Memory, TooLong};
@@ -42,7 +42,8 @@ pub fn find<'a, B: Keeper>(
     }
 }
 
-/// The members of a set, by its kind.
+/// The members of a set, by its kind. The fault is `TooMany` for an expansion over the limit, or
+/// that memory ran out.
 fn expanded<'a, B: SetBook>(
     alloc: Global,
     book: &'a B,
@@ -78,23 +79,8 @@ pub fn find_for<'a, B: Keeper>(
     find(alloc, registry, limit, &query)
 }
 
-/// The answer to a query, in memory: the text of what [`find`] finds, with its faults.
-pub fn answer<B: Keeper>(
-    alloc: Global,
-    registry: &Registry<B>,
-    limit: usize,
-    query: &Query,
-) -> Result<Vec<u8>, QueryFault>
-    ensures ok { IfOk result (λ text. IsAnswer registry.now limit query.now (Ok text.items)) }
-    ensures fault { IfErr result
-        (λ fault. fault ≢ Memory → IsAnswer registry.now limit query.now (Err fault)) }
-{
-    let found = find(alloc, registry, limit, query)?;
-    Ok(found.text(alloc)?)
-}
-
-/// The answer to the text of a query, in memory: the text of what [`find_for`] finds, with its
-/// faults.
+/// The answer to the text of a query, in memory: the text of what [`find_for`] finds. The fault is
+/// the first of `TooLong`, `Bad` and `TooMany` that fits, or that memory ran out.
 pub fn answer_to<B: Keeper>(
     alloc: Global,
     registry: &Registry<B>,

@@ -1,4 +1,4 @@
-//! Dumps.
+//! How a registry is written as a dump. A desk dumps by this.
 
 ghost use Rattle.std.specs.Prelude.{◌≡◌, ◌++◌, IfOk, length};
 ghost use Rattle.std.specs.FinMap.{values};
@@ -49,10 +49,10 @@ impl From<AllocError> for DumpFault {
     }
 }
 
-/// Writes the objects by class and key, each with an empty line, and a last line that counts them;
-/// `full` says whether with all their text, or as they are answered (profile). It answers their
-/// number. Each object is written by itself: after a fault the writer has taken the beginning of
-/// these bytes, and not all of them.
+/// Writes the objects by class and key, each with an empty line, and a last line that counts them.
+/// `full` says whether they are written with all their text, or as they are answered (profile). It
+/// gives their number. Each object is written by itself: after a fault the writer has taken the
+/// beginning of these bytes, and not all of them.
 #[tactic(auto, using(crate::proofs::Dumped::dump_has_bytes))]
 pub fn dump<B: Keeper, W: Sink>(
     alloc: Global,

@@ -1,4 +1,4 @@
-//! Expansions as they are answered.
+//! Expansions of sets as queries find them: what `answering` calls for the members of a set.
 
 ghost use Rattle.std.specs.Prelude.{◌≢◌, Err, IfErr, IfOk, Ok};
 ghost use Rattle.rr_answer.specs.declared.query_fault.QueryFault.TheVariants.{Memory};
@@ -11,7 +11,8 @@ use rr_number::SetName;
 use rr_sets::{ExpandFault, SetBook, expand_as_set, expand_route_set};
 use std::alloc::Global;
 
-/// The AS numbers of an as-set as they are answered.
+/// The AS numbers of an as-set as they are answered; no object if there is no such set. The fault
+/// is `TooMany` for an expansion over the limit, or that memory ran out.
 pub(crate) fn numbers<'a, B: SetBook>(
     alloc: Global,
     book: &'a B,
@@ -31,7 +32,8 @@ pub(crate) fn numbers<'a, B: SetBook>(
     }
 }
 
-/// The ranges of a set as they are answered.
+/// The ranges of a set of either kind as they are answered; no object if there is no such set. The
+/// fault is `TooMany` for an expansion over the limit, or that memory ran out.
 pub(crate) fn ranges<'a, B: SetBook>(
     alloc: Global,
     book: &'a B,

@@ -1,4 +1,5 @@
-//! What queries find.
+//! What a query finds, and the text of it, which is the answer. It is written part by part, or made
+//! whole in memory.
 
 ghost use Rattle.std.specs.Prelude.{◌≡◌, IfOk};
 ghost use Rattle.rr_io.specs.Sending.{Writes};

@@ -3,7 +3,8 @@
 
 ghost use Rattle.rr_answer.specs.Secrecy.{AnswersKeepSecrets, DumpsKeepSecrets, SourcesAreRead};
 
-/// In a registry of a source each object is what its paragraph reads as.
+/// In a registry of a source each object stands under its own key, and is what its paragraph reads
+/// as.
 pub fn registries_of_a_source_are_read()
     ensures { SourcesAreRead }
 {}

@@ -15,7 +15,7 @@ mod selection;
 mod text;
 mod writing;
 
-pub use answering::{answer, answer_to, find, find_for};
+pub use answering::{answer_to, find, find_for};
 pub use dumping::{DumpFault, dump};
 pub use found::Found;
 pub use place::Place;

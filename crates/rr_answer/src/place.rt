@@ -1,4 +1,5 @@
-//! Where the objects of an answer stand.
+//! The objects of an answer, each where it stands: in the registry, or in a public form made for
+//! the answer.
 
 ghost use Rattle.std.specs.Prelude.{◌≡◌, IfOk};
 ghost use Rattle.std.specs.List.{flat_map};

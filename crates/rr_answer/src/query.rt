@@ -1,4 +1,5 @@
-//! Queries.
+//! What may be asked of a registry. A query is read from a text by `query_reading`, and answered by
+//! `answering`.
 
 use rr_number::{AsNumber, Name, Prefix, SetName};
 use rr_object::Key;

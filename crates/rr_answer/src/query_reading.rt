@@ -1,4 +1,4 @@
-//! Queries read from texts.
+//! Queries read from the texts that clients send.
 
 ghost use Rattle.std.specs.Prelude.{◌≡◌, ◌≢◌, Err, IfErr, IfOk, Ok, map, true};
 ghost use Rattle.std.specs.List.{list_any};
@@ -26,8 +26,8 @@ pub fn is_too_long(text: &[u8]) -> bool
     text.len() > MOST_BYTES
 }
 
-/// The query that a text is; letter case is ignored (profile). The fault is `TooLong`, `Bad`, or,
-/// of a text that is not too long, that memory ran out.
+/// The query that a text is; letter case is ignored (profile). The fault is the first of `TooLong`
+/// and `Bad` that fits, or, of a text that is not too long, that memory ran out.
 #[tactic(auto, unfolding(crate::specs::Queries::query_of))]
 pub fn read_query(alloc: Global, text: &[u8]) -> Result<Query, QueryFault>
     ensures ok { IfOk result (λ query. queries.query_of text.now ≡ Ok query) }
@@ -174,7 +174,7 @@ fn key_of_words(alloc: Global, class: &[u8], others: &[&[u8]]) -> Result<Option<
     }
 }
 
-/// The query that asks for what names a maintainer, or comes from an AS.
+/// The query that asks for the objects that name a maintainer, or for the routes of an origin.
 fn inverse_of(alloc: Global, attribute: &[u8], word: &[u8]) -> Result<Option<Query>, AllocError>
     ensures { IfOk result (λ query. query ≡ queries.inverse_of attribute.now word.now) }
 {
@@ -187,7 +187,8 @@ fn inverse_of(alloc: Global, attribute: &[u8], word: &[u8]) -> Result<Option<Que
     }
 }
 
-/// The query that asks so of the words, which are one alone.
+/// The query that asks for the objects that name a maintainer, or for the routes of an origin, if
+/// the word of it is one alone.
 fn inverse_of_words(
     alloc: Global,
     attribute: &[u8],

@@ -1,4 +1,4 @@
-//! The objects that queries ask for.
+//! The objects that a query asks for, looked up in the registry for `answering`.
 
 ghost use Rattle.std.specs.Prelude.{◌≡◌, [], IfOk, filter};
 ghost use Rattle.std.specs.FinMap.{get, values};

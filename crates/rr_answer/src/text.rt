@@ -1,4 +1,5 @@
-//! The texts of objects and of lines.
+//! The texts of objects and of lines, appended to bytes in memory. If memory runs out, some bytes
+//! of a text may have been appended. Answers and dumps are made of these.
 
 ghost use Rattle.rr_text.specs.CanonicalText.{canonical, ended};
 ghost use Rattle.rr_text.specs.Outputs.{MayAdd};

@@ -1,4 +1,4 @@
-//! Writing answers part by part.
+//! Answers written part by part, so that they need not be whole in memory, or made whole there.
 
 ghost use Rattle.std.specs.Prelude.{◌≡◌, ◌+◌, ◌≤◌, ◌<◌, ◌++◌, []};
 ghost use Rattle.std.specs.Prelude.{IfOk, OnOk, length, take, true, false};

@@ -52,9 +52,11 @@ given place made rows = option_map_or made (first_of place rows) nothing
 abbrev pub spelled : ℕ → (Text → Invocation) → (ℕ → Invocation) → Text → Invocation
 spelled greatest bad made text = option_map_or made (number_within text greatest) (bad text)
 
+-- what is made of the port among the arguments, a number from 1 to 65,535 (profile)
 abbrev pub invoked_port : (ℕ → Invocation) → List Row → Invocation
 invoked_port made rows = given (codes "PORT") (spelled 65535 bad_port made) rows
 
+-- what is made of the count among the arguments, a number from 1 to 1,000,000 (profile)
 abbrev pub invoked_count : (ℕ → Invocation) → List Row → Invocation
 invoked_count made rows = given (codes "N") (spelled 1000000 bad_count made) rows
 
@@ -62,7 +64,7 @@ invoked_count made rows = given (codes "N") (spelled 1000000 bad_count made) row
 abbrev pub flag_of : Text → List Row → Bool
 flag_of id rows = option_map_or (bytes_eq (codes "true")) (one_of id rows) false
 
--- such a flag was read as true or false, or is no argument of the command (profile)
+-- a flag was read as true or false, or is no argument of the command (profile)
 abbrev pub IsFlag : Option Text → Type 0
 IsFlag text =
     (text ≡ None) ⊎ ((text ≡ Some (codes "true")) ⊎ (text ≡ Some (codes "false")))
@@ -81,22 +83,27 @@ invoked_over name rows settings =
     then invoked_port (λ port. invoked_count (serve settings port) rows) rows
     else (if bytes_eq name (codes "probe") then probe settings else nothing)))))))
 
+-- what the command of this name asks for, by its arguments (profile)
 abbrev pub invoked_by : Text → List Row → Invocation
 invoked_by name rows = given (codes "SETTINGS") (invoked_over name rows) rows
 
 -- ---- what is read of it
 
+-- a parse that ends so is answered with help or the version (profile)
 abbrev pub is_shown : ErrorKind → Bool
 is_shown DisplayHelp = true
 is_shown DisplayVersion = true
 is_shown _ = false
 
+-- a parse that ends so is a refusal, other than for want of memory (profile)
 abbrev pub is_refusal : ErrorKind → Bool
 is_refusal DisplayHelp = false
 is_refusal DisplayVersion = false
 is_refusal OutOfMemory = false
 is_refusal _ = true
 
+-- a command line is answered with help, the version or a refusal, one of whose kinds passes this
+-- test (profile)
 abbrev pub TellsKind : (ErrorKind → Bool) → Invocation → Type 0
 TellsKind is_so invocation =
     (kinds : Kinds) × (invocation ≡ told kinds) × IsTrue (list_any is_so kinds)
@@ -116,7 +123,7 @@ IsInvoked (command.Serve settings port count) invocation =
 IsInvoked (command.Probe settings) invocation = invocation ≡ probe settings.now
 IsInvoked (command.Print text) invocation = TellsKind is_shown invocation
 
--- why nothing is asked for; memory may always run out (profile)
+-- why a command line asks for no command; memory may always run out (profile)
 abbrev pub FailsToInvoke : ArgumentsFault → Invocation → Type 0
 FailsToInvoke (fault.Refused line) invocation = TellsKind is_refusal invocation
 FailsToInvoke fault.Unexplained invocation = invocation ≡ nothing
@@ -124,12 +131,14 @@ FailsToInvoke (fault.Port word) invocation = invocation ≡ bad_port word.now
 FailsToInvoke (fault.Count word) invocation = invocation ≡ bad_count word.now
 FailsToInvoke fault.Memory invocation = ⊤
 
--- what was read is what is asked for (profile)
+-- a command line that asks for this is read as that command, or fails for a reason that fits
+-- (profile)
 abbrev pub GivesInvoked : Invocation → Result Command ArgumentsFault → Type 0
 GivesInvoked invocation result = MatchResult result (λ command. IsInvoked command invocation)
     (λ fault. FailsToInvoke fault invocation)
 
--- the same of a part: with it the line asks for what is made of it (profile)
+-- a part of a command line is read: with it the line asks for what is made of it, or it fails for a
+-- reason that fits (profile)
 abbrev pub GivesPart : {T : Type 0} → ((T → Invocation) → Invocation) → Result T ArgumentsFault
     → Type 0
 GivesPart {T} invocation result = (made : T → Invocation)
@@ -145,18 +154,22 @@ IsToldAs kind _ = ⊥
 
 -- ---- the whole line
 
+-- what a parse asks for that finds a command, and nothing if it finds none (profile)
 abbrev pub invoked_at : Option (Text × List Row) → Invocation
 invoked_at stop = option_map_or (λ p. invoked_by p.0 p.1) stop nothing
 
+-- what a parse asks for: help, the version or a refusal if it gives any, and else the command
+-- (profile)
 abbrev pub invoked_unless : Kinds → Option (Text × List Row) → Invocation
 invoked_unless [] stop = invoked_at stop
 invoked_unless (kind ∷ kinds) stop = told (kind ∷ kinds)
 
--- the kinds of refusal, of help or of version text that a parse of the words gives, none if it
--- finds a command; and the command, with its arguments (profile)
+-- the kinds of refusal, of help or of version text that a parse of the words gives; none if it
+-- finds a command (profile)
 unfoldable pub line_kinds : List Text → Kinds
 line_kinds words = fault_of program_app words
 
+-- the command that a parse of the words finds, with its arguments (profile)
 unfoldable pub line_command : List Text → Option (Text × List Row)
 line_command words = subcommand_of program_app words
 
@@ -173,18 +186,23 @@ parsed words = invoked_unless (line_kinds words) (line_command words)
 abbrev pub helped : Text → Text → Invocation
 helped first name = invoked_unless (line_kinds (first ∷ name ∷ codes "--help" ∷ [])) None
 
+-- the words `help` and the name of a command ask for the help on it (profile)
 abbrev pub asks_help : Text → Text → Bool
 asks_help word name = bytes_eq word (codes "help") && not (bytes_eq name (codes "help"))
 
+-- what a command line asks for that is not a query: the help on a command, or what a parse finds
+-- (profile)
 abbrev pub parsed_or_helped : List Text → Invocation
 parsed_or_helped (first ∷ word ∷ name ∷ []) =
     if asks_help word name then helped first name else parsed (first ∷ word ∷ name ∷ [])
 parsed_or_helped words = parsed words
 
+-- a word begins with a dash, as an option does
 abbrev pub begins_with_dash : Text → Bool
 begins_with_dash [] = false
 begins_with_dash (byte ∷ bytes) = byte == 45
 
+-- a command line is a query over settings, whose path begins with no dash (profile)
 abbrev pub asks_query : Text → Text → Bool
 asks_query name settings = bytes_eq name (codes "query") && not (begins_with_dash settings)
 

@@ -29,20 +29,23 @@ full_rule = record (new_rule (codes "full")) {
   action = Some SetTrue;
 }
 
--- a command over what the settings name, alone or over a file also (profile)
+-- a command that needs the file of its settings (profile)
 abbrev pub over_settings : Text → App
 over_settings name = with_rule (new_app name) (needed_rule (codes "SETTINGS"))
 
+-- a command that needs the file of its settings and another file (profile)
 abbrev pub over_file : Text → App
 over_file name = with_rule (over_settings name) (needed_rule (codes "FILE"))
 
--- the commands that read more (profile)
+-- the command of a query, which needs its words also (profile)
 abbrev pub query_app : App
 query_app = with_rule (over_settings (codes "query")) words_rule
 
+-- the command of a dump, which may be in full (profile)
 abbrev pub dump_app : App
 dump_app = with_rule (over_settings (codes "dump")) full_rule
 
+-- the command that serves, which needs a port and a count after their options (profile)
 abbrev pub serve_app : App
 serve_app =
     with_rule
@@ -56,6 +59,7 @@ program_shape = record (new_shape (codes "irrdesk")) {
   subcommand_required = true;
 }
 
+-- the program before its commands are added (profile)
 abbrev pub bare_app : App
 bare_app = record { top = program_shape; subs = [] }
 
@@ -68,9 +72,10 @@ program_app = record {
       ∷ (over_settings (codes "migrate")).top ∷ (over_settings (codes "probe")).top ∷ [];
 }
 
--- what is made reads so (profile)
+-- an argument that is made reads by a rule, and is not global (profile)
 abbrev pub IsArg : Rule → Arg → Type 0
 IsArg rule arg = (rule_of arg ≡ rule) × (arg.global ≡ false)
 
-abbrev pub IsMade : App → Command → Type 0
-IsMade app command = (app_of command ≡ app) × ((out-Command command).has_globals ≡ false)
+-- a command that is made reads by the rules of a definition, and has no global argument (profile)
+abbrev pub ParsesAs : App → Command → Type 0
+ParsesAs app command = (app_of command ≡ app) × ((out-Command command).has_globals ≡ false)

@@ -4,8 +4,8 @@ use Rattle.clap.specs.Walk.{Text}
 use Rattle.rr_arguments.specs.CommandLine.{invoked, dump}
 use Rattle.rr_arguments.specs.Flags.{names_full}
 
--- what is asked for in full are the dumps whose words after the command have `--full` among them
--- (profile)
+-- what is asked for in full are the dumps whose words after the command have `--full` among them,
+-- before any word `--` (profile)
 abbrev pub FullIsNamed : Type 0
 FullIsNamed = (words : List Text) (settings : Text) (full : Bool)
     → invoked words ≡ dump settings full

@@ -1,4 +1,4 @@
-//! What the program is asked to do.
+//! The commands of the program, with their arguments.
 
 /// What the program is asked to do. `settings` is the path of a settings file.
 #[derive(Drop)]

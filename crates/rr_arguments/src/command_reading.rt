@@ -1,4 +1,5 @@
-//! Reading the arguments of the command line.
+//! Reading the arguments of the command line: the command that they ask for, or why they ask for
+//! none.
 
 ghost use Rattle.std.specs.Prelude.{◌≡◌, ◌&&◌, codes, map, string_bytes, IfOk, MatchResult};
 ghost use Rattle.std.specs.Prelude.{length, nat_lt, true};

@@ -1,8 +1,9 @@
-//! What the arguments of the command line may be.
+//! What the arguments of the command line may be, as clap parses them. A new command or option is
+//! added here, in `command` and in `command_reading`.
 
 ghost use Rattle.std.specs.Prelude.{IfOk, codes};
 ghost use Rattle.clap.specs.Simple.{App, with_subcommand};
-ghost use Rattle.rr_arguments.specs.Grammar.{IsArg, IsMade, bare_app, dump_app, full_rule};
+ghost use Rattle.rr_arguments.specs.Grammar.{IsArg, ParsesAs, bare_app, dump_app, full_rule};
 ghost use Rattle.rr_arguments.specs.Grammar.{needed_rule};
 ghost use Rattle.rr_arguments.specs.Grammar.{option_rule, over_file, over_settings, program_app};
 ghost use Rattle.rr_arguments.specs.Grammar.{query_app, serve_app, words_rule};
@@ -12,11 +13,11 @@ use clap::{Arg, ArgAction};
 use std::alloc::{AllocError, Global};
 
 /// The version of the program, and that of the tables that it reads.
-const VERSION: &str = "2.7.0 (tables 2)";
+const VERSION: &str = "2.7.1 (tables 2)";
 
 /// What the arguments may be. The commands stand in the order in which a registry meets them.
-pub fn program<'a>(alloc: Global) -> Result<clap::Command<'a>, AllocError>
-    ensures { IfOk result (IsMade program_app) }
+pub(crate) fn program<'a>(alloc: Global) -> Result<clap::Command<'a>, AllocError>
+    ensures { IfOk result (ParsesAs program_app) }
 {
     let program = with(bare(alloc)?, init(alloc))?;
     let program = with(program, submit(alloc))?;
@@ -30,7 +31,7 @@ pub fn program<'a>(alloc: Global) -> Result<clap::Command<'a>, AllocError>
 
 /// The program without its commands.
 fn bare<'a>(alloc: Global) -> Result<clap::Command<'a>, AllocError>
-    ensures { IfOk result (IsMade bare_app) }
+    ensures { IfOk result (ParsesAs bare_app) }
 {
     Ok(
         clap::Command::new(alloc, "irrdesk")
@@ -47,21 +48,21 @@ fn with<'a>(
     program: clap::Command<'a>,
     command: Result<clap::Command<'a>, AllocError>,
 ) -> Result<clap::Command<'a>, AllocError>
-    ensures { (above : App) → (below : App) → IsMade above program.entry
-        → IfOk command.entry (IsMade below)
-        → IfOk result (IsMade (with_subcommand above below.top)) }
+    ensures { (above : App) → (below : App) → ParsesAs above program.entry
+        → IfOk command.entry (ParsesAs below)
+        → IfOk result (ParsesAs (with_subcommand above below.top)) }
 {
     program.subcommand(command?)
 }
 
 fn init<'a>(alloc: Global) -> Result<clap::Command<'a>, AllocError>
-    ensures { IfOk result (IsMade (over_settings (codes "init"))) }
+    ensures { IfOk result (ParsesAs (over_settings (codes "init"))) }
 {
     over_settings(alloc, "init", help::INIT, help::INIT_EXAMPLE)
 }
 
 fn submit<'a>(alloc: Global) -> Result<clap::Command<'a>, AllocError>
-    ensures { IfOk result (IsMade (over_file (codes "submit"))) }
+    ensures { IfOk result (ParsesAs (over_file (codes "submit"))) }
 {
     over_settings(alloc, "submit", help::SUBMIT, help::SUBMIT_EXAMPLE)?.arg(needed(
         alloc,
@@ -71,7 +72,7 @@ fn submit<'a>(alloc: Global) -> Result<clap::Command<'a>, AllocError>
 }
 
 fn query<'a>(alloc: Global) -> Result<clap::Command<'a>, AllocError>
-    ensures { IfOk result (IsMade query_app) }
+    ensures { IfOk result (ParsesAs query_app) }
 {
     over_settings(alloc, "query", help::QUERY, help::QUERY_EXAMPLE)?.arg(query_words(alloc))
 }
@@ -83,7 +84,7 @@ fn query_words<'a>(alloc: Global) -> Arg<'a>
 }
 
 fn dump<'a>(alloc: Global) -> Result<clap::Command<'a>, AllocError>
-    ensures { IfOk result (IsMade dump_app) }
+    ensures { IfOk result (ParsesAs dump_app) }
 {
     over_settings(alloc, "dump", help::DUMP, help::DUMP_EXAMPLE)?.arg(full(alloc))
 }
@@ -98,7 +99,7 @@ fn full<'a>(alloc: Global) -> Arg<'a>
 }
 
 fn load<'a>(alloc: Global) -> Result<clap::Command<'a>, AllocError>
-    ensures { IfOk result (IsMade (over_file (codes "load"))) }
+    ensures { IfOk result (ParsesAs (over_file (codes "load"))) }
 {
     over_settings(alloc, "load", help::LOAD, help::LOAD_EXAMPLE)?.arg(needed(
         alloc,
@@ -108,13 +109,13 @@ fn load<'a>(alloc: Global) -> Result<clap::Command<'a>, AllocError>
 }
 
 fn migrate<'a>(alloc: Global) -> Result<clap::Command<'a>, AllocError>
-    ensures { IfOk result (IsMade (over_settings (codes "migrate"))) }
+    ensures { IfOk result (ParsesAs (over_settings (codes "migrate"))) }
 {
     over_settings(alloc, "migrate", help::MIGRATE, help::MIGRATE_EXAMPLE)
 }
 
 fn serve<'a>(alloc: Global) -> Result<clap::Command<'a>, AllocError>
-    ensures { IfOk result (IsMade serve_app) }
+    ensures { IfOk result (ParsesAs serve_app) }
 {
     over_settings(alloc, "serve", help::SERVE, help::SERVE_EXAMPLE)?
         .arg(option(alloc, "PORT", "port", "The port, 1 to 65535"))?
@@ -127,7 +128,7 @@ fn serve<'a>(alloc: Global) -> Result<clap::Command<'a>, AllocError>
 }
 
 fn probe<'a>(alloc: Global) -> Result<clap::Command<'a>, AllocError>
-    ensures { IfOk result (IsMade (over_settings (codes "probe"))) }
+    ensures { IfOk result (ParsesAs (over_settings (codes "probe"))) }
 {
     over_settings(alloc, "probe", help::PROBE, help::PROBE_EXAMPLE)
 }
@@ -139,7 +140,7 @@ fn over_settings<'a>(
     about: &'a str,
     example: &'a str,
 ) -> Result<clap::Command<'a>, AllocError>
-    ensures { IfOk result (IsMade (over_settings name.entry.now)) }
+    ensures { IfOk result (ParsesAs (over_settings name.entry.now)) }
 {
     clap::Command::new(alloc, name)
         .about(about)

@@ -3,7 +3,7 @@
 ghost use Rattle.rr_arguments.specs.Named.{FullIsNamed};
 
 /// A dump is asked for with all of its text exactly where `--full` is among the words after the
-/// command, before a word `--`.
+/// command, before any word `--`.
 pub fn full_is_named()
     ensures { FullIsNamed }
 {}

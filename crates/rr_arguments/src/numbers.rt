@@ -6,7 +6,7 @@ ghost use Rattle.rr_arguments.specs.Numbers.{number_within};
 use rr_bytes::{are_digits, capped_value};
 
 /// The number that an argument spells in decimal digits alone, if it is 1 to `greatest`.
-pub fn read_number(argument: &str, greatest: usize) -> Option<usize>
+pub(crate) fn read_number(argument: &str, greatest: usize) -> Option<usize>
     requires { greatest < 2 ^ 32 }
     ensures value { result ≡ number_within argument.now greatest }
     ensures within { IfSome result (λ number. number ≤ greatest) }

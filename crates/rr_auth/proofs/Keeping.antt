@@ -15,7 +15,7 @@ use Rattle.rr_object.specs.declared.key.Key.TheVariants.{AsSet, RouteSet}
 use Rattle.rr_object.specs.Objects.{Obj, names_of}
 use Rattle.rr_object.specs.KeyOrders.{IsKeyValue, key_cmp}
 use Rattle.rr_object.specs.Keys.{is_mntner_of}
-use Rattle.rr_auth.specs.Registries.{Reg, Sound, maintainer, names_another, some_is_unknown}
+use Rattle.rr_auth.specs.Registries.{Reg, Sound, maintainer, is_other_naming, some_is_unknown}
 use Rattle.rr_auth.specs.Registries.{keys_cross, seen_by, with_mntner}
 use Rattle.rr_object.specs.declared.code.Code.{Code}
 use Rattle.rr_object.specs.declared.code.Code.TheVariants.{E10, E11, E12, E13, E14, E15, E16, E17}
@@ -201,7 +201,8 @@ kept_by_others r k n other e =
     ∙ ap (λ b. is_none (cond b None (get r (Mntner n)))) other ∙ e
 
 -- names that another object than the mntner names stay registered where the mntner is deleted
-not_another : (n m : List ℕ) (o : Obj) → is_mntner_of m o.key ≡ false → names_another m o ≡ false →
+not_another : (n m : List ℕ) (o : Obj) → is_mntner_of m o.key ≡ false → is_other_naming m o
+    ≡ false →
     IsIn n (names_of o) → bytes_eq n m ≡ false
 not_another n m o k e i =
     none_passes (λ a. bytes_eq a m) n (names_of o)
@@ -231,7 +232,7 @@ unnamed_key : (r : Reg) (k l : Key) (x : Obj) (n : List ℕ) → Sound r → is_
 unnamed_key r (Mntner m) l x n s e f other i =
     let outside = other_key m x.key (ap (λ a. eq_by_cmp key_cmp a (Mntner m)) (s.keyed l x f)
     ∙ other) in
-    let unnamed = none_passes (names_another m) x (values r) e (found_in r l x f) in
+    let unnamed = none_passes (is_other_naming m) x (values r) e (found_in r l x f) in
     tied_names n m ∙ not_another n m x outside unnamed i
 unnamed_key r (AsBlock t) l x n s e f other i = refl
 unnamed_key r (AutNum m) l x n s e f other i = refl

@@ -16,7 +16,7 @@ use Rattle.rr_auth.specs.declared.verdict.Verdict.TheVariants.{Refuse}
 use Rattle.rr_auth.specs.Registries.{Reg, Sound, seen_by}
 use Rattle.rr_auth.specs.Laws.{IsItem}
 use Rattle.rr_auth.specs.Sources.{IsReadIn, IsReadObject, IsRegistryOf}
-use Rattle.rr_auth.specs.Verdicts.{deletion, is_met_by, place, submission, verdict, after, step}
+use Rattle.rr_auth.specs.Verdicts.{deletion, fits_item, place, submission, verdict, after, step}
 use Rattle.rr_auth.specs.Conditions.{names_unknown, unauthorised, is_uncovered, cover_refuses}
 use Rattle.rr_auth.specs.Conditions.{lacks_origin, origin_refuses, crosses_registered, is_in_use}
 use Rattle.rr_auth.proofs.Keeping.{after_insert, still_there, sound_added, sound_changed}
@@ -49,18 +49,18 @@ stays_sound r secrets (DeleteItem k) s f =
 
 -- where an item can be refused, a condition before a verdict that it can meet leaves one that it
 -- can meet
-met_if : (i : Item) → ((code : Code) → is_met_by i (Refuse code) ≡ true) → (b : Bool) (c : Code)
-    (v : Verdict) → is_met_by i v ≡ true
-    → is_met_by i (if b then Refuse c else v) ≡ true
+met_if : (i : Item) → ((code : Code) → fits_item i (Refuse code) ≡ true) → (b : Bool) (c : Code)
+    (v : Verdict) → fits_item i v ≡ true
+    → fits_item i (if b then Refuse c else v) ≡ true
 met_if i refusals true c v e = refusals c
 met_if i refusals false c v e = e
 
-changed_or_same : (o : Obj) (b : Bool) → is_met_by (Submit o) (if b then Unchanged else Change)
+changed_or_same : (o : Obj) (b : Bool) → fits_item (Submit o) (if b then Unchanged else Change)
     ≡ true
 changed_or_same o true = refl
 changed_or_same o false = refl
 
-place_met : (r : Reg) (secrets : List (List ℕ)) (o : Obj) (k : Key) → is_met_by (Submit o)
+place_met : (r : Reg) (secrets : List (List ℕ)) (o : Obj) (k : Key) → fits_item (Submit o)
     (place r secrets k) ≡ true
 place_met r secrets o k =
     met_if (Submit o) (λ code. refl) (crosses_registered r k) E16 _ (
@@ -70,7 +70,7 @@ place_met r secrets o k =
     met_if (Submit o) (λ code. refl) (cover_refuses r secrets k) E13 Add refl))))
 
 submission_met : (r : Reg) (secrets : List (List ℕ)) (o : Obj) (stored : Option Obj) →
-    is_met_by (Submit o) (submission stored r secrets o) ≡ true
+    fits_item (Submit o) (submission stored r secrets o) ≡ true
 submission_met r secrets o None =
     met_if (Submit o) (λ code. refl) (names_unknown (seen_by (Some o) r) o) E10 _ (
     met_if (Submit o) (λ code. refl) (unauthorised (seen_by (Some o) r) secrets o) E11 _
@@ -81,7 +81,7 @@ submission_met r secrets o (Some stored) =
     (changed_or_same o (fields_eq stored.paragraph o.paragraph)))
 
 deletion_met : (r : Reg) (secrets : List (List ℕ)) (k : Key) (stored : Option Obj) →
-    is_met_by (DeleteItem k) (deletion stored r secrets k) ≡ true
+    fits_item (DeleteItem k) (deletion stored r secrets k) ≡ true
 deletion_met r secrets k None = refl
 deletion_met r secrets k (Some stored) =
     met_if (DeleteItem k) (λ code. refl) (unauthorised r secrets stored) E11 _ (
@@ -89,7 +89,7 @@ deletion_met r secrets k (Some stored) =
 
 -- each verdict is one that its item can meet
 pub verdicts_are_met : (r : Reg) (secrets : List (List ℕ)) (i : Item) →
-    is_met_by i (verdict r secrets i) ≡ true
+    fits_item i (verdict r secrets i) ≡ true
 verdicts_are_met r secrets (Submit o) = submission_met r secrets o (get r o.key)
 verdicts_are_met r secrets (DeleteItem k) = deletion_met r secrets k (get r k)
 

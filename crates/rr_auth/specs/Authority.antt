@@ -1,4 +1,4 @@
--- Whose names an object asks for below it (RFC 2725, 9 and 10).
+-- Which maintainers decide below an object (RFC 2725, 9 and 10).
 use Rattle.std.specs.Prelude.{ℕ, Bool, true, false, ◌==◌, ◌||◌, List, length, map, filter}
 use Rattle.std.specs.Prelude.{if◌then◌else◌}
 use Rattle.std.specs.List.{list_any}
@@ -11,7 +11,7 @@ use Rattle.rr_object.specs.Objects.{Obj}
 use Rattle.rr_auth.specs.Passing.{names_pass}
 use Rattle.rr_auth.specs.Registries.{Reg}
 
--- Below an object its mnt-lower decides where it has one, otherwise its mnt-by (RFC 2725, 9).
+-- Who decides below an object: its mnt-lower where it has one, otherwise its mnt-by (RFC 2725, 9).
 abbrev pub lower_of : Obj → List (List ℕ)
 lower_of o = if length o.lower == 0 then o.maintainers else o.lower
 
@@ -25,9 +25,9 @@ abbrev pub is_aut_num : Key → Bool
 is_aut_num (AutNum n) = true
 is_aut_num _ = false
 
--- For a route of the prefix the entries of an object's mnt-routes that grant it decide, where it
--- has any entry (RFC 2725, 9); otherwise mnt-by of an aut-num, and of another object what decides
--- below it (profile).
+-- Who decides about a route of the prefix below an object: the maintainers of the entries of its
+-- mnt-routes that grant the prefix, where it has mnt-routes (RFC 2725, 9); otherwise its mnt-by if
+-- it is an aut-num, and else who decides below it (profile).
 abbrev pub routes_of : Obj → PrefixParts → List (List ℕ)
 routes_of o p =
     if length o.routes == 0 then (if is_aut_num o.key then o.maintainers else lower_of o)
@@ -37,6 +37,6 @@ routes_of o p =
 abbrev pub lower_passes : Reg → List (List ℕ) → Obj → Bool
 lower_passes r secrets x = names_pass r secrets (lower_of x)
 
--- The names that decide about routes of the prefix pass (RFC 2725, 9).
+-- The names that decide about routes of the prefix below an object pass (RFC 2725, 9).
 abbrev pub routes_pass : Reg → List (List ℕ) → PrefixParts → Obj → Bool
 routes_pass r secrets p x = names_pass r secrets (routes_of x p)

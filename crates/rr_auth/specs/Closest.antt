@@ -42,7 +42,7 @@ is_closest class all s o =
 abbrev pub is_cover : (Key → Option Ends) → Ends → Obj → Bool
 is_cover class s o = option_map_or (λ t. covers t s) (class o.key) false
 
--- The closest object of a class that is listed.
+-- The first object of a list that is of the class and closest to a span.
 abbrev pub closest_of : (Key → Option Ends) → List Obj → Ends → Option Obj
 closest_of class all s = find (is_closest class all s) all
 

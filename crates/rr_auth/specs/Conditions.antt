@@ -11,7 +11,7 @@ use Rattle.rr_object.specs.declared.key.Key.{Key}
 use Rattle.rr_object.specs.declared.key.Key.TheVariants.{Mntner, AsBlock, AutNum, Inetnum, Route}
 use Rattle.rr_object.specs.declared.key.Key.TheVariants.{AsSet, RouteSet}
 use Rattle.rr_object.specs.Objects.{Obj, names_of}
-use Rattle.rr_auth.specs.Registries.{Reg, keys_cross, some_is_unknown, is_named}
+use Rattle.rr_auth.specs.Registries.{Reg, is_crossed_by_some, is_named, some_is_unknown}
 use Rattle.rr_auth.specs.Closest.{closest_inetnum, closest_block, closest_routes, origins}
 use Rattle.rr_auth.specs.Passing.{names_pass}
 use Rattle.rr_auth.specs.Authority.{lower_passes, routes_pass}
@@ -37,7 +37,7 @@ is_uncovered r (Route p n) = is_none (closest_routes r p) && is_none (closest_in
 is_uncovered r (AsSet name) = lacks_parent r kinds.AsSet name
 is_uncovered r (RouteSet name) = lacks_parent r kinds.RouteSet name
 
--- The route of the prefix and this origin authorises a route of the other prefix.
+-- The registered route of the closest prefix and this origin authorises a route of the prefix `p`.
 abbrev pub route_passes : Reg → List (List ℕ) → PrefixParts → PrefixParts → ℕ → Bool
 route_passes r secrets p closest n =
     option_map_or (routes_pass r secrets p) (get r (Route closest n)) false
@@ -77,7 +77,7 @@ origin_refuses r secrets _ = false
 
 -- E16: the new object's span crosses one of its class (profile).
 abbrev pub crosses_registered : Reg → Key → Bool
-crosses_registered r k = list_any (λ o. keys_cross o.key k) (values r)
+crosses_registered r k = is_crossed_by_some k (values r)
 
 -- E17: another object names the mntner that is to be deleted (profile).
 abbrev pub is_in_use : Reg → Key → Bool

@@ -23,7 +23,7 @@ use Rattle.rr_auth.specs.Conditions.{cover_refuses}
 use Rattle.rr_auth.specs.Passing.{names_pass}
 use Rattle.rr_auth.specs.Registries.{Reg, Sound}
 use Rattle.rr_auth.specs.Sources.{IsReadIn, IsRegistryOf}
-use Rattle.rr_auth.specs.Verdicts.{is_met_by, verdict, step}
+use Rattle.rr_auth.specs.Verdicts.{fits_item, verdict, step}
 
 -- The key of an object that is submitted is well formed.
 abbrev pub IsItem : Item → Type 0
@@ -37,7 +37,8 @@ RefusalLeaves =
     → verdict r secrets i ≡ Refuse code
     → step r secrets i ≡ r
 
--- A sound registry stays sound, whatever is submitted.
+-- A sound registry stays sound, whatever item comes whose object, if it submits one, has a key that
+-- is well formed.
 abbrev pub StaysSound : Type 0
 StaysSound =
     (r : Reg) (secrets : List (List ℕ)) (i : Item) → Sound r → IsItem i
@@ -50,10 +51,11 @@ StaysOfSource =
     → IsRegistryOf source r → IsReadIn source i
     → IsRegistryOf source (step r secrets i)
 
--- Each verdict is one that its item can meet.
-abbrev pub VerdictsAreMet : Type 0
-VerdictsAreMet =
-    (r : Reg) (secrets : List (List ℕ)) (i : Item) → is_met_by i (verdict r secrets i) ≡ true
+-- The verdict on an item is one of those that are given on such an item: no submission is answered
+-- as a deletion, nor a deletion as an addition or a change.
+abbrev pub VerdictsFitItems : Type 0
+VerdictsFitItems =
+    (r : Reg) (secrets : List (List ℕ)) (i : Item) → fits_item i (verdict r secrets i) ≡ true
 
 -- A verdict is a refusal, with some code.
 pub record IsRefusal (v : Verdict) : Type 0 where
@@ -91,7 +93,8 @@ OneClosestInetnum =
     (r : Reg) (s : Ends) (k : Key) (o : Obj) → Sound r → IsSpan s → get r k ≡ Some o
     → is_closest inetnum_span (values r) s o ≡ true → closest_inetnum r s ≡ Some o
 
--- Of as-blocks likewise.
+-- In a sound registry there is one closest as-block to a span at most: each one that is closest is
+-- the one that is given.
 abbrev pub OneClosestBlock : Type 0
 OneClosestBlock =
     (r : Reg) (s : Ends) (k : Key) (o : Obj) → Sound r → IsSpan s → get r k ≡ Some o
@@ -104,8 +107,8 @@ ClosestRoutesAgree =
     → is_closest route_span (values r) (span_of p) o ≡ true
     → closest_routes r p ≡ route_prefix o.key
 
--- The closest inetnum to a span is none exactly where no inetnum of the registry covers the span;
--- so are the closest as-block, and the closest routes to a prefix (RFC 2725, 9).
+-- A span has no closest inetnum exactly where no inetnum of the registry covers the span; likewise
+-- it has no closest as-block, and a prefix no closest routes (RFC 2725, 9).
 pub record IsClosestWhereCovered (r : Reg) : Type 0 where
   pub inetnums : (s : Ends)
       → is_none (closest_inetnum r s) ≡ not (list_any (is_cover inetnum_span s) (values r))
@@ -121,7 +124,7 @@ abbrev pub NothingClosestIsUncovered : Type 0
 NothingClosestIsUncovered = (r : Reg) → IsClosestWhereCovered r
 
 -- E13 of a route in a sound registry: the names that decide about it pass for no closest route, or,
--- where no route covers it, not for the closest inetnum.
+-- where no route covers it, not for the closest inetnum, or there is none.
 abbrev pub RoutesAskTheClosest : Type 0
 RoutesAskTheClosest =
     (r : Reg) (secrets : List (List ℕ)) (p : PrefixParts) (n : ℕ) → Sound r

@@ -28,17 +28,18 @@ name_passes r secrets name = option_map_or (passes secrets) (maintainer r name) 
 abbrev pub names_pass : Reg → List (List ℕ) → List (List ℕ) → Bool
 names_pass r secrets names = list_any (name_passes r secrets) names
 
--- This is what trying secrets comes to, which leaves them as they were (profile).
+-- Trying secrets answers this, and leaves the secrets as they were (profile).
 abbrev pub Tries : {X : Type 0} → X → List (List ℕ) → List (List ℕ) → X → Type 0
 Tries expected before after result = (result ≡ expected) × (after ≡ before)
 
--- The same where memory may run out.
+-- Trying secrets answers this, unless memory runs out; in either case it leaves the secrets as they
+-- were (profile).
 abbrev pub MayTry : {X E : Type 0} → X → List (List ℕ) → List (List ℕ) → Result X E → Type 0
 MayTry expected before after result = IfOk result (λ made. made ≡ expected) × (after ≡ before)
 
--- These secrets are added after those that there were, or none of them where memory runs out
+-- These secrets are added after those that there were; or none of them is, where memory runs out
 -- (profile).
-abbrev pub MayAdd : {X E : Type 0} → List (List ℕ) → List (List ℕ) → List (List ℕ) → Result X E
-    → Type 0
-MayAdd more before after result =
+abbrev pub AddsAllOrNone : {X E : Type 0} → List (List ℕ) → List (List ℕ) → List (List ℕ)
+    → Result X E → Type 0
+AddsAllOrNone more before after result =
     OnOk result (after ≡ before ++ more) × OnErr result (after ≡ before)

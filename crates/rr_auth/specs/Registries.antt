@@ -10,7 +10,7 @@ pub use Rattle.rr_object.specs.Keys.{is_mntner_of}
 use Rattle.rr_object.specs.Objects.{Obj, names_of, object_names}
 use Rattle.rr_object.specs.KeyOrders.{IsKeyValue, key_cmp}
 
--- A registry has at most one object of a class and key.
+-- A registry is a finite map from keys to objects: it has at most one object under a key.
 abbrev pub Reg : Type 0
 Reg = FinMap key_cmp Obj
 
@@ -39,13 +39,17 @@ keys_cross (AsBlock s) (AsBlock t) = crosses s t
 keys_cross (Inetnum s) (Inetnum t) = crosses s t
 keys_cross _ _ = false
 
--- An object other than the maintainer of this name names it.
-abbrev pub names_another : List ℕ → Obj → Bool
-names_another name o = not (is_mntner_of name o.key) && object_names name o
+-- Some object of a list crosses this key (profile).
+abbrev pub is_crossed_by_some : Key → List Obj → Bool
+is_crossed_by_some k os = list_any (λ o. keys_cross o.key k) os
 
--- Some object of the registry, other than the maintainer of this name, names it.
+-- An object other than the maintainer of this name names that maintainer.
+abbrev pub is_other_naming : List ℕ → Obj → Bool
+is_other_naming name o = not (is_mntner_of name o.key) && object_names name o
+
+-- Some object of the registry, other than the maintainer of this name, names that maintainer.
 abbrev pub is_named : Reg → List ℕ → Bool
-is_named r name = list_any (names_another name) (values r)
+is_named r name = list_any (is_other_naming name) (values r)
 
 -- A registry is sound where each object stands under its own key, each key is well formed, every
 -- maintainer that an object names is in it, and no two inetnums and no two as-blocks cross
@@ -57,12 +61,14 @@ pub record Sound (r : Reg) : Type 0 where
   pub apart : (k l : Key) (o x : Obj) → get r k ≡ Some o → get r l ≡ Some x
       → keys_cross k l ≡ false
 
--- What stands under the key in a registry, which is sound.
+-- What is looked up is the object under the key, if there is one, and the registry is sound
+-- (profile).
 pub record LooksUp (r : Reg) (k : Key) (object : Option Obj) : Type 0 where
   pub found : object ≡ get r k
   pub sound : Sound r
 
--- What is listed of a registry, which is sound, is as is said, unless memory runs out.
+-- What is listed has this property, unless memory runs out, and the registry that it is listed of
+-- is sound (profile).
 pub record ListsOf {X E : Type 0} (r : Reg) (P : X → Type 0) (result : Result X E) : Type 0 where
   pub all : IfOk result P
   pub sound : Sound r

@@ -20,7 +20,7 @@ parent_key kind (Number n) = Some (AutNum n)
 parent_key kind (Set name) = Some (key_of_kind kind name)
 parent_key kind Bare = None
 
--- The object of that key.
+-- The object that is the parent of a set, if it is registered.
 abbrev pub parent_object : Reg → SetKind → Parent → Option Obj
 parent_object r kind parent = option_and_then (get r) (parent_key kind parent)
 

@@ -20,7 +20,8 @@ pub record IsReadObject (source : List ℕ) (o : Obj) : Type 0 where
   pub formed : IsKeyValue o.key
   pub read : object_of o.paragraph source ≡ Ok o
 
--- An item as it is read in a source.
+-- An item as it is read in a source: a submitted object is what its paragraph reads as, and its key
+-- or the key to be deleted is well formed.
 abbrev pub IsReadIn : List ℕ → Item → Type 0
 IsReadIn source (Submit o) = IsReadObject source o
 IsReadIn source (Delete k) = IsKeyValue k

@@ -71,8 +71,8 @@ abbrev pub AreDigests
 AreDigests wanted secrets digests =
     (salt : Vec ℕ) → IfSome (get salt_cmp digests salt) (HasDigests salt.items wanted secrets)
 
--- It says whether one of the secrets fits the line, unless memory runs out, and the digests are
--- right.
+-- It is answered whether one of the secrets fits the line, unless memory runs out; and the digests
+-- that are remembered are those of the secrets.
 pub record AsksLine {E : Type 0} (wanted : BTreeSet (List ℕ)) (secrets : List (List ℕ))
     (line : AuthParts) (digests : BTreeMap (Vec ℕ) (BTreeSet (List ℕ))) (result : Result Bool E)
     : Type 0 where

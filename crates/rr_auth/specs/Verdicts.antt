@@ -29,7 +29,8 @@ abbrev pub first_of : List Refusal → Verdict → Verdict
 first_of [] v = v
 first_of (c ∷ cs) v = if c.holds then Refuse c.code else first_of cs v
 
--- What the place of a new object in the hierarchy says of it (RFC 2725, 9; profile).
+-- The verdict on a new object by its place in the hierarchy: the first of E16, E14, E15, E12 and
+-- E13 that holds, and otherwise that it is added (RFC 2725, 9; profile).
 abbrev pub place : Reg → List (List ℕ) → Key → Verdict
 place r secrets k = first_of (
     record { holds = crosses_registered r k; code = E16 } ∷ (
@@ -61,27 +62,28 @@ abbrev pub submission : Option Obj → Reg → List (List ℕ) → Obj → Verdi
 submission None r secrets o = addition r secrets o
 submission (Some stored) r secrets o = change r secrets stored o
 
--- A deletion needs the object, its mnt-by, and that no other object names it (RFC 2725, 9;
--- profile).
+-- A deletion needs that the object is stored, that its mnt-by passes, and that no other object
+-- names it, if it is a mntner (RFC 2725, 9; profile).
 abbrev pub deletion : Option Obj → Reg → List (List ℕ) → Key → Verdict
 deletion stored r secrets k = first_of (
     record { holds = is_unregistered stored; code = E18 } ∷ (
     record { holds = option_map_or (unauthorised r secrets) stored false; code = E11 } ∷ (
     record { holds = is_in_use r k; code = E17 } ∷ []))) Delete
 
--- The verdict on an item: the first code in this order that holds (profile).
+-- The verdict on an item: for an object that is submitted, that on an addition or a change; for a
+-- key, that on a deletion (profile).
 abbrev pub verdict : Reg → List (List ℕ) → Item → Verdict
 verdict r secrets (Submit o) = submission (get r o.key) r secrets o
 verdict r secrets (DeleteItem k) = deletion (get r k) r secrets k
 
--- A verdict that an item can meet: an object is never deleted by being submitted, and what is to be
--- deleted is deleted or refused (profile).
-abbrev pub is_met_by : Item → Verdict → Bool
-is_met_by (Submit o) Delete = false
-is_met_by (Submit o) _ = true
-is_met_by (DeleteItem k) Delete = true
-is_met_by (DeleteItem k) (Refuse code) = true
-is_met_by (DeleteItem k) _ = false
+-- A verdict is one of those that are given on such an item: what is submitted is added, changed,
+-- left as it is or refused, and what is to be deleted is deleted or refused (profile).
+abbrev pub fits_item : Item → Verdict → Bool
+fits_item (Submit o) Delete = false
+fits_item (Submit o) _ = true
+fits_item (DeleteItem k) Delete = true
+fits_item (DeleteItem k) (Refuse code) = true
+fits_item (DeleteItem k) _ = false
 
 -- The registry with an item's object under its key, in place of one that stood there.
 abbrev pub added : Reg → Item → Reg

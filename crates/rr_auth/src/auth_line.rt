@@ -1,4 +1,4 @@
-//! Lines of `auth`, as they are kept with an answer.
+//! Copies of lines of `auth`, which `tried` keeps with an answer.
 
 ghost use Rattle.std.specs.Prelude.{◌≡◌, ◌↔◌, IfOk, IsTrue};
 

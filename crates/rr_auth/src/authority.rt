@@ -1,4 +1,4 @@
-//! Whose names an object asks for below it.
+//! Which maintainers decide below an object, and whether they pass: for verdicts.
 
 ghost use Rattle.std.specs.Prelude.{◌≡◌, ◌&&◌, map, filter, IfOk};
 ghost use Rattle.std.specs.List.{list_any};
@@ -109,7 +109,7 @@ fn is_aut_num(key: &Key) -> bool
 }
 
 /// Whether the names that decide below the object pass.
-pub fn lower_passes<B: Book>(book: &B, secrets: &mut Secrets, object: &Object) -> bool
+pub(crate) fn lower_passes<B: Book>(book: &B, secrets: &mut Secrets, object: &Object) -> bool
     ensures { Tries (lower_passes (B.contents book.now) secrets.old object.now)
         secrets.old secrets.new result }
 {
@@ -117,7 +117,7 @@ pub fn lower_passes<B: Book>(book: &B, secrets: &mut Secrets, object: &Object) -
 }
 
 /// Whether the names that decide about routes of the prefix below the object pass.
-pub fn routes_pass<B: Book>(
+pub(crate) fn routes_pass<B: Book>(
     book: &B,
     secrets: &mut Secrets,
     object: &Object,

@@ -1,4 +1,4 @@
-//! Registries, as the verdict asks about them.
+//! Registries, as verdicts ask about them: each book implements this trait.
 
 ghost use Rattle.std.specs.Prelude.{◌≡◌, IfOk};
 ghost use Rattle.std.specs.Option.{option_copied};
@@ -19,11 +19,11 @@ pub trait Book {
 
     ghost contents: { Self → Reg };
 
-    /// The object of the key.
+    /// The object of the key, if one is registered under it. The registry is sound.
     fn get(&self, key: &Key) -> Option<&Object>
         ensures { LooksUp (contents self.now) key.now (option_copied result) };
 
-    /// The mntner of the name.
+    /// The mntner of the name, if it is registered.
     fn maintainer(&self, name: &Name) -> Option<&Object>
         ensures { option_copied result ≡ maintainer (contents self.now) name.now };
 
@@ -39,7 +39,8 @@ pub trait Book {
     fn closest_routes(&self, prefix: Prefix) -> Option<Prefix>
         ensures { result ≡ closest_routes (contents self.now) prefix };
 
-    /// The origins of the routes of exactly this prefix, ascending; the error is out of memory.
+    /// The origins of the routes of exactly this prefix, ascending; the error is out of memory. The
+    /// registry is sound.
     fn origins(&self, alloc: Global, prefix: Prefix) -> Result<Vec<AsNumber>, AllocError>
         ensures value { IfOk result (λ v. v.items ≡ origins (contents self.now) prefix) }
         ensures ascending { IfOk result (λ v. IsStrictlySortedBy nat_cmp v.items) }
@@ -50,7 +51,7 @@ pub trait Book {
     fn crosses(&self, key: &Key) -> bool
         ensures { result ≡ crosses_registered (contents self.now) key.now };
 
-    /// Whether an object other than the maintainer of this name names it (profile).
+    /// Whether an object other than the maintainer of this name names that maintainer (profile).
     fn names_maintainer(&self, name: &Name) -> bool
         ensures { result ≡ is_named (contents self.now) name.now };
 }

@@ -1,4 +1,4 @@
-//! The verdict on an item.
+//! The verdict on an item, over any book: whether it is carried out, or why it is refused.
 
 ghost use Rattle.std.specs.Prelude.{◌≡◌, Some};
 ghost use Rattle.std.specs.List.{list_any};
@@ -28,8 +28,8 @@ use rr_object::{Code, Key, Object};
 use std::alloc::{AllocError, Global};
 
 /// The verdict on an item over the book's registry (RFC 2725, 9; profile); the error is out of
-/// memory. The key of an object that is submitted is well formed. What is known of the registry is
-/// used, and added to.
+/// memory. The secrets stay as they were, and the key of an object that is submitted is well
+/// formed. What is known of the registry is true of it, is used, and is added to.
 pub fn judge<B: Book>(
     alloc: Global,
     book: &B,

@@ -6,7 +6,7 @@
 
 ghost use Rattle.std.specs.Prelude.{◌≡◌, ◌↔◌, Some, IfOk, IfSome, IsTrue, OnOk};
 ghost use Rattle.std.specs.FinMap.{get};
-ghost use Rattle.rr_auth.specs.Known.{IsKnown, IsSameBut, IsSeen};
+ghost use Rattle.rr_auth.specs.Known.{Forgets, IsKnown, IsSeen};
 ghost use Rattle.rr_auth.specs.Passing.{Tries, names_pass};
 ghost use Rattle.rr_auth.specs.Registries.{Reg};
 
@@ -46,8 +46,7 @@ impl Known {
     /// Forgets what may be otherwise once the object of this key has changed: all of it where that
     /// is a maintainer, and otherwise what the object answered.
     pub fn forget(&mut self, key: &Key)
-        ensures { (before after : Reg) → IsSameBut key.now before after
-            → IsKnown before self.old → IsKnown after self.new }
+        ensures { Forgets key.now self.old self.new }
     {
         match key {
             Key::Mntner(_) => self.answers.clear(),

@@ -3,7 +3,7 @@
 ghost use Rattle.rr_auth.specs.Laws.{ClosestRoutesAgree, NothingClosestIsUncovered};
 ghost use Rattle.rr_auth.specs.Laws.{OneClosestBlock, OneClosestInetnum, RefusalLeaves};
 ghost use Rattle.rr_auth.specs.Laws.{RoutesAskTheClosest, SecretsAreASet, StaysOfSource};
-ghost use Rattle.rr_auth.specs.Laws.{StaysSound, StoredNamesDecide, VerdictsAreMet};
+ghost use Rattle.rr_auth.specs.Laws.{StaysSound, StoredNamesDecide, VerdictsFitItems};
 
 /// An item that is refused leaves the registry as it was.
 #[tactic(auto, using(crate::proofs::Steps::refusal_leaves))]
@@ -11,7 +11,7 @@ pub fn refused_items_change_nothing()
     ensures { RefusalLeaves }
 {}
 
-/// What is sound stays sound.
+/// A sound registry stays sound, whatever item comes whose key is well formed.
 #[tactic(auto, using(crate::proofs::Steps::stays_sound))]
 pub fn registries_stay_sound()
     ensures { StaysSound }
@@ -22,9 +22,10 @@ pub fn registries_stay_of_their_source()
     ensures { StaysOfSource }
 {}
 
-/// A submission is never answered as a deletion, nor a deletion as an addition or a change.
-pub fn verdicts_are_met_by_their_items()
-    ensures { VerdictsAreMet }
+/// A submission is never answered as a deletion, nor a deletion as an addition, a change or no
+/// change.
+pub fn verdicts_fit_their_items()
+    ensures { VerdictsFitItems }
 {}
 
 /// What stands in a registry is changed and deleted by its own maintainers alone, whatever an item
@@ -39,17 +40,17 @@ pub fn only_which_secrets_are_given_matters()
     ensures { SecretsAreASet }
 {}
 
-/// A span has one closest inetnum at most.
+/// In a sound registry a span has one closest inetnum at most.
 pub fn closest_inetnums_are_one()
     ensures { OneClosestInetnum }
 {}
 
-/// A span has one closest as-block at most.
+/// In a sound registry a span has one closest as-block at most.
 pub fn closest_blocks_are_one()
     ensures { OneClosestBlock }
 {}
 
-/// The closest routes to a prefix have one prefix.
+/// In a sound registry the closest routes to a prefix have one prefix.
 pub fn closest_routes_have_one_prefix()
     ensures { ClosestRoutesAgree }
 {}
@@ -60,8 +61,8 @@ pub fn nothing_closest_is_uncovered()
     ensures { NothingClosestIsUncovered }
 {}
 
-/// A route is refused by the space that it lies in where no closest route authorises it, or, where
-/// no route covers it, the closest inetnum doesn't.
+/// E13 of a route in a sound registry means that no closest route authorises it, or, where no route
+/// covers it, that the closest inetnum doesn't or there is none.
 pub fn routes_ask_the_closest_routes_or_inetnum()
     ensures { RoutesAskTheClosest }
 {}

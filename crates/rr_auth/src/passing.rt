@@ -12,8 +12,9 @@ use rr_number::Name;
 use rr_object::Object;
 
 /// Whether the maintainer passes: some secret fits one of its lines, so that SHA-256 of the salt
-/// and then the secret is the line's digest (profile; FIPS 180-4). However often it is asked, a
-/// secret is hashed with each salt of its lines once.
+/// and then the secret is the line's digest (profile; FIPS 180-4). The secrets stay as they were.
+/// The answer is remembered: no secret is hashed again for these lines until memory runs out, or
+/// other lines come under the maintainer's name.
 pub fn passes(maintainer: &Object, secrets: &mut Secrets) -> bool
     ensures { Tries (passes secrets.old maintainer.now) secrets.old secrets.new result }
 {
@@ -22,7 +23,7 @@ pub fn passes(maintainer: &Object, secrets: &mut Secrets) -> bool
 
 /// The mntner of the name; the object itself where it is added and is that one.
 #[tactic(auto, using(crate::proofs::Seen::maintainer_seen))]
-pub fn maintainer_seen<'a, B: Book>(
+pub(crate) fn maintainer_seen<'a, B: Book>(
     book: &'a B,
     own: Option<&'a Object>,
     name: &Name,
@@ -43,7 +44,7 @@ pub fn maintainer_seen<'a, B: Book>(
 }
 
 /// Whether the name is that of a maintainer that passes.
-pub fn name_passes<B: Book>(
+pub(crate) fn name_passes<B: Book>(
     book: &B,
     own: Option<&Object>,
     secrets: &mut Secrets,
@@ -59,7 +60,7 @@ pub fn name_passes<B: Book>(
 }
 
 /// Whether one of the names passes.
-pub fn names_pass<B: Book>(
+pub(crate) fn names_pass<B: Book>(
     book: &B,
     own: Option<&Object>,
     secrets: &mut Secrets,
@@ -77,7 +78,7 @@ pub fn names_pass<B: Book>(
 }
 
 /// Whether the object names a maintainer that is not registered.
-pub fn names_unknown<B: Book>(book: &B, own: Option<&Object>, object: &Object) -> bool
+pub(crate) fn names_unknown<B: Book>(book: &B, own: Option<&Object>, object: &Object) -> bool
     ensures { result ≡ some_is_unknown
         (seen_by (option_copied own.entry) (B.contents book.now)) (names_of object.now) }
 {

@@ -1,4 +1,4 @@
-//! One secret.
+//! One secret, which is a password, and whether it fits a line of `auth`.
 
 ghost use Rattle.std.specs.Prelude.{◌≡◌, ◌↔◌, ◌++◌, IfOk, IsTrue};
 ghost use Rattle.std.specs.List.{list_any};
@@ -26,7 +26,7 @@ impl Model for Secret {
 }
 
 impl Secret {
-    /// The secret of these bytes.
+    /// The secret of a copy of these bytes; the error is out of memory.
     pub(crate) fn new(alloc: Global, bytes: &[u8]) -> Result<Secret, AllocError>
         ensures { IfOk result (λ secret. secret ≡ bytes.now) }
     {

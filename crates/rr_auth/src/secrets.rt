@@ -1,7 +1,7 @@
 //! Secrets, by which a submission shows who sent it.
 
 ghost use Rattle.std.specs.Prelude.{◌≡◌, [], ◌∷◌};
-ghost use Rattle.rr_auth.specs.Passing.{MayAdd, Tries, passes};
+ghost use Rattle.rr_auth.specs.Passing.{AddsAllOrNone, Tries, passes};
 
 use crate::secret::Secret;
 use crate::tried::Tried;
@@ -44,7 +44,7 @@ impl Secrets {
     /// they were.
     #[tactic(auto, using(crate::proofs::Remembered::answers_stay))]
     pub fn add(&mut self, alloc: Global, bytes: &[u8]) -> Result<(), AllocError>
-        ensures { MayAdd (bytes.now ∷ []) self.old self.new result }
+        ensures { AddsAllOrNone (bytes.now ∷ []) self.old self.new result }
     {
         let secret = Secret::new(alloc, bytes)?;
         self.list.push(secret)?;
@@ -55,7 +55,7 @@ impl Secrets {
     /// secrets as they were.
     #[tactic(auto, using(crate::proofs::Remembered::answers_stay))]
     pub fn add_owned(&mut self, bytes: Vec<u8>) -> Result<(), AllocError>
-        ensures { MayAdd (bytes.items ∷ []) self.old self.new result }
+        ensures { AddsAllOrNone (bytes.items ∷ []) self.old self.new result }
     {
         self.list.push(Secret::of(bytes))?;
         Ok(())
@@ -65,7 +65,7 @@ impl Secrets {
     /// they were.
     #[tactic(auto, using(crate::proofs::Remembered::answers_stay))]
     pub fn add_all(&mut self, more: Secrets) -> Result<(), AllocError>
-        ensures { MayAdd more self.old self.new result }
+        ensures { AddsAllOrNone more self.old self.new result }
     {
         let Secrets { mut list, tried: _ } = more;
         self.list.append(&mut list)

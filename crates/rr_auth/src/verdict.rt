@@ -1,4 +1,4 @@
-//! Verdicts on items.
+//! Verdicts on items: what `judge` answers.
 
 use rr_object::Code;
 

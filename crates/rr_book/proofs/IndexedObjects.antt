@@ -2,7 +2,6 @@
 use Rattle.std.proofs.Common.{◌≡◌, ◌≢◌, ◌↔◌, ◌||◌, ◌++◌, ℕ, true, false, List, [], ◌∷◌, get_or}
 use Rattle.std.proofs.Common.{Contains, IsTrue, Bor, Option, None, Some, refl, sym, ap, subst, ◌∙◌}
 use Rattle.std.proofs.Common.{inl, inr, arith}
-use Rattle.std.specs.Prelude.{find}
 use Rattle.std.specs.BTreeMap.{BTreeMap, get as keys_at, is_at}
 use Rattle.std.specs.BTreeSet.{BTreeSet, contains}
 use Rattle.std.specs.Cmp.{tied_itself}
@@ -31,7 +30,7 @@ use Rattle.rr_object.specs.Objects.{Obj}
 use Rattle.rr_sets.specs.Lists.{IsReferrer, ListsOnce, lent}
 use Rattle.rr_book.proofs.KeysUnderSets.{found_has_key}
 use Rattle.rr_book.proofs.Order.{get_of_book}
-use Rattle.rr_book.specs.Books.{book_of}
+use Rattle.rr_book.specs.Books.{book_of, object_at}
 use Rattle.rr_book.specs.SetIndexes.{IsIndexed, stands_under}
 use Rattle.rr_book.specs.SetLists.{names_set}
 
@@ -86,26 +85,23 @@ named_by_some name names = (on names, back names) where
     | inr later ↦ ap (λ b. bytes_eq n name || b) (back ns later) ∙ or-true (bytes_eq n name)
   ]
 
-abbrev found_at : List Obj → Key → Option Obj
-found_at os key = find (λ o. eq_by_cmp key_cmp key o.key) os
-
 -- keys that rise lead to different objects
 leads_apart : (os : List Obj) (keys : List Key) → IsStrictlySortedBy (derived.ghosts).cmp keys →
-    HasNoRepeats (filter_map (found_at os) keys)
+    HasNoRepeats (filter_map (object_at os) keys)
 unfolding IsStrictlySortedBy
 leads_apart os [] rise = λ i j d low inside. absurd (omega arith)
 leads_apart os (k ∷ ks) rise =
-    elim (found_at os k) as (λ r. found_at os k ≡ r →
-    HasNoRepeats (cons_option r (filter_map (found_at os) ks))) [
+    elim (object_at os k) as (λ r. object_at os k ≡ r →
+    HasNoRepeats (cons_option r (filter_map (object_at os) ks))) [
       | None ↦ λ e. leads_apart os ks rise.1
-      | Some o ↦ λ e. AllPairs-cons (λ a b. a ≢ b) o (filter_map (found_at os) ks)
-          (λ i d inside. other o e (get_or (filter_map (found_at os) ks) i d)
-          (Contains-get_or (filter_map (found_at os) ks) i d inside)) (leads_apart os ks rise.1)
+      | Some o ↦ λ e. AllPairs-cons (λ a b. a ≢ b) o (filter_map (object_at os) ks)
+          (λ i d inside. other o e (get_or (filter_map (object_at os) ks) i d)
+          (Contains-get_or (filter_map (object_at os) ks) i d inside)) (leads_apart os ks rise.1)
     ] refl where
-      other : (o : Obj) → found_at os k ≡ Some o → (x : Obj) →
-          Contains (filter_map (found_at os) ks) x → o ≢ x
+      other : (o : Obj) → object_at os k ≡ Some o → (x : Obj) →
+          Contains (filter_map (object_at os) ks) x → o ≢ x
       other o e x has same =
-          let l = (Contains-filter_map (found_at os) ks x).0 has in
+          let l = (Contains-filter_map (object_at os) ks x).0 has in
           let keys : k ≡ l.0 = found_has_key k o os e ∙ ap (λ (y : Obj). y.key) same
           ∙ sym (found_has_key l.0 x os l.2) in
           let below : (derived.ghosts).cmp k l.0 ≡ Less =
@@ -138,7 +134,7 @@ has_listed key (k ∷ ks) has = elim (Contains-cons_cases k ks key has) [
 
 module _ (os : List Obj) (sets : BTreeMap (List ℕ) (BTreeSet Key)) (indexed : IsIndexed os sets)
     (r : Reg) (is_r : book_of os ≡ r) (name : List ℕ) where
-  at_key : (key : Key) → get r key ≡ found_at os key
+  at_key : (key : Key) → get r key ≡ object_at os key
   at_key key = ap (λ m. get m key) (sym is_r) ∙ get_of_book os key indexed.book.ordered
 
   stands : (key : Key) (o : Obj) → get r key ≡ Some o → stands_under sets name key ≡ names_set name
@@ -148,12 +144,12 @@ module _ (os : List Obj) (sets : BTreeMap (List ℕ) (BTreeSet Key)) (indexed : 
 
   -- the objects to which the keys under a set lead are those that name it
   pub lists_named : (keys : BTreeSet Key) (found : List (Bor Obj)) → Some keys ≡ keys_at
-      (slice_cmp nat_cmp) sets name → lent found ≡ filter_map (found_at os) keys.keys
+      (slice_cmp nat_cmp) sets name → lent found ≡ filter_map (object_at os) keys.keys
       → IsStrictlySortedBy (derived.ghosts).cmp keys.keys → ListsOnce (IsReferrer r name) found
   lists_named keys found there is rise = record {
     same = λ o. (
       λ has.
-          let k = (Contains-filter_map (found_at os) keys.keys o).0
+          let k = (Contains-filter_map (object_at os) keys.keys o).0
           (subst (λ (xs : List Obj). Contains xs o) is has) in
           let at : get r k.0 ≡ Some o = at_key k.0 ∙ k.2 in
           let under : stands_under sets name k.0 ≡ true =
@@ -165,7 +161,7 @@ module _ (os : List Obj) (sets : BTreeMap (List ℕ) (BTreeSet Key)) (indexed : 
           ap (λ (x : Option (BTreeSet Key)). option_map_or (λ ks. contains key_cmp ks key) x false)
           there ∙ stands key o at ∙ (named_by_some name o.member_of).1 names in
           subst (λ (xs : List Obj). Contains xs o) (sym is)
-          ((Contains-filter_map (found_at os) keys.keys o).1 (
+          ((Contains-filter_map (object_at os) keys.keys o).1 (
             key,
             listed key keys.keys under,
             sym (at_key key) ∙ at,

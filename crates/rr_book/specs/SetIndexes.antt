@@ -18,8 +18,8 @@ abbrev pub stands_under : BTreeMap (List ℕ) (BTreeSet Key) → List ℕ → Ke
 stands_under sets name key =
     option_map_or (λ keys. contains key_cmp keys key) (keys_at (slice_cmp nat_cmp) sets name) false
 
--- Whether the key is the object's, and the object names the set in its `member-of`, which is none
--- that is left out (profile).
+-- Whether the key is the object's, and the object names the set in its `member-of`, and this set is
+-- not left out (profile).
 abbrev pub is_meant : Obj → (List ℕ → Bool) → List ℕ → Key → Bool
 is_meant o is_left_out name key =
     eq_by_cmp key_cmp o.key key && (names_set name o && not (is_left_out name))
@@ -30,20 +30,23 @@ abbrev pub HasSameKeys : BTreeMap (List ℕ) (BTreeSet Key)
 HasSameKeys old new = (name : List ℕ) (key : Key)
     → stands_under new name key ≡ stands_under old name key
 
--- Keys change as is said, and not at all where memory runs out.
+-- The keys under sets change in a given way; or, where memory runs out, the same keys stand under
+-- each set as before (profile).
 pub record MayChange {X E : Type 0} (Changes : BTreeMap (List ℕ) (BTreeSet Key)
     → BTreeMap (List ℕ) (BTreeSet Key) → Type 0) (old new : BTreeMap (List ℕ) (BTreeSet Key))
     (result : Result X E) : Type 0 where
   pub ok : OnOk result (Changes old new)
   pub err : OnErr result (HasSameKeys old new)
 
--- The object's key is added under each set that it names, save those that are left out.
+-- The object's key is added under each set that it names, save those that are left out, and nothing
+-- else changes (profile).
 abbrev pub HasAdded : Obj → (List ℕ → Bool) → BTreeMap (List ℕ) (BTreeSet Key)
     → BTreeMap (List ℕ) (BTreeSet Key) → Type 0
 HasAdded o is_left_out old new = (name : List ℕ) (key : Key)
     → stands_under new name key ≡ (stands_under old name key || is_meant o is_left_out name key)
 
--- The object's key is taken from under each set that it names, save those that are left out.
+-- The object's key is taken from under each set that it names, save those that are left out, and
+-- nothing else changes (profile).
 abbrev pub HasTaken : Obj → (List ℕ → Bool) → BTreeMap (List ℕ) (BTreeSet Key)
     → BTreeMap (List ℕ) (BTreeSet Key) → Type 0
 HasTaken o is_left_out old new = (name : List ℕ) (key : Key) → stands_under new name key

@@ -1,4 +1,5 @@
--- Which objects a list of a registry's objects has.
+-- Of which class an object is, and which sets it names: by these the lists for expansions are
+-- chosen.
 use Rattle.std.specs.Prelude.{ℕ, Bool, List, ◌==◌}
 use Rattle.std.specs.List.{list_any}
 use Rattle.std.specs.Str.{bytes_eq}

@@ -1,4 +1,4 @@
-//! The closest objects of a class to a span, by a scan.
+//! The closest objects of a class to a span, by a scan of a list. The plain book answers by it.
 
 ghost use Rattle.std.specs.Prelude.{◌≡◌};
 ghost use Rattle.std.specs.List.{list_all};
@@ -46,7 +46,7 @@ fn is_no_closer(class: Class, span: Span, own: Span, object: &Object) -> bool
     }
 }
 
-/// The span of the key, where it is of the class.
+/// The span of the key, where the key is of the class and this is as-block, inetnum or route.
 fn span_in(class: Class, key: &Key) -> Option<Span>
     ensures { result ≡ span_in class key.now }
 {

@@ -1,4 +1,5 @@
-//! Books that are changed.
+//! What every book does: it is made, changed by one object, and listed. A registry is kept in any
+//! book that does this.
 
 ghost use Rattle.std.specs.Prelude.{◌≡◌, IfOk, OnOk, OnErr};
 ghost use Rattle.std.specs.FinMap.{empty, insert, remove, values};
@@ -19,7 +20,8 @@ pub trait Keeper: SetBook {
     fn new(alloc: Global) -> Self
         ensures { Self.contents result ≡ empty };
 
-    /// The book of these objects, which stand in the order of class and key.
+    /// The book of these objects, which stand in the order of class and key, and whose registry is
+    /// sound.
     fn of(alloc: Global, objects: Vec<Object>) -> Result<Self, AllocError>
         requires { IsBook objects.items }
         ensures { IfOk result (λ book. Self.contents book ≡ book_of objects.items) };

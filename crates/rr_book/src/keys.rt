@@ -1,4 +1,4 @@
-//! Keys in order.
+//! How keys are compared in the list of a plain book.
 
 ghost use Rattle.std.specs.Prelude.{◌≡◌};
 ghost use Rattle.std.specs.Ordering.{eq_by_cmp};

@@ -1,4 +1,5 @@
-//! Lists of a registry's objects, each by one pass over them.
+//! Lists of a registry's objects, each by one pass over them. The plain book answers by these, and
+//! the indexed book asks whether one object lies inside a span.
 
 ghost use Rattle.std.specs.Prelude.{◌≡◌, IfOk, filter};
 ghost use Rattle.rr_book.specs.Listings.{addresses, covers_span, lies_in};
@@ -8,14 +9,15 @@ use rr_number::Span;
 use rr_object::{Key, Object};
 use std::alloc::{AllocError, Global};
 
-/// The objects.
+/// All of the objects, in their order. The error is that memory ran out.
 pub(crate) fn all(alloc: Global, objects: &[Object]) -> Result<Vec<&Object>, AllocError>
     ensures { IfOk result (λ found. lent found.items ≡ objects.now) }
 {
     objects.iter().collect(alloc)
 }
 
-/// The inetnums and routes that cover the span.
+/// The inetnums and routes that cover the span, in the order of the objects. The error is that
+/// memory ran out.
 pub(crate) fn covering(
     alloc: Global,
     objects: &[Object],
@@ -29,7 +31,8 @@ pub(crate) fn covering(
         .collect(alloc)
 }
 
-/// The inetnums and routes that lie inside the span.
+/// The inetnums and routes that lie inside the span, in the order of the objects. The error is that
+/// memory ran out.
 pub(crate) fn inside(
     alloc: Global,
     objects: &[Object],
@@ -43,7 +46,7 @@ pub(crate) fn inside(
         .collect(alloc)
 }
 
-/// Whether the object is an inetnum or a route that covers the span.
+/// Whether the object is an inetnum or a route whose addresses cover the span, or are the span.
 pub fn covers_span(object: &Object, span: Span) -> bool
     ensures { result ≡ covers_span span object.now }
 {
@@ -53,7 +56,8 @@ pub fn covers_span(object: &Object, span: Span) -> bool
     }
 }
 
-/// Whether the object is an inetnum or a route that lies inside the span.
+/// Whether the object is an inetnum or a route whose addresses lie inside the span, or are the
+/// span.
 pub fn lies_in(object: &Object, span: Span) -> bool
     ensures { result ≡ lies_in span object.now }
 {

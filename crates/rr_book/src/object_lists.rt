@@ -1,15 +1,17 @@
-//! Scans of lists of objects.
+//! The list of a plain book, in the order of the objects' keys. An object is found, put in and
+//! taken out by its key, or found by the name of a mntner, in a binary search. What crosses a key,
+//! names a maintainer or originates a prefix is found by a scan.
 
-ghost use Rattle.std.specs.Prelude.{◌≡◌, ◌<◌, ◌≤◌, not, true, find, filter, length};
+ghost use Rattle.std.specs.Prelude.{◌≡◌, ◌<◌, ◌≤◌, true, find, length};
 ghost use Rattle.std.specs.Prelude.{OnOk, OnErr, IfOk, IfErr, IsTrue};
 ghost use Rattle.std.specs.List.{list_any};
 ghost use Rattle.std.specs.Option.{option_copied};
-ghost use Rattle.std.specs.Ordering.{eq_by_cmp, is_gt};
+ghost use Rattle.std.specs.Ordering.{is_gt};
 ghost use Rattle.rr_object.specs.KeyOrders.{key_cmp};
 ghost use Rattle.rr_object.specs.Keys.{is_mntner_of};
-ghost use Rattle.rr_auth.specs.Registries.{keys_cross, names_another};
+ghost use Rattle.rr_auth.specs.Registries.{is_crossed_by_some, is_other_naming, keys_cross};
 ghost use Rattle.rr_auth.specs.Closest.{origin_at, origins_among, same_prefix};
-ghost use Rattle.rr_book.specs.Books.{is_in_order, put_in};
+ghost use Rattle.rr_book.specs.Books.{object_at, is_in_order, left_without, put_in};
 ghost use Rattle.rr_book.specs.Private.{is_span, place_of, stands_at};
 
 use crate::keys::{compare, is_same};
@@ -19,9 +21,9 @@ use std::alloc::{AllocError, AllocFailed, Global};
 use std::mem;
 
 /// The object of the key, among objects in the order of their keys.
-pub fn find_key<'a>(objects: &'a [Object], key: &Key) -> Option<&'a Object>
+pub(crate) fn find_by_key<'a>(objects: &'a [Object], key: &Key) -> Option<&'a Object>
     requires { is_in_order objects.now ≡ true }
-    ensures { option_copied result ≡ find (λ o. eq_by_cmp key_cmp key.now o.key) objects.now }
+    ensures { option_copied result ≡ object_at objects.now key.now }
 {
     match objects.get(place(objects, key)) {
         Some(object) => {
@@ -36,7 +38,7 @@ pub fn find_key<'a>(objects: &'a [Object], key: &Key) -> Option<&'a Object>
 }
 
 /// The mntner of the name, among objects in the order of their keys.
-pub(crate) fn find_mntner_in_order<'a>(objects: &'a [Object], name: &Name) -> Option<&'a Object>
+pub(crate) fn find_mntner<'a>(objects: &'a [Object], name: &Name) -> Option<&'a Object>
     requires { is_in_order objects.now ≡ true }
     ensures { option_copied result ≡ find (λ o. is_mntner_of name.now o.key) objects.now }
 {
@@ -71,19 +73,21 @@ fn is_above(name: &Name, key: &Key) -> bool
 }
 
 /// Whether some object crosses the key.
-pub fn some_crosses(objects: &[Object], key: &Key) -> bool
-    ensures { result ≡ list_any (λ o. keys_cross o.key key.now) objects.now }
+pub(crate) fn some_crosses(objects: &[Object], key: &Key) -> bool
+    ensures { result ≡ is_crossed_by_some key.now objects.now }
 {
     is_span(key) && objects.iter().any(|object| keys_cross(object.key(), key))
 }
 
-/// Whether the key is a span: no other crosses any.
+/// Whether the key is that of an as-block or an inetnum: no other crosses any, so that a scan for
+/// it is saved.
 fn is_span(key: &Key) -> bool
     ensures { result ≡ is_span key.now }
 {
     matches!(key, Key::AsBlock(_) | Key::Inetnum(_))
 }
 
+/// Whether the keys are of one class, as-block or inetnum, and their spans cross.
 fn keys_cross(key: &Key, other: &Key) -> bool
     ensures { result ≡ keys_cross key.now other.now }
 {
@@ -101,20 +105,21 @@ fn keys_cross(key: &Key, other: &Key) -> bool
 }
 
 /// Whether an object other than the maintainer of the name names it.
-pub(crate) fn some_names(objects: &[Object], name: &Name) -> bool
-    ensures { result ≡ list_any (names_another name.now) objects.now }
+pub(crate) fn is_named_by_another(objects: &[Object], name: &Name) -> bool
+    ensures { result ≡ list_any (is_other_naming name.now) objects.now }
 {
-    objects.iter().any(|object| names_another(object, name))
+    objects.iter().any(|object| is_other_naming(object, name))
 }
 
 /// Whether the object is not the maintainer of the name, and names it.
-pub fn names_another(object: &Object, name: &Name) -> bool
-    ensures { result ≡ names_another name.now object.now }
+pub(crate) fn is_other_naming(object: &Object, name: &Name) -> bool
+    ensures { result ≡ is_other_naming name.now object.now }
 {
     !object.key().is_mntner_of(name) && object.names(name)
 }
 
-/// The origins of the routes of the prefix, in the order of the objects.
+/// The origins of the routes of the prefix, in the order of the objects. The error is that memory
+/// ran out.
 pub(crate) fn origins(
     alloc: Global,
     objects: &[Object],
@@ -128,7 +133,7 @@ pub(crate) fn origins(
         .collect(alloc)
 }
 
-/// The origin of the key, where it is that of a route of the prefix.
+/// The origin in the key, where this is the key of a route of the prefix; otherwise none.
 pub fn origin_at(key: &Key, prefix: Prefix) -> Option<AsNumber>
     ensures { result ≡ origin_at prefix key.now }
 {
@@ -144,21 +149,24 @@ pub fn origin_at(key: &Key, prefix: Prefix) -> Option<AsNumber>
     }
 }
 
+/// Whether the prefixes have one address and one length.
 fn is_same_prefix(prefix: Prefix, other: Prefix) -> bool
     ensures { result ≡ same_prefix prefix other }
 {
     prefix.address().to_bits() == other.address().to_bits() && prefix.length() == other.length()
 }
 
-/// Puts the object into its place among objects in the order of their keys, for one of its key that
-/// stood there, which is given back; the error is that memory ran out, and it gives the new one
-/// back.
+/// Puts the object into its place among objects in the order of their keys. One of the same key
+/// that stood there is given back. The error is that memory ran out: it gives the new one back, and
+/// the list stays as it was.
 #[tactic(auto, using(crate::proofs::Places::put_in_place))]
-pub fn put(objects: &mut Vec<Object>, object: Object) -> Result<Option<Object>, AllocFailed<Object>>
+pub(crate) fn put(
+    objects: &mut Vec<Object>,
+    object: Object,
+) -> Result<Option<Object>, AllocFailed<Object>>
     requires { is_in_order objects.old.items ≡ true }
     ensures ok { OnOk result (objects.new.items ≡ put_in object objects.old.items) }
-    ensures old { IfOk result
-        (λ old. old ≡ find (λ o. eq_by_cmp key_cmp object.key o.key) objects.old.items) }
+    ensures old { IfOk result (λ old. old ≡ object_at objects.old.items object.key) }
     ensures err { OnErr result (objects.new.items ≡ objects.old.items) }
     ensures returned { IfErr result (λ refused. refused.value ≡ object) }
 {
@@ -170,7 +178,8 @@ pub fn put(objects: &mut Vec<Object>, object: Object) -> Result<Option<Object>, 
     Ok(None)
 }
 
-/// The first place whose key is not below the key, among objects in the order of their keys.
+/// The first place whose key is not below the given one, among objects in the order of their keys;
+/// their number if there is none.
 fn place(objects: &[Object], key: &Key) -> usize
     requires { is_in_order objects.now ≡ true }
     ensures value { result ≡ place_of key.now objects.now }
@@ -179,13 +188,13 @@ fn place(objects: &[Object], key: &Key) -> usize
     objects.partition_point(|object| compare(key, object.key()).is_gt())
 }
 
-/// Whether the object at the place has the key.
+/// Whether an object of the key stands at the place.
 #[tactic(auto, using(crate::proofs::Places::stands_within))]
-fn stands_at(objects: &[Object], key: &Key, place: usize) -> bool
-    ensures value { result ≡ stands_at key.now objects.now place }
-    ensures within { IsTrue result → place < length objects.now }
+fn stands_at(objects: &[Object], key: &Key, at: usize) -> bool
+    ensures value { result ≡ stands_at key.now objects.now at }
+    ensures within { IsTrue result → at < length objects.now }
 {
-    match objects.get(place) {
+    match objects.get(at) {
         Some(object) => is_same(key, object.key()),
         None => false,
     }
@@ -194,9 +203,8 @@ fn stands_at(objects: &[Object], key: &Key, place: usize) -> bool
 /// Takes the object of the key out, among objects in the order of their keys.
 pub(crate) fn remove(objects: &mut Vec<Object>, key: &Key) -> Option<Object>
     requires { is_in_order objects.old.items ≡ true }
-    ensures rest { objects.new.items
-        ≡ filter (λ o. not (eq_by_cmp key_cmp key.now o.key)) objects.old.items }
-    ensures old { result ≡ find (λ o. eq_by_cmp key_cmp key.now o.key) objects.old.items }
+    ensures rest { objects.new.items ≡ left_without key.now objects.old.items }
+    ensures old { result ≡ object_at objects.old.items key.now }
 {
     let at = place(objects, key);
     if stands_at(objects, key, at) {

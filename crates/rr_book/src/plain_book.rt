@@ -1,4 +1,5 @@
-//! A registry as a list of objects in the order of their keys.
+//! A registry as a list of objects in the order of their keys. Tests compare the indexed book with
+//! this one; the program keeps its registry in the indexed one.
 
 ghost use Rattle.std.specs.Prelude.{◌≡◌};
 ghost use Rattle.std.specs.FinMap.{values};
@@ -72,11 +73,11 @@ impl Book for PlainBook {
     ghost contents = { λ b. b };
 
     fn get(&self, key: &Key) -> Option<&Object> {
-        object_lists::find_key(&self.objects, key)
+        object_lists::find_by_key(&self.objects, key)
     }
 
     fn maintainer(&self, name: &Name) -> Option<&Object> {
-        object_lists::find_mntner_in_order(&self.objects, name)
+        object_lists::find_mntner(&self.objects, name)
     }
 
     fn closest_inetnum(&self, span: Span) -> Option<&Object> {
@@ -100,7 +101,7 @@ impl Book for PlainBook {
     }
 
     fn names_maintainer(&self, name: &Name) -> bool {
-        object_lists::some_names(&self.objects, name)
+        object_lists::is_named_by_another(&self.objects, name)
     }
 }
 
@@ -119,7 +120,7 @@ impl Keeper for PlainBook {
     }
 
     fn insert(&mut self, alloc: Global, object: Object) -> Result<(), AllocError> {
-        let standing = object_lists::find_key(&self.objects, object.key());
+        let standing = object_lists::find_by_key(&self.objects, object.key());
         let sets = self.referrers.enter(alloc, &object, standing)?;
         match object_lists::put(&mut self.objects, object) {
             Ok(Some(old)) => {

@@ -1,5 +1,5 @@
-//! The lists that expansions of sets ask for: of a class or an origin by one pass over the objects,
-//! of referrers by the keys under the set.
+//! The lists that expansions of sets ask a plain book for. Those of a class or an origin take one
+//! pass over the objects, and the objects that name a set are found by the keys under it.
 
 ghost use Rattle.std.specs.Prelude.{◌≡◌, IfOk, filter};
 ghost use Rattle.std.specs.List.{filter_map};
@@ -50,7 +50,7 @@ fn objects_of_class<'a>(
         .collect(alloc)
 }
 
-/// Whether the object is of the class.
+/// Whether the object is of the class, as its key says.
 pub fn is_of_class(object: &Object, class: Class) -> bool
     ensures { result ≡ is_of_class class object.now }
 {

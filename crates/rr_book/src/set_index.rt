@@ -1,6 +1,7 @@
-//! Which objects name which sets in their `member-of`.
+//! Which objects name which sets in their `member-of`. Each book keeps this index beside its
+//! objects.
 
-ghost use Rattle.std.specs.Prelude.{◌≡◌, ◌&&◌, ◌||◌, ℕ, List, true, false, find};
+ghost use Rattle.std.specs.Prelude.{◌≡◌, ◌&&◌, ◌||◌, ℕ, List, true, false};
 ghost use Rattle.std.specs.Prelude.{IfOk, OnOk, OnErr, IsTrue};
 ghost use Rattle.std.specs.BTreeMap.{get};
 ghost use Rattle.std.specs.BTreeSet.{contains};
@@ -13,13 +14,13 @@ ghost use Rattle.std.specs.Str.{bytes_eq};
 ghost use Rattle.rr_object.specs.declared.key.Key.{Key};
 ghost use Rattle.rr_object.specs.KeyOrders.{key_cmp};
 ghost use Rattle.rr_sets.specs.Lists.{lent};
-ghost use Rattle.rr_book.specs.Books.{is_in_order};
+ghost use Rattle.rr_book.specs.Books.{object_at, is_in_order};
 ghost use Rattle.rr_book.specs.Private.{HasAddedKey, HasTakenKey};
 ghost use Rattle.rr_book.specs.SetIndexes.{is_meant, stands_under, HasAdded, HasSameKeys};
 ghost use Rattle.rr_book.specs.SetIndexes.{HasTaken, MayChange};
 ghost use Rattle.rr_book.specs.SetLists.{names_set};
 
-use crate::object_lists::find_key;
+use crate::object_lists::find_by_key;
 use rr_number::SetName;
 use rr_object::{Key, Object};
 use std::alloc::{AllocError, Global};
@@ -40,7 +41,7 @@ pub(crate) struct NamedSets {
 }
 
 impl SetIndex {
-    /// No keys.
+    /// An index without keys.
     pub fn new(alloc: Global) -> SetIndex
         ensures { (name : List ℕ) (key : Key) → stands_under result.keys name key ≡ false }
     {
@@ -49,7 +50,8 @@ impl SetIndex {
         }
     }
 
-    /// The keys of the objects, under the sets that these name.
+    /// The keys of the objects, under the sets that these name in their `member-of`. The error is
+    /// that memory ran out.
     pub fn of(alloc: Global, objects: &[Object]) -> Result<SetIndex, AllocError>
         ensures { IfOk result (λ referrers. (name : List ℕ) (key : Key)
             → stands_under referrers.keys name key ≡
@@ -63,7 +65,7 @@ impl SetIndex {
         Ok(referrers)
     }
 
-    /// The keys under the set, if there are any.
+    /// The keys that the index has under the set; none if it has no entry of this name.
     pub fn keys(&self, name: &SetName) -> Option<&BTreeSet<Key>>
         ensures { option_copied result ≡ get (slice_cmp nat_cmp) self.now.keys name.now }
     {
@@ -97,8 +99,9 @@ impl SetIndex {
         Ok(NamedSets { before, after })
     }
 
-    /// Puts the object's key, which stands under none of them, under each set that it names, save
-    /// the others. The error is that memory ran out, and nothing changes.
+    /// Puts the object's key under each set that it names in its `member-of`, save the others.
+    /// Under none of those sets may it stand before. The error is that memory ran out, and then the
+    /// same keys stand under each set as before.
     pub fn add(
         &mut self,
         alloc: Global,
@@ -145,7 +148,7 @@ impl SetIndex {
         Ok(())
     }
 
-    /// Puts the key under the set.
+    /// Puts the key under the set. If memory runs out, nothing changes.
     fn add_under(&mut self, alloc: Global, name: &SetName, key: &Key) -> Result<(), AllocError>
         ensures { MayChange (HasAddedKey name.now key.now) self.old.keys self.new.keys result }
     {
@@ -163,7 +166,8 @@ impl SetIndex {
         Ok(())
     }
 
-    /// Takes the object's key from under each set that it names, save the others.
+    /// Takes the object's key from under each set that it names in its `member-of`, save the
+    /// others.
     pub fn take(&mut self, object: &Object, others: &BTreeSet<SetName>)
         ensures { HasTaken object.now (contains (slice_cmp nat_cmp) others.now)
             self.old.keys self.new.keys }
@@ -184,7 +188,7 @@ impl SetIndex {
         self.take(&object, others);
     }
 
-    /// Takes the object's key from under each set that it names.
+    /// Takes the object's key from under each set that it names in its `member-of`.
     pub fn take_all(&mut self, object: &Object)
         ensures { HasTaken object.now (λ other. false) self.old.keys self.new.keys }
     {
@@ -193,7 +197,7 @@ impl SetIndex {
         }
     }
 
-    /// The same, and frees the object.
+    /// Takes the key of an object, which is freed, from under each set that it names.
     pub(crate) fn take_all_and_free(&mut self, object: Object)
         ensures { HasTaken object (λ other. false) self.old.keys self.new.keys }
     {
@@ -225,7 +229,8 @@ impl SetIndex {
     }
 }
 
-/// The sets that the object names in its `member-of`; none without an object.
+/// The sets that the object names in its `member-of`; none without an object. The error is that
+/// memory ran out.
 pub fn sets_named(alloc: Global, object: Option<&Object>) -> Result<BTreeSet<SetName>, AllocError>
     ensures { IfOk result (λ sets. (name : List ℕ) → contains (slice_cmp nat_cmp) sets name ≡
         option_map_or (names_set name) (option_copied object.entry) false) }
@@ -248,20 +253,21 @@ fn sets_among(alloc: Global, names: &[SetName]) -> Result<BTreeSet<SetName>, All
     Ok(sets)
 }
 
-/// The objects of the keys, among objects in the order of their keys.
+/// Those of the objects that have one of the keys, among objects in the order of their keys. The
+/// error is that memory ran out.
 pub(crate) fn objects_of<'a>(
     alloc: Global,
     objects: &'a [Object],
     keys: &BTreeSet<Key>,
 ) -> Result<Vec<&'a Object>, AllocError>
     requires { is_in_order objects.now ≡ true }
-    ensures found { IfOk result (λ found. lent found.items ≡ filter_map
-        (λ key. find (λ o. eq_by_cmp key_cmp key o.key) objects.now) keys.now.keys) }
+    ensures found { IfOk result (λ found. lent found.items
+        ≡ filter_map (object_at objects.now) keys.now.keys) }
     ensures ordered { IsStrictlySortedBy ⟦<Key as Ord>⟧.cmp keys.now.keys }
 {
     let mut found = Vec::new(alloc);
     for key in keys {
-        if let Some(object) = find_key(objects, key) {
+        if let Some(object) = find_by_key(objects, key) {
             found.push(object)?;
         }
     }

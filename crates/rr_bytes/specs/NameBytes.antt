@@ -31,13 +31,13 @@ attribute_limit = 64
 abbrev pub name_limit : ℕ
 name_limit = 80
 
--- An attribute's name has 1 to 64 of these bytes, the first a letter (profile).
+-- An attribute's name has 1 to 64 letters, digits, `-` and `_`, the first a letter (profile).
 abbrev pub is_attribute_name : List ℕ → Bool
 is_attribute_name text =
     begins_with_letter text && list_all is_name_byte text && nat_le (length text) attribute_limit
 
--- A name has 1 to 80 (profile) of these bytes, the first a letter, the last a letter or a digit
--- (RFC 2622, 2).
+-- A name has 1 to 80 (profile) letters, digits, `-` and `_`, the first a letter, the last a letter
+-- or a digit (RFC 2622, 2).
 unfoldable pub is_name : List ℕ → Bool
 is_name text =
     nat_le (length text) name_limit

@@ -5,14 +5,15 @@ ghost use Rattle.std.specs.Char.{is_ascii_digit};
 ghost use Rattle.std.specs.List.{list_all};
 ghost use Rattle.rr_bytes.specs.Digits.{capped_value};
 
-/// Whether each byte is a decimal digit.
+/// Whether each byte is a decimal digit, as in an empty text.
 pub fn are_digits(text: &[u8]) -> bool
     ensures { result ≡ list_all is_ascii_digit text.now }
 {
     text.iter().all(|byte| byte.is_ascii_digit())
 }
 
-/// The number that the digits spell, or one more than the greatest where it is larger.
+/// The number that the digits spell, or one more than `greatest` where that is less. `greatest` is
+/// below 2^32.
 pub fn capped_value(digits: &[u8], greatest: usize) -> usize
     requires digits { list_all is_ascii_digit digits.now ≡ true }
     requires fits { greatest < 2 ^ 32 }

@@ -1,4 +1,4 @@
-//! Letter case, which words ignore (RFC 2622, 2).
+//! Letter case, which keywords and names ignore (RFC 2622, 2).
 
 ghost use Rattle.std.specs.Prelude.{◌≡◌, IfOk};
 ghost use Rattle.std.specs.Str.{bytes_eq};

@@ -1,4 +1,4 @@
--- What calls do with the network (profile).
+-- What calls do with the network, for the contracts of the trait `Network` (profile).
 use Rattle.std.specs.Prelude.{ℕ, List, Option, Result}
 use Rattle.std.specs.declared.io.Error.{Error}
 use Rattle.rr_desk.specs.Turns.{Serving, Tally}
@@ -17,6 +17,6 @@ pub record Means : Type 1 where
   pub network : NetworkCalls
   pub serves : Serving
 
--- these
+-- what calls do with the network, and what serving a connection does, as one
 abbrev pub means : NetworkCalls → Serving → Means
 means network serves = record { network = network; serves = serves }

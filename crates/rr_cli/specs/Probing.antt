@@ -1,4 +1,4 @@
--- What `irrdesk probe` does, and what it prints (profile).
+-- What `irrdesk probe` does, and what it prints, for the contract of `probe` (profile).
 use Rattle.std.specs.Prelude.{◌≡◌, ◌≢◌, ◌<◌, ◌⊎◌, ℕ, List, [], Option, Ok, Err, IfSome, codes}
 use Rattle.std.specs.Prelude.{if◌then◌else◌, nat_eq}
 use Rattle.std.specs.IoError.{error_kind}
@@ -44,7 +44,7 @@ pub record IsReplyTo (network : NetworkCalls) (query reply : List ℕ) : Type 0 
   pub asked : network.asks query (Ok given)
   pub whole : IsWhole given reply
 
--- the reply to the name of a desk's root maintainer was printed (profile)
+-- the reply to the name of a desk's root maintainer was printed, or not whole (profile)
 pub record HasReply {S : Type 0} (network : NetworkCalls) (done : Deed (Desk S) CommandEnd)
     : Type 0 where
   pub reply : List ℕ
@@ -97,8 +97,8 @@ pub record BreaksPeer (network : NetworkCalls) : Type 0 where
   pub closed : network.closes failed
   pub some : 0 < failed
 
--- why a peer that was to be given these bytes has no reply, by this error: a read failed, or there
--- was nothing to be given, or memory ran out (profile)
+-- why a peer that was to be given these bytes has no reply, by this error: a read failed, they are
+-- none or not told, or memory ran out (profile)
 abbrev pub HearsNothing : NetworkCalls → Option (List ℕ) → Error → Type 0
 HearsNothing network given error =
     BreaksPeer network

@@ -1,4 +1,4 @@
--- What each command does, by its arguments (profile).
+-- What each command does, by its arguments, for the contract of a run (profile).
 use Rattle.std.specs.Prelude.{◌≡◌, string_bytes}
 use Rattle.sqlite.specs.Steps.{over_memory}
 use Rattle.rr_io.specs.Told.{Told}
@@ -22,18 +22,18 @@ pub record Resources (D : Type 0) : Type 0 where
   pub databases : D
   pub input : Told
 
--- these
+-- what a program has, of these databases and with this told by standard input
 abbrev pub resources : {D : Type 0} → D → Told → Resources D
 resources databases input = record { databases = databases; input = input }
 
--- what was done to the databases alone, of which standard input was not read (profile)
+-- what was done to the databases alone, while standard input was not read (profile)
 abbrev pub LeavesInput : {D : Type 0} → (Deed D ProgramEnd → Type 0) → Deed (Resources D) ProgramEnd
     → Type 0
 LeavesInput does done =
     (done.after.has.input ≡ done.before.has.input)
     × does (within done.before.has.databases done.after.has.databases done)
 
--- what was done without databases (profile)
+-- what was done left what keeps databases as it was (profile)
 abbrev pub LeavesDatabases : {D : Type 0} → Deed (Resources D) ProgramEnd → Type 0
 LeavesDatabases done = done.after.has.databases ≡ done.before.has.databases
 

@@ -1,4 +1,5 @@
--- What a run of the program does, by its words (profile).
+-- What a run of the program does, by its words, for the contracts of `run` and of what reads the
+-- arguments (profile).
 use Rattle.std.specs.Prelude.{◌≡◌, ◌⊎◌, ℕ, List, Result, Ok, Err}
 use Rattle.std.specs.IoError.{error_kind}
 use Rattle.std.specs.declared.io.Error.{Error}
@@ -31,7 +32,8 @@ arguments_trouble (fault.Port word) = trouble.BadPort
 arguments_trouble (fault.Count word) = trouble.BadCount
 arguments_trouble fault.Memory = trouble.Memory
 
--- and what that is about: a port or a count is the word, and a refusal says why (profile)
+-- what the fault of a line is about that asks for nothing: the word that is no port or no count, or
+-- why the line is refused (profile)
 abbrev pub IsAboutArguments : ArgumentsFault → About → Type 0
 IsAboutArguments (fault.Port word) (about.Word told) = told ≡ word
 IsAboutArguments (fault.Count word) (about.Word told) = told ≡ word
@@ -68,8 +70,8 @@ abbrev pub DoesAsInvoked : {D S : Type 0} → Ports D S → Means → Invocation
 DoesAsInvoked by means invocation done =
     InvokesCommand by means invocation done ⊎ InvokesNothing invocation done
 
--- the status of such an end: a fault has its status, and its one line on standard error, of which
--- a failed write may leave the end out (profile)
+-- the status of a program that ends so: a fault has its status, and its one line on standard error,
+-- less its end if a write fails. Without a fault nothing is written there (profile).
 abbrev pub EndsRun : ProgramEnd → Told → Told → ℕ → Type 0
 EndsRun (Ok given) errors_old errors_new status = (status ≡ given) × (errors_new ≡ errors_old)
 EndsRun (Err fault) errors_old errors_new status = (status ≡ trouble_status fault.trouble)
@@ -88,7 +90,8 @@ abbrev pub AreUnread : {X : Type 0} → Result X Error → Trouble → Type 0
 AreUnread (Ok arguments) cause = cause ≡ trouble.Memory
 AreUnread (Err error) cause = cause ≡ refused_arguments (error_kind error)
 
--- the status of that, and its line (profile)
+-- the status of a program whose arguments could not be read for this trouble, and its line on
+-- standard error, less its end if a write fails (profile)
 abbrev pub EndsUnread : Trouble → Told → Told → ℕ → Type 0
 EndsUnread cause errors_old errors_new status = (status ≡ trouble_status cause)
     × ((stream : Cause) × TakesSome errors_old errors_new (fault_line about.Nothing cause stream))
@@ -98,11 +101,11 @@ pub record Running (D : Type 0) : Type 0 where
   pub resources : Resources D
   pub errors : Told
 
--- these
+-- what a run changes, as one
 abbrev pub running : {D : Type 0} → Resources D → Told → Running D
 running resources errors = record { resources = resources; errors = errors }
 
--- a run over these words, by its status (profile)
+-- a run does what these words ask for, and ends so, with this status (profile)
 pub record Runs {D S : Type 0} (by : Ports D S) (means : Means) (words : List (List ℕ))
     (done : Deed (Running D) ℕ) : Type 0 where
   pub ended : ProgramEnd

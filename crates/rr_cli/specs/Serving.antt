@@ -1,4 +1,5 @@
--- What `irrdesk serve` does, and what it prints (profile).
+-- What `irrdesk serve` does, and what it prints, for the contracts of `serve` and of
+-- `PeersWithCause` (profile).
 use Rattle.std.specs.Prelude.{◌≡◌, ◌⊎◌, ℕ, Bool, true, false, List, [], ◌∷◌, ◌++◌, map, IfSome}
 use Rattle.std.specs.Prelude.{IsTrue, Ok, Err, codes, decimal}
 use Rattle.sqlite_trees.specs.declared.store.Store.{Ghosts}
@@ -13,7 +14,7 @@ use Rattle.rr_commands.specs.declared.trouble.Trouble.{Trouble}
 use Rattle.rr_commands.specs.declared.trouble.Trouble.TheVariants.{ListenerUnopened, Unaccepted}
 use Rattle.rr_commands.specs.declared.trouble.Trouble.TheVariants.{Unwritten}
 use Rattle.rr_commands.specs.Commands.{Act, ActsBySettings, AtDesk, CommandEnd, ProgramEnd}
-use Rattle.rr_commands.specs.Faults.{IsAbout, Shows, byte_on_line}
+use Rattle.rr_commands.specs.Faults.{IsAbout, ShowsOnLine, byte_on_line}
 use Rattle.rr_commands.specs.Worlds.{Deed, Ports, deed}
 use Rattle.rr_commands.specs.declared.command_fault.ProgramFault.{ProgramFault}
 use Rattle.rr_cli.specs.Networks.{Means, NetworkCalls}
@@ -46,20 +47,21 @@ pub record EndsWell (tally : Tally) (served : ℕ) (ended : CommandEnd) : Type 0
   pub told : ended ≡ Ok 0
   pub accepted : served ≡ 0 → IfSome tally.told EndsAccepted
 
--- how serving ends once that line was printed (profile)
+-- how serving ends once the number of turns was printed: well, or because no connection could be
+-- accepted (profile)
 abbrev pub IsServedEnd : Tally → ℕ → CommandEnd → Type 0
 IsServedEnd tally served ended = EndsWell tally served ended ⊎ HasServedNone tally served ended
 
--- that line was printed whole, and serving ends so; or it could not be printed whole, which is the
--- fault then (profile)
+-- the number of turns was printed whole, and serving ends so; or it could not be printed whole,
+-- which is the fault then (profile)
 abbrev pub EndsServed : Tally → ℕ → ℕ → Told → Told → CommandEnd → Type 0
 EndsServed tally served failed old new ended =
     (Takes old new (served_line served failed) × IsServedEnd tally served ended)
     ⊎ (TakesPrefix old new (served_line served failed) × (ended ≡ Err Unwritten))
 
--- so many turns of a listener were taken, how many were served and how many failed was printed, and
--- serving ended so; the settings stay, the connection lasts, and until the desk is stopped its rows
--- are those of its registry (profile)
+-- so many turns of a listener were taken, how many were served and how many failed was printed, or
+-- not whole, and serving ended so. The settings stay, the connection lasts, and until the desk is
+-- stopped its rows are those of its registry (profile).
 pub record HasServed {S : Type 0} (g : Ghosts S) (serves : Serving) (count : ℕ)
     (tally_before tally_after : Tally) (done : Deed (Desk S) CommandEnd) : Type 0 where
   pub served : ℕ
@@ -75,12 +77,12 @@ pub record HasServed {S : Type 0} (g : Ghosts S) (serves : Serving) (count : ℕ
 unfoldable pub listening_head : List ℕ
 listening_head = codes "listening on 127.0.0.1:"
 
--- that line (profile)
+-- the line that says where the program listens (profile)
 abbrev pub listening_line : ℕ → List ℕ
 listening_line port = listening_head ++ (decimal port ++ codes "\n")
 
 -- why nothing was served: the listener was not opened, for this cause, and nothing was printed; or
--- it was, and where it listens could not be printed (profile)
+-- it was, and where it listens could not be printed whole (profile)
 abbrev pub FailsToListen : NetworkCalls → ℕ → Trouble → Told → Told → Type 0
 FailsToListen network port (ListenerUnopened cause) old new =
     network.listens port (Err cause) × (new ≡ old)
@@ -88,11 +90,12 @@ FailsToListen network port Unwritten old new =
     ((tally : Tally) × network.listens port (Ok tally)) × TakesPrefix old new (listening_line port)
 FailsToListen network port _ old new = ⊥
 
--- these
+-- what is served, as one: a port, and so many turns of what listens on it
 abbrev pub listening : ℕ → ℕ → Listening
 listening port count = record { port = port; count = count }
 
--- the port is not listened on, or that could not be said: nothing was served (profile)
+-- the port is not listened on, or that could not be said: nothing was served, and the desk is as it
+-- was (profile)
 pub record HasNotListened {S : Type 0} (network : NetworkCalls) (port : ℕ)
     (done : Deed (Desk S) CommandEnd) : Type 0 where
   pub trouble : Trouble
@@ -112,7 +115,7 @@ pub record HasListened {S : Type 0} (g : Ghosts S) (network : NetworkCalls) (ser
   pub served : HasServed g serves asked.count tally_before tally_after
       (deed done.before.has done.after.has between done.after.output done.ended)
 
--- what `irrdesk serve` does at a desk (profile)
+-- what `irrdesk serve` does at a desk: it does not listen, or it does and serves (profile)
 abbrev pub ServesDesk : {S : Type 0} → Ghosts S → Means → Listening → Act (Desk S)
 ServesDesk g means asked done =
     HasNotListened means.network asked.port done
@@ -131,13 +134,14 @@ is_of_listener _ = false
 -- a fault shows where this port is listened on, or nothing where memory ran out (profile)
 abbrev pub ShowsPort : ℕ → ProgramFault → Type 0
 ShowsPort port fault =
-    Shows (map byte_on_line (address port) ++ codes ": ") fault ⊎ Shows [] fault
+    ShowsOnLine (map byte_on_line (address port) ++ codes ": ") fault ⊎ ShowsOnLine [] fault
 
 -- a fault of what listens on this port shows where (profile)
 abbrev pub IsAboutPort : ℕ → ProgramFault → Type 0
 IsAboutPort port fault = IsTrue (is_of_listener fault.trouble) × ShowsPort port fault
 
--- what a fault of `irrdesk serve` shows (profile)
+-- what a fault of `irrdesk serve` shows: the place of its trouble or, of what listens, the address
+-- (profile)
 abbrev pub IsAboutServing : ℕ → List ℕ → List ℕ → List ℕ → ProgramFault → Type 0
 IsAboutServing port file path found fault =
     IsAbout file path found fault ⊎ IsAboutPort port fault

@@ -1,4 +1,4 @@
-//! How the program listens, and how it asks itself.
+//! How the program listens (`irrdesk serve`), and how it asks itself (`irrdesk probe`).
 
 ghost use Rattle.std.specs.Prelude.{◌≡◌, Err, IfErr, IfOk, Ok};
 ghost use Rattle.rr_io.specs.Counted.{counted_failed_reads};
@@ -28,7 +28,8 @@ pub trait Network {
     // What its calls do.
     ghost calls: { Self → NetworkCalls };
 
-    /// Listens on this port, or on any free one if it is 0.
+    /// Listens on this port, or on any free one if it is 0; no turn was counted yet. The error is
+    /// the cause for which the port is refused. Which port it is, no clause says.
     fn listen(&self, port: u16) -> Result<Self::Listener, Cause>
         ensures turns { IfOk result (λ listener. (Self.Listener.tally listener).turns ≡ 0) }
         ensures listens { IfOk result
@@ -36,6 +37,7 @@ pub trait Network {
         ensures refused { IfErr result (λ cause. (calls self.now).listens port (Err cause)) };
 
     /// Connects to a listener, and writes a query, its line end, and nothing more (RFC 3912, 2).
+    /// The peer that is returned is to read the reply. The error is the system's.
     fn ask(&self, listener: &Self::Listener, query: &[u8]) -> io::Result<Self::Peer>
         ensures asked { IfOk result
             (λ peer. (calls self.now).asks query.now (Ok (Self.Peer.remaining peer))) }

@@ -1,4 +1,4 @@
-//! Why a listener accepts no connection.
+//! Why a listener accepts no connection, for the line that says so.
 
 ghost use Rattle.std.specs.Prelude.{◌≡◌, IfSome, IsSome, None};
 ghost use Rattle.rr_cli.specs.Serving.{EndsAccepted, EndsUnaccepted};
@@ -9,7 +9,8 @@ use rr_listener::Listener;
 
 /// A listener that knows why it accepted no connection.
 pub trait PeersWithCause: Peers {
-    /// Why no connection could be accepted in the last turn, if that is how it failed.
+    /// Why no connection could be accepted in the last turn; `None` if one was, or there was no
+    /// turn. Where turns are not told, as over sockets, no clause says which.
     fn cause(&self) -> Option<Cause>
         ensures some { IsSome result → IfSome (Self.tally self.now).told EndsUnaccepted }
         ensures none { result ≡ None → IfSome (Self.tally self.now).told EndsAccepted };

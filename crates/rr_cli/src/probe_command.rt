@@ -1,4 +1,4 @@
-//! A question of the program to itself, over a connection.
+//! `irrdesk probe`: a question of the program to itself, over a connection.
 
 ghost use Rattle.std.specs.Prelude.{◌≡◌, ◌+◌, ◌<◌, ◌^◌, IfErr, IfOk, OnOk};
 ghost use Rattle.rr_http.specs.DeskRegistrars.{serves_desk};
@@ -26,10 +26,11 @@ use std::io::{ErrorKind, Read};
 /// The status if the reply is an error.
 const ERROR: u8 = 1;
 
-/// Asks the registry that the settings name for its root maintainer, by whois over a connection to
-/// a listener of its own, of which it takes one turn, and prints the reply: the status is 0, or 1
-/// if the reply is an error. If the turn fails, or the reply cannot be read or is empty, nothing is
-/// printed.
+/// Asks the registry that the settings name for its root maintainer, and prints the reply. It asks
+/// by whois, over a connection to a listener of its own, of which it takes one turn. The status is
+/// 0, or 1 if the reply is an error. The fault is why there are no settings, no desk, no listener
+/// or no reply, and then nothing is printed; or that the reply was not printed whole. There is no
+/// reply if the turn or a read failed, if none was given, or if memory ran out.
 pub fn probe<'a, D: Databases, F: Files, N: Network, W: Output>(
     host: &mut Host<'_, D, W>,
     files: &F,

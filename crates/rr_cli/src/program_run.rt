@@ -1,4 +1,5 @@
-//! A run of the program, over its arguments and its three streams.
+//! A run of the program, over its arguments and its three streams: the command is read, carried
+//! out, and its end told.
 
 ghost use Rattle.rr_http.specs.DeskRegistrars.{serves_desk};
 ghost use Rattle.std.specs.Prelude.{◌≡◌, IfErr, IsOk, OnOk, map, string_bytes};
@@ -37,9 +38,11 @@ pub struct Streams<R, E> {
 }
 
 /// Does what the arguments ask for, the first of which is the program's own name, and gives the
-/// status: 0 if it is done, 1 if an item was refused or an answer was an error, and at a fault,
-/// which has its line on standard error, 2 at wrong arguments, 3 at wrong settings, 4 at trouble
-/// with the database or if the desk is stopped, and else 5, also if memory ran out (profile).
+/// status: 0 if it is done, and 1 if an item was refused or an answer was an error. A fault has its
+/// line on `streams.errors`, less its end if a write fails; without a fault nothing is written
+/// there. The status of a fault is 2 at wrong arguments, and 3 at wrong settings. It is 4 at
+/// trouble with the database, also if SQLite lacks memory once it is open, or if the desk is
+/// stopped. It is else 5, also if other memory ran out (profile).
 pub fn run<D: Databases, F: Files, N: Network, R: Input, W: Output, E: Sink>(
     host: &mut Host<'_, D, W>,
     files: &F,
@@ -69,14 +72,16 @@ fn ended_with<'a, E: Sink>(alloc: Global, end: Result<u8, ProgramFault<'a>>, err
     }
 }
 
-/// Tells on `errors` that the arguments could not be read, and gives the status of that.
+/// Tells on `errors` the trouble for which the arguments could not be read, and gives its status.
+/// The line is less its end if a write fails.
 pub fn tell_unread<E: Sink>(trouble: Trouble, errors: &mut E) -> u8
     ensures { EndsUnread trouble (E.told errors.old) (E.told errors.new) result }
 {
     ProgramFault::unnamed(trouble).tell(errors)
 }
 
-/// The arguments as a list.
+/// The arguments as a list; which they are, no clause says. The trouble is that the system gave
+/// none, as one is not text or memory ran out, or that memory ran out for the list (profile).
 pub fn collect(alloc: Global, arguments: io::Result<Args>) -> Result<Vec<String>, Trouble>
     ensures read { OnOk result (IsOk arguments) }
     ensures unread { IfErr result (AreUnread arguments) }

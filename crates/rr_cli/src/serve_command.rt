@@ -1,4 +1,4 @@
-//! Serving connections, of a registry in a database.
+//! `irrdesk serve`: serving connections, of a registry in a database.
 
 ghost use Rattle.std.specs.Prelude.{◌≡◌, ◌+◌, ◌<◌, ◌^◌, IfErr, IfOk, string_bytes};
 ghost use Rattle.rr_io.specs.Sending.{Writes};
@@ -25,19 +25,21 @@ use sqlite::{Alter, Error};
 use std::alloc::{AllocError, Global};
 use std::io;
 
-/// What is served: a port of 127.0.0.1, and so many connections to it.
+/// What is served: a port of 127.0.0.1, and so many turns of what listens on it.
 #[derive(Clone, Copy)]
 pub struct Listening {
     /// The port.
     pub port: u16,
-    /// How many connections.
+    /// How many turns.
     pub count: u64,
 }
 
-/// Serves so many connections to this port of 127.0.0.1, by whois and HTTP, from the registry that
-/// the settings name. Prints where it listens, and at the end how many turns were served and how
-/// many failed: the status is 0, unless no turn was served and in the last one no connection could
-/// be accepted. If the database fails meanwhile, that is said once on standard error.
+/// Takes so many turns of a listener on this port of 127.0.0.1, and serves each connection by whois
+/// and HTTP, from the registry that the settings name. Prints where it listens, and at the end how
+/// many turns were served and how many failed. The status is 0. The fault is why there are no
+/// settings, no desk or no listener, or that a line was not printed whole. If no turn was served
+/// and no connection could be accepted in the last one, that is the fault. If the database fails
+/// meanwhile, that is said once on standard error, of which no clause speaks.
 pub fn serve<'a, D: Databases, F: Files, N: Network, W: Output>(
     host: &mut Host<'_, D, W>,
     files: &F,

@@ -12,8 +12,9 @@ use std::os::fd::{AsRawFd, RawFd};
 const EBADF: i32 = 9;
 
 /// Fills the place of each standard stream that is closed, in order, because what is opened gets
-/// the lowest free number. While these are kept, no file and no socket gets the number of a stream,
-/// and nothing that is meant for the stream goes into it, as a line of standard error into a reply.
+/// the lowest free number. While these are kept, no file and no socket gets the number of a stream.
+/// So nothing that is meant for the stream goes into it, as a line of standard error into a reply.
+/// No clause says which streams were closed.
 pub fn fill_closed(rt: &HostRuntime) -> [Option<File>; 3] {
     [fill(rt, 0), fill(rt, 1), fill(rt, 2)]
 }

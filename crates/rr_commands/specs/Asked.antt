@@ -1,4 +1,4 @@
--- What `irrdesk query` does (profile).
+-- What `irrdesk query` does, for the contracts of `query` and `answer_to` (profile).
 use Rattle.std.specs.Prelude.{◌≡◌, ℕ, ◌==◌, List, Result, Ok, Err, IfErr, IfOk}
 use Rattle.std.specs.Prelude.{if◌then◌else◌}
 use Rattle.sqlite_trees.specs.declared.store.Store.{Ghosts}

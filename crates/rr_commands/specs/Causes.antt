@@ -1,4 +1,5 @@
--- Why a file, a socket or a database could not be used, and how that is told (profile).
+-- Why a file, a socket or a database could not be used, and how that is told, for the contracts of
+-- `Cause` and `DatabaseCause` (profile).
 use Rattle.std.specs.Prelude.{ℕ, ℤ, pos, negsuc, ◌==◌, List, ◌++◌, Option, None, Some, codes}
 use Rattle.std.specs.Prelude.{if◌then◌else◌}
 use Rattle.std.specs.declared.io.ErrorKind.{ErrorKind}
@@ -25,7 +26,8 @@ number_cause number =
     else if number == EMFILE then cause.ManyFiles
     else cause.Numbered number
 
--- the cause that has this number of the system, if it has one (profile)
+-- the cause that has this number of the system; `Unnumbered` if there is none, or one below 0
+-- (profile)
 abbrev pub numbered : Option ℤ → Cause
 numbered None = cause.Unnumbered
 numbered (Some (pos number)) = number_cause number
@@ -141,18 +143,19 @@ code_cause (code.ConstraintViolation rule) = database.Forbidden
 code_cause code.OutOfMemory = database.Memory
 code_cause _ = database.Unknown
 
--- the cause of an error of the database (profile)
+-- the cause of an error of the database, by the code of a failure, and else `Unknown` (profile)
 abbrev pub database_cause : Error → DatabaseCause
 database_cause (SqliteFailure failure) = code_cause failure
 database_cause _ = database.Unknown
 
--- why a desk stopped, by the error of its database that it keeps (profile)
+-- why a desk stopped, by the error of its database that it keeps; `Unknown` if it keeps none
+-- (profile)
 abbrev pub stop_cause : Option Error → DatabaseCause
 stop_cause None = database.Unknown
 stop_cause (Some error) = database_cause error
 
--- of a file that is no database of a registry, or one that was damaged: which of the two, errors do
--- not surely say (profile)
+-- the words for a file that is no database of a registry, or one that was damaged: which of the
+-- two, errors do not surely say (profile)
 abbrev pub unread_text : List ℕ
 unread_text =
     codes "it is not the database of a registry, or one that was damaged or changed in a way that "
@@ -199,7 +202,7 @@ database_cause_text database.Forbidden =
 database_cause_text database.Memory = codes "out of memory: give the program more"
 database_cause_text database.Unknown = codes "the database cannot be used: look at its disk"
 
--- a cause in words if it tells more than these do, and else these (profile)
+-- a cause in words, but these words for `NoDatabase` and `Unknown`, which tell no more (profile)
 abbrev pub text_or : DatabaseCause → List ℕ → List ℕ
 text_or database.NoDatabase words = words
 text_or database.Unknown words = words

@@ -1,6 +1,6 @@
 -- What commands do that read settings from a file and use the database that these name, by how they
 -- end (profile).
-use Rattle.std.specs.Prelude.{◌≡◌, ◌≤◌, ◌+◌, ◌<◌, ◌⊎◌, ℕ, List, [], length, take, IfErr}
+use Rattle.std.specs.Prelude.{◌≡◌, ◌≤◌, ◌+◌, ◌<◌, ◌⊎◌, ℕ, false, List, [], length, take, IfErr}
 use Rattle.std.specs.Prelude.{Bool, IfSome, IsTrue, Option, Result, Ok, Err}
 use Rattle.std.specs.IoError.{error_kind, raw_os_error}
 use Rattle.std.specs.declared.io.Error.{Error}
@@ -14,11 +14,11 @@ use Rattle.rr_desk.specs.Rows.{CommitsNothing}
 use Rattle.rr_desk.specs.Settings.{SettingsParts}
 use Rattle.rr_commands.specs.Causes.{system_cause}
 use Rattle.rr_commands.specs.Databases.{DatabaseCalls}
-use Rattle.rr_commands.specs.Faults.{Shows, place_on_line}
+use Rattle.rr_commands.specs.Faults.{ShowsOnLine, place_on_line}
 use Rattle.rr_commands.specs.Files.{FileCalls}
 use Rattle.rr_commands.specs.Found.{IsToldUnopened}
 use Rattle.rr_commands.specs.SettingsFiles.{AreNoSettings, settings_of_text}
-use Rattle.rr_commands.specs.Worlds.{Deed, Named, Stores, ended_by, within}
+use Rattle.rr_commands.specs.Worlds.{Deed, Named, StoreCalls, ended_by, within}
 use Rattle.rr_commands.specs.declared.cause.Cause.{Cause}
 use Rattle.rr_commands.specs.declared.cause.Cause.TheVariants as cause
 use Rattle.rr_commands.specs.declared.cause.DatabaseCause.{DatabaseCause}
@@ -42,7 +42,7 @@ ProgramEnd = Result ℕ ProgramFault
 abbrev pub Action : Type 0 → Type 1
 Action D = Named → Deed D CommandEnd → Type 0
 
--- what it does at a desk, or in a database through a connection (profile)
+-- what a command does at a desk, or in a database through a connection (profile)
 abbrev pub Act : Type 0 → Type 1
 Act X = Deed X CommandEnd → Type 0
 
@@ -72,8 +72,8 @@ abbrev pub unopened_trouble : Cause → Trouble
 unopened_trouble cause.Memory = trouble.Memory
 unopened_trouble cause = trouble.FileUnopened cause
 
--- the file at this path was read to its end, or up to one byte more than the most of such a file,
--- and has these bytes (profile)
+-- the file at this path was opened and, if it tells its bytes, these are all, or the first, one
+-- more than such a file may have (profile)
 pub record ReadsFile (files : FileCalls) (file text : List ℕ) : Type 0 where
   pub given : Option (List ℕ)
   pub opened : files.opens file (Ok given)
@@ -117,7 +117,7 @@ pub record HasNoSettings {D : Type 0} (files : FileCalls) (file : List ℕ)
   pub fault : ProgramFault
   pub told : done.ended ≡ Err fault
   pub cause : GivesNoSettings files file fault.trouble
-  pub about : Shows (place_on_line place.File file []) fault
+  pub about : ShowsOnLine (place_on_line place.File file []) fault
   pub untouched : done.after.has ≡ done.before.has
   pub silent : done.after.output ≡ done.before.output
 
@@ -147,10 +147,11 @@ abbrev pub ActsBySettings : {D : Type 0} → FileCalls → List ℕ → Naming �
 ActsBySettings files file shows does done =
     HasNoSettings files file done ⊎ HasActed files file shows does done
 
--- a look at a database for a message, from one connection to the next: nothing was committed
--- (profile)
-abbrev pub LooksAt : {S : Type 0} → Ghosts S → Held S → Held S → Type 0
-LooksAt g before after = CommitsNothing (state g before) (state g after)
+-- a look at a database for a message, from one connection to the next, which is in no transaction:
+-- nothing was committed (profile)
+pub record LooksAt {S : Type 0} (g : Ghosts S) (before after : Held S) : Type 0 where
+  pub autocommit : after.in_transaction ≡ false
+  pub only : CommitsNothing (state g before) (state g after)
 
 -- a look at a database found nothing, or trouble or a version of this kind (profile)
 pub record Finds {S X : Type 0} (g : Ghosts S) (is_kind : X → Bool) (before after : Held S)
@@ -176,7 +177,7 @@ pub record IsNotGiven {D S : Type 0} (calls : DatabaseCalls D S) (path : List �
   pub is_told : told ≡ trouble.Database cause
 
 -- a database was given, its registry was not opened, and as that left it, it was closed (profile)
-pub record IsRefused {D S : Type 0} (by : Stores D S) (names : Named) (start end : D)
+pub record IsRefused {D S : Type 0} (by : StoreCalls D S) (names : Named) (start end : D)
     (trouble : Trouble) : Type 0 where
   pub conn : Held S
   pub after : Held S
@@ -186,7 +187,7 @@ pub record IsRefused {D S : Type 0} (by : Stores D S) (names : Named) (start end
   pub closed : by.databases.closes after between end
 
 -- why no desk is opened: no database was given, or the one that was is refused (profile)
-abbrev pub OpensNoDesk : {D S : Type 0} → Stores D S → Named → D → D → Trouble → Type 0
+abbrev pub OpensNoDesk : {D S : Type 0} → StoreCalls D S → Named → D → D → Trouble → Type 0
 OpensNoDesk by names start end trouble =
     IsNotGiven by.databases names.path Refused start end trouble
     ⊎ IsRefused by names start end trouble
@@ -207,7 +208,7 @@ pub record IsUnopenedFile (files : FileCalls) (file : List ℕ) (told : Trouble)
 
 -- the database at a path was given and holds the rows of a registry of these settings, and the desk
 -- runs over it (profile)
-pub record OpensDesk {D S : Type 0} (by : Stores D S) (names : Named) (start end : D)
+pub record OpensDesk {D S : Type 0} (by : StoreCalls D S) (names : Named) (start end : D)
     (desk : Desk S) : Type 0 where
   pub conn : Held S
   pub given : by.databases.opens names.path Refused (Ok conn) start end
@@ -215,7 +216,7 @@ pub record OpensDesk {D S : Type 0} (by : Stores D S) (names : Named) (start end
   pub runs : IsRunning by.store names.settings desk
 
 -- a desk was opened, and this was done at it; the database that it left was closed (profile)
-pub record IsDoneAtDesk {D S : Type 0} (by : Stores D S) (does : Act (Desk S)) (names : Named)
+pub record IsDoneAtDesk {D S : Type 0} (by : StoreCalls D S) (does : Act (Desk S)) (names : Named)
     (done : Deed D CommandEnd) : Type 0 where
   pub before : Desk S
   pub after : Desk S
@@ -226,13 +227,13 @@ pub record IsDoneAtDesk {D S : Type 0} (by : Stores D S) (does : Act (Desk S)) (
 
 -- what a command does at the desk that its settings open: if there is no database, none is made
 -- (profile)
-abbrev pub AtDesk : {D S : Type 0} → Stores D S → Act (Desk S) → Action D
+abbrev pub AtDesk : {D S : Type 0} → StoreCalls D S → Act (Desk S) → Action D
 AtDesk by does names done =
     FailsSilently (OpensNoDesk by names done.before.has done.after.has) done
     ⊎ IsDoneAtDesk by does names done
 
 -- a database was opened, and this was done in it; as this left it, it was closed (profile)
-pub record IsDoneInDatabase {D S : Type 0} (by : Stores D S) (absent : Absent)
+pub record IsDoneInDatabase {D S : Type 0} (by : StoreCalls D S) (absent : Absent)
     (does : Act (Held S)) (path : List ℕ) (done : Deed D CommandEnd) : Type 0 where
   pub before : Held S
   pub after : Held S
@@ -243,7 +244,7 @@ pub record IsDoneInDatabase {D S : Type 0} (by : Stores D S) (absent : Absent)
 
 -- what a command does in the database that its settings name, by what is done if there is none
 -- (profile)
-abbrev pub InDatabase : {D S : Type 0} → Stores D S → Absent → (SettingsParts → Act (Held S))
+abbrev pub InDatabase : {D S : Type 0} → StoreCalls D S → Absent → (SettingsParts → Act (Held S))
     → Action D
 InDatabase by absent does names done =
     FailsSilently (IsNotGiven by.databases names.path absent done.before.has done.after.has) done

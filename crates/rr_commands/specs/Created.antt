@@ -1,4 +1,4 @@
--- What `irrdesk init` does, by how it ends (profile).
+-- What `irrdesk init` does, by how it ends, for the contracts of `init` and `create_to` (profile).
 use Rattle.std.specs.Prelude.{◌≡◌, ℕ, ◌⊎◌, List, Err, codes}
 use Rattle.sqlite_trees.specs.declared.store.Store.{Ghosts}
 use Rattle.sqlite.specs.Held.{Held}
@@ -27,7 +27,8 @@ module _ {S : Type 0} (g : Ghosts S) (settings : SettingsParts) where
     pub fails : FailsToMakeTables g (HasOpeningRows settings) done.before.has done.after.has fault
     pub silent : done.after.output ≡ done.before.output
 
-  -- the registry that opens with the settings was made, and that was printed (profile)
+  -- the registry that opens with the settings was made, and the connection is given back; the line
+  -- that says so was printed, or not whole (profile)
   pub record IsCreated (done : Deed (Held S) CommandEnd) : Type 0 where
     pub desk : Desk S
     pub runs : IsRunning g settings desk

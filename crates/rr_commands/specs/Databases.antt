@@ -1,4 +1,4 @@
--- What calls do with databases (profile).
+-- What calls do with databases, for the contracts of the trait `Databases` (profile).
 use Rattle.std.specs.Prelude.{ℕ, List, Result}
 use Rattle.sqlite.specs.Held.{Held}
 use Rattle.rr_commands.specs.declared.cause.DatabaseCause.{DatabaseCause}

@@ -1,4 +1,4 @@
--- What `irrdesk dump` does (profile).
+-- What `irrdesk dump` does, for the contracts of `dump` and `dump_to` (profile).
 use Rattle.std.specs.Prelude.{◌≡◌, ℕ, Bool, List, Ok, Err}
 use Rattle.rr_desk.specs.declared.desk.Desk.{Desk}
 use Rattle.rr_io.specs.Sending.{Takes}

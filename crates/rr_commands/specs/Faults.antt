@@ -1,4 +1,5 @@
--- The line that says a fault on standard error (profile).
+-- The line that says a fault on standard error, for the contracts of `ProgramFault` and of what the
+-- faults of commands name (profile).
 use Rattle.std.specs.Prelude.{◌≡◌, ◌⊎◌, ℕ, ◌==◌, ◌||◌, nat_lt, List, [], ◌++◌, map, Option}
 use Rattle.std.specs.Prelude.{None, Some, codes}
 use Rattle.std.specs.Prelude.{IsTrue, decimal, string_bytes, if◌then◌else◌}
@@ -19,21 +20,22 @@ use Rattle.rr_commands.specs.declared.trouble.Trouble.{Trouble}
 abbrev pub byte_on_line : ℕ → ℕ
 byte_on_line b = if nat_lt b 32 || b == 127 then 63 else b
 
--- the name of what a fault is about, as it is written on the line, and a colon (profile)
+-- the name of what a fault is about, as it is written on the line, and a colon; nothing for what
+-- has no name (profile)
 abbrev pub name_on_line : About → List ℕ
 name_on_line Nothing = []
 name_on_line (Word word) = map byte_on_line word.now ++ codes ": "
 name_on_line (Named name) = map byte_on_line (string_bytes name) ++ codes ": "
 
--- the same of where something went wrong, of a command that reads this file and uses this database
--- (profile)
+-- the name of where a command with this file and database went wrong, as it is written on the line,
+-- and a colon; nothing for what has no name (profile)
 abbrev pub place_on_line : Place → List ℕ → List ℕ → List ℕ
 place_on_line place.Nothing file database = []
 place_on_line place.Database file database = map byte_on_line database ++ codes ": "
 place_on_line place.File file database = map byte_on_line file ++ codes ": "
 place_on_line place.Output file database = map byte_on_line (codes "standard output") ++ codes ": "
 
--- a text as a line shows it: as it is, if that needs no escape (profile)
+-- a line may show a text so: as it is, if it needs no escape, and else in any way (profile)
 abbrev pub IsShownAs : List ℕ → List ℕ → Type 0
 IsShownAs text line = IsTrue (needs_no_escape text) → line ≡ text
 
@@ -48,8 +50,8 @@ abbrev pub fault_about : About → Trouble → Cause → ProgramFault
 fault_about about trouble stream = record { about = about; trouble = trouble; stream = stream }
 
 -- a fault shows this of what it is about, on its line (profile)
-abbrev pub Shows : List ℕ → ProgramFault → Type 0
-Shows name fault = name_on_line fault.about ≡ name
+abbrev pub ShowsOnLine : List ℕ → ProgramFault → Type 0
+ShowsOnLine name fault = name_on_line fault.about ≡ name
 
 -- a fault with this trouble, of which this is true (profile)
 pub record IsFaultOf (told : Trouble) (holds : ProgramFault → Type 0) (fault : ProgramFault)
@@ -57,8 +59,8 @@ pub record IsFaultOf (told : Trouble) (holds : ProgramFault → Type 0) (fault :
   pub trouble : fault.trouble ≡ told
   pub shows : holds fault
 
--- what a fault is about, as a line shows it: the same, and a word so or, without memory, as it was
--- given (profile)
+-- what a fault is about is legible: as it was, but a word as a line shows it or, without memory, as
+-- it was given (profile)
 abbrev pub IsLegible : About → About → Type 0
 IsLegible Nothing after = after ≡ Nothing
 IsLegible (Named name) after = after ≡ Named name
@@ -73,20 +75,21 @@ abbrev pub IsAbout : List ℕ → List ℕ → List ℕ → ProgramFault → Typ
 IsAbout file path found fault =
     (database : List ℕ)
     × NamesPath path found database
-    × Shows (place_on_line (place_of fault.trouble) file database) fault
+    × ShowsOnLine (place_on_line (place_of fault.trouble) file database) fault
 
 -- a fault shows a file, and may show where in it (profile)
 pub record ShowsFile (file : List ℕ) (fault : ProgramFault) : Type 0 where
   pub found : List ℕ
   pub text : List ℕ
   pub names : NamesPath file found text
-  pub shows : Shows (place_on_line place.File text []) fault
+  pub shows : ShowsOnLine (place_on_line place.File text []) fault
 
--- a fault of what a file has shows the file, and where in it (profile)
+-- a fault of what a file has shows the file, and may show where in it (profile)
 abbrev pub IsInFile : List ℕ → ProgramFault → Type 0
 IsInFile file fault = (place_of fault.trouble ≡ place.File) × ShowsFile file fault
 
--- the same of a command that loads this file: what it has may be shown with its place (profile)
+-- a fault of a command that loads this file shows the place of its trouble; if that is the file, it
+-- may show where in it (profile)
 abbrev pub IsAboutDump : List ℕ → List ℕ → List ℕ → ProgramFault → Type 0
 IsAboutDump file path found fault = IsAbout file path found fault ⊎ IsInFile file fault
 
@@ -103,7 +106,8 @@ trouble_text trouble stream =
     ++ (before_number trouble
     ++ (number_text (trouble_number trouble) ++ (after_number trouble ++ codes "\n")))))
 
--- the line begins with the program's name (profile)
+-- the line that says a fault: the program's name, what the fault is about, and what went wrong
+-- (profile)
 unfoldable pub fault_line : About → Trouble → Cause → List ℕ
 fault_line about trouble stream =
     codes "irrdesk: " ++ (name_on_line about ++ trouble_text trouble stream)

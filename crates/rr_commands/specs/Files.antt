@@ -1,4 +1,4 @@
--- What calls do with files (profile).
+-- What calls do with files, for the contracts of the trait `Files` (profile).
 use Rattle.std.specs.Prelude.{ℕ, List, Option, Result}
 use Rattle.std.specs.declared.io.Error.{Error}
 

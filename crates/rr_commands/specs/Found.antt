@@ -29,11 +29,13 @@ abbrev pub is_later_migrated : Trouble → Bool
 is_later_migrated (trouble.Migrating (migrating.WrongVersion version)) = nat_lt VERSION version
 is_later_migrated _ = false
 
--- what a look at tables that are not opened may find: that, or a later version (profile)
+-- what a look at tables that are not opened may find: how they were made, or a later version
+-- (profile)
 abbrev pub is_of_unopened : Trouble → Bool
 is_of_unopened found = is_of_tables found || is_later_opened found
 
--- what a look at tables that are not migrated may find: the same (profile)
+-- what a look at tables that are not migrated may find: how they were made, or a later version
+-- (profile)
 abbrev pub is_of_unmigrated : Trouble → Bool
 is_of_unmigrated found = is_of_tables found || is_later_migrated found
 

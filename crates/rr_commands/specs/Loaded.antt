@@ -1,4 +1,4 @@
--- What `irrdesk load` does, by how it ends (profile).
+-- What `irrdesk load` does, by how it ends, for the contracts of `load` and `load_to` (profile).
 use Rattle.std.specs.Prelude.{◌≡◌, ℕ, ◌⊎◌, List, ◌++◌, length, Ok, Err, codes}
 use Rattle.std.specs.Prelude.{decimal}
 use Rattle.std.specs.FinMap.{values}
@@ -41,7 +41,8 @@ module _ {S : Type 0} (g : Ghosts S) (settings : SettingsParts) (reader_old read
         done.before.has done.after.has fault
     pub silent : done.after.output ≡ done.before.output
 
-  -- a dump was read to its end, its registry was made, and that was printed (profile)
+  -- a dump was read to its end, its registry was made, and the connection is given back; the line
+  -- that says so was printed, or not whole (profile)
   pub record HasLoaded (done : Deed (Held S) CommandEnd) : Type 0 where
     pub desk : Desk S
     pub runs : IsRunning g settings desk
@@ -58,8 +59,8 @@ Loads g settings reader_old reader_new done =
     IsUnloaded g settings reader_old reader_new done
     ⊎ HasLoaded g settings reader_old reader_new done
 
--- the file at this path was loaded into a database: what its reader told when it was opened, and
--- when all was done (profile)
+-- the file at this path was opened, and its load did this in a database, by what its reader told
+-- when it was opened and when all was done (profile)
 pub record LoadsFile {S : Type 0} (g : Ghosts S) (settings : SettingsParts) (files : FileCalls)
     (file : List ℕ) (done : Deed (Held S) CommandEnd) : Type 0 where
   pub reader_old : Told
@@ -68,7 +69,7 @@ pub record LoadsFile {S : Type 0} (g : Ghosts S) (settings : SettingsParts) (fil
   pub loads : Loads g settings reader_old reader_new done
 
 -- what `irrdesk load` does in a database: its file is not opened and the database stays as it was,
--- or what is read is loaded (profile)
+-- or it is read, and loaded or not (profile)
 abbrev pub LoadsIn : {S : Type 0} → Ghosts S → FileCalls → List ℕ → SettingsParts → Act (Held S)
 LoadsIn g files file settings done =
     (FailsSilently (IsUnopenedFile files file) done × (done.after.has ≡ done.before.has))

@@ -1,4 +1,5 @@
--- What `irrdesk migrate` does, by how it ends (profile).
+-- What `irrdesk migrate` does, by how it ends, for the contracts of `migrate` and `migrate_to`
+-- (profile).
 use Rattle.std.specs.Prelude.{◌≡◌, ◌⊎◌, ℕ, Bool, true, false, List, Err, IsTrue, codes}
 use Rattle.sqlite_trees.specs.declared.store.Store.{Ghosts}
 use Rattle.sqlite.specs.Held.{Held}
@@ -31,7 +32,8 @@ module _ {S : Type 0} (g : Ghosts S) (settings : SettingsParts) where
     pub silent : done.after.output ≡ done.before.output
 
   -- the rows of a registry of version 1 were made those of version 2, with the block of the other
-  -- AS numbers, and that was printed (RFC 6793; profile)
+  -- AS numbers, and the line that says so was written, or could not be written whole (RFC 6793;
+  -- profile)
   pub record HasMigrated (done : Deed (Held S) CommandEnd) : Type 0 where
     pub desk : Desk S
     pub runs : IsRunning g settings desk
@@ -51,13 +53,12 @@ pub record IsFoundOut (first ended : CommandEnd) : Type 0 where
   pub found : IsTrue (is_found fault trouble)
   pub told : ended ≡ Err trouble
 
--- what is told of how a migration ended: that, or what a further look at the database found
--- (profile)
+-- what is told of a migration: how it ended, or what a further look at the database found (profile)
 abbrev pub IsDiagnosis : CommandEnd → CommandEnd → Type 0
 IsDiagnosis first ended = (ended ≡ first) ⊎ IsFoundOut first ended
 
--- what is looked at: a database that was refused by its error, for its rows, for its version or for
--- want of the root (profile)
+-- a database that is not migrated for this fault is looked at: one that was refused by its error,
+-- for its rows, for its version or for want of the root (profile)
 abbrev pub is_looked_at : MigrateFault → Bool
 is_looked_at (migrating.Store error) = true
 is_looked_at migrating.BadRow = true
@@ -65,12 +66,13 @@ is_looked_at (migrating.WrongVersion version) = true
 is_looked_at migrating.NoRoot = true
 is_looked_at _ = false
 
--- a migration ended by such a fault (profile)
+-- a migration ended by a fault after which the database is looked at (profile)
 abbrev pub IsLookedAt : CommandEnd → Type 0
 IsLookedAt first =
     (fault : MigrateFault) × (first ≡ Err (Migrating fault)) × IsTrue (is_looked_at fault)
 
--- no other database is looked at (profile)
+-- a database stays as it was left, or was looked at, which is done only if it was refused for such
+-- a fault (profile)
 abbrev pub LooksAtRefused : {S : Type 0} → Ghosts S → CommandEnd → Held S → Held S → Type 0
 LooksAtRefused g first left after =
     (after ≡ left) ⊎ (IsLookedAt first × LooksAt g left after)

@@ -1,4 +1,4 @@
--- What rows of objects show that is told of a database (profile).
+-- What rows of objects show, for what is told of a database that is refused (profile).
 use Rattle.std.specs.Prelude.{◌≡◌, ◌+◌, ◌-◌, ◌<◌, ◌⊎◌, ◌==◌, ℕ, zero, suc, List, [], ◌∷◌, length}
 use Rattle.std.specs.Prelude.{Option, None, Err, slice_get, if◌then◌else◌}
 use Rattle.sqlite_value.specs.Order.{Row, column}
@@ -18,20 +18,20 @@ pub record IsTextOfOther (source text : List ℕ) : Type 0 where
   pub is_text : canonical fields ≡ text
   pub other : object_of fields source ≡ Err OtherSource
 
--- a row of `object`, without a number, has such a text (profile)
+-- a row of `object` has the text of an object of another source (profile)
 pub record IsOfOther (source : List ℕ) (row : Row) : Type 0 where
   pub text : List ℕ
   pub stands : column row 2 ≡ Blob text
   pub other : IsTextOfOther source text
 
--- so many of these rows, and maybe more, have such a text (profile)
+-- so many of these rows, and maybe more, have objects of another source (profile)
 abbrev pub AreOfOther : List ℕ → ℕ → List Row → Type 0
 AreOfOther source zero rows = Unit {0}
 AreOfOther source (suc count) [] = ⊥
 AreOfOther source (suc count) (row ∷ rows) =
     (IsOfOther source row × AreOfOther source count rows) ⊎ AreOfOther source (suc count) rows
 
--- more than half of these rows have such a text (profile)
+-- more than half of these rows have objects of another source (profile)
 pub record AreMostlyOfOther (source : List ℕ) (rows : List Row) : Type 0 where
   pub count : ℕ
   pub others : AreOfOther source count rows

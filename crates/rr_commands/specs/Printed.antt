@@ -1,4 +1,4 @@
--- What commands print of what they did (profile).
+-- What commands print of what they did, for the contracts of `print` and of each command (profile).
 use Rattle.std.specs.Prelude.{◌≡◌, ℕ, List, Ok, Err}
 use Rattle.rr_io.specs.Sending.{Takes, TakesPrefix}
 use Rattle.rr_io.specs.Told.{Told}
@@ -11,11 +11,13 @@ abbrev pub Tells : List ℕ → Told → Told → CommandEnd → Type 0
 Tells text old new (Ok status) = (status ≡ 0) × Takes old new text
 Tells text old new (Err fault) = (fault ≡ Unwritten) × TakesPrefix old new text
 
--- the same, of what was done
+-- what was done ends as the writing of a text does: with the status 0 where it was written, or
+-- because it could not be written whole (profile)
 abbrev pub HasTold : {X : Type 0} → List ℕ → Deed X CommandEnd → Type 0
 HasTold text done = Tells text done.before.output done.after.output done.ended
 
--- the same, as the program ends by it (profile)
+-- a text was printed, and the status of the program is 0; or it could not be printed whole, which
+-- is its fault (profile)
 abbrev pub Prints : List ℕ → Told → Told → ProgramEnd → Type 0
 Prints text old new (Ok status) = (status ≡ 0) × Takes old new text
 Prints text old new (Err fault) = (fault.trouble ≡ Unwritten) × TakesPrefix old new text

@@ -1,4 +1,4 @@
--- Settings as TOML (profile).
+-- Settings as TOML, for the contracts of what reads them from a text or a file (profile).
 use Rattle.std.specs.Prelude.{◌≡◌, ◌==◌, ◌<◌, ℕ, ℤ, pos, negsuc, List, length, Option}
 use Rattle.std.specs.Prelude.{Some, None}
 use Rattle.std.specs.Prelude.{Result, Ok, Err, codes, if◌then◌else◌}
@@ -40,32 +40,33 @@ non_negative (negsuc n) = None
 abbrev pub integer_at : List ℕ → Members → Option ℤ
 integer_at name table = option_and_then as_integer (get_member name table)
 
--- the same where it is not negative
+-- the integer at a key of a table, where it is not negative (profile)
 abbrev pub number_at : List ℕ → Members → Option ℕ
 number_at name table = option_and_then non_negative (integer_at name table)
 
--- why a table has no settings of a registry, by the setting that is missing or bad (profile)
+-- why a table has no settings of a registry: by the setting that is missing or bad, or that memory
+-- ran out (profile)
 abbrev pub fault_of : ValueFault → SettingsFault
 fault_of (value.Bad setting) = BadKey (key_of setting)
 fault_of value.Memory = Memory
 
--- the same value, or the fault that the other one is
+-- a value, or its fault as one of a settings file
 abbrev pub with_fault : {X : Type 0} → Result X ValueFault → Result X SettingsFault
 with_fault (Ok value) = Ok value
 with_fault (Err fault) = Err (fault_of fault)
 
--- the settings of a registry that a table has (profile)
+-- the settings of a registry that a table has, or the first that is missing or bad (profile)
 abbrev pub parts_of : Members → Result SettingsParts SettingsFault
 parts_of table = with_fault (settings_of
     (text_at (codes "source") table) (text_at (codes "root") table)
     (text_at (codes "auth") table) (number_at (codes "limit") table))
 
--- a path of a database is not empty (profile)
+-- the path of a database, or that its key is missing or bad: it is not there, or is empty (profile)
 abbrev pub path_of : Option (List ℕ) → Result (List ℕ) SettingsFault
 path_of None = Err (BadKey key.Store)
 path_of (Some path) = if length path == 0 then Err (BadKey key.Store) else Ok path
 
--- the path of the database that a table has (profile)
+-- the path of the database that a table has, or that its key is missing or bad (profile)
 abbrev pub store_of : Members → Result (List ℕ) SettingsFault
 store_of table = path_of (text_at (codes "store") table)
 
@@ -77,12 +78,12 @@ both (Ok value) (Err fault) = Err fault
 both (Ok value) (Ok other) = Ok (value, other)
 
 -- the settings and the path of the database that a table has, or the first key that is missing or
--- bad (profile)
+-- bad; without a table the text was not TOML (profile)
 abbrev pub settings_in : Option Members → Result (SettingsParts × List ℕ) SettingsFault
 settings_in None = Err BadToml
 settings_in (Some table) = both (parts_of table) (store_of table)
 
--- the settings and the path of the database that a text has (profile)
+-- the settings and the path of the database that a text has, or why it has none (profile)
 abbrev pub settings_of_text : List ℕ → Result (SettingsParts × List ℕ) SettingsFault
 settings_of_text text = settings_in (parse_document text)
 

@@ -7,10 +7,9 @@ use Rattle.rr_submission.specs.declared.submission.Done.{Done}
 use Rattle.rr_submission.specs.declared.submission.DeskFault.{DeskFault}
 use Rattle.rr_submission.specs.declared.submission.DeskFault.TheVariants as desk
 use Rattle.rr_submission.specs.Submissions.{UnlessStoreFault}
-use Rattle.rr_desk.specs.Desks.{IsOfItsSource, SubmitsTo, desk_state}
+use Rattle.rr_desk.specs.Desks.{LeavesDesk, SubmitsTo}
 use Rattle.rr_desk.specs.Opening.{IsOpeningRegistry}
 use Rattle.rr_desk.specs.Settings.{built_in}
-use Rattle.rr_desk.specs.Stocks.{DatabaseLasts, StoresUntilStopped}
 use Rattle.rr_desk.specs.declared.desk.Desk.{Desk}
 use Rattle.rr_commands.specs.Causes.{stop_cause}
 use Rattle.rr_commands.specs.Commands.{Act, ActsBySettings, AtDesk, CommandEnd, EndsAs}
@@ -32,9 +31,8 @@ abbrev pub submission_end : Result Done DeskFault → DatabaseCause → CommandE
 submission_end (Ok done) cause = Ok (done_status done)
 submission_end (Err fault) cause = Err (Submission fault cause)
 
--- a submission was made to a desk, and its result is told; only a fault of the store stopped the
--- desk, whose rows until then are those of its registry; its connection lasts, the settings stay,
--- and the registry stays one of their source (profile)
+-- a submission was made to a desk, its result is told, and the desk is left as a submission leaves
+-- it; only a fault of the store stopped it (profile)
 pub record HasSubmitted {S : Type 0} (g : Ghosts S) (reader_old reader_new : Told)
     (done : Deed (Desk S) CommandEnd) : Type 0 where
   pub result : Result Done DeskFault
@@ -42,10 +40,7 @@ pub record HasSubmitted {S : Type 0} (g : Ghosts S) (reader_old reader_new : Tol
       done.before.output done.after.output result
   pub running : UnlessStoreFault result (done.after.has.stored.stopped ≡ false)
   pub told : done.ended ≡ submission_end result (stop_cause done.after.has.stored.cause)
-  pub lasts : DatabaseLasts (desk_state g done.before.has) (desk_state g done.after.has)
-  pub rows : StoresUntilStopped g done.after.has.stored
-  pub settings : done.after.has.settings ≡ done.before.has.settings
-  pub of_source : IsOfItsSource done.before.has → IsOfItsSource done.after.has
+  pub leaves : LeavesDesk g done.before.has done.after.has result
 
 -- what went wrong without arguments: a database in memory fails only because memory ran out
 -- (profile)
@@ -72,7 +67,8 @@ pub record HasSubmittedPlain {S : Type 0} (g : Ghosts S) (done : Deed Told Comma
   pub opened : IsOpeningRegistry built_in before.stored.registry
   pub submitted : HasSubmitted g done.before.has done.after.has (within before after done)
 
--- what the program does without arguments, of which standard input tells what is read (profile)
+-- what the program does without arguments, by what standard input told before and after: there is
+-- no desk, or a submission is made to a new one (profile)
 abbrev pub RunsPlain : {S : Type 0} → Ghosts S → Deed Told CommandEnd → Type 0
 RunsPlain g done = HasNoDesk done ⊎ HasSubmittedPlain g done
 

@@ -1,4 +1,5 @@
--- What goes wrong, the status that it ends the program with, and what it is about (profile).
+-- What goes wrong, the status that it ends the program with, and what it is about, for the
+-- contracts of `Trouble` (profile).
 use Rattle.std.specs.Prelude.{ℕ, List, [], Option, None, Some}
 use Rattle.rr_store.specs.declared.store_fault.CreateFault.TheVariants as creating
 use Rattle.rr_store.specs.declared.store_fault.MigrateFault.TheVariants as migrating
@@ -21,9 +22,9 @@ use Rattle.rr_commands.specs.declared.trouble.Trouble.TheVariants as trouble
 abbrev pub ends_with : ℕ → Place → Ending
 ends_with status place = record { status = status; place = place }
 
--- how the program ends by each trouble: the status is 2 at wrong arguments, 3 at wrong settings, 4
--- at trouble with the database or if the desk is stopped, and else 5, also if memory ran out
--- (profile)
+-- how the program ends by each trouble: what its line is about, and its status. The status is 2 at
+-- wrong arguments, 3 at wrong settings, and 4 at trouble with the database or a stopped desk. It is
+-- else 5, also if memory ran out (profile).
 abbrev pub trouble_end : Trouble → Ending
 trouble_end trouble.BadArguments = ends_with 2 place.Nothing
 trouble_end trouble.BadPort = ends_with 2 place.Nothing
@@ -88,11 +89,11 @@ trouble_end (trouble.ProbeFailed cause) = ends_with 5 place.Nothing
 trouble_end trouble.Unwritten = ends_with 5 place.Output
 trouble_end trouble.Memory = ends_with 5 place.Nothing
 
--- its status
+-- the status that a trouble ends the program with
 abbrev pub trouble_status : Trouble → ℕ
 trouble_status trouble = (trouble_end trouble).status
 
--- what it is about
+-- what a trouble is about
 abbrev pub place_of : Trouble → Place
 place_of trouble = (trouble_end trouble).place
 
@@ -120,7 +121,8 @@ trouble_cause (trouble.Submission (desk.WriteFault items) cause) stream = Some s
 trouble_cause (trouble.Loading loading.Read) stream = Some stream
 trouble_cause _ stream = None
 
--- a cause in words, or nothing: that of the system, or why the database failed (profile)
+-- a cause in words, or nothing: why the database failed in a submission or while it was served,
+-- and else the cause that the system gave (profile)
 abbrev pub cause_words : Trouble → Option Cause → List ℕ
 cause_words (trouble.Submission (desk.StoreFault items) cause) given = database_cause_text cause
 cause_words (trouble.ServedInVain cause) given = database_cause_text cause

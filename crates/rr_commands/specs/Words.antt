@@ -1,4 +1,5 @@
--- What went wrong in words: those before the cause and the number, and those after (profile).
+-- What went wrong in words: those before the cause and the number, and those after, for the line of
+-- a fault (profile).
 use Rattle.std.specs.Prelude.{ℕ, ◌==◌, nat_lt, List, [], ◌++◌, codes, if◌then◌else◌}
 use Rattle.sqlite.specs.declared.error.Error.{Error}
 use Rattle.rr_object.specs.declared.code.Code.{Code}
@@ -22,28 +23,28 @@ use Rattle.rr_commands.specs.declared.settings_file.SettingKey.TheVariants as ke
 use Rattle.rr_commands.specs.declared.trouble.Trouble.{Trouble}
 use Rattle.rr_commands.specs.declared.trouble.Trouble.TheVariants as trouble
 
--- memory ran out (profile)
+-- the words for memory that ran out (profile)
 abbrev pub out_of_memory : List ℕ
 out_of_memory = codes "out of memory: give the program more"
 
--- of a registry that is to be made where one is (profile)
+-- the words for a registry that is to be made where one is (profile)
 abbrev pub not_empty : List ℕ
 not_empty = codes "the database has a registry already: take a new one"
 
--- of tables that the database refused, if its cause tells no more (profile)
+-- the words for tables that the database refused, if its cause tells no more (profile)
 abbrev pub no_tables_made : List ℕ
 no_tables_made =
     codes "the database has other tables, or refuses those of a registry: take a new one"
 
--- of tables of another version, before its number (profile)
+-- the words for tables of another version, before its number (profile)
 abbrev pub of_version : List ℕ
 of_version = codes "the tables of the database are of version "
 
--- of a desk that is stopped (profile)
+-- the words for a desk that is stopped (profile)
 abbrev pub stopped : List ℕ
 stopped = codes "the database failed before: run the command again"
 
--- of settings, by the key that is missing or bad (profile)
+-- the words for settings, by the key that is missing or bad (profile)
 abbrev pub setting_words : SettingKey → List ℕ
 setting_words key.Source =
     codes "`source` is missing or bad: it names the registry, as \"TEST\""
@@ -61,13 +62,13 @@ setting_words key.Store =
 abbrev pub refused_words : Error → List ℕ → List ℕ
 refused_words error words = text_or (database_cause error) words
 
--- of making a registry (profile)
+-- the words for a registry that was not made (profile)
 abbrev pub creating_words : CreateFault → List ℕ
 creating_words creating.NotEmpty = not_empty
 creating_words (creating.Store error) = refused_words error no_tables_made
 creating_words creating.Memory = out_of_memory
 
--- of opening a registry (profile)
+-- the words for a registry that was not opened (profile)
 abbrev pub opening_words : OpenFault → List ℕ
 opening_words (opening.WrongVersion version) = of_version
 opening_words opening.BadRow =
@@ -78,7 +79,7 @@ opening_words (opening.Store error) = refused_words error
     ++ codes "`irrdesk init` or `irrdesk load`")
 opening_words opening.Memory = out_of_memory
 
--- of a submission (profile)
+-- the words for a submission that was cut short (profile)
 abbrev pub submission_words : DeskFault → List ℕ
 submission_words (desk.ReadFault items) =
     codes "the submission could not be read to its end, so submit the whole text again: "
@@ -89,14 +90,14 @@ submission_words (desk.StoreFault items) =
 submission_words desk.Memory = out_of_memory
 submission_words desk.Stopped = stopped
 
--- of a dump (profile)
+-- the words for a dump that was cut short (profile)
 abbrev pub dumping_words : DeskDumpFault → List ℕ
 dumping_words dumping.Write = codes "the dump is not whole, so dump again: "
 dumping_words dumping.Memory =
     codes "out of memory, and the dump is not whole: give the program more, and dump again"
 dumping_words dumping.Stopped = stopped
 
--- of a load (profile)
+-- the words for a dump that was not loaded (profile)
 abbrev pub loading_words : DeskLoadFault → List ℕ
 loading_words loading.NotEmpty = not_empty
 loading_words loading.Read =
@@ -111,7 +112,7 @@ loading_words (loading.Unnamed number) = codes "nothing is loaded, because parag
 loading_words (loading.Store error) = refused_words error no_tables_made
 loading_words loading.Memory = out_of_memory
 
--- of a migration (profile)
+-- the words for tables that were not migrated (profile)
 abbrev pub migrating_words : MigrateFault → List ℕ
 migrating_words (migrating.WrongVersion version) = of_version
 migrating_words migrating.BadRow =
@@ -217,8 +218,8 @@ after_migrated version =
     then codes ", and what is migrated is version 1: take a newer irrdesk, which wrote them"
     else codes ", and what is migrated is version 1: no irrdesk wrote them, so correct `store`"
 
--- why a paragraph of a dump is not an object: the code of its refusal, with what an object alone
--- can have (profile)
+-- why a paragraph of a dump is not an object, by the code of its refusal; nothing for other codes
+-- than E02 to E06 (profile)
 abbrev pub reason : Code → List ℕ
 reason E02 = codes " is not an object: E02, its class is unknown: take it out"
 reason E03 = codes " is not an object: E03, its key is bad: mend it"

@@ -1,4 +1,4 @@
--- What commands use, and what they change (profile).
+-- What commands use, and what they change, for the contracts of all commands (profile).
 use Rattle.std.specs.Prelude.{ℕ, List}
 use Rattle.sqlite_trees.specs.declared.store.Store.{Ghosts}
 use Rattle.rr_io.specs.Told.{Told}
@@ -8,29 +8,30 @@ use Rattle.rr_commands.specs.Files.{FileCalls}
 use Rattle.rr_commands.specs.declared.host.Host.{Host}
 
 -- what the calls of a command do with databases, and with the one of a connection (profile)
-pub record Stores (D S : Type 0) : Type 1 where
+pub record StoreCalls (D S : Type 0) : Type 1 where
   pub store : Ghosts S
   pub databases : DatabaseCalls D S
 
--- these
-abbrev pub at : {D S : Type 0} → Ghosts S → DatabaseCalls D S → Stores D S
+-- what calls do with databases and with the one of a connection, as one
+abbrev pub at : {D S : Type 0} → Ghosts S → DatabaseCalls D S → StoreCalls D S
 at store databases = record { store = store; databases = databases }
 
--- the same, and what calls do with files (profile)
+-- what the calls of a command do with databases, with the one of a connection, and with files
+-- (profile)
 pub record Ports (D S : Type 0) : Type 1 where
-  pub stores : Stores D S
+  pub stores : StoreCalls D S
   pub files : FileCalls
 
--- these
+-- what calls do with databases and with files, as one
 abbrev pub ports : {D S : Type 0} → Ghosts S → DatabaseCalls D S → FileCalls → Ports D S
 ports store databases files = record { stores = at store databases; files = files }
 
--- what settings name: those of a registry, and the path of its database (profile)
+-- what a settings file names: the settings of a registry, and the path of its database (profile)
 pub record Named : Type 0 where
   pub settings : SettingsParts
   pub path : List ℕ
 
--- these
+-- what a settings file names, as one
 abbrev pub named : SettingsParts → List ℕ → Named
 named settings path = record { settings = settings; path = path }
 
@@ -54,15 +55,15 @@ deed old new told_old told_new ended = record {
   ended = ended;
 }
 
--- what was done by a host
+-- what was done by a host: to what keeps its databases, and to what it prints to
 abbrev pub done_by : {D W E : Type 0} → (W → Told) → Host D W → Host D W → E → Deed D E
 done_by told old new ended = deed old.databases new.databases (told old.output) (told new.output)
     ended
 
--- the same, of something else that was changed
+-- what was done, seen as done to something else, from one state of that to the next
 abbrev pub within : {X Y E : Type 0} → Y → Y → Deed X E → Deed Y E
 within old new done = deed old new done.before.output done.after.output done.ended
 
--- the same, where it ended so
+-- what was done, with this in place of how it ended
 abbrev pub ended_by : {X E F : Type 0} → F → Deed X E → Deed X F
 ended_by ended done = record { before = done.before; after = done.after; ended = ended }

@@ -96,7 +96,7 @@ pub enum Cause {
 }
 
 impl Cause {
-    /// The cause of an error of the system.
+    /// The cause of an error of the system, by its kind, and else by its number (profile).
     pub fn of(error: &io::Error) -> Cause
         ensures { result ≡ system_cause (error_kind error.now) (raw_os_error error.now) }
     {
@@ -283,7 +283,7 @@ pub enum DatabaseCause {
 }
 
 impl DatabaseCause {
-    /// The cause of an error of the database.
+    /// The cause of an error of the database, by the code of a failure, and else `Unknown`.
     pub fn of(error: sqlite::Error) -> DatabaseCause
         ensures { result ≡ database_cause error }
     {
@@ -293,7 +293,7 @@ impl DatabaseCause {
         }
     }
 
-    /// Why a desk stopped, by the error of its database that it keeps.
+    /// Why a desk stopped, by the error of its database that it keeps; `Unknown` if it keeps none.
     pub fn of_stop(error: Option<sqlite::Error>) -> DatabaseCause
         ensures { result ≡ stop_cause error }
     {
@@ -366,7 +366,7 @@ impl DatabaseCause {
         }
     }
 
-    /// The cause in words if it tells more than these do, and else these.
+    /// The cause in words, but these words for `NoDatabase` and `Unknown`, which tell no more.
     pub fn text_or(self, words: &'static str) -> &'static str
         ensures { result.now ≡ text_or self words.now }
     {

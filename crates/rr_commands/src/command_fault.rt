@@ -2,7 +2,7 @@
 
 ghost use Rattle.std.specs.Prelude.{◌≡◌, ◌++◌, [], IfSome, codes, map, string_bytes};
 ghost use Rattle.rr_io.specs.Sending.{TakesSome, Writes};
-ghost use Rattle.rr_commands.specs.Faults.{IsFaultOf, IsLegible, Shows, byte_on_line};
+ghost use Rattle.rr_commands.specs.Faults.{IsFaultOf, IsLegible, ShowsOnLine, byte_on_line};
 ghost use Rattle.rr_commands.specs.Faults.{fault_about, fault_line, name_on_line, number_text};
 ghost use Rattle.rr_commands.specs.Faults.{place_on_line, trouble_text};
 ghost use Rattle.rr_commands.specs.Troubles.{place_of, trouble_status};
@@ -63,7 +63,8 @@ impl<'a> ProgramFault<'a> {
         }
     }
 
-    /// A fault of a file that a word names, which gave no more for this cause.
+    /// A fault of a file that a word names, with this trouble; `stream` is why reading failed, if
+    /// it is that.
     pub fn of_file(word: &'a str, trouble: Trouble, stream: Cause) -> ProgramFault<'a>
         ensures { result ≡ fault_about (abouts.Word word.entry) trouble stream }
     {
@@ -87,7 +88,7 @@ impl<'a> ProgramFault<'a> {
 
     /// A fault of standard output, which took no more for this cause.
     pub fn of_output(trouble: Trouble, stream: Cause) -> ProgramFault<'a>
-        ensures shows { IsFaultOf trouble (Shows (place_on_line place.Output [] [])) result }
+        ensures shows { IsFaultOf trouble (ShowsOnLine (place_on_line place.Output [] [])) result }
         ensures stream { result.stream ≡ stream }
     {
         ProgramFault {
@@ -98,15 +99,16 @@ impl<'a> ProgramFault<'a> {
     }
 
     /// The fault of a command that reads this file and uses this database, by what its trouble is
-    /// about: `stream` is why reading or printing failed.
+    /// about. `stream` is why reading or printing failed, for a message: no clause says what of it
+    /// is kept.
     pub fn placed(
         trouble: Trouble,
         file: &'a str,
         database: String,
         stream: Cause,
     ) -> ProgramFault<'a>
-        ensures { IsFaultOf trouble
-            (Shows (place_on_line (place_of trouble) file.now (string_bytes database))) result }
+        ensures { IsFaultOf trouble (ShowsOnLine
+            (place_on_line (place_of trouble) file.now (string_bytes database))) result }
     {
         match trouble.end().place {
             Place::Nothing => ProgramFault::unnamed(trouble),
@@ -143,8 +145,8 @@ impl<'a> ProgramFault<'a> {
         }
     }
 
-    /// Says the fault in one line on standard error, and gives the program's status, which a failed
-    /// write does not change.
+    /// Says the fault in one line on standard error, less its end if a write fails, and gives the
+    /// program's status, which a failed write does not change.
     pub fn tell<E: Sink>(self, errors: &mut E) -> u8
         ensures says { TakesSome (E.told errors.old) (E.told errors.new)
             (fault_line self.entry.about self.entry.trouble self.entry.stream) }

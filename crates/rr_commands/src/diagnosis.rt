@@ -55,6 +55,7 @@ pub(crate) fn trouble_with<S: Alter>(
     ensures cause { IsToldUnopened fault result }
     ensures looks { LooksAt S.Store conn.old conn.new }
 {
+    conn.note_idle();
     match (fault, source) {
         (OpenFault::Store(_), _) => {
             if let Some(version) = later_version(conn) {
@@ -93,6 +94,7 @@ fn found_in_old<S: Alter>(
 ) -> Option<Trouble>
     ensures { Finds S.Store (is_of_old version) conn.old conn.new result }
 {
+    conn.note_idle();
     if version != OLD_VERSION {
         return None;
     }
@@ -178,6 +180,7 @@ fn found_in_meta<S: Alter>(
 ) -> Option<Trouble>
     ensures { Finds S.Store (is_of_version version) conn.old conn.new result }
 {
+    conn.note_idle();
     if version == VERSION {
         if are_other_rows(conn.ask(META), Version::Current) {
             push_meta(found);
@@ -300,6 +303,7 @@ fn judge_rows<S: Alter>(
 ) -> Option<Trouble>
     ensures { Finds S.Store (is_of_rows wanted.entry.version) conn.old conn.new result }
 {
+    conn.note_idle();
     if are_mostly_others(alloc, rows, wanted.source, wanted.version) {
         return Some(Trouble::OtherSource);
     }
@@ -339,6 +343,7 @@ fn judge_together<S: Alter>(
 ) -> Option<Trouble>
     ensures { Finds S.Store (is_of_rows wanted.entry.version) conn.old conn.new result }
 {
+    conn.note_idle();
     let Some(objects) = objects_of(alloc, rows, wanted.source, wanted.version) else {
         return None;
     };

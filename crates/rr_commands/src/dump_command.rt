@@ -1,4 +1,4 @@
-//! Dumps, of the registry in a database.
+//! `irrdesk dump`: dumps, of the registry in a database.
 
 ghost use Rattle.std.specs.Prelude.{◌≡◌, false};
 ghost use Rattle.rr_answer.specs.Dumps as dumps;
@@ -20,7 +20,8 @@ use sqlite::Alter;
 use std::alloc::Global;
 
 /// Prints the dump of the registry that the settings name, with all of each object if it is to be
-/// full, and else with their public forms.
+/// full, and else with their public forms. The status is 0. The fault is why there are no settings
+/// or no desk, and then nothing is printed, or how the dump was cut short.
 pub fn dump<'a, D: Databases, F: Files, W: Output>(
     host: &mut Host<'_, D, W>,
     files: &F,

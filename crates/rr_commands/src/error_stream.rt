@@ -6,7 +6,7 @@ use std::io::{IsTerminal, Stderr, Write};
 use std::time::Instant;
 
 /// Standard error, with a clock. It gives no way to standard output or to a file, so what is told
-/// while a command runs goes nowhere else.
+/// while a command runs goes nowhere else. No clause says what is a terminal or what is shown.
 #[derive(Clone, Copy)]
 pub struct ErrorStream<'a> {
     rt: &'a HostRuntime,
@@ -23,7 +23,8 @@ impl<'a> ErrorStream<'a> {
         self.rt.stderr().is_terminal()
     }
 
-    /// Whether standard output is shown on a terminal, which may be the same one.
+    /// Whether standard output is shown on a terminal: it is taken for the same one, although it
+    /// may be another.
     pub fn is_shared(self) -> bool {
         self.rt.stdout().is_terminal()
     }

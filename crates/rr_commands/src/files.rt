@@ -27,7 +27,8 @@ pub trait Files {
             (calls self.now).opens path.now (Ok (Self.File.remaining file))) }
         ensures refused { IfErr result (λ error. (calls self.now).opens path.now (Err error)) };
 
-    /// Whether the file at a path can be read again from its beginning, as one on a disk can.
+    /// Whether the file at a path can be read again from its beginning, as one on a disk can. It is
+    /// for a message, and no clause says which.
     fn is_kept(&self, path: &str) -> bool;
 
     /// Closes a file that was opened at a path, with its failed reads counted.

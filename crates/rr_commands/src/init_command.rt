@@ -1,4 +1,4 @@
-//! The making of registries.
+//! `irrdesk init`: the making of registries.
 
 ghost use Rattle.rr_commands.specs.Commands.{InDatabase};
 ghost use Rattle.rr_commands.specs.Created.{CreatesBy, CreatesIn};
@@ -17,7 +17,9 @@ use rr_store::IdleConnection;
 use sqlite::Alter;
 use std::alloc::Global;
 
-/// Makes the database that the settings name, with the opening objects of a registry, and says so.
+/// Makes the registry that opens with the settings of a file, in the database that they name, and
+/// says so; a missing database is made. The status is 0. The fault is why there are no settings, no
+/// database or no registry, and then nothing is printed; or that the line was not printed whole.
 pub fn init<'a, D: Databases, F: Files, W: Output>(
     host: &mut Host<'_, D, W>,
     files: &F,
@@ -51,8 +53,9 @@ fn init_at<D: Databases, W: Output>(
     }
 }
 
-/// Makes the registry that opens with these settings in a database, and writes that it did. The
-/// connection is given back.
+/// Makes the registry that opens with these settings in a database, writes that it did, and gives
+/// the status 0. The trouble is why none was made, and nothing is written then; or that the line
+/// could not be written whole, and then it is made. The connection is given back (profile).
 pub fn create_to<S: Alter, W: Sink>(
     alloc: Global,
     conn: IdleConnection<S>,

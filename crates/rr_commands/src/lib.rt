@@ -1,5 +1,8 @@
 //! What each command but `serve` and `probe` does, with the files that its arguments name and the
 //! database that its settings name; the databases are in files, or in whatever else keeps them.
+//!
+//! The program calls a command by its name, as [`load`]. The calls below these, as [`load_to`], do
+//! the same over a desk or a connection; outside this crate only benchmarks use them.
 #![tactic(auto)]
 
 mod cause;
@@ -12,6 +15,7 @@ mod host;
 mod init_command;
 mod load_command;
 mod meta_rows;
+mod meter;
 mod migrate_command;
 mod object_rows;
 mod obstacle;

@@ -1,4 +1,4 @@
-//! Loads of dumps, into a new database.
+//! `irrdesk load`: loads of dumps, into a new database.
 
 ghost use Rattle.std.specs.Prelude.{◌≡◌, IfErr, IfOk, length, string_bytes};
 ghost use Rattle.std.specs.FinMap.{values};
@@ -27,7 +27,9 @@ use sqlite::Alter;
 use std::alloc::{AllocError, Global};
 
 /// Makes the registry of a dump in the database that the settings name, which is to be new or
-/// without rows, and says how many objects it has.
+/// without rows. Says how many objects it has, if there is memory to count them. The status is 0.
+/// The fault is why there are no settings, no database, no file or no registry, and then nothing is
+/// printed; or that the line was not printed whole.
 pub fn load<'a, D: Databases, F: Files, W: Output>(
     host: &mut Host<'_, D, W>,
     files: &F,
@@ -112,8 +114,10 @@ fn load_file<S: Alter, F: Files, W: Output>(
     (conn, end)
 }
 
-/// Makes the registry of the dump that a reader gives in a database, and writes how many objects it
-/// has. The connection is given back.
+/// Makes the registry of the dump that a reader gives in a database, and gives the status 0. Writes
+/// how many objects it has, if there is memory to count them, and else that it was loaded. The
+/// trouble is why none was made, and nothing is written then; or that the line could not be written
+/// whole, and then it is made. The connection is given back (profile).
 pub fn load_to<S: Alter, R: Source, W: Sink>(
     alloc: Global,
     conn: IdleConnection<S>,

@@ -1,4 +1,4 @@
-//! The migration of databases of version 1.
+//! `irrdesk migrate`: the migration of databases of version 1.
 
 ghost use Rattle.rr_commands.specs.Commands.{InDatabase};
 ghost use Rattle.rr_commands.specs.Migrated.{IsDiagnosed, MigratesBy, MigratesIn};
@@ -19,7 +19,9 @@ use sqlite::Alter;
 use std::alloc::Global;
 
 /// Turns the tables of version 1, in the database that the settings name, into those of version 2,
-/// and says so.
+/// and says so. The status is 0. The fault is why there are no settings or no database, or why the
+/// tables were not migrated, maybe by a further look at them; nothing is printed then. Or it is
+/// that the line was not printed whole.
 pub fn migrate<'a, D: Databases, F: Files, W: Output>(
     host: &mut Host<'_, D, W>,
     files: &F,
@@ -73,8 +75,9 @@ fn migrate_told<S: Alter, W: Sink>(
     (conn, told)
 }
 
-/// Migrates the tables of version 1 of a database, and writes that it did. The connection is given
-/// back.
+/// Migrates the tables of version 1 of a database, writes that it did, and gives the status 0. The
+/// trouble is why the tables were not migrated, and nothing is written then; or that the line could
+/// not be written whole, and then they are migrated. The connection is given back (profile).
 pub fn migrate_to<S: Alter, W: Sink>(
     alloc: Global,
     conn: IdleConnection<S>,

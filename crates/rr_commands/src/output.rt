@@ -1,4 +1,4 @@
-//! Standard output.
+//! Standard output: what commands print to it, and how a command ends that prints or reads.
 
 ghost use Rattle.std.specs.Prelude.{◌≡◌, ◌++◌, ℕ, IfErr, IfOk, List, string_bytes};
 ghost use Rattle.rr_commands.specs.Commands.{EndsAs};
@@ -19,21 +19,23 @@ pub(crate) const STANDARD_OUTPUT: &str = "standard output";
 
 /// What commands print to, which may show on a terminal how far they are.
 pub trait Output: Sink {
-    /// Shows this from now on.
+    /// Shows this from now on, on a terminal alone: what it tells of its bytes stays.
     fn show(&mut self, shown: Shown)
         ensures told { Self.told self.new ≡ Self.told self.old };
 
-    /// Why the last write that failed did so, or what was kept since.
+    /// Why the last write that failed did so, or what was kept since. It is for a message, and no
+    /// contract says which it is.
     fn cause(&self) -> Cause;
 
-    /// Keeps this as the cause.
+    /// Keeps this as the cause; what it tells of its bytes stays.
     fn keep(&mut self, cause: Cause)
         ensures told { Self.told self.new ≡ Self.told self.old };
 }
 
 /// What commands read.
 pub trait Input: Source {
-    /// Why the last read that failed did so, or that it has no end if none did.
+    /// Why the last read that failed did so, or that it has no end if none did. It is for a
+    /// message, and no contract says which it is.
     fn cause(&self) -> Cause;
 }
 
@@ -80,8 +82,8 @@ pub(crate) fn tell<W: Sink>(writer: &mut W, text: &[u8]) -> Result<u8, Trouble>
 }
 
 /// How a command ended that read this file and used the database at this path, with what its
-/// trouble is about: of the database its path, as a line shows it, and then what was found in it,
-/// which is text that a line shows.
+/// trouble is about. Of the database that is its path, as a line shows it, and then what was found
+/// in it, which is text that a line shows. Without memory it is the path as it is.
 pub fn ended<'a, D, W: Output>(
     host: &Host<'_, D, W>,
     end: Result<u8, Trouble>,

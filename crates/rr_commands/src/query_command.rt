@@ -1,4 +1,4 @@
-//! Queries, of the registry in a database.
+//! `irrdesk query`: queries, of the registry in a database.
 
 ghost use Rattle.std.specs.Prelude.{◌≡◌, false};
 ghost use Rattle.rr_commands.specs.Asked.{AsksBy, HasAsked, error_status};
@@ -21,7 +21,8 @@ use std::alloc::Global;
 const ERROR: u8 = 1;
 
 /// Asks the registry that the settings name, and prints the answer: the status is 0, or 1 if the
-/// answer is an error.
+/// answer is an error. The fault is why there are no settings or no desk, and then nothing is
+/// printed, or that the answer could not be printed whole.
 pub fn query<'a, D: Databases, F: Files, W: Output>(
     host: &mut Host<'_, D, W>,
     files: &F,
@@ -55,7 +56,8 @@ fn query_at<D: Databases, W: Output>(
     end
 }
 
-/// Asks a desk, and writes the answer: the status is 0, or 1 if the answer is an error.
+/// Asks a desk that runs, and writes the answer: the status is 0, or 1 if the answer is an error.
+/// The trouble is that the answer could not be written whole. The desk keeps its rows.
 pub fn answer_to<S: Alter, W: Sink>(
     alloc: Global,
     desk: &Desk<S>,

@@ -14,7 +14,7 @@ pub struct Readable<R> {
 }
 
 impl<R: Read> Readable<R> {
-    /// The reader, of which no read failed so far.
+    /// The reader, with its failed reads counted.
     pub fn new(reader: R) -> Readable<R>
         ensures { counted_inner result.counted ≡ reader }
     {

@@ -1,4 +1,5 @@
-//! Where the databases of registries are, and the desks that they open.
+//! Where the databases of registries are, by their paths, and the desks that commands open over
+//! them.
 
 ghost use Rattle.std.specs.Prelude.{◌≡◌, IfErr, IfOk, Ok, false};
 ghost use Rattle.sqlite.specs.Held.{Held};
@@ -57,7 +58,8 @@ pub trait Databases {
     // What its calls do that open and close databases.
     ghost calls: { DatabaseCalls Self Self.Disk };
 
-    /// Opens the database at a path. The error is why it cannot be opened or made.
+    /// Opens the database at a path; `absent` says what is done if there is none. The error is why
+    /// it cannot be opened or made.
     fn open(
         &mut self,
         path: &str,
@@ -65,7 +67,8 @@ pub trait Databases {
     ) -> Result<IdleConnection<Self::Disk>, DatabaseCause>
         ensures { calls.opens path.now absent result self.old self.new };
 
-    /// How many bytes the database at a path has, or 0 if that is not available.
+    /// How many bytes the database at a path has, or 0 if that is not available. It is for a line
+    /// on a terminal as a large one is opened, and no clause says which it is.
     fn size(&self, path: &str) -> u64;
 
     /// Closes the database of this connection, if there is one. Call the function `close` of this
@@ -125,8 +128,8 @@ impl Databases for DatabaseFiles<'_> {
     }
 }
 
-/// Closes a database. What the commits left in its log goes into its file; if that fails it stays
-/// in the log, from which the next opening takes it.
+/// Closes the database of a connection. Of one in a file, no clause speaks of its log: what the
+/// commits left there goes into the file or, if that fails, stays for the next opening.
 pub fn close<D: Databases>(databases: &mut D, conn: IdleConnection<D::Disk>)
     ensures { D.calls.closes conn databases.old databases.new }
 {
@@ -337,8 +340,11 @@ fn make_file(rt: &HostRuntime, path: &str) -> Result<(), DatabaseCause> {
     }
 }
 
-/// Opens the desk of the registry in a database. While a large one is opened, a line on a terminal
-/// says so. If the database is refused, what is at fault is found, for the message.
+/// Opens the desk of the registry in the database at a path; if there is none, none is made. The
+/// trouble is why there is no desk: no database was given, or the registry of these settings was
+/// not opened in it. A look at the database may then say why, which commits nothing, and it is
+/// closed. `found` is for the message, as a line on a terminal is while a large one is opened, and
+/// no clause speaks of these.
 pub fn open_desk<D: Databases>(
     tools: Tools<'_>,
     databases: &mut D,

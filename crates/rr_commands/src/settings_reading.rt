@@ -1,10 +1,10 @@
-//! Settings files.
+//! Settings files: read within a bound, and told why one gives no settings.
 
 ghost use Rattle.std.specs.Prelude.{◌≡◌, ◌≤◌, [], IfErr, IfOk};
 ghost use Rattle.std.specs.Prelude.{Ok, OnOk, length, string_bytes};
 ghost use Rattle.rr_commands.specs.Commands.{GivesNoSettings, HasSettings, IsNotRead};
 ghost use Rattle.rr_commands.specs.Commands.{ReadsFile, unread_trouble};
-ghost use Rattle.rr_commands.specs.Faults.{Shows, place_on_line};
+ghost use Rattle.rr_commands.specs.Faults.{ShowsOnLine, place_on_line};
 ghost use Rattle.rr_commands.specs.SettingsFiles.{AreNoSettings, IsToldOf, settings_of_text};
 ghost use Rattle.rr_commands.specs.Worlds.{named};
 ghost use Rattle.rr_commands.specs.declared.trouble.Place.TheVariants as place;
@@ -25,8 +25,8 @@ use std::io::{ErrorKind, Read};
 /// The most bytes of a settings file (profile).
 const MOST_BYTES: u64 = 1_048_576;
 
-/// The settings in a file, and the path of the database. The fault is about the file (status 3), or
-/// that memory ran out (status 5).
+/// The settings in a file, and the path of the database, in which nothing is found yet. The fault
+/// names the file: it gives no settings (status 3), or memory ran out (status 5).
 pub fn read_settings_file<'a, F: Files>(
     alloc: Global,
     files: &F,
@@ -37,7 +37,7 @@ pub fn read_settings_file<'a, F: Files>(
     ensures unfound { IfOk result (λ read. string_bytes read.1.found ≡ []) }
     ensures fails { IfErr result (λ fault.
         GivesNoSettings (F.calls files.now) file.now fault.trouble) }
-    ensures about { IfErr result (Shows (place_on_line place.File file.now [])) }
+    ensures about { IfErr result (ShowsOnLine (place_on_line place.File file.now [])) }
 {
     match read_at(alloc, files, file) {
         Ok((settings, path)) => Ok((

@@ -24,7 +24,8 @@ fn push_name(line: &mut String, text: &[u8]) -> Result<(), AllocError> {
     push_shown(line, text, MOST_OF_NAME)
 }
 
-/// The name of a file, or an argument, as a line shows it.
+/// The name of a file, or an argument, as a line shows it: as it is, if it needs no escape. Of
+/// others no clause speaks. The error is that memory ran out.
 pub fn shown_name(alloc: Global, text: &str) -> Result<String, AllocError>
     ensures { IfOk result (λ line. IsShownAs text.now (string_bytes line)) }
 {

@@ -1,4 +1,5 @@
-//! Submissions, of standard input to a registry in memory, or of a file to one in a database.
+//! `irrdesk submit`: submissions, of a file to the registry in a database; and `irrdesk` without
+//! arguments: of standard input to one in memory.
 
 ghost use Rattle.std.specs.Prelude.{◌≡◌, IfErr, IfOk, false};
 ghost use Rattle.sqlite.specs.Steps.{over_memory};
@@ -29,7 +30,8 @@ use std::alloc::Global;
 const REFUSED: u8 = 1;
 
 /// Submits `input` to a registry in memory, which opens with the built-in settings, and prints the
-/// report: the status is 0, or 1 if an item was refused.
+/// report: the status is 0, or 1 if an item was refused. The fault is that memory ran out, or how
+/// the submission was cut short; it names standard input, standard output or nothing.
 pub fn plain<'a, R: Input, W: Output>(
     alloc: Global,
     input: &mut R,
@@ -71,7 +73,8 @@ fn plain_trouble(trouble: Trouble) -> Trouble
 }
 
 /// Submits a file to the registry that the settings name, and prints the report: the status is 0,
-/// or 1 if an item was refused.
+/// or 1 if an item was refused. The fault is why there are no settings, no desk or no file, and
+/// then nothing is printed, or how the submission was cut short.
 pub fn submit<'a, D: Databases, F: Files, W: Output>(
     host: &mut Host<'_, D, W>,
     files: &F,
@@ -128,9 +131,9 @@ fn submit_file<S: Alter, F: Files, W: Output>(
     end
 }
 
-/// Submits `input` to a new desk over a database in memory, and prints the report: the status is 0,
-/// or 1 if an item was refused; the fault is why there is no desk, or how the submission was cut
-/// short.
+/// Submits `input` to a new desk with the built-in settings over a database in memory, and prints
+/// the report. The status is 0, or 1 if an item was refused. The fault is why there is no desk, and
+/// then nothing is read or printed, or how the submission was cut short.
 pub fn submit_plain<R: Source, W: Sink>(
     alloc: Global,
     input: &mut R,
@@ -176,8 +179,8 @@ fn plain_desk<S: Alter + Drop>(alloc: Global, conn: IdleConnection<S>) -> Result
     }
 }
 
-/// Submits what the reader gives to a desk that runs, and writes the report: the status is 0, or 1
-/// if an item was refused; the fault is how the submission was cut short.
+/// Submits what the reader gives to a desk that runs, and writes the report. The status is 0, or 1
+/// if an item was refused. The fault is how the submission was cut short.
 pub fn submit_to<S: Alter, R: Source, W: Sink>(
     alloc: Global,
     desk: &mut Desk<S>,

@@ -232,7 +232,8 @@ impl Trouble {
         }
     }
 
-    /// The cause in words, or nothing: `cause` is the one that the system gave.
+    /// The cause in words, or nothing: why the database failed in a submission or while it was
+    /// served, and else `cause`, which the system gave.
     pub fn cause_words(self, cause: Option<Cause>) -> &'static str
         ensures { result.now ≡ cause_words self cause }
     {

@@ -9,21 +9,21 @@ use Rattle.std.specs.FinMap.Entries.{where_key}
 use Rattle.std.specs.Ordering.{eq_by_cmp}
 use Rattle.rr_number.specs.Spans.{Ends, covers, size, span_cmp}
 
--- The entry of s stands at an index: there it is found, changed and taken out.
+-- The entry of a span s stands at an index of a list: there it is found, changed and taken out.
 pub record StandsAt {T : Type 0} (es : List (Ends × T)) (s : Ends) (at : ℕ) : Type 0 where
   pub within : at < length es
   pub found : find span_cmp s es ≡ option_map (λ e. e.1) (slice_get es at)
   pub changed : (value : T) → put span_cmp s value es ≡ slice_set es at (s, value)
   pub left : where_key span_cmp (λ t. not (eq_by_cmp span_cmp s t)) es ≡ remove es at
 
--- No entry of s stands in the list, and one would come to an index.
+-- A list has no entry of a span s, and a new one would come to an index.
 pub record BelongsAt {T : Type 0} (es : List (Ends × T)) (s : Ends) (at : ℕ) : Type 0 where
   pub within : at ≤ length es
   pub missing : find span_cmp s es ≡ None
   pub placed : (value : T) → put span_cmp s value es ≡ insert es at (s, value)
 
--- The nearer of two entries to s: the new one, where it covers s and no smaller one was found
--- before.
+-- The nearer of two entries to a span s: the new one, if it covers s and is smaller than the one
+-- found so far, if any; or else that one.
 abbrev pub nearer : {T : Type 0} → Ends → Option (Ends × T) → Ends × T
     → Option (Ends × T)
 nearer s None e = if covers e.0 s then Some e else None

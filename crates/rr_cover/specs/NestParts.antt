@@ -1,31 +1,38 @@
--- What the parts of a search tree of spans answer and leave. No public contract cites these.
+-- What the private functions of a nest answer and leave. No public contract cites these.
 use Rattle.std.specs.Prelude.{◌≡◌, ℕ, ◌+◌, ◌<◌, ◌≤◌, min, max, Bool, true}
-use Rattle.std.specs.Prelude.{false, ◌&&◌, nat_lt, nat_le, Some, None, Result, is_some}
+use Rattle.std.specs.Prelude.{false, ◌&&◌, nat_lt, nat_le, List, Some, None, Result, is_some}
 use Rattle.std.specs.Prelude.{IfErr, OnOk, OnErr}
+use Rattle.std.specs.List.{list_any}
 use Rattle.std.specs.Option.{option_or}
-use Rattle.rr_number.specs.Spans.{Ends, IsSpan, crosses}
+use Rattle.std.specs.Ordering.{eq_by_cmp}
+use Rattle.rr_number.specs.Spans.{Ends, IsSpan, crosses, span_cmp}
 use Rattle.rr_cover.specs.SpanNests.{is_ahead, at_span, standing, Fits, IsNest, HoldsAll}
 use Rattle.rr_cover.specs.SpanNests.{HoldsWith, HoldsWithout}
 use Rattle.rr_cover.specs.declared.span_nest.bounds.Bounds.{Bounds}
 use Rattle.rr_cover.specs.declared.span_nest.Nest.{Nest}
 use Rattle.rr_cover.specs.declared.span_nest.Nest.TheVariants.{Empty, Fork'}
 
+-- A list of spans has the span u.
+abbrev pub lists_span : List Ends → Ends → Bool
+lists_span spans u = list_any (eq_by_cmp span_cmp u) spans
+
 -- How many nodes a tree has.
 abbrev pub count : {T : Type 0} → Nest T → ℕ
 count Empty = 0
 count (Fork' p span value height bounds before after) = count before + count after + 1
 
--- A node's bounds that let in a last number of the side before.
+-- The bounds of a node, widened so that its side before may have a last number.
 abbrev pub with_before : Bounds → ℕ → Bounds
 with_before bounds last =
     record bounds { least = min bounds.least last; before = max bounds.before last }
 
--- A node's bounds that let in a last number of the side after.
+-- The bounds of a node, widened so that its side after may have a last number.
 abbrev pub with_after : Bounds → ℕ → Bounds
 with_after bounds last =
     record bounds { least = min bounds.least last; after = max bounds.after last }
 
--- The last span in order of those that begin below a number and reach another one, with its value.
+-- The last span in a tree's order of those that begin below a number and reach another one, with
+-- its value.
 pub record IsLastReaching {T : Type 0} (nest : Nest T) (below to : ℕ) (t : Ends)
     (value : T) : Type 0 where
   pub held : standing nest t ≡ Some value
@@ -35,7 +42,7 @@ pub record IsLastReaching {T : Type 0} (nest : Nest T) (below to : ℕ) (t : End
       (u : Ends) → is_some (standing nest u) ≡ true → u.first < below → to ≤ u.last
       → is_ahead t u ≡ false
 
--- No span that begins below a number reaches another one.
+-- No span of a tree that begins below a number reaches another one.
 pub record NoneReaches {T : Type 0} (nest : Nest T) (below to : ℕ) : Type 0 where
   pub none : (u : Ends) → is_some (standing nest u) ≡ true → u.first < below → u.last < to
 
@@ -47,17 +54,18 @@ ends_in t s = nat_lt t.first s.first && (nat_le s.first t.last && nat_lt t.last 
 abbrev pub begins_in : Ends → Ends → Bool
 begins_in t s = nat_lt s.first t.first && (nat_le t.first s.last && nat_lt s.last t.last)
 
--- Some span held crosses a span.
+-- Some span of a tree crosses a span.
 pub record SomeCrosses {T : Type 0} (nest : Nest T) (s : Ends) : Type 0 where
   pub span : Ends
   pub held : is_some (standing nest span) ≡ true
   pub crossing : crosses span s ≡ true
 
--- No span held crosses a span.
+-- No span of a tree crosses a span.
 pub record NoneCrosses {T : Type 0} (nest : Nest T) (s : Ends) : Type 0 where
   pub none : (t : Ends) → is_some (standing nest t) ≡ true → crosses t s ≡ false
 
--- A tree taken apart at its root.
+-- A tree in order is taken apart at its root: it holds a value at a span that fits between two
+-- trees in order, and what these hold; each of them has fewer nodes.
 pub record IsTakenApart {T : Type 0} (nest : Nest T) (span : Ends) (value : T)
     (before after : Nest T) : Type 0 where
   pub fits : Fits span before after
@@ -92,7 +100,7 @@ pub record HoldsSame {T : Type 0} (old new : Nest T) : Type 0 where
   pub all : (s : Ends) → standing new s ≡ standing old s
   pub nest : IsNest new
 
--- A tree in order holds nothing at a span.
+-- A tree in order holds nothing at a span, whose first number is not above its last.
 pub record Lacks {T : Type 0} (old : Nest T) (span : Ends) : Type 0 where
   pub order : IsNest old
   pub ends : IsSpan span
@@ -110,7 +118,7 @@ pub record Loses {T : Type 0} (old : Nest T) (span : Ends) (new : Nest T) : Type
   pub nest : IsNest new
 
 -- The value is put at the span; or nothing changes, and the value comes back. The tree is in order.
-pub record Puts {T X : Type 0} (old : Nest T) (span : Ends) (value : T) (new : Nest T)
+pub record PutsInNest {T X : Type 0} (old : Nest T) (span : Ends) (value : T) (new : Nest T)
     (result : Result X T) : Type 0 where
   pub all : OnOk result (HoldsWith old span value new)
   pub err : OnErr result (new ≡ old)

@@ -43,7 +43,7 @@ abbrev pub lies_on : PrefixParts → Bool → Ends → Bool
 lies_on p false s = in_lower p s
 lies_on p true s = in_upper p s
 
--- The prefix at the root of a tree lies in a half of a prefix.
+-- The prefix at the root of a tree lies in a half of a prefix, unless the tree is empty.
 abbrev pub IsRootedOn : {T : Type 0} → PrefixParts → Bool → Tree T → Type 0
 IsRootedOn p side Empty = Unit {0}
 IsRootedOn p side (Fork' a prefix value lower upper) = lies_on p side (span_of prefix) ≡ true
@@ -55,7 +55,7 @@ pub record IsFork {T : Type 0} (prefix : PrefixParts) (lower upper : Tree T) : T
   pub low : IsRootedOn prefix false lower
   pub high : IsRootedOn prefix true upper
 
--- Each node of a tree has its sides in the halves of its prefix.
+-- A tree is in order: each of its nodes has its sides in the halves of its prefix.
 abbrev pub IsTree : {T : Type 0} → Tree T → Type 0
 IsTree Empty = Unit {0}
 IsTree (Fork' p prefix value lower upper) =

@@ -1,29 +1,32 @@
--- What follows for maps of spans of which no two cross.
+-- What follows from the definitions of maps of spans.
 use Rattle.std.specs.Prelude.{◌≡◌, true, ◌↔◌, Contains}
 use Rattle.std.specs.FinMap.{contains_key}
 use Rattle.std.specs.List.Sorted.{IsStrictlySortedBy}
 use Rattle.rr_number.specs.Spans.{Ends, IsSpan, covers, span_cmp}
 use Rattle.rr_cover.specs.SpanMaps.{SpanMap, NoneCross, IsClosest, covering, inside}
 
--- No two spans are closest to one span.
+-- If no two spans of a map cross, at most one of them is closest to a span.
 abbrev pub ClosestIsOne : Type 0 → Type 0
 ClosestIsOne T =
     (m : SpanMap T) (s t u : Ends) (v w : T) → NoneCross m → IsSpan s
     → IsClosest m s t v → IsClosest m s u w → (t ≡ u) × (v ≡ w)
 
--- A span is in the list of covers exactly where it is held and covers.
+-- The list of the spans of a map that cover s has a span exactly if the map has it and it covers
+-- s.
 abbrev pub CoveringIsWhole : Type 0 → Type 0
 CoveringIsWhole T =
     (m : SpanMap T) (s t : Ends)
     → Contains (covering m s) t ↔ ((contains_key m t ≡ true) × (covers t s ≡ true))
 
--- A span is in the list of the inner ones exactly where it is held and lies inside.
+-- The list of the spans of a map inside s has a span exactly if the map has it and it lies inside
+-- s.
 abbrev pub InsideIsWhole : Type 0 → Type 0
 InsideIsWhole T =
     (m : SpanMap T) (s t : Ends)
     → Contains (inside m s) t ↔ ((contains_key m t ≡ true) × (covers s t ≡ true))
 
--- Both lists rise.
+-- The spans of a map that cover a span, and those inside it, are listed in ascending order, each
+-- once.
 pub record ListsRise (T : Type 0) : Type 0 where
   pub covering_rise : (m : SpanMap T) (s : Ends) → IsStrictlySortedBy span_cmp (covering m s)
   pub inside_rise : (m : SpanMap T) (s : Ends) → IsStrictlySortedBy span_cmp (inside m s)

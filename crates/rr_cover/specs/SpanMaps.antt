@@ -42,7 +42,7 @@ covering m s = filter (λ t. covers t s) (keys m)
 abbrev pub inside : {T : Type 0} → SpanMap T → Ends → List Ends
 inside m s = filter (λ t. covers s t) (keys m)
 
--- The value is put at the span, and what stood there comes back; or nothing changes.
+-- The value is put at the span, and what stood there comes back; or nothing changes (profile).
 pub record Inserts {T E : Type 0} (old : SpanMap T) (s : Ends) (value : T) (new : SpanMap T)
     (result : Result (Option T) E) : Type 0 where
   pub stood : IfOk result (λ before. before ≡ get old s)
@@ -57,7 +57,7 @@ pub record InsertsApart {T : Type 0} (old : SpanMap T) (s : Ends) (value : T) (n
   pub overlap : (result ≡ Err (Overlap value)) ↔ (crosses_some old s ≡ true)
   pub back : IfErr result (λ fault. value_of fault ≡ value)
 
--- What stood at the span is taken out of the map, and comes back.
+-- What stood at the span is taken out of the map, and comes back (profile).
 pub record Removes {T : Type 0} (old : SpanMap T) (s : Ends) (new : SpanMap T)
     (result : Option T) : Type 0 where
   pub value : result ≡ get old s

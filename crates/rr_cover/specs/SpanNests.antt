@@ -26,11 +26,11 @@ entries_of (Fork' p span value height bounds before after) =
 abbrev pub nested : {T : Type 0} → Nest T → SpanMap T
 nested nest = from_entries (entries_of nest)
 
--- A value at its own span.
+-- What a single span with a value holds at a span s: the value, if both are one.
 abbrev pub at_span : {T : Type 0} → Ends → T → Ends → Option T
 at_span span value s = if eq_by_cmp span_cmp s span then Some value else None
 
--- The value that stands at a span.
+-- The value that a tree holds at a span.
 abbrev pub standing : {T : Type 0} → Nest T → Ends → Option T
 standing Empty s = None
 standing (Fork' p span value height bounds before after) s =
@@ -53,19 +53,19 @@ abbrev pub HoldsWithout : {T : Type 0} → Nest T → Ends → Nest T → Type 0
 HoldsWithout old span new =
     (s : Ends) → standing new s ≡ (if eq_by_cmp span_cmp s span then None else standing old s)
 
--- Each span held passes a test.
+-- Each span of a tree passes a test.
 pub record Only {T : Type 0} (p : Ends → Bool) (nest : Nest T) : Type 0 where
   pub each : (s : Ends) → is_some (standing nest s) ≡ true → p s ≡ true
 
--- A span fits between two sides: those of the low one stand ahead of it, and it stands ahead of
--- those of the high one.
+-- A span, whose first number is not above its last, fits between two sides: the spans of the low
+-- one stand ahead of it, and it stands ahead of those of the high one.
 pub record Fits {T : Type 0} (span : Ends) (low high : Nest T) : Type 0 where
   pub ordered : IsSpan span
   pub ahead : Only (λ s. is_ahead s span) low
   pub after : Only (λ s. is_ahead span s) high
 
--- What a node knows of last numbers: none from it on is below the least one, none of its own and of
--- the side before is above one greatest number, and none of the side after above another.
+-- Bounds on the last numbers of a node's span and two sides: none is below the least one, none of
+-- the span and the side before is above a second, and none of the side after above a third.
 pub record IsBound {T : Type 0} (bounds : Bounds) (span : Ends)
     (before after : Nest T) : Type 0 where
   pub least_own : bounds.least ≤ span.last
@@ -75,7 +75,8 @@ pub record IsBound {T : Type 0} (bounds : Bounds) (span : Ends)
   pub before_low : Only (λ s. nat_le s.last bounds.before) before
   pub after_high : Only (λ s. nat_le s.last bounds.after) after
 
--- The spans of a tree stand in order, and each node knows bounds of the last numbers from it on.
+-- A tree is in order: so are its spans, and each node keeps bounds on the last numbers from it
+-- down.
 abbrev pub IsNest : {T : Type 0} → Nest T → Type 0
 IsNest Empty = Unit {0}
 IsNest (Fork' p span value height bounds before after) =

@@ -1,4 +1,5 @@
--- What the parts of a tree of prefixes answer and leave. No public contract cites these.
+-- What the private functions of a tree of prefixes answer and leave. No public contract cites
+-- these.
 use Rattle.std.specs.Prelude.{◌≡◌, ℕ, ◌-◌, ◌≤◌, Bool, true, false, not, ◌&&◌}
 use Rattle.std.specs.Prelude.{◌||◌, if◌then◌else◌, List, Option, None, Some, Result, is_some}
 use Rattle.std.specs.Prelude.{IfErr, OnOk, OnErr}
@@ -11,11 +12,11 @@ use Rattle.rr_cover.specs.PrefixTrees.{in_upper, lies_on, IsRootedOn, IsTree}
 use Rattle.rr_cover.specs.declared.prefix_tree.Tree.{Tree}
 use Rattle.rr_cover.specs.declared.prefix_tree.Tree.TheVariants.{Empty, Fork'}
 
--- A node's value at the span of its prefix.
+-- What a node itself holds at a span: its value, if it has one, at the span of its prefix.
 abbrev pub own : {T : Type 0} → PrefixParts → Option T → Ends → Option T
 own prefix value s = if eq_by_cmp span_cmp s (span_of prefix) then value else None
 
--- The value that stands at a span.
+-- The value that a tree holds at a span.
 abbrev pub standing : {T : Type 0} → Tree T → Ends → Option T
 standing Empty s = None
 standing (Fork' p prefix value lower upper) s =
@@ -54,12 +55,13 @@ pub record IsParting (p a b : PrefixParts) : Type 0 where
   pub one : lies_on p side (span_of a) ≡ true
   pub other : lies_on p (not side) (span_of b) ≡ true
 
--- The root lies in each half of a prefix in which it lay.
+-- The root of the new tree lies in each half of a prefix in which that of the old one lay.
 abbrev pub StaysRooted : {T : Type 0} → Tree T → Tree T → Type 0
 StaysRooted old new =
     (p : PrefixParts) (side : Bool) → IsRootedOn p side old → IsRootedOn p side new
 
--- The root lies in each half of a prefix in which it and a span lay.
+-- The root of the new tree lies in each half of a prefix in which that of the old one and a span
+-- lay.
 abbrev pub StaysRootedWith : {T : Type 0} → Ends → Tree T → Tree T → Type 0
 StaysRootedWith s old new = (p : PrefixParts) (side : Bool) → IsMasked p
     → lies_on p side s ≡ true → IsRootedOn p side old → IsRootedOn p side new
@@ -69,11 +71,11 @@ abbrev pub is_empty : {T : Type 0} → Tree T → Bool
 is_empty Empty = true
 is_empty (Fork' p prefix value lower upper) = false
 
--- A node has no value, and a prefix on one side at most.
+-- A node has no value, and prefixes on one side at most.
 abbrev pub is_idle : {T : Type 0} → Option T → Tree T → Tree T → Bool
 is_idle value lower upper = not (is_some value) && (is_empty lower || is_empty upper)
 
--- The side that is not empty, if one is empty.
+-- The lower side of a node, unless it is empty; then the upper one.
 abbrev pub only_side : {T : Type 0} → Tree T → Tree T → Tree T
 only_side Empty upper = upper
 only_side (Fork' p prefix value lower upper) other = Fork' p prefix value lower upper
@@ -83,7 +85,7 @@ abbrev pub root_of : {T : Type 0} → Tree T → Option PrefixParts
 root_of Empty = None
 root_of (Fork' p prefix value lower upper) = Some prefix
 
--- A span is that of a prefix of a list.
+-- A list of prefixes has one with the span u.
 abbrev pub is_listed : List PrefixParts → Ends → Bool
 is_listed prefixes u = list_any (λ p. eq_by_cmp span_cmp u (span_of p)) prefixes
 
@@ -98,14 +100,15 @@ abbrev pub HoldsWithout : {T : Type 0} → Tree T → Ends → Tree T → Type 0
 HoldsWithout old span new =
     (s : Ends) → standing new s ≡ (if eq_by_cmp span_cmp s span then None else standing old s)
 
--- A value can be put into a tree at a prefix: the tree is in order, and the prefix is one.
+-- A value can be put into a tree at a prefix: the tree is in order, and the prefix has at most 32
+-- bits, with only zeros after them.
 pub record CanPut {T : Type 0} (old : Tree T) (prefix : PrefixParts) : Type 0 where
   pub order : IsTree old
   pub masked : IsMasked prefix
 
--- A tree with a root can get a prefix that the root does not cover: the tree is in order, and the
--- prefix is one.
-pub record CanGrow {T : Type 0} (old : Tree T) (at prefix : PrefixParts) : Type 0 where
+-- A tree can get a new branch, if its root does not cover the branch's prefix: the tree is in
+-- order, its root is at `at`, and the prefix has at most 32 bits, with only zeros after them.
+pub record CanBranch {T : Type 0} (old : Tree T) (at prefix : PrefixParts) : Type 0 where
   pub tree : IsTree old
   pub root : root_of old ≡ Some at
   pub masked : IsMasked prefix
@@ -119,7 +122,7 @@ pub record Grows {T : Type 0} (old : Tree T) (span : Ends) (value : T) (at : Pre
   pub root : root_of new ≡ Some at
 
 -- The value is put at the span; or nothing changes, and the value comes back. The tree is in order.
-pub record Puts {T X : Type 0} (old : Tree T) (span : Ends) (value : T) (new : Tree T)
+pub record PutsInTree {T X : Type 0} (old : Tree T) (span : Ends) (value : T) (new : Tree T)
     (result : Result X T) : Type 0 where
   pub all : OnOk result (HoldsWith old span value new)
   pub err : OnErr result (new ≡ old)
@@ -128,7 +131,8 @@ pub record Puts {T X : Type 0} (old : Tree T) (span : Ends) (value : T) (new : T
 
 -- What stood at the span is taken out, and comes back. The tree is in order, and its root lies in
 -- each half of a prefix in which it lay.
-pub record Takes {T : Type 0} (old : Tree T) (span : Ends) (new : Tree T) (result : Option T)
+pub record TakesFromTree {T : Type 0} (old : Tree T) (span : Ends) (new : Tree T)
+    (result : Option T)
     : Type 0 where
   pub value : result ≡ standing old span
   pub all : HoldsWithout old span new

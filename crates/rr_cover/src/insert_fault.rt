@@ -1,4 +1,4 @@
-//! Why a value was not inserted.
+//! Why the list, the nest or the tree did not insert a value.
 
 ghost use Rattle.std.specs.Prelude.{◌≡◌};
 

@@ -4,12 +4,13 @@
 ghost use Rattle.rr_cover.specs.SpanMapLaws.{ClosestIsOne, CoveringIsWhole, InsideIsWhole};
 ghost use Rattle.rr_cover.specs.SpanMapLaws.{ListsRise};
 
-/// Where no two spans held cross, at most one is closest to a span.
+/// Where no two spans held cross, at most one is closest to a span (RFC 2725, 9).
 pub fn closest_is_one<T>()
     ensures { ClosestIsOne T }
 {}
 
-/// The lists of covering and of inner spans are whole, in order, and without repeats.
+/// The lists of covering and of inner spans are whole, in order of first, then last number, and
+/// without repeats (profile).
 pub fn lists_are_whole<T>()
     ensures covering { CoveringIsWhole T }
     ensures inside { InsideIsWhole T }

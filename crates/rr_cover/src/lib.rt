@@ -1,7 +1,8 @@
-//! Values kept by span, and the spans that cover a span or lie inside it.
+//! Values kept by span: which span held is closest to a span, and which cover it or lie inside it.
+//! `rr_index` and `rr_registry` keep inetnums and as-blocks in nests; `rr_index` keeps the prefixes
+//! of routes in a tree. The list answers the same in the simplest way: tests compare both with it.
 #![tactic(auto)]
 
-mod in_order;
 mod insert_fault;
 pub mod laws;
 mod prefix_tree;

@@ -1,4 +1,4 @@
-//! Prefixes in a binary tree.
+//! Prefixes in a binary tree: those of routes.
 
 ghost use Rattle.std.specs.Prelude.{◌≡◌, ◌≤◌, map, IfOk, IfErr, MatchOption};
 ghost use Rattle.std.specs.Option.{option_copied};
@@ -25,8 +25,8 @@ use std::marker::Model;
 
 /// Values kept by prefix: a binary tree in which each prefix has those of its lower half on one
 /// side and those of its upper half on the other. It has a node for each prefix held and for each
-/// at which two of them part, and at most 33 levels. The bits of an address are the way down, so
-/// it needs no balancing, and a prefix of any length is found in as many steps as it has bits.
+/// at which two of them part. The bits of an address are the way down, and each level is at least
+/// one bit longer: so it has at most 33 levels, and needs no balancing.
 #[derive(Drop)]
 pub struct PrefixTree<T> {
     root: Tree<T>,
@@ -79,15 +79,15 @@ impl<T> PrefixTree<T> {
         }
     }
 
-    /// The value that stands at the prefix.
+    /// The value that stands at the prefix, if it is held.
     pub fn get(&self, prefix: Prefix) -> Option<&T>
         ensures { option_copied result ≡ span_map.get self.now (span_of prefix) }
     {
         find(&self.root, prefix)
     }
 
-    /// The longest prefix held that covers the prefix, with its value; an equal one counts
-    /// (RFC 2725, 9).
+    /// The longest prefix held that covers the prefix, with its value, if any covers it. An equal
+    /// one counts (RFC 2725, 9).
     pub fn closest(&self, prefix: Prefix) -> Option<(Prefix, &T)>
         ensures { MatchOption result (NoneCovers self.now (span_of prefix))
             (λ p. IsClosest self.now (span_of prefix) (span_of p.0) p.1.now) }
@@ -95,7 +95,8 @@ impl<T> PrefixTree<T> {
         smallest_cover(&self.root, prefix)
     }
 
-    /// The prefixes held that cover the span, in order of first, then last address.
+    /// The prefixes held that cover the span, in order of first, then last address (profile),
+    /// unless memory runs out.
     pub fn covering(&self, alloc: Global, span: Span) -> Result<Vec<Prefix>, AllocError>
         ensures { IfOk result (λ prefixes. map span_of prefixes.items ≡ covering self.now span) }
     {
@@ -105,7 +106,8 @@ impl<T> PrefixTree<T> {
         Ok(prefixes)
     }
 
-    /// The prefixes held that lie inside the span, in order of first, then last address.
+    /// The prefixes held that lie inside the span, in order of first, then last address (profile),
+    /// unless memory runs out.
     pub fn inside(&self, alloc: Global, span: Span) -> Result<Vec<Prefix>, AllocError>
         ensures { IfOk result (λ prefixes. map span_of prefixes.items ≡ inside self.now span) }
     {
@@ -115,7 +117,7 @@ impl<T> PrefixTree<T> {
         Ok(prefixes)
     }
 
-    /// How many levels the tree has: no call goes down more.
+    /// How many levels the tree has, at most 33: prefixes have so many lengths.
     pub fn levels(&self) -> u32
         ensures { result ≤ 33 }
     {
@@ -124,13 +126,13 @@ impl<T> PrefixTree<T> {
 }
 
 impl<T: Drop> PrefixTree<T> {
-    /// Puts the value at the prefix, and gives back the value that stood there. If memory runs out,
-    /// nothing changes and the value comes back.
+    /// Puts the value at the prefix, and gives back the value that stood there (profile). If memory
+    /// runs out, nothing changes, and the value comes back with the fault.
     pub fn insert(&mut self, prefix: Prefix, value: T) -> Result<Option<T>, InsertFault<T>>
         ensures inserts { Inserts self.old (span_of prefix) value self.new result }
         ensures back { IfErr result (λ fault. fault ≡ Memory value) }
     {
-        // its length is one of a prefix
+        // the contract of `length` says that the prefix has only zeros after its bits
         let _length = prefix.length();
         let alloc = self.alloc;
         match set(&mut self.root, alloc, prefix, value) {
@@ -139,7 +141,8 @@ impl<T: Drop> PrefixTree<T> {
         }
     }
 
-    /// Takes the value out that stands at the prefix. The prefixes inside it stay.
+    /// Takes the prefix out, and gives back the value that stood there, if it was held. The
+    /// prefixes inside it stay (profile).
     pub fn remove(&mut self, prefix: Prefix) -> Option<T>
         ensures { Removes self.old (span_of prefix) self.new result }
     {

@@ -1,4 +1,5 @@
-//! A list of spans in order.
+//! A list of spans in order: the simplest of the three collections, with which tests compare the
+//! nest and the tree.
 
 ghost use Rattle.std.specs.Prelude.{◌≡◌, fold, None, filter, map, IsTrue};
 ghost use Rattle.std.specs.Prelude.{IfOk, IfErr, MatchOption};
@@ -49,7 +50,7 @@ impl<T> SpanList<T> {
         }
     }
 
-    /// The value that stands at the span.
+    /// The value that stands at the span, if it is held.
     pub fn get(&self, span: Span) -> Option<&T>
         ensures { option_copied result ≡ span_map.get self.now span }
     {
@@ -59,16 +60,16 @@ impl<T> SpanList<T> {
         }
     }
 
-    /// Whether the span crosses one that is held.
+    /// Whether the span crosses one that is held (profile).
     pub fn crosses(&self, span: Span) -> bool
         ensures { result ≡ crosses_some self.now span }
     {
         crosses_any(&self.entries, span)
     }
 
-    /// Puts the value at the span, and gives back the value that stood there. A span that crosses
-    /// one that is held is refused, and so is any where memory is; then nothing changes and the
-    /// value comes back.
+    /// Puts the value at the span, and gives back the value that stood there (profile). The span
+    /// is refused if it crosses one that is held, or if memory runs out. Then nothing changes, and
+    /// the value comes back with the fault.
     pub fn insert(&mut self, span: Span, value: T) -> Result<Option<T>, InsertFault<T>>
         ensures { InsertsApart self.old span value self.new result }
     {
@@ -90,7 +91,7 @@ impl<T> SpanList<T> {
         }
     }
 
-    /// Takes the value out that stands at the span.
+    /// Takes the span out, and gives back the value that stood there, if it was held (profile).
     pub fn remove(&mut self, span: Span) -> Option<T>
         ensures { Removes self.old span self.new result }
     {
@@ -103,8 +104,8 @@ impl<T> SpanList<T> {
         }
     }
 
-    /// The smallest span held that covers the span, with its value; an equal one counts
-    /// (RFC 2725, 9). Each entry is looked at once.
+    /// The smallest span held that covers the span, with its value, if any covers it. An equal one
+    /// counts (RFC 2725, 9). Each entry is looked at once.
     pub fn closest(&self, span: Span) -> Option<(Span, &T)>
         ensures { MatchOption result (NoneCovers self.now span)
             (λ p. IsClosest self.now span p.0 p.1.now) }
@@ -115,14 +116,16 @@ impl<T> SpanList<T> {
         }
     }
 
-    /// The spans held that cover the span, in order of first, then last number.
+    /// The spans held that cover the span, in order of first, then last number (profile), unless
+    /// memory runs out.
     pub fn covering(&self, alloc: Global, span: Span) -> Result<Vec<Span>, AllocError>
         ensures { IfOk result (λ spans. spans.items ≡ covering self.now span) }
     {
         spans_covering(alloc, &self.entries, span)
     }
 
-    /// The spans held that lie inside the span, in order of first, then last number.
+    /// The spans held that lie inside the span, in order of first, then last number (profile),
+    /// unless memory runs out.
     pub fn inside(&self, alloc: Global, span: Span) -> Result<Vec<Span>, AllocError>
         ensures { IfOk result (λ spans. spans.items ≡ inside self.now span) }
     {
@@ -130,7 +133,7 @@ impl<T> SpanList<T> {
     }
 }
 
-/// Where the entry of the span stands, or where it would come.
+/// The index at which the entry of the span stands, or else the one to which it would come.
 fn place<T>(entries: &[(Span, T)], span: Span) -> Result<usize, usize>
     requires { IsTrue (is_sorted span_cmp entries.now) }
     ensures found { IfOk result (λ at. StandsAt entries.now span at) }
@@ -146,7 +149,7 @@ fn crosses_any<T>(entries: &[(Span, T)], span: Span) -> bool
     entries.iter().any(|entry| entry.0.crosses(span))
 }
 
-/// The smallest entry that covers the span.
+/// The first of the smallest entries that cover the span.
 fn smallest_cover<T>(entries: &[(Span, T)], span: Span) -> Option<&(Span, T)>
     ensures { option_copied result ≡ fold (nearer span) None entries.now }
 {
@@ -157,7 +160,7 @@ fn smallest_cover<T>(entries: &[(Span, T)], span: Span) -> Option<&(Span, T)>
     smallest
 }
 
-/// The entry, where it covers the span and is smaller than the one found so far.
+/// The entry, if it covers the span and is smaller than the one found so far; or else that one.
 fn nearer<'a, T>(
     span: Span,
     found: Option<&'a (Span, T)>,
@@ -178,6 +181,7 @@ fn nearer<'a, T>(
     }
 }
 
+/// The spans of the entries that cover the span, in their order.
 fn spans_covering<T>(
     alloc: Global,
     entries: &[(Span, T)],
@@ -193,6 +197,7 @@ fn spans_covering<T>(
         .collect(alloc)
 }
 
+/// The spans of the entries that lie inside the span, in their order.
 fn spans_inside<T>(
     alloc: Global,
     entries: &[(Span, T)],

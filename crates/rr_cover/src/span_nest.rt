@@ -1,4 +1,4 @@
-//! Spans that nest or lie apart, in a balanced search tree.
+//! Spans that nest or lie apart, in a balanced search tree: inetnums and as-blocks.
 
 ghost use Rattle.std.specs.Prelude.{◌≡◌, false, IfOk, IfErr, MatchOption};
 ghost use Rattle.std.specs.Option.{option_copied};
@@ -12,11 +12,10 @@ mod changes;
 mod lists;
 mod reading;
 
-use crate::in_order::put_in_order;
 use crate::insert_fault::InsertFault;
 use bounds::Bounds;
 use changes::{set, take};
-use lists::{push_covering, push_inside};
+use lists::{push_covering, push_inside, put_in_order};
 use reading::{crosses_any, find, levels, smallest_cover};
 use rr_number::Span;
 use std::alloc::{AllocError, AllocFailed, Global};
@@ -26,8 +25,7 @@ use std::marker::Model;
 /// order of first number ascending, then last number descending. Each node knows the least last
 /// number below it and the greatest of each side, so that a search passes by the sides in which no
 /// span reaches far enough. A tree with each span below those that cover it would be a chain where
-/// they lie side by side. Each call goes down some of the levels, at most 28 for a million spans,
-/// however they nest.
+/// they lie side by side. This one has at most 28 levels for a million spans, however they nest.
 #[derive(Drop)]
 pub struct SpanNest<T> {
     root: Nest<T>,
@@ -48,7 +46,7 @@ enum Nest<T> {
 struct Node<T> {
     span: Span,
     value: T,
-    /// How many levels the tree has from here on.
+    /// How many levels the tree has from this node down.
     height: u8,
     bounds: Bounds,
     before: Nest<T>,
@@ -82,22 +80,22 @@ impl<T> SpanNest<T> {
         }
     }
 
-    /// The value that stands at the span.
+    /// The value that stands at the span, if it is held.
     pub fn get(&self, span: Span) -> Option<&T>
         ensures { option_copied result ≡ span_map.get self.now span }
     {
         find(&self.root, span)
     }
 
-    /// Whether the span crosses one that is held.
+    /// Whether the span crosses one that is held (profile).
     pub fn crosses(&self, span: Span) -> bool
         ensures { result ≡ crosses_some self.now span }
     {
         crosses_any(&self.root, span)
     }
 
-    /// The smallest span held that covers the span, whose last number is not below its first, with
-    /// its value; an equal one counts (RFC 2725, 9).
+    /// The smallest span held that covers the span, with its value, if any covers it. An equal one
+    /// counts (RFC 2725, 9). The last number of the span is not below its first.
     pub fn closest(&self, span: Span) -> Option<(Span, &T)>
         ensures closest { MatchOption result (NoneCovers self.now span)
             (λ p. IsClosest self.now span p.0 p.1.now) }
@@ -106,7 +104,8 @@ impl<T> SpanNest<T> {
         smallest_cover(&self.root, span)
     }
 
-    /// The spans held that cover the span, in order of first, then last number.
+    /// The spans held that cover the span, in order of first, then last number (profile), unless
+    /// memory runs out.
     pub fn covering(&self, alloc: Global, span: Span) -> Result<Vec<Span>, AllocError>
         ensures { IfOk result (λ spans. spans.items ≡ covering self.now span) }
     {
@@ -116,7 +115,8 @@ impl<T> SpanNest<T> {
         Ok(spans)
     }
 
-    /// The spans held that lie inside the span, in order of first, then last number.
+    /// The spans held that lie inside the span, in order of first, then last number (profile),
+    /// unless memory runs out.
     pub fn inside(&self, alloc: Global, span: Span) -> Result<Vec<Span>, AllocError>
         ensures { IfOk result (λ spans. spans.items ≡ inside self.now span) }
     {
@@ -126,17 +126,17 @@ impl<T> SpanNest<T> {
         Ok(spans)
     }
 
-    /// How many levels the tree has: no call goes down more. The sides of each node differ by one
-    /// level at most, so a million spans have at most 28.
+    /// How many levels the tree has, at most 28 for a million spans: the sides of each node differ
+    /// by one level at most. Tests check this for up to 1,000 spans; no contract says it.
     pub fn levels(&self) -> u32 {
         levels(&self.root)
     }
 }
 
 impl<T: Drop> SpanNest<T> {
-    /// Puts the value at the span, and gives back the value that stood there. A span that crosses
-    /// one that is held is refused, and so is any where memory is; then nothing changes and the
-    /// value comes back.
+    /// Puts the value at the span, and gives back the value that stood there (profile). The span
+    /// is refused if it crosses one that is held, or if memory runs out. Then nothing changes, and
+    /// the value comes back with the fault.
     pub fn insert(&mut self, span: Span, value: T) -> Result<Option<T>, InsertFault<T>>
         ensures { InsertsApart self.old span value self.new result }
     {
@@ -149,9 +149,9 @@ impl<T: Drop> SpanNest<T> {
         }
     }
 
-    /// Puts the value at the span, which crosses none that is held, and gives back the value that
-    /// stood there: `insert` for a caller that knows of no crossing, which it does not look for.
-    /// The error is that memory ran out; nothing changes, and it gives the value back.
+    /// Puts the value at the span, and gives back the value that stood there (profile). The span
+    /// must cross none that is held: unlike [`SpanNest::insert`], this does not look. If memory
+    /// runs out, nothing changes, and the value comes back with the fault.
     pub fn insert_uncrossed(&mut self, span: Span, value: T) -> Result<Option<T>, AllocFailed<T>>
         requires { crosses_some self.old span ≡ false }
         ensures inserts { Inserts self.old span value self.new result }
@@ -164,7 +164,8 @@ impl<T: Drop> SpanNest<T> {
         }
     }
 
-    /// Takes the value out that stands at the span. The spans inside it stay.
+    /// Takes the span out, and gives back the value that stood there, if it was held. The spans
+    /// inside it stay (profile).
     pub fn remove(&mut self, span: Span) -> Option<T>
         ensures { Removes self.old span self.new result }
     {

@@ -24,7 +24,7 @@ use Rattle.rr_auth.specs.declared.verdict.Verdict.{Verdict}
 use Rattle.rr_auth.specs.declared.verdict.Verdict.TheVariants.{Add, Change, Delete, Refuse}
 use Rattle.rr_auth.specs.declared.verdict.Verdict.TheVariants as verdicts
 use Rattle.rr_auth.specs.Registries.{Reg}
-use Rattle.rr_auth.specs.Verdicts.{after, change, is_met_by, submission, verdict}
+use Rattle.rr_auth.specs.Verdicts.{after, change, fits_item, submission, verdict}
 use Rattle.rr_object.proofs.KeyLaws.{keys_total, tied_key}
 use Rattle.rr_auth.proofs.Steps.{verdicts_are_met}
 use Rattle.rr_registry.specs.ConfinementLaws.{LeavesOthers}
@@ -41,7 +41,7 @@ use Rattle.rr_store.specs.Calls.{IsSettled, Transacts, WhileOpen, database}
 use Rattle.rr_desk.specs.Stops.{LeavesStopped, changes}
 use Rattle.rr_desk.specs.Rows.{Holds}
 use Rattle.rr_desk.specs.Stocks.{DatabaseLasts}
-use Rattle.rr_desk.specs.Private.{Follows, FollowsIn, Gains, LeadsTo, LeavesRest, puts_one}
+use Rattle.rr_desk.specs.Private.{Follows, FollowsIn, GainsObject, LeadsTo, LeavesRest, puts_one}
 
 -- a change is never an addition
 beyond : (b : Bool) (c : Code) (v : Verdict) → (if b then Refuse c else v) ≡ Add → v ≡ Add
@@ -69,7 +69,7 @@ absent_if_added r secrets o added =
     ] added
 
 -- a verdict that an item can meet leads where its outcome says
-effect_leads : (before : Reg) (item : Item) (judged : Verdict) → is_met_by item judged ≡ true →
+effect_leads : (before : Reg) (item : Item) (judged : Verdict) → fits_item item judged ≡ true →
     ((o : Obj) → item ≡ Submit o → judged ≡ Add → get before o.key ≡ None)
     → LeadsTo before (key_about item) (outcome_of judged) (after judged before item)
 effect_leads before (Submit o) Add met absent =
@@ -104,7 +104,8 @@ leads_at before secrets item key outcome later is_key step =
     later step)
 
 -- an object that was put in stands under its key
-stands_there : (key : Key) (before after : Reg) (gain : Gains before key after) → get after key
+stands_there : (key : Key) (before after : Reg) (gain : GainsObject before key after) →
+    get after key
     ≡ Some gain.object
 stands_there key before after gain =
     ap (λ r. get r key) gain.is ∙ (get-insert keys_total before key gain.object key
@@ -128,7 +129,7 @@ some_there None there = there
 
 -- the object that stands under the key of one that was put in is that one
 the_gained : (key : Key) (before after : Reg) (object : Obj) → get after key ≡ Some object →
-    (gain : Gains before key after) → object ≡ gain.object
+    (gain : GainsObject before key after) → object ≡ gain.object
 the_gained key before after object found gain =
     let there : get after key ≡ Some gain.object = stands_there key before after gain in
     cc
@@ -173,6 +174,7 @@ module _ {S X E : Type 0} (g : Ghosts S) (P Q : Database → Database → Type 0
   -- one change of the rows is another
   pub writes_as : Transacts g P old new result → Transacts g Q old new result
   writes_as writes = record {
+    autocommit = writes.autocommit;
     opened = writes.opened;
     done = λ clean. then_ok result (writes.done clean) (f (database g new));
     is_open = writes.is_open;

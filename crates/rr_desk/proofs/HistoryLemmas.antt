@@ -78,7 +78,7 @@ module _ {S : Type 0} (g : Ghosts S) where
   clean_before : (p q : Place S) (e : Event) → Happens g p e q →
       HasCleanDisk (state g (connection q)) → HasCleanDisk (state g (connection p))
   clean_before p q e (submission old new ro rn wo wn result is) clean =
-      omega (arith, clean, is.lasts.survives.clean)
+      omega (arith, clean, is.leaves.lasts.survives.clean)
   clean_before p q e (query desk text answer gives) clean = clean
   clean_before p q e (printing desk full on) clean = clean
   clean_before p q e (closing desk conn same) clean =
@@ -234,7 +234,7 @@ module _ {S : Type 0} (g : Ghosts S) where
         IsSubmission g old new ro rn wo wn result → Stands g (at_desk old) mode
         → Goes mode (submitted ro rn wo wn result) (at_desk new)
     after_submission ro rn wo wn result (running by r) is s =
-        let settings : new.settings ≡ by = is.settings ∙ s.settings in
+        let settings : new.settings ≡ by = is.leaves.settings ∙ s.settings in
         let it : Submits (stock_ledger g) old.stored new.stored by.source
         (sides ro rn wo wn old.stored.registry new.stored.registry) result =
         subst (λ (x : SettingsParts). Submits (stock_ledger g) old.stored new.stored x.source
@@ -245,15 +245,15 @@ module _ {S : Type 0} (g : Ghosts S) where
         (subst (IsRegistryOf by.source) (sym s.registry) s.of_source) in
         let of_new : IsRegistryOf by.source new.stored.registry =
         subst (λ (x : SettingsParts). IsRegistryOf x.source new.stored.registry) settings
-        (is.of_source of_old) in
+        (is.leaves.of_source of_old) in
         goes_as by old.stored.registry r (submitted ro rn wo wn result) (at_desk new) s.registry
-        (goes_on by old new ro rn wo wn result it (is.runs_on s.running) settings
+        (goes_on by old new ro rn wo wn result it (is.leaves.runs_on s.running) settings
         (λ on. record {
           running = on;
           settings = settings;
           registry = refl;
           of_source = of_new;
-          keeps = keeps_of new.stored (is.rows on);
+          keeps = keeps_of new.stored (is.leaves.rows on);
         }))
     after_submission ro rn wo wn result (resting found) is s = absurd s
     after_submission ro rn wo wn result (halted by found) is s =

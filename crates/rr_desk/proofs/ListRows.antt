@@ -1,5 +1,5 @@
 -- The rows of a list of objects are those of the registry that the list is.
-use Rattle.std.proofs.Common.{◌≡◌, inl, ℕ, List, [], ◌∷◌, map, Bor, refl, sym, subst, ◌∙◌}
+use Rattle.std.proofs.Common.{◌≡◌, false, inl, ℕ, List, [], ◌∷◌, map, Bor, refl, sym, subst, ◌∙◌}
 use Rattle.std.proofs.Common.{arith}
 use Rattle.std.specs.Prelude.{Some}
 use Rattle.std.specs.List.{AllByRecursion}
@@ -92,9 +92,10 @@ module _ {S : Type 0} (g : Ghosts S) where
       (made.0, trees_of (λ db. made_as (database g conn) db (f db)) trees made.1)) one
 
   -- a connection that was not touched is given back as it was
-  pub untouched_back : (commits : Trees → Type 0) (conn : Held S) →
+  pub untouched_back : (commits : Trees → Type 0) (conn : Held S) → conn.in_transaction ≡ false →
       GivesBack g commits conn conn
-  untouched_back commits conn = record {
+  untouched_back commits conn autocommit = record {
+    autocommit = autocommit;
     was_open = λ clean on.
         on;
     kept = λ clean on. refl;
@@ -115,6 +116,7 @@ module _ {S : Type 0} (g : Ghosts S) where
   pub none_as : {P Q : Database → Type 0} (conn left : Held S) → ((db : Database) → P db → Q db) →
       MakesNone g P conn left → MakesNone g Q conn left
   none_as conn left f none = record {
+    autocommit = none.autocommit;
     was_open = none.was_open;
     kept = none.kept;
     crash = left_as conn left f none.crash;

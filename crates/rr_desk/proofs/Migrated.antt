@@ -306,6 +306,7 @@ module _ {S : Type 0} (g : Ghosts S) (s : SettingsParts) (first between : Held S
   none_then : (left : Held S) → GivesBack g (CommitsMigrated g s between) between left →
       GivesBack g (CommitsMigrated g s first) first left
   none_then left none = record {
+    autocommit = none.autocommit;
     was_open = λ clean on. was_open (let kept = none.crash.clean in omega (arith, kept));
     kept = λ clean on. none.kept clean on ∙ as_was (let kept = none.crash.clean in
         omega (arith, kept));

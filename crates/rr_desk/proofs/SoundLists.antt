@@ -14,11 +14,11 @@ use Rattle.sqlite_trees.proofs.ListLemmas.{all_both, all_of, all_weaker}
 use Rattle.rr_object.specs.declared.key.Key.{Key}
 use Rattle.rr_object.specs.KeyOrders.{key_cmp}
 use Rattle.rr_object.specs.Objects.{Obj, names_of}
-use Rattle.rr_auth.specs.Registries.{Reg, Sound, keys_cross, some_is_unknown}
+use Rattle.rr_auth.specs.Registries.{Reg, Sound, keys_cross, some_is_unknown, is_crossed_by_some}
 use Rattle.rr_object.proofs.KeyLaws.{keys_total, same_key, tied_key}
 use Rattle.rr_registry.specs.declared.load.LoadFault.{LoadFault}
 use Rattle.rr_registry.specs.declared.load.LoadFault.TheVariants.{Duplicate, Overlap, Unnamed}
-use Rattle.rr_registry.specs.Loading.{clash, clash_of, gathered, is_crossed_by_some, is_key_of_some}
+use Rattle.rr_registry.specs.Loading.{clash, clash_of, gathered, is_key_of_some}
 use Rattle.rr_registry.specs.Loading.{load_fault, unnamed}
 use Rattle.rr_store.specs.Maps.{AreApart}
 

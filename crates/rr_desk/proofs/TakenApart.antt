@@ -12,11 +12,11 @@ use Rattle.sqlite_trees.proofs.ListLemmas.{all_weaker}
 use Rattle.rr_object.specs.declared.key.Key.{Key}
 use Rattle.rr_object.specs.KeyOrders.{key_cmp}
 use Rattle.rr_object.specs.Objects.{Obj}
-use Rattle.rr_auth.specs.Registries.{Reg}
+use Rattle.rr_auth.specs.Registries.{Reg, is_crossed_by_some}
 use Rattle.rr_object.proofs.KeyLaws.{tied_key}
 use Rattle.rr_registry.specs.declared.load.LoadFault.{LoadFault}
 use Rattle.rr_registry.specs.declared.load.LoadFault.TheVariants.{Duplicate, Overlap}
-use Rattle.rr_registry.specs.Loading.{IsTaken, clash, clash_of, gathered, is_crossed_by_some}
+use Rattle.rr_registry.specs.Loading.{IsTaken, clash, clash_of, gathered}
 use Rattle.rr_registry.specs.Loading.{is_key_of_some, unnamed}
 use Rattle.rr_store.specs.Maps.{AreApart}
 

@@ -1,4 +1,4 @@
--- What a desk answers to queries.
+-- What a desk answers to queries: for `Desk::answer` and the laws of it.
 use Rattle.std.specs.Prelude.{◌≡◌, ◌⊎◌, ℕ, Bool, true, false, List, Result, Ok, Err, IfOk}
 use Rattle.rr_io.specs.Sending.{Writes}
 use Rattle.rr_io.specs.Told.{Told}
@@ -29,8 +29,8 @@ abbrev pub IsRunningAnswer : Reg → ℕ → List ℕ → Result (List ℕ) Quer
 IsRunningAnswer registry limit text answer =
     IsAnswerTo registry limit text answer ⊎ (answer ≡ Err Memory)
 
--- the answer, by whether the query is too long, which comes first, and whether the desk is stopped;
--- otherwise what a desk that runs answers (profile)
+-- the answer to a query, by whether its text is too long and whether the desk is stopped:
+-- `TooLong`, which comes first; `Stopped`; or what a desk that runs answers (profile)
 abbrev pub IsAnswerWhere : Bool → Bool → Reg → ℕ → List ℕ → Result (List ℕ) QueryFault
     → Type 0
 IsAnswerWhere true stopped registry limit text answer = answer ≡ Err TooLong
@@ -43,7 +43,8 @@ abbrev pub IsAnswered : Reg → ℕ → List ℕ → Bool → Result (List ℕ) 
 IsAnswered registry limit text stopped answer =
     IsAnswerWhere (is_too_long text) stopped registry limit text answer
 
--- one such answer was written (profile)
+-- the answer of a desk to the text of a query was written, or a part of it where a write failed,
+-- and the number of its error is told (profile)
 pub record Answers (registry : Reg) (limit : ℕ) (text : List ℕ) (stopped : Bool)
     (old new : Told) (result : Result Answered WriteFault) : Type 0 where
   pub answer : Result (List ℕ) QueryFault

@@ -1,11 +1,12 @@
--- What submissions and queries do to a desk (profile).
-use Rattle.std.specs.Prelude.{ℕ, List, Result}
+-- What submissions and queries do to a desk (profile): for `Desk::submit`, `Desk::answer` and what
+-- serves a desk.
+use Rattle.std.specs.Prelude.{◌≡◌, ℕ, false, List, Result}
 use Rattle.sqlite_trees.specs.declared.store.Store.{Ghosts}
 use Rattle.sqlite.specs.Held.{state}
 use Rattle.sqlite.specs.State.{State}
 use Rattle.rr_io.specs.Told.{Told}
 use Rattle.rr_auth.specs.Sources.{IsRegistryOf}
-use Rattle.rr_submission.specs.Submissions.{SubmitsText}
+use Rattle.rr_submission.specs.Submissions.{SubmitsText, UnlessStoreFault}
 use Rattle.rr_submission.specs.declared.submission.DeskFault.{DeskFault}
 use Rattle.rr_submission.specs.declared.submission.Done.{Done}
 use Rattle.rr_answer.specs.declared.query_fault.QueryFault.{QueryFault}
@@ -13,7 +14,7 @@ use Rattle.rr_desk.specs.declared.desk_answering.Answered.{Answered}
 use Rattle.rr_desk.specs.declared.desk_answering.WriteFault.{WriteFault}
 use Rattle.rr_desk.specs.declared.desk.Desk.{Desk}
 use Rattle.rr_desk.specs.Answering.{Answers, IsAnswered}
-use Rattle.rr_desk.specs.Stocks.{stock_ledger}
+use Rattle.rr_desk.specs.Stocks.{DatabaseLasts, StoresUntilStopped, stock_ledger}
 
 -- what is told of the database of a desk
 abbrev pub desk_state : {S : Type 0} → Ghosts S → Desk S → State
@@ -31,12 +32,24 @@ SubmitsTo g old new reader_old reader_new writer_old writer_new result =
     SubmitsText (stock_ledger g) old.stored new.stored old.settings.source reader_old reader_new
     writer_old writer_new result
 
+-- what a submission leaves of a desk: only a fault of the store stops it; until it is stopped, its
+-- rows are those of its registry, which stays one of its source; what is to last of its database
+-- lasts, and its settings stay (profile)
+pub record LeavesDesk {S : Type 0} (g : Ghosts S) (old new : Desk S)
+    (result : Result Done DeskFault) : Type 0 where
+  pub runs_on : old.stored.stopped ≡ false
+      → UnlessStoreFault result (new.stored.stopped ≡ false)
+  pub rows : StoresUntilStopped g new.stored
+  pub of_source : IsOfItsSource old → IsOfItsSource new
+  pub lasts : DatabaseLasts (desk_state g old) (desk_state g new)
+  pub settings : new.settings ≡ old.settings
+
 -- the answer of a desk to the text of a query
 abbrev pub GivesAnswer : {S : Type 0} → Desk S → List ℕ → Result (List ℕ) QueryFault → Type 0
 GivesAnswer desk text answer =
     IsAnswered desk.stored.registry desk.settings.limit text desk.stored.stopped answer
 
--- one such answer is written
+-- the answer of a desk to the text of a query is written, or a part of it where a write failed
 abbrev pub WritesAnswer : {S : Type 0} → Desk S → List ℕ → Told → Told
     → Result Answered WriteFault → Type 0
 WritesAnswer desk text old new result =

@@ -1,4 +1,4 @@
--- What is true of dumps that are read again.
+-- What is true of dumps that are read again: for `src/dump_laws.rt`.
 use Rattle.std.specs.Prelude.{◌≡◌, ℕ, ◌≤◌, true, List, Ok, Some, length}
 use Rattle.std.specs.FinMap.{get, values}
 use Rattle.rr_text.specs.CanonicalText.{canonical}
@@ -20,7 +20,7 @@ pub record IsDumpable (source : List ℕ) (registry : Reg) : Type 0 where
       → length (canonical o.paragraph) ≤ size_limit
 
 -- the full dump of such a registry reads as its objects, in their order, and these are taken as
--- that registry (profile)
+-- that registry and as no other (profile)
 pub record IsReadAgain (source : List ℕ) (registry : Reg) : Type 0 where
   pub objects : dump_objects source (dump true registry) ≡ Ok (values registry)
   pub same : IsDumpOf source (dump true registry) registry

@@ -1,4 +1,4 @@
--- What the reading of a dump comes to (profile).
+-- What the reading of a dump comes to (profile): for `read_dump` and `Desk::load`.
 use Rattle.std.specs.Prelude.{◌≡◌, ◌⊎◌, ℕ, List, Result, Ok, Err, MatchResult}
 use Rattle.rr_io.specs.Told.{Told}
 use Rattle.rr_io.specs.Receiving.{Reads}
@@ -28,8 +28,8 @@ pub record EndsSo (start now : Told) (ended : ReadEnd) : Type 0 where
   pub text : List ℕ
   pub reads : Reads start now text ended
 
--- why a dump was not read: the reading did not end, or it ended and an entry has a fault; where
--- memory ran out, the dump was read to its end, or nothing of it was (profile)
+-- why a dump was not read: a read failed, there was no end, or this is the first of its faults.
+-- Where memory ran out, it was read to its end, or nothing of it was (profile)
 abbrev pub FailsToRead : List ℕ → Told → Told → DumpReadFault → Type 0
 FailsToRead source start now Read = EndsSo start now end.Broken
 FailsToRead source start now Endless = EndsSo start now end.Endless

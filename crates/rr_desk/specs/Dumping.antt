@@ -1,4 +1,4 @@
--- What a dump of a desk writes.
+-- What a dump of a desk writes: for `Desk::dump` and the registrars of `rr_http`.
 use Rattle.std.specs.Prelude.{◌≡◌, ℕ, List, Result, Ok, Err}
 use Rattle.rr_io.specs.Sending.{Takes, TakesPrefix}
 use Rattle.rr_io.specs.Told.{Told}
@@ -8,7 +8,7 @@ use Rattle.rr_answer.specs.Dumps.{TakesPart}
 use Rattle.rr_desk.specs.declared.desk_dumping.DeskDumpFault.{DeskDumpFault}
 use Rattle.rr_desk.specs.declared.desk_dumping.DeskDumpFault.TheVariants.{Write, Memory, Stopped}
 
--- why a dump of a registry was cut short is why that of a desk was (profile)
+-- why a dump of a desk was cut short, by why that of its registry was (profile)
 abbrev pub fault_of_cut : Cut → DeskDumpFault
 fault_of_cut cut.Write = Write
 fault_of_cut cut.Memory = Memory

@@ -1,5 +1,5 @@
 -- The objects of a dump: the entries of a text, each an object of one source, or the first that is
--- none (profile).
+-- none (profile). Readings and loads of dumps use them.
 use Rattle.std.specs.Prelude.{◌≡◌, ℕ, ◌+◌, List, [], ◌∷◌, Result, Ok, Err}
 use Rattle.rr_text.specs.Entries.{entries}
 use Rattle.rr_text.specs.ParagraphReaders.{Entry}

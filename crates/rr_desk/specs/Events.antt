@@ -1,4 +1,5 @@
--- What is done to one database by desks over it, and by the stops between them (profile).
+-- What is done to one database by desks over it, and by the stops between them (profile): for
+-- histories.
 use Rattle.std.specs.Prelude.{ℕ, Bool, List, Result}
 use Rattle.rr_io.specs.Told.{Told}
 use Rattle.rr_auth.specs.Registries.{Reg}

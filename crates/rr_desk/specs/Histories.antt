@@ -22,9 +22,9 @@ use Rattle.rr_store.specs.declared.store_fault.MigrateFault.{MigrateFault}
 use Rattle.rr_store.specs.declared.store_fault.OpenFault.{OpenFault}
 use Rattle.rr_submission.specs.declared.submission.DeskFault.{DeskFault}
 use Rattle.rr_submission.specs.declared.submission.Done.{Done}
-use Rattle.rr_submission.specs.Submissions.{RefusesSubmission, UnlessStoreFault}
+use Rattle.rr_submission.specs.Submissions.{RefusesSubmission}
 use Rattle.rr_desk.specs.declared.desk.Desk.{Desk}
-use Rattle.rr_desk.specs.Desks.{GivesAnswer, IsOfItsSource, SubmitsTo, desk_state}
+use Rattle.rr_desk.specs.Desks.{GivesAnswer, LeavesDesk, SubmitsTo, desk_state}
 use Rattle.rr_desk.specs.Events.{Event, IsMadeBy, Making, asked, closed, dumped, made, migrated}
 use Rattle.rr_desk.specs.Events.{of_dump, of_settings, opened, stopped, submitted, unmade}
 use Rattle.rr_desk.specs.Events.{unmigrated, unopened}
@@ -36,18 +36,18 @@ use Rattle.rr_desk.specs.Opened.{FailsToOpenTables, HasOpeningRows, IsRunning, M
 use Rattle.rr_desk.specs.Opened.{MakesTables, OpensTables}
 use Rattle.rr_desk.specs.Rows.{KeepsRows}
 use Rattle.rr_desk.specs.Settings.{SettingsParts}
-use Rattle.rr_desk.specs.Stocks.{DatabaseLasts, StoresUntilStopped}
 
 -- where a database is between two calls: at a desk, or at a connection that no desk has
 pub data Place (S : Type 0) : Type 0 where
   at_desk : Desk S → Place S
   at_rest : Held S → Place S
 
+-- the connection to a database, at a desk or at rest
 abbrev pub connection : {S : Type 0} → Place S → Held S
 connection (at_desk desk) = desk.stored.store
 connection (at_rest conn) = conn
 
--- the rows of what is made so
+-- tables hold the rows of the registry that is made so
 abbrev pub rows_by : Making → Database → Type 0
 rows_by (of_settings by) = HasOpeningRows by
 rows_by (of_dump source start now) = HasLoadedRows source start now
@@ -57,17 +57,18 @@ rows_by (of_dump source start now) = HasLoadedRows source start now
 abbrev pub ListsTables : Database → Type 0
 ListsTables db = (version : List ℕ) → HasVersion version db → HasTables db.schema
 
--- trees with the rows of a registry that is what may be found
+-- trees have the rows of a registry that is what may be found
 abbrev pub HaveFound : Found → Trees → Type 0
 HaveFound found trees = (r : Reg) × IsFound found r × TreesOf (HasRows r) trees
 
--- trees that no registry has, nor objects in tables of version 1
+-- trees are the rows of no registry, nor of objects in tables of version 1
 pub record AreOfNone (trees : Trees) : Type 0 where
   pub none : (r : Reg) → TreesOf (HasRows r) trees → ⊥
   pub no_old : (source : List ℕ) (objects : List Obj)
       → TreesOf (AreOldStored source objects) trees → ⊥
 
--- trees in which that may be found
+-- trees in which this may be found: no registry, that one, one that was made so, tables of version
+-- 1, or what these are migrated to
 abbrev pub AreOf : Found → Trees → Type 0
 AreOf no_registry trees = AreOfNone trees
 AreOf (that_registry r) trees = HaveFound (that_registry r) trees
@@ -82,19 +83,14 @@ AreOfOne [] trees = ⊥
 AreOfOne (found ∷ others) trees = AreOf found trees ⊎ AreOfOne others trees
 
 module _ {S : Type 0} (g : Ghosts S) where
-  -- what a submission promises
+  -- what `Desk::submit` promises of a submission, clause by clause
   pub record IsSubmission (old new : Desk S) (reader_old reader_new writer_old writer_new : Told)
       (result : Result Done DeskFault) : Type 0 where
     pub refuses : old.stored.stopped ≡ true
         → RefusesSubmission old new reader_old reader_new writer_old writer_new result
     pub submits : old.stored.stopped ≡ false
         → SubmitsTo g old new reader_old reader_new writer_old writer_new result
-    pub runs_on : old.stored.stopped ≡ false
-        → UnlessStoreFault result (new.stored.stopped ≡ false)
-    pub lasts : DatabaseLasts (desk_state g old) (desk_state g new)
-    pub rows : StoresUntilStopped g new.stored
-    pub settings : new.settings ≡ old.settings
-    pub of_source : IsOfItsSource old → IsOfItsSource new
+    pub leaves : LeavesDesk g old new result
 
   -- a connection was opened anew after a stop, over a disk that had given back what was written: it
   -- found trees that the stop may have left, and the schema that they list
@@ -203,7 +199,7 @@ module _ {S : Type 0} (g : Ghosts S) where
     pub leaves : OnCleanDisk g conn
         ((trees : Trees) → (state g conn).may_leave trees → trees meta_tree ≡ [])
 
-  -- such a one stands as no registry
+  -- a connection to such a database (`IsBlank`) stands as no registry
   abbrev pub BlanksStand : Type 0
   BlanksStand = (conn : Held S) → IsBlank conn → Stands (at_rest conn) (resting (no_registry ∷ []))
 

@@ -1,4 +1,4 @@
--- What is true of histories of a registry.
+-- What is true of histories of a registry: for `src/laws.rt`.
 use Rattle.std.specs.Prelude.{◌≡◌, ◌⊎◌, ℕ, ◌+◌, ◌≤◌, false, List, [], ◌∷◌, ◌++◌}
 use Rattle.std.specs.Prelude.{Result, Err, Some, length, map}
 use Rattle.sqlite_trees.specs.Tree.{Trees}
@@ -40,7 +40,7 @@ TreesTellTheRegistry =
     (r opening : Reg) (db : Database) → TreesOf (HasRows r) db.trees → HasRows opening db
     → opening ≡ r
 
--- trees whose first table has no row are those of no registry
+-- trees whose first table has no row are those of no registry, nor of tables of version 1
 abbrev pub BareTreesAreOfNone : Type 0
 BareTreesAreOfNone = (trees : Trees) → trees meta_tree ≡ [] → AreOfNone trees
 
@@ -58,15 +58,15 @@ pub record AreFirstItems (source : List ℕ) (start : Told) (count : ℕ) (items
   pub at_most : length items ≤ count + 1
 
 -- a registry is another after the first items of what a reader gave: all that an answer counts, and
--- one more at most; or none counts, and it is that other
+-- one more at most; or it is the same, and the answer counts none
 pub record KeepsReported (source : List ℕ) (start : Told) (count : ℕ) (r s : Reg) : Type 0 where
   pub items : List ItemRequest
   pub outcomes : List Outcome
   pub runs : Run r (map submitted_of items) outcomes s
   pub are_first : (AreFirstItems source start count items) ⊎ ((items ≡ []) × (count ≡ 0))
 
--- whatever becomes of a submission, the next opening has the registry after the first of its items:
--- all those that were reported, and one more at most
+-- whatever becomes of a submission to a registry that runs, the next opening has the registry after
+-- its first items: all that were reported, and one more at most
 abbrev pub ReportedIsKept : Type 0
 ReportedIsKept =
     (by : SettingsParts) (r s : Reg) (next : Mode)
@@ -104,7 +104,8 @@ pub record IsOneRun (r : Reg) (events : List Event) (s : Reg) : Type 0 where
   pub runs : Run r all outcomes s
   pub confines : Confines r all outcomes s
 
--- so is each history that begins with a registry that runs, whatever stops it in between
+-- what was submitted in a history that begins with a sound registry that runs is one run
+-- (`IsOneRun`), whatever stops it in between
 abbrev pub HistoriesAreConfined : Type 0
 HistoriesAreConfined =
     (by : SettingsParts) (r s : Reg) (events : List Event) (mode : Mode) → Sound r
@@ -124,7 +125,8 @@ pub data AreSameQuestions : List Event → List Event → Type 0 where
       AreSameQuestions events others →
       AreSameQuestions (dumped false bytes ∷ events) (dumped false other_bytes ∷ others)
 
--- registries that look alike tell the same of the same questions, under the same limit
+-- registries that look alike, of objects that are what their paragraphs read as, tell the same of
+-- the same questions, under the same limit
 abbrev pub HistoriesKeepSecrets : Type 0
 HistoriesKeepSecrets =
     (by other : SettingsParts) (r s : Reg) → by.limit ≡ other.limit

@@ -1,4 +1,5 @@
--- That a connection lasts where nothing is done, and through what is done after something else.
+-- That a connection lasts where nothing is done, and through what is done after something else:
+-- proofs that ghost items of `src/stored.rt` and of `rr_http` name.
 use Rattle.std.specs.Prelude.{refl}
 use Rattle.std.proofs.Common.{arith, inl}
 use Rattle.sqlite_trees.specs.declared.store.Store as store
@@ -41,7 +42,7 @@ database_on a b c first second =
 pub stock_still : {S : Type 0} (g : store.Ghosts S) (s : Stock S) → (stock_ledger g).Lasts s s
 stock_still g s = database_still (state g s.store)
 
--- and what lasts of it through some items, and through those after them, lasts through all
+-- what lasts of a stock through some items, and through those after them, lasts through all
 pub stock_on : {S : Type 0} (g : store.Ghosts S) (before between after : Stock S) →
     (stock_ledger g).Lasts before between → (stock_ledger g).Lasts between after
     → (stock_ledger g).Lasts before after

@@ -1,4 +1,5 @@
--- What is true of dumps that desks load, and of what they answer.
+-- What is true of dumps that desks load, of what they answer, and of the turns of a listener: for
+-- `src/laws.rt`.
 use Rattle.std.specs.Prelude.{◌≡◌, ◌≢◌, ℕ, ◌<◌, ◌≤◌, Bool, true, List}
 use Rattle.std.specs.Prelude.{Option, Some, Result, Err}
 use Rattle.std.specs.Prelude.{length, slice_get}
@@ -63,7 +64,8 @@ RowsAreDumpable =
     → IsDumpable source registry
 
 -- desks that are both stopped or both not, whose registries look alike, answer each query alike
--- under the same limit, unless memory runs out for either answer (profile)
+-- under the same limit, unless memory runs out for either answer. It is said of registries whose
+-- objects are what their paragraphs read as (profile)
 abbrev pub DesksKeepSecrets : Type 0
 DesksKeepSecrets =
     (r s : Reg) → IsRead r → IsRead s → LookAlike r s

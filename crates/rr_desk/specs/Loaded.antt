@@ -1,4 +1,4 @@
--- Dumps that a desk loads (profile).
+-- Dumps that a desk loads (profile): for `Desk::load` and for histories.
 use Rattle.std.specs.Prelude.{◌≡◌, ℕ, List, Ok, Some}
 use Rattle.sqlite_trees.specs.declared.store.Store.{Ghosts}
 use Rattle.sqlite.specs.Effect.{Database}
@@ -52,8 +52,9 @@ pub record IsUntaken (source : List ℕ) (start now : Told) (fault : LoadFault) 
   pub is_fault : load_fault objects ≡ Some fault
 
 -- why a dump was not loaded, by the fault: those of the reading come first, then the first entry
--- that is not an object of the source, then what is the matter with the list of objects; only of a
--- dump of a registry is it told that the tables have a row, or that the store failed (profile)
+-- that is not an object of the source, then what is the matter with the list of objects. Only of a
+-- dump of a registry is it told that the tables have a row, or that the store failed. Where memory
+-- ran out, the dump was read to its end, or nothing of it was (profile)
 abbrev pub FailsToLoad : List ℕ → Told → Told → DeskLoadFault → Type 0
 FailsToLoad source start now NotEmpty = HasReadDump source start now
 FailsToLoad source start now Read = FailsToRead source start now dump.Read

@@ -1,4 +1,5 @@
--- What connections over memory tell is all of their turns.
+-- That connections over memory tell all of their turns: a proof that a ghost item of
+-- `src/memory_peers.rt` names.
 use Rattle.std.specs.Prelude.{◌≡◌, ℕ, ◌+◌, List, ◌++◌, length, map, replicate, Some}
 use Rattle.std.proofs.Common.{ap, ◌∙◌, length-append}
 use Rattle.std.proofs.lemmas.List.{length-map, length-replicate}

@@ -1,4 +1,4 @@
--- What connections over memory tell (profile).
+-- What connections over memory tell (profile): for `MemoryPeers`.
 use Rattle.std.specs.Prelude.{◌≡◌, ℕ, ◌+◌, Bool, List, ◌∷◌, ◌++◌, Option}
 use Rattle.std.specs.Prelude.{Some, is_some}
 use Rattle.std.specs.Prelude.{drop, length, map, max, replicate}
@@ -46,7 +46,7 @@ turns_closed peers = peers.turns.items
 abbrev pub failed_accepts : MemoryPeers → ℕ
 failed_accepts peers = peers.failed_accepts
 
--- a connection is open
+-- a connection was accepted, and is not closed yet
 abbrev pub is_open : MemoryPeers → Bool
 is_open peers = is_some peers.given
 
@@ -58,16 +58,18 @@ open_bytes peers = option_map (λ given. given.now) peers.given
 abbrev pub memory_turn : MemoryTurn → Turn
 memory_turn turn = closed (Some turn.given.now) (Some turn.answered.items)
 
--- its turns: the connections that are closed, and after them the accepts that found none
+-- the turns of connections over memory: those that are closed, and after them the accepts that
+-- found none
 abbrev pub memory_told : MemoryPeers → Option (List Turn)
 memory_told peers =
     Some (map memory_turn peers.turns.items ++ replicate peers.failed_accepts unaccepted)
 
--- how many turns there were
+-- how many turns of connections over memory there were
 abbrev pub turns_counted : MemoryPeers → ℕ
 turns_counted peers = length peers.turns.items + peers.failed_accepts
 
--- what they count and tell
+-- what connections over memory count and tell: their turns, and the bytes of those that are still
+-- to come
 abbrev pub memory_tally : MemoryPeers → Tally
 memory_tally peers = record {
   turns = turns_counted peers;

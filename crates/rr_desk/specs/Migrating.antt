@@ -1,4 +1,4 @@
--- Tables of version 1 that a desk migrates (profile).
+-- Tables of version 1 that a desk migrates (profile): for `Desk::migrate` and for histories.
 use Rattle.std.specs.Prelude.{◌≡◌, ◌⊎◌, ℕ, false, IsTrue, List, [], ◌∷◌, ◌++◌}
 use Rattle.std.specs.FinMap.{values}
 use Rattle.sqlite_trees.specs.declared.store.Store.{Ghosts}
@@ -50,7 +50,7 @@ pub record IsGrown (settings : SettingsParts) (old : Database) (registry : Reg) 
   pub sound : AreRegistry objects
   pub grown : HasUpper settings objects registry
 
--- there is such a registry for tables of version 1 (profile)
+-- there is a registry to which tables of version 1 can be migrated by settings (profile)
 pub record CanGrow (settings : SettingsParts) (old : Database) : Type 0 where
   pub registry : Reg
   pub grown : IsGrown settings old registry
@@ -81,7 +81,7 @@ pub record RefusesOldRegistry (settings : SettingsParts) (db : Database) (fault 
   pub untabled : ¬ HasTables db.schema → fault ≡ Store no_tables
   pub no_root : fault ≡ NoRoot → IsRootless settings db
 
--- tables are migrated by settings (profile)
+-- tables of version 1 are migrated, with the root and the source of settings (profile)
 abbrev pub IsMigratedBy : SettingsParts → Database → Database → Type 0
 IsMigratedBy settings = IsMigrated settings.root settings.source
 

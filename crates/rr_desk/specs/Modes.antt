@@ -1,4 +1,5 @@
--- A registry by itself, without tables: what it does at each event (profile).
+-- A registry by itself, without tables: what it does at each event (profile). Histories are
+-- compared with it.
 use Rattle.std.specs.Prelude.{◌≡◌, ◌⊎◌, ℕ, Bool, true, false, if◌then◌else◌, List, [], ◌∷◌}
 use Rattle.std.specs.Prelude.{IsPermutation, Result, Err}
 use Rattle.std.specs.FinMap.{empty}
@@ -104,12 +105,13 @@ MayOpen (running by r) s = s ≡ r
 MayOpen (halted by found) s = IsOneOf found s
 MayOpen (resting found) s = IsOneOf found s
 
--- the registry that runs
+-- the registry that runs; an empty one where none does
 abbrev pub registry_in : Mode → Reg
 registry_in (running by r) = r
 registry_in (halted by found) = empty
 registry_in (resting found) = empty
 
+-- no registry runs: it stopped, or nobody runs it
 abbrev pub is_halted : Mode → Bool
 is_halted (running by r) = false
 is_halted (halted by found) = true

@@ -1,4 +1,5 @@
--- Desks that are opened, made, loaded or migrated over a connection (profile).
+-- Desks that are opened, made, loaded or migrated over a connection (profile): for the calls of
+-- `Desk` that do it.
 use Rattle.std.specs.Prelude.{◌≡◌, ◌≢◌, ℕ, false, IsTrue, List}
 use Rattle.sqlite_trees.specs.declared.store.Store.{Ghosts}
 use Rattle.sqlite_trees.specs.Tree.{Trees}
@@ -84,9 +85,10 @@ module _ {S : Type 0} (g : Ghosts S) where
     pub tables : OnCleanDisk g made (HasItsTables (database g conn) (database g made))
     pub crash : Survives (state g conn) (state g made) (CommitsTables rows conn)
 
-  -- a connection is given back: what there was stands, and a stop of the
-  -- process leaves that or what may have been committed; one that is open was open (profile)
+  -- a connection is given back in no transaction: while it is open, it was open before and what
+  -- there was stands. A stop of the process leaves that or what may have been committed (profile)
   pub record GivesBack (commits : Trees → Type 0) (conn left : Held S) : Type 0 where
+    pub autocommit : left.in_transaction ≡ false
     pub was_open : WhileOpen g left (IsTrue (state g conn).is_open)
     pub kept : WhileOpen g left (database g left ≡ database g conn)
     pub crash : Survives (state g conn) (state g left) commits

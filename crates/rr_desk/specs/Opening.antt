@@ -1,4 +1,4 @@
--- The objects that a registry opens with (profile).
+-- The objects that a registry opens with (profile): for `Desk::create`.
 use Rattle.std.specs.Prelude.{◌≡◌, ℕ, List, [], ◌∷◌, ◌++◌, Ok, codes, map}
 use Rattle.hex.specs.Hex.{encode_lower}
 use Rattle.rr_text.specs.Fields.{Field, one_line}
@@ -45,8 +45,8 @@ opening_paragraphs settings =
     ∷ (numbers_fields settings
     ∷ (upper_block settings.root settings.source ∷ (addresses_fields settings ∷ [])))
 
--- the objects that these paragraphs are in the registry of the settings' source, in this order
--- (profile)
+-- objects are those that the opening paragraphs are in a registry of the settings' source, in this
+-- order (profile)
 pub record AreOpening (settings : SettingsParts) (objects : List Obj) : Type 0 where
   pub read : map (λ fields. object_of fields settings.source) (opening_paragraphs settings)
       ≡ map Ok objects

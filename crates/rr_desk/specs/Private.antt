@@ -35,20 +35,20 @@ use Rattle.rr_desk.specs.declared.loading.DeskLoadFault.{DeskLoadFault}
 use Rattle.rr_desk.specs.declared.loading.DeskLoadFault.TheVariants as load
 
 -- one registry is another with an object under this key
-pub record Gains (before : Reg) (key : Key) (after : Reg) : Type 0 where
+pub record GainsObject (before : Reg) (key : Key) (after : Reg) : Type 0 where
   pub object : Obj
   pub of_key : object.key ≡ key
   pub is : after ≡ insert before key object
 
 -- one registry is another with an object under this key, where none stood
 pub record GainsNew (before : Reg) (key : Key) (after : Reg) : Type 0 where
-  pub gain : Gains before key after
+  pub gain : GainsObject before key after
   pub absent : get before key ≡ None
 
 -- what an outcome of an item about this key says of the registry before it and the one after it
 abbrev pub LeadsTo : Reg → Key → Outcome → Reg → Type 0
 LeadsTo before key Added after = GainsNew before key after
-LeadsTo before key Changed after = Gains before key after
+LeadsTo before key Changed after = GainsObject before key after
 LeadsTo before key Unchanged after = after ≡ before
 LeadsTo before key Deleted after = after ≡ remove before key
 LeadsTo before key (Refused code) after = after ≡ before

@@ -1,4 +1,5 @@
--- What the store of a desk keeps of its registry, and that a call commits nothing (profile).
+-- What the store of a desk keeps of its registry, and that a call commits nothing (profile): for
+-- desks, their stocks and histories.
 use Rattle.std.specs.Prelude.{◌≡◌, IsTrue}
 use Rattle.sqlite_trees.specs.Tree.{Trees}
 use Rattle.sqlite.specs.State.{State, HasCleanDisk, Survives}

@@ -1,4 +1,5 @@
--- Settings: what a registry opens with, and how far expansions of sets go (profile).
+-- Settings: what a registry opens with, and how far expansions of sets go (profile): for `Settings`
+-- and the desks made by them.
 use Rattle.std.specs.Prelude.{◌≡◌, ℕ, ◌≤◌, true, ◌&&◌, nat_le, List, []}
 use Rattle.std.specs.Prelude.{◌∷◌, length, codes}
 use Rattle.std.specs.Prelude.{Option, Some, None, Result, Ok, Err, if◌then◌else◌}

@@ -1,4 +1,5 @@
--- A registry with the store that keeps its rows, as a ledger (profile).
+-- A registry with the store that keeps its rows, as a ledger (profile): what a desk promises of its
+-- rows and its database.
 use Rattle.std.specs.Prelude.{◌≡◌, Bool, false, is_some, IsTrue, Option, refl}
 use Rattle.std.specs.Coded.{Coded, code_by, coded×, coded_bool, coded_option}
 use Rattle.std.specs.FinMap as map
@@ -34,12 +35,13 @@ stock_code {S} held =
     (λ p. record { registry = p.0; store = p.1.0; stopped = p.1.1.0; cause = p.1.1.1 })
     (λ _. refl)
 
--- a stock is stopped where it has a cause
+-- the stock of this registry, store and cause; it is stopped where it has a cause
 abbrev pub stock_of : {S : Type 0} → Reg → Held S → Option Error → Stock S
 stock_of registry store cause =
     record { registry = registry; store = store; stopped = is_some cause; cause = cause }
 
--- where the disk gives back what was written, its store holds the rows of its registry
+-- where the disk gives back what was written, the store of a stock holds the rows of its registry
+-- (profile)
 abbrev pub StoresRows : {S : Type 0} → store.Ghosts S → Stock S → Type 0
 StoresRows g s = OnCleanDisk g s.store (Holds s.registry (state g s.store))
 
@@ -57,8 +59,8 @@ pub record DatabaseLasts (old now : State) : Type 0 where
   pub was_open : HasCleanDisk now → IsTrue now.is_open → IsTrue old.is_open
   pub others : HasCleanDisk now → IsTrue now.is_open → KeepsOthers old.now now.now
 
--- it keeps its registry and, until it is stopped, the rows of it; it stops by a fault of the store
--- alone, and its connection lasts
+-- a stock as a ledger: it keeps its registry and, until it is stopped, the rows of it; it stops by
+-- a fault of the store alone, and its connection lasts (profile)
 abbrev pub stock_ledger : {S : Type 0} → store.Ghosts S → ledger.Ghosts (Stock S)
 stock_ledger g = record {
   registry = λ s. s.registry;

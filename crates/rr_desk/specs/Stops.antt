@@ -1,4 +1,4 @@
--- What a fault of the store leaves: of the registry, and of the rows (profile).
+-- What a fault of the store leaves: of the registry, and of the rows (profile). Stocks use it.
 use Rattle.std.specs.Prelude.{◌≡◌, ◌⊎◌, ℕ, Bool, true, false, List, IsTrue}
 use Rattle.sqlite_trees.specs.Tree.{Trees}
 use Rattle.sqlite.specs.State.{State, HasCleanDisk, Survives}

@@ -1,4 +1,5 @@
--- The turns of a listener, and what serving the connections of them does (profile).
+-- The turns of a listener, and what serving the connections of them does (profile): for `Peers`,
+-- `Service` and `serve_all`.
 use Rattle.std.specs.Prelude.{◌≡◌, ℕ, ◌+◌, Bool, false, not, is_ok, Result, length, map}
 use Rattle.std.specs.Prelude.{count_by}
 use Rattle.std.specs.Prelude.{List, [], ◌∷◌, ◌++◌, Option, None, Some, slice_get}
@@ -36,8 +37,9 @@ pub record IsFresh (reader writer : Told) : Type 0 where
 abbrev pub with_turn : Option (List Turn) → Turn → Option (List Turn)
 with_turn told turn = option_map (λ turns. turns ++ turn ∷ []) told
 
--- the connection accepted, if any, is the first of those to come, and the others are still to come;
--- where none is to come none is accepted; where they are not told, they stay untold
+-- where connections to come are told, the one accepted is the first of them, and the others are
+-- still to come; none is accepted just where none is to come. Where they are not told, they stay
+-- untold
 abbrev pub IsNext : Option (Option (List ℕ)) → Option (List (List ℕ))
     → Option (List (List ℕ))
     → Type 0
@@ -61,12 +63,12 @@ pub record CountsTurn (turn : Turn) (before after : Tally) : Type 0 where
   pub counted : after.turns ≡ before.turns + 1
   pub told : after.told ≡ with_turn before.told turn
 
--- no connection could be accepted, which is a turn
+-- no connection could be accepted, which is a turn; where those to come are told, there is none
 pub record IsUnaccepted (before after : Tally) : Type 0 where
   pub counts : CountsTurn unaccepted before after
   pub is_next : IsNext None before.waiting after.waiting
 
--- a connection was closed, which is a turn
+-- a connection was closed, which is a turn; those that are to come stay
 pub record IsClosed (given answered : Option (List ℕ)) (before after : Tally) : Type 0 where
   pub counts : CountsTurn (closed given answered) before after
   pub waiting : after.waiting ≡ before.waiting
@@ -137,7 +139,7 @@ DoesAll S g serves (visit ∷ visits) before after =
     (between : Desk S) × Does S g serves visit before between
     × DoesAll S g serves visits between after
 
--- what a turn gave, where a connection was accepted
+-- the bytes that the reader of a turn's connection told, where one was accepted
 abbrev pub given_in : Option Visit → Option (Option (List ℕ))
 given_in = option_map (λ visit. visit.reader_before.bytes)
 

@@ -1,15 +1,16 @@
-//! Desks: a registry with its tables, to which submissions are made.
+//! Desks: a registry with its tables, to which submissions are made. The commands of the program
+//! make, open and close them, and `rr_http` serves them.
 
 ghost use Rattle.std.specs.Prelude.{◌≡◌, false, true, IfErr, IfOk, is_some};
-ghost use Rattle.rr_submission.specs.Submissions.{RefusesSubmission, UnlessStoreFault};
-ghost use Rattle.rr_desk.specs.Desks.{IsOfItsSource, SubmitsTo, desk_state};
+ghost use Rattle.rr_submission.specs.Submissions.{RefusesSubmission};
+ghost use Rattle.rr_desk.specs.Desks.{LeavesDesk, SubmitsTo};
 ghost use Rattle.rr_desk.specs.Events as events;
 ghost use Rattle.rr_desk.specs.Histories.{Happens, MakesEvent, OpensEvent, ReopensEvents};
 ghost use Rattle.rr_desk.specs.Histories as histories;
 ghost use Rattle.rr_desk.specs.Opened.{FailsToMakeTables, FailsToOpenTables, HasOpeningRows};
 ghost use Rattle.rr_desk.specs.Opened.{IsRunning, MakesTables, OpensTables};
 ghost use Rattle.rr_desk.specs.Opening.{IsOpeningRegistry};
-ghost use Rattle.rr_desk.specs.Stocks.{DatabaseLasts, StoresUntilStopped};
+ghost use Rattle.rr_desk.specs.Stocks.{StoresUntilStopped};
 
 use crate::opened::{create_stored, open_stored};
 use crate::opening::opening_registry;
@@ -24,7 +25,8 @@ use sqlite::{Alter, Error};
 use std::alloc::Global;
 
 /// A registry by its settings, kept in tables. A fault of the store stops it until it is opened
-/// again.
+/// again. What its functions say of rows holds where the disk gives back what was written. That a
+/// fault leaves the rows as they were holds while also the connection is open.
 #[derive(Drop)]
 pub struct Desk<S: Alter> {
     pub(crate) settings: Settings,
@@ -52,6 +54,7 @@ impl<S: Alter> Desk<S> {
         ensures event { MakesEvent S.Store settings (events.of_settings settings) conn result }
     {
         let Ok(registry) = opening_registry(alloc, &settings) else {
+            conn.note_idle();
             return Err((CreateFault::Memory, conn));
         };
         match create_stored(alloc, conn, registry) {
@@ -60,11 +63,11 @@ impl<S: Alter> Desk<S> {
         }
     }
 
-    /// The desk of the registry whose rows the tables hold, of which the settings say the source.
-    /// After a fault the connection is given back, and no row is changed: the tables are of another
-    /// version, which comes first, or their rows are those of no registry of the source, or the
-    /// database refused, or memory ran out. Of a database without the three tables, that and
-    /// nothing else is told.
+    /// The desk of the registry of the settings' source whose rows the tables hold; no row is
+    /// changed. After a fault the connection is given back. The fault is that the tables are of
+    /// another version, which comes first, or that their rows are those of no registry of the
+    /// source. Or the database refused, or memory ran out. Of a database without the three tables,
+    /// that and nothing else is told.
     pub fn open(
         alloc: Global,
         conn: IdleConnection<S>,
@@ -82,8 +85,8 @@ impl<S: Alter> Desk<S> {
         }
     }
 
-    /// Opens the tables again, also after a fault of the store, as [`Desk::open`] does: after a
-    /// fault the connection is given back, and no row is changed.
+    /// Closes the desk, also one that is stopped, and opens its tables again by its settings, as
+    /// [`Desk::open`] does. No row is changed, and after a fault the connection is given back.
     pub fn reopen(self, alloc: Global) -> Result<Desk<S>, (OpenFault, IdleConnection<S>)>
         ensures runs { IfOk result (IsRunning S.Store self.settings) }
         ensures opens { IfOk result (λ desk. OpensTables S.Store self.stored.store desk.stored) }
@@ -96,17 +99,22 @@ impl<S: Alter> Desk<S> {
     }
 
     /// Submits what the reader gives, and writes the report. The items are decided one by one, in
-    /// order, each with its rows in one transaction before its line is written. If a read fails, or
-    /// the text has no end within 16,777,216 reads, the items that came whole are decided, and a
-    /// last line says so. If a line cannot be written, its item and those before it stand, and
-    /// those after it are not decided, though up to 4,096 bytes after it may have been read. If
-    /// memory runs out before the first item, nothing is read; later it refuses the item, or counts
-    /// as a fault of the store. Only such a fault stops the desk: the items before it stand, and a
-    /// stop of the process or machine leaves their rows, or these with that item whole. A stopped
-    /// desk reads and writes nothing; until then the rows are those of the registry, which stays
-    /// one of its source. What the holders of a prefix hold is changed by nobody else. However it
-    /// ends, no fault of the disk is forgotten, nothing but such a fault shuts the connection, and
-    /// beside the rows of the three tables the file stays as it was.
+    /// order, each with its rows in one transaction before its line is written. A stopped desk
+    /// answers `Stopped`, and reads and writes nothing.
+    ///
+    /// If a read fails, or the text has no end within 16,777,216 reads, the items that came whole
+    /// are decided. A last line says so, or is cut short. If the line of an item cannot be written,
+    /// that item and those before it stand, and those after it are not decided. Up to 4,096 bytes
+    /// after it may have been read. If the last line cannot be written, all items stand. If memory
+    /// runs out before the first item, nothing is read; later it refuses the item, or counts as a
+    /// fault of the store.
+    ///
+    /// Only a fault of the store stops the desk: the items before it stand, and a stop of the
+    /// process or machine leaves their rows, or these with that item whole. Until then the rows are
+    /// those of the registry, which stays one of its source. What the holders of a prefix hold is
+    /// changed by nobody else. However it ends, no fault of the disk is forgotten, and nothing but
+    /// such a fault shuts the connection. The settings stay and, beside the rows of the three
+    /// tables, the file stays as it was.
     pub fn submit<R: Source, W: Sink>(
         &mut self,
         alloc: Global,
@@ -117,13 +125,7 @@ impl<S: Alter> Desk<S> {
             self.old self.new reader.old reader.new writer.old writer.new result }
         ensures submits { self.old.stored.stopped ≡ false → SubmitsTo S.Store self.old self.new
             (R.told reader.old) (R.told reader.new) (W.told writer.old) (W.told writer.new) result }
-        ensures running { self.old.stored.stopped ≡ false
-            → UnlessStoreFault result (self.new.stored.stopped ≡ false) }
-        ensures lasts { DatabaseLasts
-            (desk_state S.Store self.old) (desk_state S.Store self.new) }
-        ensures rows { StoresUntilStopped S.Store self.new.stored }
-        ensures settings { self.new.settings ≡ self.old.settings }
-        ensures of_source { IsOfItsSource self.old → IsOfItsSource self.new }
+        ensures leaves { LeavesDesk S.Store self.old self.new result }
         ensures event { Happens S.Store (histories.at_desk self.old)
             (events.submitted (R.told reader.old) (R.told reader.new)
             (W.told writer.old) (W.told writer.new) result)

@@ -1,4 +1,4 @@
-//! What a desk answers to queries.
+//! What a desk answers to queries, for `rr_http`, which serves it by whois and HTTP.
 
 ghost use Rattle.std.specs.Prelude.{◌≡◌, ◌≢◌, Err, IfErr, IfOk, Ok, false, true};
 ghost use Rattle.rr_io.specs.Sending.{Writes};
@@ -34,10 +34,11 @@ pub struct WriteFault;
 impl<S: Alter> Desk<S> {
     /// Answers the text of a query, without the LF that ended it. What the registry has is found
     /// first, under the limit of the settings, and then written part by part; or one line
-    /// `% error n` is. Its number is 1 if the text is not a query, 2 if it has more than 1,024
-    /// bytes, 3 for an expansion over the limit, 4 if memory ran out, and 6 if the desk is stopped;
-    /// of several the order is 2, 6, 1 and then the others (profile). The store is not asked. After
-    /// a write fault the writer has taken the beginning of the answer, and the rest is not made.
+    /// `% error n` is. Its number is 2 if the text has more than 1,024 bytes, and otherwise 6 if
+    /// the desk is stopped. Of a desk that runs it is 1 if the text is not a query, 3 for an
+    /// expansion over the limit, or 4 if memory ran out (profile). The store is not asked. After a
+    /// write fault the writer has taken the beginning of the answer, and not all of it. Until the
+    /// desk is stopped, its rows are those of its registry.
     #[tactic(auto, using(crate::proofs::AnswerLemmas::written))]
     pub fn answer<W: Sink>(
         &self,

@@ -1,4 +1,4 @@
-//! Dumps of a desk.
+//! What a desk writes as the dump of its registry: full for `irrdesk dump`, public for `rr_http`.
 
 ghost use Rattle.std.specs.Prelude.{◌≡◌, false, true, length, IfOk};
 ghost use Rattle.std.specs.FinMap.{values};
@@ -43,8 +43,8 @@ impl From<rr_answer::DumpFault> for DeskDumpFault {
 }
 
 impl<S: Alter> Desk<S> {
-    /// Writes a dump of the registry, its objects by class and key, each with an empty line, and a
-    /// last line that counts them; `full` prints all their text, otherwise their public forms
+    /// Writes a dump of the registry: its objects by class and key, each with an empty line, and a
+    /// last line that counts them. `full` prints all their text, otherwise their public forms
     /// (profile). It answers how many there are. After `Write` or `Memory` the writer has taken the
     /// beginning of the dump, and not all of it. A stopped desk answers `Stopped` and writes
     /// nothing.

@@ -1,4 +1,4 @@
-//! A desk over tables of version 1, which it migrates.
+//! Desks over tables of version 1, which are migrated, as `irrdesk migrate` does it.
 
 ghost use Rattle.std.specs.Prelude.{◌≡◌, ◌⊎◌, IfErr, IfOk, OnOk};
 ghost use Rattle.rr_auth.specs.Sources.{IsRegistryOf};
@@ -24,13 +24,13 @@ use sqlite::Alter;
 use std::alloc::{AllocError, Global};
 
 impl<S: Alter> Desk<S> {
-    /// The desk of the registry whose rows tables of version 1 hold, written anew as those of
-    /// version 2, and of the block of the AS numbers of more than 16 bits, which the root maintains
-    /// (RFC 6793). The settings say the source and the root. After a fault the connection is given
-    /// back, with the rows as they were; a stop of the process leaves these, or the new ones whole.
-    /// That the tables are of another version comes first, then that their rows are those of no
-    /// registry, then that the root is not registered. Of a file without the three tables, that and
-    /// nothing else is told.
+    /// The desk of the registry of the objects of tables of version 1, and of the block of the AS
+    /// numbers of more than 16 bits. The root maintains the block (RFC 6793). All rows are written
+    /// anew as those of version 2. The settings say the source and the root. After a fault the
+    /// connection is given back, with the rows as they were; a stop of the process leaves these, or
+    /// the new ones whole. That the tables are of another version comes first, then that their rows
+    /// are those of no registry of the source, then that the root is not registered. Of a database
+    /// without the three tables, that and nothing else is told.
     pub fn migrate(
         alloc: Global,
         conn: IdleConnection<S>,

@@ -1,4 +1,4 @@
-//! Why a dump cannot be read.
+//! Why a dump cannot be read, as `read_dump` tells it.
 
 ghost use Rattle.std.specs.Prelude.{◌≡◌};
 ghost use Rattle.rr_desk.specs.declared.dump_read_fault.DumpReadFault.TheVariants.{Memory};
@@ -7,7 +7,8 @@ use rr_object::Code;
 use std::alloc::{AllocError, AllocFailed};
 use thiserror::Error;
 
-/// Why a dump was not read. Entries are counted from 1.
+/// Why a dump was not read. Entries are counted from 1; those before the one that is told are
+/// objects of the source.
 #[derive(Clone, Copy, Debug, PartialEq, Eq, Error)]
 pub enum DumpReadFault {
     /// A read failed.

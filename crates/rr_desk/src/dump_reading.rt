@@ -1,4 +1,4 @@
-//! The objects of a dump, read entry by entry.
+//! The objects of a dump, read entry by entry, for `Desk::load`.
 
 ghost use Rattle.std.specs.Prelude.{◌≡◌, ◌⊎◌, ◌+◌, ◌<◌, ◌++◌, List, []};
 ghost use Rattle.std.specs.Prelude.{◌∷◌, Ok, Err, IfOk, MatchResult, OnSome, length};
@@ -18,10 +18,10 @@ use rr_text::{Paragraph, Paragraphs, TextFault};
 use std::alloc::Global;
 
 /// The objects of the dump that this reader gives, in its order, as those of a registry of this
-/// source. The dump is any RPSL text, read one paragraph at a time, and to its end even after an
-/// entry that is not an object: so a failed read, and too many reads, are told in place of such an
-/// entry. If memory runs out, that may be told in place of an entry's fault, after the whole dump
-/// was read or before any of it was; no clause says when.
+/// source. The fault is the first entry that is not such an object. The dump is any RPSL text, and
+/// is read to its end even then. So a failed read, and too many reads, are told in place of it.
+/// If memory runs out, the whole dump was read, or nothing of it was, and that may be told in place
+/// of an entry's fault.
 pub fn read_dump<R: Source>(
     alloc: Global,
     reader: &mut R,

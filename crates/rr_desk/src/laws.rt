@@ -15,14 +15,15 @@ pub fn full_dumps_are_loaded()
     ensures { FullDumpsAreLoaded }
 {}
 
-/// The registry whose rows tables hold can be dumped and loaded, if none of its canonical texts has
-/// more than 65,536 bytes.
+/// The registry of a source whose rows tables hold can be read again (`IsDumpable`), if none of its
+/// canonical texts has more than 65,536 bytes.
 pub fn rows_are_dumpable()
     ensures { RowsAreDumpable }
 {}
 
 /// Two desks, both stopped or both not and under the same limit, whose registries look alike,
-/// answer each query alike, unless memory runs out: hidden text cannot be asked for.
+/// answer each query alike, unless memory runs out: hidden text cannot be asked for. It is said of
+/// registries whose objects are what their paragraphs read as.
 pub fn answers_of_desks_keep_secrets()
     ensures { DesksKeepSecrets }
 {}
@@ -33,8 +34,9 @@ pub fn turns_are_in_order()
     ensures { TurnsAreInOrder }
 {}
 
-/// Each history of a database is one of its registry by itself: the bytes that were told are those
-/// of the same requests to that registry, in the same order, and the tables hold its objects and no
+/// Each history of a database is one of the registry by itself as which it stood at first. The
+/// bytes that were told are those of the same requests to that registry, in the same order. At the
+/// end the database stands as it does: while a desk runs, the tables hold its objects and no
 /// others. It is said over a disk that gives back what was written.
 pub fn histories_are_runs<S: Alter>()
     ensures { HistoriesAreRuns S.Store }
@@ -45,25 +47,29 @@ pub fn desks_stand<S: Alter>()
     ensures { DesksStand S.Store }
 {}
 
-/// A connection to a new database stands as no registry, so that a history can begin with it.
+/// A connection to a database whose first table has no row, as to a new one, stands as no registry,
+/// so that a history can begin with it.
 pub fn blanks_stand<S: Alter>()
     ensures { BlanksStand S.Store }
 {}
 
-/// Whatever becomes of a submission, the next opening has the registry after the first of its
-/// items: all those that were reported, and one more at most.
+/// Whatever becomes of a submission to a registry that runs, the next opening has the registry
+/// after its first items: all that were reported, and one more at most.
 pub fn reported_is_kept()
     ensures { ReportedIsKept }
 {}
 
-/// All that is submitted in a history is one run, whatever stops it in between, which answers the
-/// holders of a prefix as if nobody else had submitted anything, and leaves what they hold to them.
+/// All that is submitted in a history that begins with a sound registry that runs is one run,
+/// whatever stops it in between. It answers the holders of a prefix as if nobody else had submitted
+/// anything, and leaves what they hold to them.
 pub fn histories_are_confined()
     ensures { HistoriesAreConfined }
 {}
 
-/// Registries that look alike tell the same of the same questions, unless memory runs out: hidden
-/// text cannot be asked for in any number of questions.
+/// Registries that look alike tell the same of the same questions under the same limit, unless
+/// memory runs out: hidden text cannot be asked for in any number of questions. A question is a
+/// query or the public dump. It is said of registries whose objects are what their paragraphs read
+/// as.
 pub fn histories_keep_secrets()
     ensures { HistoriesKeepSecrets }
 {}
@@ -79,7 +85,7 @@ pub fn trees_tell_the_registry()
     ensures { TreesTellTheRegistry }
 {}
 
-/// Trees whose first table has no row are those of no registry.
+/// Trees whose first table has no row are those of no registry, nor of tables of version 1.
 pub fn bare_trees_are_of_none()
     ensures { BareTreesAreOfNone }
 {}

@@ -1,5 +1,8 @@
 //! The desk: a registry kept in tables, to which submissions and queries are made, and which is
 //! dumped and loaded.
+//!
+//! The commands of the program make, open and close a [`Desk`], and [`serve_all`] serves its
+//! connections. [`Desk::reopen`] and [`MemoryPeers`] are there for tests.
 #![tactic(auto)]
 
 mod desk;

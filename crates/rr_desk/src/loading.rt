@@ -1,4 +1,4 @@
-//! Desks made from dumps.
+//! Desks made from dumps, as `irrdesk load` makes them.
 
 ghost use Rattle.std.specs.Prelude.{◌≡◌, IfErr, IfOk};
 ghost use Rattle.rr_auth.specs.Sources.{IsRegistryOf};
@@ -23,10 +23,11 @@ use sqlite::{Alter, Error as DatabaseError};
 use std::alloc::Global;
 use thiserror::Error;
 
-/// Why no desk was made from a dump. Entries and objects are counted from 1. A failed read, or no
-/// end within 16,777,216 reads, comes first, then the first entry that is not an object of the
-/// source, then the first key that stands twice or span that crosses, then the first name of a
-/// maintainer who is not there; the store is asked last. No row was changed.
+/// Why no desk was made from a dump: while the connection is open, its rows are as they were.
+/// Entries and objects are counted from 1. A failed read, or no end within 16,777,216 reads, comes
+/// first. Then comes the first entry that is not an object of the source, then the first key that
+/// stands twice or span that crosses. Then comes the first name of a maintainer who is not there.
+/// The store is asked last.
 #[derive(Clone, Copy, Debug, PartialEq, Eq, Error)]
 pub enum DeskLoadFault {
     /// One of the three tables has a row.
@@ -57,7 +58,7 @@ pub enum DeskLoadFault {
     /// The database refused with this error, or has other tables in place of the three.
     #[error("the store failed")]
     Store(DatabaseError),
-    /// Memory ran out.
+    /// Memory ran out; the dump was read to its end, or nothing of it was.
     #[error("out of memory")]
     Memory,
 }
@@ -139,7 +140,10 @@ impl<S: Alter> Desk<S> {
                 Ok(stored) => Ok(Desk { settings, stored }),
                 Err((fault, conn)) => Err((DeskLoadFault::from(fault), conn)),
             },
-            Err(fault) => Err((fault, conn)),
+            Err(fault) => {
+                conn.note_idle();
+                Err((fault, conn))
+            }
         }
     }
 }

@@ -1,4 +1,5 @@
-//! Connections over memory.
+//! Connections over memory, by which tests serve a desk; over sockets there are those of
+//! `rr_listener`.
 
 ghost use Rattle.std.specs.Prelude.{◌≡◌, ◌+◌, ◌-◌, ◌<◌, ◌≤◌, ◌^◌};
 ghost use Rattle.std.specs.Prelude.{false, is_some, if◌then◌else◌};
@@ -89,8 +90,8 @@ impl<'a> MemoryPeers<'a> {
     ghost use Rattle.rr_desk.specs.MemoryTurns.{failed_accepts, inputs_left, open_bytes};
     ghost use Rattle.rr_desk.specs.MemoryTurns.{turns_closed};
 
-    /// Connections that give these bytes, in this order, with room for the turns of all of them.
-    /// The error is that memory ran out.
+    /// Connections that are to come as these inputs say, in this order, with no turn taken yet. The
+    /// error is that memory ran out.
     pub fn new(alloc: Global, inputs: &'a [MemoryInput<'a>]) -> Result<MemoryPeers<'a>, AllocError>
         ensures left { IfOk result (λ peers. inputs_left peers ≡ inputs.now) }
         ensures none_closed { IfOk result (λ peers. turns_closed peers ≡ []) }

@@ -1,5 +1,5 @@
-//! How a registry and the store of its rows come about: from tables that are there, or with new
-//! ones.
+//! How a registry and the store of its rows come about: from tables that are there, as for
+//! `Desk::open`, or with new ones, as for `Desk::create` and `Desk::load`.
 
 ghost use Rattle.std.specs.Prelude.{◌≡◌, IfErr, IfOk};
 ghost use Rattle.rr_store.specs.Maps.{HasRows};
@@ -82,6 +82,9 @@ fn create_store<S: Alter>(
 {
     match registry.objects(alloc) {
         Ok(objects) => Store::create(alloc, conn, &objects),
-        Err(_) => Err((CreateFault::Memory, conn)),
+        Err(_) => {
+            conn.note_idle();
+            Err((CreateFault::Memory, conn))
+        }
     }
 }

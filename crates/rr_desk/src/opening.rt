@@ -1,4 +1,4 @@
-//! The objects that a registry opens with.
+//! The objects that a new registry opens with, as `irrdesk init` makes one.
 
 ghost use Rattle.std.specs.Prelude.{◌≡◌, [], ◌∷◌, ◌++◌, IfOk, OnOk};
 ghost use Rattle.rr_text.specs.Fields.{AreFields, IsField, one_line};

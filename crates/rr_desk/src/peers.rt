@@ -1,4 +1,4 @@
-//! Where connections come from, one after the other.
+//! Where connections come from, one after the other: sockets, by `rr_listener`, or memory.
 
 ghost use Rattle.std.specs.Prelude.{◌≡◌, ◌+◌, ◌<◌, ◌^◌, ℕ, List, Option, Some};
 ghost use Rattle.std.specs.Prelude.{length, IfOk, OnErr};
@@ -36,7 +36,8 @@ pub trait Peers {
     ghost given: { Self → Option (List ℕ) };
 
     /// The next connection, of which no call has failed and to which nothing was written. The
-    /// allocator is for what keeps the connection. An error is a turn.
+    /// allocator is for what keeps the connection. An error is a turn; where connections to come
+    /// are told, none is to come then. The turns there were and this one are within `u64`.
     fn accept(&mut self, alloc: Global) -> Result<Self::Conn, AcceptFault>
         requires { (tally self.old).turns + 1 < 2 ^ 64 }
         ensures accepted { IfOk result (λ conn. IsAccepted (tally self.old) (tally self.new)
@@ -44,7 +45,8 @@ pub trait Peers {
         ensures open { IfOk result (λ conn. IsOpen self.new) }
         ensures refused { OnErr result (IsUnaccepted (tally self.old) (tally self.new)) };
 
-    /// Closes the connection that was accepted last, which is a turn.
+    /// Closes the connection that was accepted last and is open, which is a turn. The turns there
+    /// were and this one are within `u64`.
     fn close(&mut self, conn: Self::Conn)
         requires open { IsOpen self.old }
         requires room { (tally self.old).turns + 1 < 2 ^ 64 }

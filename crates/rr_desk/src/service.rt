@@ -1,4 +1,4 @@
-//! What serves connections of a desk.
+//! What serves connections of a desk, as `Both` of `rr_http` does by whois and HTTP.
 
 ghost use Rattle.std.specs.Prelude.{◌≡◌};
 ghost use Rattle.rr_desk.specs.Desks.{desk_state};
@@ -17,8 +17,8 @@ pub trait Service {
     ghost serves: { Serving };
 
     /// Serves a connection: reads what it asks, asks the desk, and writes the reply. The error is
-    /// that a read or a write of the connection failed. The settings of the desk stay, and unless a
-    /// fault of the store stopped it, its rows are those of its registry.
+    /// that a read or a write of the connection failed. The settings of the desk stay, its database
+    /// lasts, and unless a fault of the store stopped it, its rows are those of its registry.
     fn serve<S: Alter, C: Connection>(
         &self,
         alloc: Global,

@@ -1,4 +1,5 @@
-//! Settings: what a registry opens with, and how far expansions of sets go (profile).
+//! Settings: what a registry opens with, and how far expansions of sets go (profile). `rr_commands`
+//! reads them from a file for each desk.
 
 ghost use Rattle.std.specs.Prelude.{◌≡◌, ◌≢◌, IfErr, IfOk, None, Ok, Some};
 ghost use Rattle.std.specs.Option.{option_copied};
@@ -51,8 +52,8 @@ impl From<AllocError> for ValueFault {
     }
 }
 
-/// What a registry opens with: its source, its root maintainer with the salt and digest of its
-/// secret; and the limit of expansions, 1 to [`GREATEST_LIMIT`]: the most names that one may reach,
+/// What a registry opens with: its source, and its root maintainer with the salt and digest of its
+/// secret. And the limit of expansions, 1 to [`GREATEST_LIMIT`]: the most names that one may reach,
 /// and for a route-set the most pairs of a set and a range (profile).
 #[derive(Debug, Drop)]
 pub struct Settings {

@@ -1,4 +1,4 @@
-//! A registry and the store of its rows, which change together.
+//! A registry and the store of its rows, which change together: the ledger in a desk.
 
 ghost use Rattle.std.specs.Prelude.{◌≡◌, false, true, OnErr, Some, is_some};
 ghost use Rattle.std.specs.FinMap.{get};

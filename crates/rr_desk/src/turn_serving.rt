@@ -1,4 +1,4 @@
-//! Serving the connections of a listener, one after the other.
+//! Serving the connections of a listener, one after the other, as `irrdesk serve` does.
 
 ghost use Rattle.std.specs.Prelude.{◌+◌, ◌<◌, ◌^◌, false};
 ghost use Rattle.rr_desk.specs.TurnParts.{TakesTurn};
@@ -21,8 +21,9 @@ pub struct Served {
 }
 
 /// Takes so many turns of the listener, one after the other: accepts a connection, serves it, and
-/// closes it. A turn that fails is counted, and the next one follows. The turns there were and
-/// these are within `u64`.
+/// closes it. A turn that fails is counted, and the next one follows. The settings of the desk
+/// stay, its database lasts, and until a fault of the store stops it, its rows are those of its
+/// registry. The turns there were and these are within `u64`.
 pub fn serve_all<S: Alter, P: Peers, V: Service>(
     alloc: Global,
     desk: &mut Desk<S>,

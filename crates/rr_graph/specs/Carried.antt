@@ -19,15 +19,17 @@ module _ {N L : Type 0} (edge : N → N → L → Type 0) where
   abbrev pub Leads : N → N → Type 0
   Leads a b = (label : L) × edge a b label
 
-  -- Edges lead to the node from the start, whatever their labels.
+  -- A chain of edges leads to the node from the start, whatever the labels.
   abbrev pub IsReachedFrom : N → N → Type 0
   IsReachedFrom start node = IsReached Leads (start ∷ []) node
 
-  -- The nodes are those to which edges lead from the start.
+  -- The nodes are those to which edges lead from the start, whatever their labels; a node may be
+  -- listed more than once.
   abbrev pub AreReachedFrom : N → List N → Type 0
   AreReachedFrom start nodes = (node : N) → Contains nodes node ↔ IsReachedFrom start node
 
-  -- They are those, each listed once.
+  -- The nodes are those to which edges lead from the start, whatever their labels, each listed
+  -- once, as a walk lists a node when it meets it first. (profile)
   abbrev pub AreMetFrom : N → List N → Type 0
   AreMetFrom start nodes = AreReached Leads (start ∷ []) nodes
 
@@ -40,8 +42,8 @@ put_through passed (e ∷ es) value = option_and_then (passed e.label) (put_thro
 
 module _ {N L V : Type 0} (edge : N → N → L → Type 0) (own : N → V → Type 0)
     (passed : L → V → Option V) where
-  -- A chain from the node ends where a value is own, which its labels, the last first, make into
-  -- this value. (profile)
+  -- A value is found at a node: some chain from the node ends at a node that has a value by itself,
+  -- and the labels of the chain, the last first, make this value of it. (profile)
   abbrev pub IsFound : N → V → Type 0
   IsFound a value =
       (chain : List (Edge N L)) × (b : N) × (start : V) × IsLabelledChain edge a chain b
@@ -51,7 +53,7 @@ module _ {N L V : Type 0} (edge : N → N → L → Type 0) (own : N → V → T
   abbrev pub IsFoundPair : N → N × V → Type 0
   IsFoundPair start p = IsReachedFrom edge start p.0 × IsFound p.0 p.1
 
-  -- There are more than `limit` such pairs.
+  -- There are more than `limit` pairs of a reached node and a value that is found at it.
   abbrev pub HasManyPairs : ℕ → N → Type 0
   HasManyPairs limit start = MoreThan limit (IsFoundPair start)
 
@@ -60,8 +62,8 @@ module _ {N L V : Type 0} (edge : N → N → L → Type 0) (own : N → V → T
   abbrev pub IsTooMany : ℕ → N → Type 0
   IsTooMany limit start = MoreThan limit (IsReachedFrom edge start) ⊎ HasManyPairs limit start
 
-  -- What is gathered at the start: the nodes that are reached from it, and the values that are
-  -- found at it, in ascending order.
+  -- What is gathered at the start: the nodes to which edges lead from it, each listed once, and the
+  -- values that are found at it, in ascending order. (profile)
   pub record IsGathered (cmp : V → V → Ordering) (start : N) (gathered : Gathered N V)
       : Type 0 where
     pub nodes : AreMetFrom edge start gathered.nodes.items

@@ -57,7 +57,8 @@ module _ {N L V : Type 0} (keeps : L → Bool) (passed : L → V → Option V) w
 abbrev pub AddsAtMost : {M : Type 0} → (M → Bool) → (M → Bool) → M → Type 0
 AddsAtMost {M} old new mark = (m : M) → IsTrue (new m) → IsTrue (old m) ⊎ (mark ≡ m)
 
--- The mark is set; it is the first of its kind where it was not there yet.
+-- No mark but this one is added, and it is told whether it is the first, which was not there
+-- before.
 pub record SetsMark {M : Type 0} (old new : M → Bool) (mark : M) (first : Bool) : Type 0 where
   pub is_first : first ≡ not (old mark)
   pub marked : AddsAtMost old new mark

@@ -1,4 +1,4 @@
-//! Graphs whose edges carry labels, and whose nodes have values.
+//! Graphs whose edges carry labels, and whose nodes have values: what `gather` goes through.
 
 ghost use Rattle.std.specs.Prelude.{◌≡◌, ◌↔◌, Bool, Contains, IfOk, None, Option, false};
 ghost use Rattle.std.proofs.lemmas.Map.Lookups.{CmpEqualImpliesEq};
@@ -30,8 +30,8 @@ pub trait Labelled {
     /// compare `Equal` only where they are the same.
     type Kind: Ord + Copy + Drop;
 
-    /// What it leaves of the value, as the prefix of a range. Two groups compare `Equal` only where
-    /// they are the same.
+    /// What such a label leaves of the value, as the prefix of a range. Two groups compare `Equal`
+    /// only where they are the same.
     type Group: Ord + Copy + Drop;
 
     /// An edge with this label leads from the first node to the second.
@@ -49,10 +49,11 @@ pub trait Labelled {
     /// What labels that change values look at in the value.
     ghost kind_of: { Self.Value → Self.Kind };
 
-    /// What they leave of the value.
+    /// What labels that change values leave of the value.
     ghost group_of: { Self.Value → Self.Group };
 
-    /// Lists the edges that leave the node, in any order, where one may come twice.
+    /// Lists the edges that leave the node, in any order, where one may come twice; the error is
+    /// that memory ran out.
     fn edges(
         &self,
         alloc: Global,
@@ -61,7 +62,8 @@ pub trait Labelled {
         ensures { IfOk result (λ edges. (to : Self.Node) (label : Self.Label) → Contains
             edges.items (record { to = to; label = label }) ↔ edge self.now node.now to label) };
 
-    /// Lists the values that the node has by itself, in any order, where one may come twice.
+    /// Lists the values that the node has by itself, in any order, where one may come twice; the
+    /// error is that memory ran out.
     fn values(&self, alloc: Global, node: &Self::Node) -> Result<Vec<Self::Value>, AllocError>
         ensures { IfOk result (λ values. (value : Self.Value)
             → Contains values.items value ↔ own self.now node.now value) };
@@ -78,11 +80,11 @@ pub trait Labelled {
     fn kind(&self, value: Self::Value) -> Self::Kind
         ensures { result ≡ kind_of value };
 
-    /// What they leave of the value.
+    /// What labels that change values leave of the value.
     fn group(&self, value: Self::Value) -> Self::Group
         ensures { result ≡ group_of value };
 
-    /// Makes an equal node.
+    /// Makes an equal node; the error is that memory ran out.
     fn copy(&self, alloc: Global, node: &Self::Node) -> Result<Self::Node, AllocError>
         ensures { IfOk result (λ same. same ≡ node.now) };
 

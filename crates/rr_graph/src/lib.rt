@@ -1,5 +1,5 @@
-//! Which nodes of a directed graph are reached from given nodes, over any graph whose successors
-//! can be listed.
+//! Which nodes of a directed graph are reached from given nodes, and which values are found at
+//! them, over any graph whose edges can be listed: for the expansion of sets.
 #![tactic(auto)]
 
 ghost use Rattle.std.specs.Prelude.{◌≡◌, ◌↔◌, Contains, IfOk};
@@ -35,12 +35,12 @@ pub trait Graph {
     ghost edge: { Self → Self.Node → Self.Node → Type 0 };
 
     /// Lists the nodes to which an edge leads from `node`, in any order, where a node may come
-    /// twice.
+    /// twice; the error is that memory ran out.
     fn successors(&self, alloc: Global, node: &Self::Node) -> Result<Vec<Self::Node>, AllocError>
         ensures { IfOk result (λ nodes. (next : Self.Node)
             → Contains nodes.items next ↔ edge self.now node.now next) };
 
-    /// Makes an equal node.
+    /// Makes an equal node; the error is that memory ran out.
     fn copy(&self, alloc: Global, node: &Self::Node) -> Result<Self::Node, AllocError>
         ensures { IfOk result (λ same. same ≡ node.now) };
 
@@ -48,10 +48,10 @@ pub trait Graph {
     ghost exact: { CmpEqualImpliesEq Self.Node.cmp };
 }
 
-/// Why the reached nodes are not listed.
+/// Why what is reached is not listed.
 #[derive(Clone, Copy, Debug, PartialEq, Eq, Error)]
 pub enum ReachFault {
-    /// More nodes are reached than the limit.
+    /// More nodes are reached than the limit, or more pairs of a node and a value at it.
     #[error("too many nodes are reached")]
     TooMany,
     /// Memory ran out.

@@ -1,4 +1,4 @@
-//! Sets as sorted lists.
+//! Sets as sorted lists, of which all expansions and searches give some.
 
 ghost use Rattle.std.specs.Prelude.{◌≡◌, IfOk};
 ghost use Rattle.std.specs.List.Sorted.{IsStrictlySortedBy};
@@ -15,7 +15,8 @@ pub fn ascending<T: Ord + Drop>(alloc: Global, set: BTreeSet<T>) -> Result<Vec<T
     set.into_iter().collect(alloc)
 }
 
-/// Puts the list in ascending order, without repeats.
+/// Puts the list in ascending order, without repeats. It still has the same things, if only equal
+/// ones compare as equal.
 pub fn put_in_order<T: Ord + Drop>(list: &mut Vec<T>)
     ensures { PutsInOrder T.cmp list.old.items list.new.items }
 {

@@ -11,7 +11,7 @@ use Rattle.rr_submission.specs.declared.submission.Done.{Done}
 use Rattle.rr_submission.specs.declared.submission.DeskFault.{DeskFault}
 use Rattle.rr_submission.specs.declared.submission.DeskFault.TheVariants as fault
 use Rattle.rr_submission.specs.Handled.{StopsAt, HandlesThenStops}
-use Rattle.rr_submission.specs.Submissions.{Sides, Submits}
+use Rattle.rr_submission.specs.Submissions.{Sides, Submits, UnlessStoreFault}
 use Rattle.rr_desk.specs.declared.desk.Desk.{Desk}
 use Rattle.rr_desk.specs.declared.desk_dumping.DeskDumpFault.{DeskDumpFault}
 use Rattle.rr_desk.specs.declared.desk_dumping.DeskDumpFault.TheVariants.{Stopped}
@@ -64,6 +64,16 @@ submits_whole g old new source sides (Err (fault.StoreFault items)) submits = re
 }
 submits_whole g old new source sides (Err fault.Memory) submits = submits
 submits_whole g old new source sides (Err fault.Stopped) submits = submits
+
+-- a fact that always holds does so after any end of a submission
+pub unless_always : (result : Result Done DeskFault) (fact : Type 0) → fact →
+    UnlessStoreFault result fact
+unless_always (Ok done) fact holds = holds
+unless_always (Err (fault.ReadFault items)) fact holds = holds
+unless_always (Err (fault.WriteFault items)) fact holds = holds
+unless_always (Err (fault.StoreFault items)) fact holds = tt
+unless_always (Err fault.Memory) fact holds = holds
+unless_always (Err fault.Stopped) fact holds = holds
 
 -- a dump that is refused answers no count
 pub no_count : {W P : Type 0} (old new : W) (count : ℕ) → RefusesDump old new (Ok count) → P

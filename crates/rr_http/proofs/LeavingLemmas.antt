@@ -5,7 +5,7 @@ use Rattle.rr_desk.specs.Turns.{ConnEnd, Visit}
 use Rattle.rr_http.specs.declared.body_reading.BodyEnd.{BodyEnd}
 use Rattle.rr_http.specs.declared.registrar.Registrar.{Ghosts}
 use Rattle.rr_http.specs.Answering.{AnswersQuery}
-use Rattle.rr_http.specs.Leaving.{Leaves}
+use Rattle.rr_http.specs.Registrars.{Leaves}
 use Rattle.rr_http.specs.Requests.{Asks, refused, submission, query, dump}
 use Rattle.rr_http.specs.Serving.{ServesAsks, ServesBody, ServesWants, SubmitsRead}
 use Rattle.rr_http.specs.Wants.{Wants, whois, http}
@@ -37,7 +37,7 @@ module _ {D : Type 0} (registrar : Ghosts D) (still : (desk : D) → registrar.l
       (result : ConnEnd) → SubmitsRead registrar body size end before after old new result →
       Leaves registrar.ledger registrar.settings before after
   submission_leaves body size end old new result (inl unsubmitted) = same_leaves unsubmitted.same
-  submission_leaves body size end old new result (inr submitted) = submitted.keeps.leaves
+  submission_leaves body size end old new result (inr submitted) = submitted.leaves.leaves
 
   body_leaves : (buffered : List ℕ) (size : ℕ) (visit : Visit) →
       ServesBody registrar buffered size before after visit →

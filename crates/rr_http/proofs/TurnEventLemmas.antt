@@ -123,11 +123,13 @@ module _ {S : Type 0} (g : store.Ghosts S) where
       (record {
         refuses = λ halted. absurd (not_both before.stored.stopped halted running);
         submits = λ runs. as_stock before after before.settings.source _ it.done it.submits.submits;
-        runs_on = λ runs. it.keeps.running;
-        lasts = stays.lasts;
-        rows = stays.rows;
-        settings = stays.settings;
-        of_source = it.keeps.of_source;
+        leaves = record {
+          runs_on = λ runs. it.leaves.running;
+          rows = stays.rows;
+          of_source = it.leaves.of_source;
+          lasts = stays.lasts;
+          settings = stays.settings;
+        };
       })
 
   module _ (before after : Desk S) (stays : StaysServed g before after) where

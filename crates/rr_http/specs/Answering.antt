@@ -1,24 +1,21 @@
--- What a connection is answered, and what of it is written.
+-- What a connection is answered, and what of it is written: for `serve_one`.
 use Rattle.std.specs.Prelude.{◌≡◌, ◌≢◌, ℕ, Bool, true, false, ◌⊎◌, List, [], ◌++◌}
 use Rattle.std.specs.Prelude.{Result, Ok, Err, Some}
 use Rattle.std.proofs.Common.{inl, inr}
 use Rattle.rr_io.specs.Told.{Told, alone}
 use Rattle.rr_io.specs.Sending.{Takes, TakesPrefix, Writes}
 use Rattle.rr_text.specs.WholePart.{whole_part}
-use Rattle.rr_auth.specs.Sources.{IsRegistryOf}
 use Rattle.rr_submission.specs.declared.ledger.Ledger as ledger
 use Rattle.rr_submission.specs.declared.submission.Done.{Done}
 use Rattle.rr_submission.specs.declared.submission.DeskFault.{DeskFault}
 use Rattle.rr_submission.specs.declared.submission.DeskFault.TheVariants as fault
-use Rattle.rr_submission.specs.Submissions.{Sides, Submits, UnlessStoreFault, sides}
+use Rattle.rr_submission.specs.Submissions.{Sides, Submits, sides}
 use Rattle.rr_desk.specs.declared.desk_dumping.DeskDumpFault.{DeskDumpFault}
 use Rattle.rr_desk.specs.declared.desk_dumping.DeskDumpFault.TheVariants as dump_fault
 use Rattle.rr_desk.specs.declared.peers.ConnFault.TheVariants as conn_fault
 use Rattle.rr_desk.specs.Dumping.{Dumps}
 use Rattle.rr_desk.specs.Turns.{ConnEnd}
 use Rattle.rr_http.specs.declared.asking.Refusal.TheVariants.{Unavailable}
-use Rattle.rr_http.specs.declared.registrar.Registrar.{Ghosts}
-use Rattle.rr_http.specs.Leaving.{Leaves}
 use Rattle.rr_http.specs.Replies.{ok_head, refusal_reply}
 
 -- this text is the whole reply: a write failed where not all of it was taken
@@ -53,8 +50,8 @@ AnswersRunning Answers query before after old new result =
     (IsHeadCut old new result × (after ≡ before))
     ⊎ RepliesWithAnswer Answers ok_head query before after old new result
 
--- the answer to a query by HTTP: of a desk that is stopped that it is not served now, and of no
--- other
+-- the reply to a query by HTTP: where the desk is stopped, that the query is not served now;
+-- otherwise what a desk that runs answers
 abbrev pub AnswersQuery : {D : Type 0} → (D → List ℕ → List ℕ → D → Type 0) → Bool
     → List ℕ → D → D
     → Told → Told → ConnEnd → Type 0
@@ -71,7 +68,7 @@ dump_end (Err dump_fault.Write) = Err conn_fault.Write
 dump_end (Err dump_fault.Memory) = Ok tt
 dump_end (Err dump_fault.Stopped) = Ok tt
 
--- a dump after its head
+-- the head of a reply was written, and after it this dump, or a part of it where it was cut short
 pub record IsDumped (text : List ℕ) (old new : Told) (result : ConnEnd) : Type 0 where
   pub between : Told
   pub head : Takes old between ok_head
@@ -86,7 +83,8 @@ AnswersDump text stopped old new result =
     ((stopped ≡ true) × WritesReply (refusal_reply Unavailable) old new result)
     ⊎ ((stopped ≡ false) × (IsHeadCut old new result ⊎ IsDumped text old new result))
 
--- a reader of bytes in memory, with these left
+-- what a reader of bytes in memory tells, by those that are left, its failed reads and its other
+-- reads
 abbrev pub in_memory : List ℕ → ℕ → ℕ → Told
 in_memory bytes faults reads =
     record { bytes = Some bytes; faults = faults; reads = reads; aside = alone }
@@ -133,14 +131,3 @@ pub record SubmitsBody {D : Type 0} (g : ledger.Ghosts D) (source body : List �
       (body_sides g body rest faults reads before after old new) result
   pub tells : TellsMissing g source (body_sides g body rest faults reads before after old new)
       before after rest missing result submits
-
--- what a submission leaves of the desk: only a fault of the store stops it, and after any other end
--- the rows are those of its registry; it is left as by any connection, and a registry of its source
--- stays one
-pub record KeepsDesk {D : Type 0} (registrar : Ghosts D) (before after : D)
-    (result : Result Done DeskFault) : Type 0 where
-  pub running : UnlessStoreFault result (registrar.ledger.is_stopped after ≡ false)
-  pub leaves : Leaves registrar.ledger registrar.settings before after
-  pub kept : UnlessStoreFault result (registrar.ledger.Kept after)
-  pub of_source : IsRegistryOf (registrar.settings before).source (registrar.ledger.registry before)
-      → IsRegistryOf (registrar.settings after).source (registrar.ledger.registry after)

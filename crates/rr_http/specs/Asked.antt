@@ -1,4 +1,4 @@
--- What a request asks, as code says it.
+-- What a request asks, as code says it: for `read_request`.
 use Rattle.rr_http.specs.declared.asking.Asked.{Asked}
 use Rattle.rr_http.specs.declared.asking.Asked.TheVariants as asked
 use Rattle.rr_http.specs.Requests.{Asks, refused, submission, query, dump}

@@ -1,4 +1,4 @@
--- The body of a request: how it is read.
+-- The body of a request, and how `read_body` reads it.
 use Rattle.std.specs.Prelude.{◌≡◌, ℕ, ◌-◌, ◌<◌, List, ◌++◌, length}
 use Rattle.std.specs.Prelude.{take}
 use Rattle.rr_io.specs.Told.{Told}

@@ -22,15 +22,15 @@ ReadsRest old new before size after Broken =
 abbrev pub body_rest : Body → List ℕ
 body_rest body = body.rest.now
 
--- how many bytes of it never came
+-- how many bytes of a body never came
 abbrev pub body_missing : Body → ℕ
 body_missing body = body.missing
 
--- its reads that failed
+-- how many reads of a body failed
 abbrev pub body_failed : Body → ℕ
 body_failed body = body.failed
 
--- its reads that did not fail
+-- how many reads of a body did not fail
 abbrev pub body_reads : Body → ℕ
 body_reads body = body.reads
 
@@ -39,8 +39,8 @@ body_reads body = body.reads
 abbrev pub missing_beside : ℕ → Beside
 missing_beside missing = record { bytes = Some []; faults = missing; reads = 0 }
 
--- the bytes that are left are told, and as many zeros after them as never came, which a body never
--- gives
+-- what is told of a body: the bytes that are left, and as many zeros after them as never came,
+-- which a body never gives
 abbrev pub told_short : List ℕ → ℕ → ℕ → ℕ → Told
 told_short rest missing failed reads = record {
   bytes = Some (rest ++ replicate missing 0);
@@ -49,7 +49,7 @@ told_short rest missing failed reads = record {
   aside = missing_beside missing;
 }
 
--- so a body tells of itself
+-- what a body tells of itself
 abbrev pub body_told : Body → Told
 body_told body =
     told_short (body_rest body) (body_missing body) (body_failed body) (body_reads body)

@@ -1,4 +1,4 @@
--- A desk over tables as a registrar.
+-- A desk over tables as a registrar: what the trait `Registrar` means for it, and `Both` does.
 use Rattle.std.specs.Prelude.{◌≡◌, ℕ, false, List, Result}
 use Rattle.sqlite_trees.specs.declared.store.Store as store
 use Rattle.rr_answer.specs.declared.query_fault.QueryFault.{QueryFault}

@@ -1,4 +1,4 @@
--- What the end of serving a connection tells of its failed calls.
+-- What the end of serving a connection tells of its failed calls: for a law in `src/laws.rt`.
 use Rattle.std.specs.Prelude.{◌≡◌, ◌+◌, ◌<◌, ◌≤◌, ◌^◌, Ok, Err}
 use Rattle.rr_io.specs.Told.{Told}
 use Rattle.rr_desk.specs.declared.peers.ConnFault.TheVariants.{Read, Write}
@@ -6,9 +6,9 @@ use Rattle.rr_desk.specs.Turns.{ConnEnd, Visit}
 use Rattle.rr_http.specs.declared.registrar.Registrar.{Ghosts}
 use Rattle.rr_http.specs.Serving.{Serves}
 
--- a connection was served where no call of it failed (≤ says so of its writes, since their count
--- never falls); otherwise its fault is the read's where a read failed, and where only writes failed
--- the write's (profile)
+-- how serving a connection ended tells of its calls: well, that none failed (of writes ≤ says so,
+-- since their count never falls); by a read, that a read failed; and by a write, that only writes
+-- failed (profile)
 abbrev pub TellsCalls : Told → Told → Told → Told → ConnEnd → Type 0
 TellsCalls reader_old reader_new writer_old writer_new (Ok done) =
     (reader_new.faults ≡ reader_old.faults) × (writer_new.faults ≤ writer_old.faults)
@@ -29,7 +29,8 @@ TellsFaults visit =
     → TellsCalls visit.reader_before visit.reader_after visit.writer_before visit.writer_after
     visit.ended
 
--- how serving a connection ended tells of its failed calls
+-- how any connection of a registrar ends tells of its failed calls, where more can be counted
+-- (`TellsFaults`)
 abbrev pub EndsTellFailedCalls : {D : Type 0} → Ghosts D → Type 0
 EndsTellFailedCalls {D} registrar =
     (before after : D) (visit : Visit) → Serves registrar before after visit → TellsFaults visit

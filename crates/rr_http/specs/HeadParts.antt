@@ -9,7 +9,7 @@ use Rattle.rr_http.specs.declared.heads.Goal.{Goal}
 use Rattle.rr_http.specs.declared.heads.Goal.TheVariants.{Line, EmptyLine}
 use Rattle.rr_http.specs.declared.heads.Head.{Head}
 use Rattle.rr_http.specs.declared.heads.Head.TheVariants.{Http, Refused}
-use Rattle.rr_http.specs.declared.heads.TheConstants.{HEAD_SIZE}
+use Rattle.rr_http.specs.declared.heads.TheConstants.{HEAD_LIMIT}
 use Rattle.rr_http.specs.Heads.{head_length}
 use Rattle.rr_http.specs.Wants.{unended}
 
@@ -41,4 +41,4 @@ pub record ReadsOn (goal : Goal) (room : ℕ) (old new : Told) (before text : Li
 -- the head of a request, by where it ends among so many bytes
 abbrev pub request_head : ℕ → Option ℕ → Head
 request_head count (Some place) = Http place
-request_head count None = Refused (unended (nat_le HEAD_SIZE count))
+request_head count None = Refused (unended (nat_le HEAD_LIMIT count))

@@ -1,4 +1,5 @@
--- What is read at the head of a connection: its first line, and the head of a request.
+-- What is read at the head of a connection: where its first line and the head of a request end.
+-- `Wants.antt` uses it.
 use Rattle.std.specs.Prelude.{ℕ, ◌+◌, Bool, ◌==◌, ◌&&◌, nat_lt, List, [], ◌∷◌}
 use Rattle.std.specs.Prelude.{Option, None, Some}
 use Rattle.std.specs.Prelude.{if◌then◌else◌}

@@ -8,7 +8,7 @@ pub mod Replies
 pub mod Wants
 pub mod Bodies
 pub mod BodyParts
-pub mod Leaving
+pub mod Registrars
 pub mod Answering
 pub mod Serving
 pub mod ServingParts

@@ -1,4 +1,5 @@
 -- The first line of a connection: which protocol it speaks, and what it wants by whois.
+-- `Wants.antt` uses it.
 use Rattle.std.specs.Prelude.{ℕ, ◌-◌, Bool, ◌==◌, ◌||◌, List, [], ◌∷◌, length}
 use Rattle.std.specs.Prelude.{take, codes, nat_eq}
 use Rattle.std.specs.Prelude.{if◌then◌else◌}

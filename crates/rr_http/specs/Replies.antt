@@ -1,4 +1,4 @@
--- The bytes of replies (RFC 9112, 4; profile).
+-- The bytes of replies (RFC 9112, 4; profile): for `write_refusal` and what is answered.
 use Rattle.std.specs.Prelude.{ℕ, ◌+◌, List, [], ◌++◌, length, codes, decimal}
 use Rattle.http.specs.StatusCode.{code_digits}
 use Rattle.rr_http.specs.declared.asking.Refusal.{Refusal}
@@ -19,7 +19,8 @@ status_of LengthRequired = 411
 status_of PayloadTooLarge = 413
 status_of Unavailable = 503
 
--- its reason words (RFC 9110, 15; for 431 RFC 6585, 5; for 413 those of RFC 7231, 6.5.11)
+-- the reason words of a refusal (RFC 9110, 15; for 431 RFC 6585, 5; for 413 those of RFC 7231,
+-- 6.5.11)
 abbrev pub reason_of : Refusal → List ℕ
 reason_of HeadTooLarge = codes "Request Header Fields Too Large"
 reason_of BadRequest = codes "Bad Request"
@@ -30,11 +31,12 @@ reason_of LengthRequired = codes "Length Required"
 reason_of PayloadTooLarge = codes "Payload Too Large"
 reason_of Unavailable = codes "Service Unavailable"
 
--- the code and the reason words
+-- the status of a refusal in words: its code and its reason words
 unfoldable pub status_words : Refusal → List ℕ
 status_words refusal = code_digits (status_of refusal) ++ (codes " " ++ reason_of refusal)
 
--- where the method is refused, the one of the page is named (RFC 9110, 10.2.1)
+-- the line of a refusal that names the method of the page, where another was asked with; otherwise
+-- nothing (RFC 9110, 10.2.1)
 abbrev pub allow_line : Refusal → List ℕ
 allow_line (MethodNotAllowed page) = codes "Allow: " ++ (method_of page ++ codes "\r\n")
 allow_line other = []

@@ -1,4 +1,5 @@
--- What a connection that tells its bytes is answered, by the bytes that it gives.
+-- What a connection that tells its bytes is answered, by the bytes that it gives: for laws in
+-- `src/laws.rt`.
 use Rattle.std.specs.Prelude.{◌≡◌, ℕ, ◌<◌, true, false, ◌⊎◌, List, [], ◌++◌, length}
 use Rattle.std.specs.Prelude.{map, drop, Ok, Err}
 use Rattle.std.specs.Prelude.{Some}
@@ -141,7 +142,7 @@ pub record IsWholeReport {D : Type 0} (registrar : Ghosts D) (body : List ℕ) (
   pub is : answered ≡ ok_head ++ report Complete items outcomes
 
 -- a submission that ended well misses no byte of its body, and is answered with the whole report on
--- it
+-- it. Its writer tells its bytes, of which there were none, and took the head of a reply first
 abbrev pub AnswersWithItsReport : {D : Type 0} → Ghosts D → Type 0
 AnswersWithItsReport {D} registrar =
     (before after : D) (old between new : Told) (body answered : List ℕ) (missing : ℕ)

@@ -1,4 +1,5 @@
--- What a request asks, by its method, its target and its fields (RFC 9110; profile).
+-- What a request asks, by its method, its target and its fields (RFC 9110; profile): for
+-- `read_request`.
 use Rattle.std.specs.Prelude.{ℕ, ◌≤◌, Bool, false, nat_eq, ◌==◌, ◌&&◌, not, nat_lt}
 use Rattle.std.specs.Prelude.{nat_le}
 use Rattle.std.specs.Prelude.{List, [], ◌∷◌, length, map, filter, drop, codes, Option, None}
@@ -15,7 +16,7 @@ use Rattle.rr_http.specs.declared.asking.Refusal.{Refusal}
 use Rattle.rr_http.specs.declared.asking.Refusal.TheVariants.{BadRequest, NotImplemented, NotFound}
 use Rattle.rr_http.specs.declared.asking.Refusal.TheVariants.{MethodNotAllowed, LengthRequired}
 use Rattle.rr_http.specs.declared.asking.Refusal.TheVariants.{PayloadTooLarge}
-use Rattle.rr_http.specs.declared.body_size.TheConstants.{BODY_SIZE}
+use Rattle.rr_http.specs.declared.body_size.TheConstants.{BODY_LIMIT}
 
 -- a field of a head: its name, and its value less the white space around it (RFC 9110, 5)
 abbrev pub HeadField : Type 0
@@ -75,7 +76,7 @@ is_length (b ∷ bs) = list_all is_ascii_digit (b ∷ bs)
 unfoldable pub size_of : List ℕ → Result ℕ Refusal
 size_of value =
     if is_length value
-    then (if nat_le (digits_value 10 value) BODY_SIZE then Ok (digits_value 10 value)
+    then (if nat_le (digits_value 10 value) BODY_LIMIT then Ok (digits_value 10 value)
     else Err PayloadTooLarge)
     else Err BadRequest
 
@@ -85,7 +86,7 @@ body_size [] = Err LengthRequired
 body_size (value ∷ []) = size_of value
 body_size (value ∷ other ∷ rest) = Err BadRequest
 
--- what is asked with a body of that size, or the refusal
+-- what is asked by a submission whose body has this size, or whose size is refused so
 abbrev pub asks_submission : Result ℕ Refusal → Asks
 asks_submission (Ok size) = submission size
 asks_submission (Err refusal) = refused refusal
@@ -103,7 +104,8 @@ asks_page path fields page.Submissions =
 asks_page path fields page.Query = query (after_query path)
 asks_page path fields page.Dump = dump
 
--- what is asked at a path
+-- what is asked at a path: it is refused where no page stands there, or by another method than that
+-- of the page
 abbrev pub asks_at : List ℕ → List ℕ → List HeadField → Option Page → Asks
 asks_at method path fields None = refused NotFound
 asks_at method path fields (Some found) =
@@ -118,7 +120,7 @@ asks_of method target fields =
     if has_field (codes "Transfer-Encoding") fields then refused NotImplemented
     else asks_at method (path_of target) fields (page_of (path_of target))
 
--- the query of a request is a part of its head, which has so many bytes (RFC 9112, 2.1)
+-- the query of a request has no more bytes than its head, which has so many (RFC 9112, 2.1)
 abbrev pub HasQueryWithin : ℕ → Asks → Type 0
 HasQueryWithin size (refused refusal) = Unit {0}
 HasQueryWithin size (submission body) = Unit {0}

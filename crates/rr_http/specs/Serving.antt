@@ -1,5 +1,5 @@
--- What serving a connection does: what is read of it, what it is answered, and what that leaves of
--- the desk.
+-- What serving a connection does, for `serve_one`: what is read of it, what it is answered, and
+-- what that leaves of the desk.
 use Rattle.std.specs.Prelude.{◌≡◌, ℕ, ◌-◌, ◌<◌, Bool, true, false, nat_lt, IsTrue, ◌⊎◌}
 use Rattle.std.specs.Prelude.{List, [], ◌++◌}
 use Rattle.std.specs.Prelude.{length, drop, Result, Ok, Err}
@@ -14,9 +14,10 @@ use Rattle.rr_desk.specs.Turns.{ConnEnd, Visit}
 use Rattle.rr_http.specs.declared.body_reading.BodyEnd.{BodyEnd}
 use Rattle.rr_http.specs.declared.body_reading.BodyEnd.TheVariants.{Whole, Short, Broken}
 use Rattle.rr_http.specs.declared.registrar.Registrar.{Ghosts}
-use Rattle.rr_http.specs.Answering.{AnswersDump, AnswersQuery, IsUnavailable, KeepsDesk}
+use Rattle.rr_http.specs.Answering.{AnswersDump, AnswersQuery, IsUnavailable}
 use Rattle.rr_http.specs.Answering.{RepliesWithAnswer, SubmitsBody, WritesReply}
 use Rattle.rr_http.specs.Bodies.{ReadsBody}
+use Rattle.rr_http.specs.Registrars.{LeavesSubmitted}
 use Rattle.rr_http.specs.Replies.{ok_head, refusal_reply}
 use Rattle.rr_http.specs.Requests.{Asks, refused, submission, query, dump}
 use Rattle.rr_http.specs.Wants.{IsUndecided, IsWanted, ReadsHead, Wants, whois, http}
@@ -39,7 +40,7 @@ pub record IsSubmitted {D : Type 0} (registrar : Ghosts D) (body : List ℕ) (si
   pub head : Takes old between ok_head
   pub submits : SubmitsBody registrar.ledger (registrar.settings before).source body
       (size - length body) before after between new done
-  pub keeps : KeepsDesk registrar before after done
+  pub leaves : LeavesSubmitted registrar.ledger registrar.settings before after done
   pub ends : result ≡ end_by end (nat_lt old.faults new.faults)
 
 -- the head of the reply could not be written, and nothing is submitted
@@ -172,7 +173,7 @@ pub record IsBroken {D : Type 0} (before after : D) (visit : Visit) : Type 0 whe
   pub same : after ≡ before
   pub failed : visit.ended ≡ Err conn_fault.Read
 
--- a connection broke off, or it was served
+-- what serving a connection does: it broke off before it was known what it wants, or that was done
 abbrev pub Serves : {D : Type 0} → Ghosts D → D → D → Visit → Type 0
 Serves registrar before after visit =
     IsBroken before after visit ⊎ IsServed registrar before after visit

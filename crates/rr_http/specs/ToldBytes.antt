@@ -1,4 +1,4 @@
--- What is said of a connection that tells all of its bytes.
+-- What is said of a connection that tells all of its bytes: for laws in `src/laws.rt`.
 use Rattle.std.specs.Prelude.{◌≡◌, ℕ, ◌<◌, ◌≤◌, Bool, IsTrue, List, [], ◌++◌}
 use Rattle.std.specs.Prelude.{length, take, drop}
 use Rattle.std.specs.Prelude.{Some}

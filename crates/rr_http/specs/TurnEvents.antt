@@ -1,5 +1,5 @@
 -- What the turns of a served desk are: events of its database, by the bytes of each connection and
--- of the reply to it (profile).
+-- of the reply to it (profile). A law in `src/laws.rt` says that they are.
 use Rattle.std.specs.Prelude.{◌≡◌, ◌⊎◌, ℕ, Bool, false, IsTrue, List, [], ◌∷◌, ◌++◌}
 use Rattle.std.specs.Prelude.{drop, Option, None, Some, Result, Err}
 use Rattle.percent_encoding.specs.Percent.{percent_decode}
@@ -24,7 +24,7 @@ use Rattle.rr_http.specs.Requests.{Asks, refused, submission, query, dump}
 use Rattle.rr_http.specs.Serving.{Replies, visit_from}
 use Rattle.rr_http.specs.Wants.{IsUndecided, IsWanted, ReadsHead, Wants, whois, http}
 
--- this page is the reply, and nothing was done
+-- this text is the reply to a connection, and nothing was done
 abbrev pub IsTurnedDown : List ℕ → Visit → List Event → Type 0
 IsTurnedDown page visit events = (events ≡ []) × Replies page visit
 
@@ -117,7 +117,8 @@ pub record AreEvents {S : Type 0} (g : store.Ghosts S) (visits : List (Option Vi
   pub are_turns : AreTurns visits events
   pub history : History g (at_desk before) events (at_desk after)
 
--- the turns of a desk that is served by whois and HTTP are such events
+-- the turns of a desk that is served by whois and HTTP are events of a history of its database
+-- (`AreEvents`)
 abbrev pub TurnsAreEvents : {S : Type 0} → store.Ghosts S → Type 0
 TurnsAreEvents {S} g =
     (visits : List (Option Visit)) (before after : Desk S)

@@ -1,4 +1,5 @@
--- What a connection wants, by the bytes that it gives (RFC 3912, RFC 9112; profile).
+-- What a connection wants, by the bytes that it gives (RFC 3912, RFC 9112; profile): for
+-- `read_head`, `read_request` and `serve_one`.
 use Rattle.std.specs.Prelude.{◌≡◌, ℕ, ◌<◌, ◌≤◌, Bool, true, false, nat_le, IsTrue}
 use Rattle.std.specs.Prelude.{is_some, ◌⊎◌}
 use Rattle.std.specs.Prelude.{List, ◌++◌, length, map, take, [], Option, None, Some}
@@ -12,7 +13,7 @@ use Rattle.rr_http.specs.declared.asking.Refusal.TheVariants.{BadRequest, HeadTo
 use Rattle.rr_http.specs.declared.asking.TheConstants.{FIELD_LIMIT}
 use Rattle.rr_http.specs.declared.heads.Head.{Head}
 use Rattle.rr_http.specs.declared.heads.Head.TheVariants.{Whois, Http, Refused}
-use Rattle.rr_http.specs.declared.heads.TheConstants.{HEAD_SIZE}
+use Rattle.rr_http.specs.declared.heads.TheConstants.{HEAD_LIMIT}
 use Rattle.rr_http.specs.Heads.{has_line_feed, head_length}
 use Rattle.rr_http.specs.Lines.{speaks_http, whois_query}
 use Rattle.rr_http.specs.Requests.{Asks, asks_of, refused}
@@ -60,13 +61,13 @@ HeadWants true bytes full wants = RequestWants (head_length bytes) bytes full wa
 
 -- so many bytes are as many as are read of a connection before it is known what it wants
 abbrev pub is_full : List ℕ → Bool
-is_full bytes = nat_le HEAD_SIZE (length bytes)
+is_full bytes = nat_le HEAD_LIMIT (length bytes)
 
 -- what a connection wants that gives these bytes in all: its first 8,192 bytes alone say it
 -- (profile)
 abbrev pub IsWanted : List ℕ → Wants → Type 0
 IsWanted bytes wants =
-    HeadWants (speaks_http (take HEAD_SIZE bytes)) (take HEAD_SIZE bytes) (is_full bytes) wants
+    HeadWants (speaks_http (take HEAD_LIMIT bytes)) (take HEAD_LIMIT bytes) (is_full bytes) wants
 
 -- bytes say what the connection wants: by HTTP they have the head of a request, otherwise a first
 -- line (profile)
@@ -82,20 +83,20 @@ says_wants bytes = says_by (speaks_http bytes) bytes
 -- that the connection has
 abbrev pub IsDecided : List ℕ → Bool → Type 0
 IsDecided bytes at_end =
-    IsTrue (says_wants bytes) ⊎ ((length bytes ≡ HEAD_SIZE) ⊎ IsTrue at_end)
+    IsTrue (says_wants bytes) ⊎ ((length bytes ≡ HEAD_LIMIT) ⊎ IsTrue at_end)
 
 -- the head of a connection was read, so far that it is known what it wants; the input may have
 -- ended there
 pub record ReadsHead (old new : Told) (head : List ℕ) (at_end : Bool) : Type 0 where
   pub gives : Gives old new head
-  pub short : length head ≤ HEAD_SIZE
+  pub short : length head ≤ HEAD_LIMIT
   pub settled : IsDecided head at_end
   pub spent : IsTrue at_end → IsSpent new
 
 -- bytes do not say yet what the connection wants
 pub record IsUndecided (bytes : List ℕ) : Type 0 where
   pub unsaid : says_wants bytes ≡ false
-  pub room_left : length bytes < HEAD_SIZE
+  pub room_left : length bytes < HEAD_LIMIT
 
 -- a read failed before it was known what the connection wants (profile)
 abbrev pub BreaksHead : Told → Told → Type 0
@@ -116,9 +117,10 @@ IsHead bytes (Refused refusal) =
 abbrev pub FindsHead : Told → Told → List ℕ → Head → Type 0
 FindsHead old new bytes head = (at_end : Bool) × ReadsHead old new bytes at_end × IsHead bytes head
 
--- what is wanted by the head of a connection is wanted by all that it gives, whatever may follow
+-- what is wanted by the head of a connection, once enough of it was read to know that, is wanted by
+-- all that the connection gives, whatever may follow
 abbrev pub WantsByItsHead : Type 0
 WantsByItsHead =
-    (head more : List ℕ) (at_end : Bool) (wants : Wants) → length head ≤ HEAD_SIZE
+    (head more : List ℕ) (at_end : Bool) (wants : Wants) → length head ≤ HEAD_LIMIT
     → IsDecided head at_end → (IsTrue at_end → more ≡ [])
     → HeadWants (speaks_http head) head (is_full head) wants → IsWanted (head ++ more) wants

@@ -1,15 +1,17 @@
-//! What each thing that a connection wants is answered.
+//! The answers to what a connection wants: a query, the public dump, a submission, or a refusal.
+//! `serving` gives them.
 
 ghost use Rattle.std.specs.Prelude.{◌≡◌, ◌≤◌, [], Err, false, length, take};
 ghost use Rattle.percent_encoding.specs.Percent.{percent_decode};
-ghost use Rattle.rr_http.specs.Answering.{AnswersDump, AnswersQuery, AnswersRunning, KeepsDesk};
+ghost use Rattle.rr_http.specs.Answering.{AnswersDump, AnswersQuery, AnswersRunning};
 ghost use Rattle.rr_http.specs.Answering.{RepliesWithAnswer, SubmitsBody, WritesReply, dump_end};
+ghost use Rattle.rr_http.specs.Registrars.{LeavesSubmitted};
 ghost use Rattle.rr_http.specs.Replies.{refusal_reply};
 
 use crate::asking::Refusal;
 use crate::body::Body;
-use crate::body_size::BODY_SIZE;
-use crate::heads::HEAD_SIZE;
+use crate::body_size::BODY_LIMIT;
+use crate::heads::HEAD_LIMIT;
 use crate::registrar::Registrar;
 use crate::replying::{write_ok_head, write_refusal};
 use percent_encoding::percent_decode;
@@ -54,7 +56,7 @@ pub(crate) fn answer_query<D: Registrar, W: Sink>(
     escaped: &[u8],
     writer: &mut W,
 ) -> Result<(), ConnFault>
-    requires { length escaped.now ≤ HEAD_SIZE }
+    requires { length escaped.now ≤ HEAD_LIMIT }
     ensures { AnswersQuery D.Answers (D.ledger.is_stopped desk.old)
         (percent_decode escaped.now) desk.old desk.new
         (W.told writer.old) (W.told writer.new) result }
@@ -62,7 +64,7 @@ pub(crate) fn answer_query<D: Registrar, W: Sink>(
     if desk.stopped() {
         return refuse(writer, Refusal::Unavailable);
     }
-    let mut query = [0u8; HEAD_SIZE];
+    let mut query = [0u8; HEAD_LIMIT];
     let count = decode(escaped, &mut query);
     give_answer(alloc, desk, &query[..count], writer)
 }
@@ -145,11 +147,11 @@ pub(crate) fn submit_body<D: Registrar, W: Sink>(
     missing: usize,
     writer: &mut W,
 ) -> Result<Done, DeskFault>
-    requires small { length bytes.now ≤ BODY_SIZE }
+    requires small { length bytes.now ≤ BODY_LIMIT }
     requires running { D.ledger.is_stopped desk.old ≡ false }
     ensures submits { SubmitsBody D.ledger (D.settings desk.old).source bytes.now missing
         desk.old desk.new (W.told writer.old) (W.told writer.new) result }
-    ensures keeps { KeepsDesk D.Registrar desk.old desk.new result }
+    ensures leaves { LeavesSubmitted D.ledger D.settings desk.old desk.new result }
 {
     let mut body = Body::new(bytes, missing);
     desk.submit(alloc, &mut body, writer)

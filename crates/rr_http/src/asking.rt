@@ -1,4 +1,5 @@
-//! What a request asks: its page, its method, and the size of its body.
+//! What a request asks, read from its head: its page, its method, and the size of its body.
+//! `serving` does what it asks.
 
 ghost use Rattle.std.specs.Prelude.{◌≡◌, Some, codes, length};
 ghost use Rattle.std.specs.Str.{bytes_eq};
@@ -10,7 +11,7 @@ ghost use Rattle.rr_http.specs.Requests.{is_length, is_query_path, is_segment};
 ghost use Rattle.rr_http.specs.Requests.{method_of, page_of, size_of, values_of};
 ghost use Rattle.rr_http.specs.Wants.{RequestAsks};
 
-use crate::body_size::{BODY_SIZE, BodySize};
+use crate::body_size::{BODY_LIMIT, BodySize};
 use crate::fields::Fields;
 use http::Method;
 use httparse::Status;
@@ -112,7 +113,9 @@ pub enum Asked<'a> {
     Dump,
 }
 
-/// What a request asks whose head is this; what is no head of a request is refused (RFC 9112, 2.1).
+/// What is asked by the request whose head this text begins with. A text that begins with none, or
+/// with one of more than 64 fields, is refused as a bad request (RFC 9112, 2.1; profile). A query
+/// has no more bytes than the text.
 pub fn read_request(head: &[u8]) -> Asked<'_>
     ensures asks { RequestAsks head.now (view_of result) }
     ensures within { HasQueryWithin (length head.now) (view_of result) }
@@ -191,7 +194,7 @@ fn size_of(text: &[u8]) -> Result<BodySize, Refusal>
     if !is_length(text) {
         return Err(Refusal::BadRequest);
     }
-    match BodySize::new(capped_value(text, BODY_SIZE)) {
+    match BodySize::new(capped_value(text, BODY_LIMIT)) {
         Some(size) => Ok(size),
         None => Err(Refusal::PayloadTooLarge),
     }

@@ -1,4 +1,4 @@
-//! The body of a request as a reader.
+//! The body of a request as the reader that `answering` gives a submission.
 
 ghost use Rattle.std.specs.Prelude.{◌≡◌, ◌<◌, []};
 

@@ -1,4 +1,4 @@
-//! The body of a request, read whole before it is submitted.
+//! The body of a request, which `serving` reads whole before it is submitted.
 
 ghost use Rattle.std.specs.Prelude.{◌≡◌, ◌<◌, ◌≤◌, length, IfOk, OnErr, vec_capacity};
 ghost use Rattle.rr_http.specs.Bodies.{ReadsBody};
@@ -21,8 +21,8 @@ pub enum BodyEnd {
 
 /// Reads the body of a request, of this size, the first bytes of which are those that came with its
 /// head: gives its bytes, or those that came of it, and how the reading ended. No byte after the
-/// body is asked for. The error is that memory ran out for a body that is not
-/// empty, and nothing is read then.
+/// body is read. The error is that memory ran out for a body that is not empty, and nothing is
+/// read then.
 pub fn read_body<R: Source>(
     alloc: Global,
     reader: &mut R,

@@ -1,4 +1,4 @@
-//! Both protocols on one port.
+//! Both protocols on one port, as the program serves a desk.
 
 ghost use Rattle.rr_http.specs.DeskRegistrars.{serves_desk};
 

@@ -1,4 +1,4 @@
-//! A desk over tables as a registrar.
+//! A desk over tables as a registrar, as the program serves it.
 
 ghost use Rattle.rr_desk.specs.Lasting.{database_still};
 ghost use Rattle.rr_http.specs.DeskLeaving.{desk_answer_leaves};

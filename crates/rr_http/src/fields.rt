@@ -1,4 +1,4 @@
-//! The fields of the head of a request.
+//! The fields of the head of a request, which `asking` looks up by name.
 
 ghost use Rattle.std.specs.Prelude.{All, length};
 ghost use Rattle.httparse.specs.Spans.{IsHeaderWithin};
@@ -28,7 +28,7 @@ impl<'a> Fields<'a> {
         Fields { head, spans }
     }
 
-    /// The value of the first field of this name, and the fields after it.
+    /// The value of the first field of this name, and the fields after it; `None` if there is none.
     pub(crate) fn find(self, name: &[u8]) -> Option<(&'a [u8], Fields<'a>)>
         ensures { MatchOption result (values_of name.now (fields_in self.entry) ≡ [])
             (λ found. values_of name.now (fields_in self.entry)

@@ -1,4 +1,4 @@
-//! The head of a connection: the bytes by which it says what it wants.
+//! The head of a connection: the bytes by which it says what it wants. `serving` reads it first.
 
 ghost use Rattle.std.specs.Prelude.{◌≡◌, ◌≤◌, None, false, length, take, IfOk, IfSome};
 ghost use Rattle.std.specs.Prelude.{OnErr};
@@ -13,7 +13,7 @@ use rr_io::Source;
 use std::io;
 
 /// How many bytes of a connection are read at most before it is known what it wants (profile).
-pub const HEAD_SIZE: usize = 8_192;
+pub const HEAD_LIMIT: usize = 8_192;
 
 /// What stands at the head of a connection.
 #[derive(Clone, Copy, Debug, PartialEq, Eq)]
@@ -26,12 +26,12 @@ pub enum Head {
     Refused(Refusal),
 }
 
-/// Reads the head of a connection into `buf`: gives what it is, and how many bytes were read. Its
-/// first line and the head of a request are looked through once, as they come. A failed read is the
-/// error.
+/// Reads the head of a connection into `buf`, which has 8,192 bytes, until it is known what the
+/// connection wants. Gives what stands there, and how many bytes were read. The error is a failed
+/// read before that is known.
 pub fn read_head<R: Source>(reader: &mut R, buf: &mut [u8]) -> io::Result<(Head, usize)>
-    requires { length buf.old ≡ HEAD_SIZE }
-    ensures within { IfOk result (λ read. read.1 ≤ HEAD_SIZE) }
+    requires { length buf.old ≡ HEAD_LIMIT }
+    ensures within { IfOk result (λ read. read.1 ≤ HEAD_LIMIT) }
     ensures finds { IfOk result
         (λ read. FindsHead (R.told reader.old) (R.told reader.new) (take read.1 buf.new) read.0) }
     ensures breaks { OnErr result (BreaksHead (R.told reader.old) (R.told reader.new)) }
@@ -65,7 +65,7 @@ fn request_head(count: usize, place: Option<usize>) -> Head
 {
     match place {
         Some(length) => Head::Http(length),
-        None => Head::Refused(if HEAD_SIZE <= count {
+        None => Head::Refused(if HEAD_LIMIT <= count {
             Refusal::HeadTooLarge
         } else {
             Refusal::BadRequest

@@ -10,7 +10,8 @@ ghost use Rattle.rr_http.specs.Wants.{WantsByItsHead};
 use crate::registrar::Registrar;
 use sqlite::Alter;
 
-/// What is wanted by the head of a connection is wanted by all that it gives, whatever may follow.
+/// What is wanted by the head of a connection, once enough of it was read to know that, is wanted
+/// by all that the connection gives, whatever may follow.
 pub fn wants_by_its_head()
     ensures { WantsByItsHead }
 {}
@@ -21,20 +22,21 @@ pub fn wants_by_its_bytes()
 {}
 
 /// The body that is read of a connection that tells its bytes is what stands after the head, up to
-/// its length.
+/// its length or as far as it came.
 pub fn body_follows_its_head()
     ensures { BodyFollowsItsHead }
 {}
 
-/// A connection that tells its bytes is answered with its reply, by whois or HTTP: whole, or cut
-/// off where a write failed, a dump also where memory ran out. Nothing is answered if a read failed
-/// before it was known what is wanted.
+/// A connection that tells its bytes, and to which nothing was written, is answered with its reply,
+/// by whois or HTTP. It is whole, or cut off where a write failed, a dump also where memory ran
+/// out. Nothing is answered if a read failed before it was known what is wanted.
 pub fn answers_with_its_reply<D: Registrar>()
     ensures { AnswersWithItsReply D.Registrar }
 {}
 
-/// A submission that ended well is answered with the whole report on its body, of which no byte is
-/// missing.
+/// A submission that ended well is answered with the whole report on its body, after the head of a
+/// reply, and no byte of the body is missing. The connection tells its bytes, and nothing was
+/// written to it before.
 pub fn answers_with_its_report<D: Registrar>()
     ensures { AnswersWithItsReport D.Registrar }
 {}
@@ -45,9 +47,9 @@ pub fn ends_tell_failed_calls<D: Registrar>()
     ensures { EndsTellFailedCalls D.Registrar }
 {}
 
-/// The turns of a desk that is served by whois and HTTP are events of a history of its database:
-/// each query with its answer, the public dump and each submission, by the bytes of the connection
-/// and of the reply to it; any other turn does nothing.
+/// The turns of a desk that is served by whois and HTTP are events of a history of its database.
+/// Each is a query with its answer, the public dump or a submission, by the bytes of the connection
+/// and of the reply to it, or does nothing.
 pub fn turns_are_events<S: Alter>()
     ensures { TurnsAreEvents S.Store }
 {}

@@ -1,5 +1,9 @@
 //! Connections of whois and HTTP: what each wants, and the bytes that answer it (RFC 3912, RFC
 //! 9112).
+//!
+//! The program uses [`Both`], and the proofs of other crates the laws. The other names that are
+//! exported, [`serve_one`] and [`Registrar`] among them, are there for the tests of
+//! `rr_service_tests`.
 #![tactic(auto)]
 
 mod answering;
@@ -18,9 +22,9 @@ mod serving;
 
 pub use asking::{Asked, Page, Refusal, read_request};
 pub use body_reading::{BodyEnd, read_body};
-pub use body_size::{BODY_SIZE, BodySize};
+pub use body_size::{BODY_LIMIT, BodySize};
 pub use both::Both;
-pub use heads::{HEAD_SIZE, Head, read_head};
+pub use heads::{HEAD_LIMIT, Head, read_head};
 pub use registrar::Registrar;
 pub use replying::write_refusal;
 pub use serving::serve_one;

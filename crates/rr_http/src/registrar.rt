@@ -1,14 +1,11 @@
-//! Whom connections ask: a desk, or what does as one.
+//! Whom connections ask: a desk (`desk_registrar`), or what does as one. `serve_one` alone asks it.
 
 ghost use Rattle.std.specs.Prelude.{◌≡◌, true, false, ℕ, List};
-ghost use Rattle.rr_io.specs.Sending.{Writes};
 ghost use Rattle.rr_submission.specs.declared.ledger.Ledger.{Ghosts};
-ghost use Rattle.rr_auth.specs.Sources.{IsRegistryOf};
 ghost use Rattle.rr_submission.specs.Submissions.{RefusesSubmission, SubmitsText};
-ghost use Rattle.rr_submission.specs.Submissions.{UnlessStoreFault};
 ghost use Rattle.rr_desk.specs.Dumping.{Dumps, RefusesDump};
 ghost use Rattle.rr_desk.specs.Settings.{SettingsParts};
-ghost use Rattle.rr_http.specs.Leaving.{Leaves};
+ghost use Rattle.rr_http.specs.Registrars.{AnswersInWriting, Leaves, LeavesSubmitted};
 
 use rr_desk::{DeskDumpFault, DeskFault, Done, WriteFault};
 use rr_io::{Sink, Source};
@@ -40,8 +37,8 @@ pub trait Registrar {
         query: &[u8],
         writer: &mut W,
     ) -> Result<(), WriteFault>
-        ensures { (text : List ℕ) × Answers self.old query.now text self.new
-            × Writes (W.told writer.old) (W.told writer.new) text result };
+        ensures { AnswersInWriting Answers query.now self.old self.new
+            (W.told writer.old) (W.told writer.new) result };
 
     /// Writes the public dump. The fault is that it is stopped, and then nothing is written; or a
     /// write failed or memory ran out, and then a part of the dump is.
@@ -51,9 +48,11 @@ pub trait Registrar {
         ensures dumps { ledger.is_stopped self.now ≡ false
             → Dumps (dumped self.now) (W.told writer.old) (W.told writer.new) result };
 
-    /// Submits what the reader gives, and writes the report, if it is not stopped. Only a fault of
-    /// the store stops it, and after any other end the rows are those of its registry. A registry
-    /// of its source stays one. What the holders of a prefix hold is changed by nobody else.
+    /// Submits what the reader gives, and writes the report; a stopped one refuses that, and stays
+    /// as it is. Only a fault of the store stops it, and after any other end it keeps what it is to
+    /// keep, as a desk the rows of its registry. What is to last of it lasts, its settings stay,
+    /// and a registry of its source stays one. Up to a fault of the store, what the holders of a
+    /// prefix hold is changed by nobody else.
     fn submit<R: Source, W: Sink>(
         &mut self,
         alloc: Global,
@@ -65,13 +64,8 @@ pub trait Registrar {
         ensures submits { ledger.is_stopped self.old ≡ false
             → SubmitsText ledger self.old self.new (settings self.old).source
             (R.told reader.old) (R.told reader.new) (W.told writer.old) (W.told writer.new) result }
-        ensures running { ledger.is_stopped self.old ≡ false
-            → UnlessStoreFault result (ledger.is_stopped self.new ≡ false) }
-        ensures leaves { Leaves ledger settings self.old self.new }
-        ensures kept { ledger.is_stopped self.old ≡ false
-            → UnlessStoreFault result (ledger.Kept self.new) }
-        ensures of_source { IsRegistryOf (settings self.old).source (ledger.registry self.old)
-            → IsRegistryOf (settings self.new).source (ledger.registry self.new) };
+        ensures leaves { ledger.is_stopped self.old ≡ false
+            → LeavesSubmitted ledger settings self.old self.new result };
 
     // What lasts of it lasts where nothing is done.
     ghost lasts_still: { (registrar : Self) → ledger.Lasts registrar registrar };

@@ -1,4 +1,4 @@
-//! Replies by HTTP: refusals, and the head before an answer.
+//! Replies by HTTP, for `answering` and `serving`: refusals, and the head before an answer.
 
 ghost use Rattle.std.specs.Prelude.{◌≡◌, ◌+◌, ◌≤◌, ◌++◌, length};
 ghost use Rattle.rr_io.specs.Sending.{Writes};
@@ -11,16 +11,16 @@ use rr_io::{Sink, write_all};
 use rr_submission::ShortText;
 use std::io;
 
-/// Writes the reply to a request that is refused, whole in the first call of the writer. After a
-/// fault the writer has taken a part of it.
+/// Writes the reply to a request that is refused. After a fault the writer has taken the beginning
+/// of it, and not all.
 pub fn write_refusal<W: Sink>(writer: &mut W, refusal: Refusal) -> io::Result<()>
     ensures { Writes (W.told writer.old) (W.told writer.new) (refusal_reply refusal) result }
 {
     write_all(writer, refusal_reply(refusal).as_bytes())
 }
 
-/// Writes the head of a reply whose body is what was asked, whole in the first call of the writer.
-/// After a fault the writer has taken a part of it.
+/// Writes the head of a reply whose body is what was asked. After a fault the writer has taken the
+/// beginning of it, and not all.
 #[tactic(auto, unfolding(crate::specs::Replies::ok_head))]
 pub(crate) fn write_ok_head<W: Sink>(writer: &mut W) -> io::Result<()>
     ensures { Writes (W.told writer.old) (W.told writer.new) ok_head result }

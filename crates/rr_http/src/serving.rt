@@ -1,10 +1,9 @@
-//! Serving a connection: what it wants is found, done, and answered.
+//! Serving a connection: what it wants is found, done, and answered. `Both` serves each one so.
 
 ghost use Rattle.std.specs.Prelude.{◌≡◌, ◌≤◌, false, length};
 ghost use Rattle.rr_desk.specs.Turns.{conn_visit};
 ghost use Rattle.rr_http.specs.Asked.{view_of};
-ghost use Rattle.rr_http.specs.Faults.{TellsFaults};
-ghost use Rattle.rr_http.specs.Leaving.{Leaves};
+ghost use Rattle.rr_http.specs.Registrars.{Leaves};
 ghost use Rattle.rr_http.specs.Requests.{HasQueryWithin};
 ghost use Rattle.rr_http.specs.Serving.{Serves, ServesAsks, ServesBody, SubmitsRead, end_by};
 ghost use Rattle.rr_http.specs.ServingParts.{ServesHead};
@@ -14,7 +13,7 @@ use crate::answering::{answer_query, give_dump, refuse, submit_body, write_answe
 use crate::asking::{Asked, Refusal, read_request};
 use crate::body_reading::{BodyEnd, read_body};
 use crate::body_size::BodySize;
-use crate::heads::{HEAD_SIZE, Head, read_head};
+use crate::heads::{HEAD_LIMIT, Head, read_head};
 use crate::registrar::Registrar;
 use crate::replying::write_ok_head;
 use rr_desk::ConnFault;
@@ -23,13 +22,18 @@ use std::alloc::Global;
 
 /// Serves one connection by whois or HTTP: reads what it wants, asks the desk, and writes the reply
 /// (RFC 3912, RFC 9112). The error is that a read of the connection failed, otherwise that a write
-/// did; where a read fails before it is known what the connection wants, nothing is written, and
-/// the desk stays as it is. A body is submitted as far as it came, without an item that misses
-/// bytes. By HTTP a stopped desk is not asked, nor one where memory runs out for a body, of which
-/// nothing is read then: the reply is 503. Of submissions only a fault of the store stops the desk;
-/// after any other end of one the rows are those of its registry, which stays one of its source.
-/// What the holders of a prefix hold is changed by nobody else. However it ends, what is to last of
-/// the desk lasts.
+/// did (the law `ends_tell_failed_calls`). Where a read fails before it is known what the
+/// connection wants, nothing is written, and the desk stays as it is.
+///
+/// A body is submitted as far as it came, without an item that misses bytes. Of submissions only a
+/// fault of the store stops the desk. After any other end of one it keeps what it is to keep, the
+/// rows of its registry. A registry of its source stays one. Up to a fault of the store, what the
+/// holders of a prefix hold is changed by nobody else.
+///
+/// By HTTP a stopped desk is not asked, and the reply is 503, unless the request is refused anyway.
+/// The reply is 503, too, where memory runs out for a body, of which nothing is read then. Where
+/// memory runs out for a dump, the reply ends early, which is no error. However it ends, what is to
+/// last of the desk lasts, and its settings stay.
 pub fn serve_one<D: Registrar, C: Connection>(
     alloc: Global,
     desk: &mut D,
@@ -37,10 +41,9 @@ pub fn serve_one<D: Registrar, C: Connection>(
 ) -> Result<(), ConnFault>
     ensures serves { Serves D.Registrar desk.old desk.new
         (conn_visit C.Source C.Sink conn.old conn.new result) }
-    ensures faults { TellsFaults (conn_visit C.Source C.Sink conn.old conn.new result) }
     ensures leaves { Leaves D.ledger D.settings desk.old desk.new }
 {
-    let mut buf = [0u8; HEAD_SIZE];
+    let mut buf = [0u8; HEAD_LIMIT];
     match read_head(conn, &mut buf) {
         Ok((head, count)) => serve_head(alloc, desk, head, &buf[..count], conn),
         Err(_) => Err(ConnFault::Read),
@@ -56,7 +59,7 @@ fn serve_head<D: Registrar, C: Connection>(
     conn: &mut C,
 ) -> Result<(), ConnFault>
     requires head { IsHead read.now head }
-    requires short { length read.now ≤ HEAD_SIZE }
+    requires short { length read.now ≤ HEAD_LIMIT }
     ensures { ServesHead D.Registrar read.now desk.old desk.new
         (conn_visit C.Source C.Sink conn.old conn.new result) }
 {
@@ -78,20 +81,20 @@ fn serve_asked<D: Registrar, C: Connection>(
     asked: Asked<'_>,
     conn: &mut C,
 ) -> Result<(), ConnFault>
-    requires { HasQueryWithin HEAD_SIZE (view_of asked) }
+    requires { HasQueryWithin HEAD_LIMIT (view_of asked) }
     ensures { ServesAsks D.Registrar buffered.now (view_of asked.entry) desk.old desk.new
         (conn_visit C.Source C.Sink conn.old conn.new result) }
 {
     match asked {
         Asked::Refused(refusal) => refuse(conn, refusal),
-        Asked::Submission(size) => take_in(alloc, desk, buffered, size, conn),
+        Asked::Submission(size) => serve_submission(alloc, desk, buffered, size, conn),
         Asked::Query(escaped) => answer_query(alloc, desk, escaped, conn),
         Asked::Dump => give_dump(alloc, desk, conn),
     }
 }
 
 /// Reads a body of this size and submits it; these of its bytes came with the head.
-fn take_in<D: Registrar, C: Connection>(
+fn serve_submission<D: Registrar, C: Connection>(
     alloc: Global,
     desk: &mut D,
     buffered: &[u8],

@@ -18,7 +18,7 @@ use Rattle.std.proofs.lemmas.List.Sums.{sum_by-append}
 use Rattle.std.proofs.lemmas.Map.Text.{is_eq-slice_cmp}
 use Rattle.std.proofs.lemmas.Slice.Eq.{bytes_eq-Decides}
 use Rattle.std.proofs.Math.Seq.{take-append_seam}
-use Rattle.rr_auth.specs.Registries.{Reg, is_mntner_of, names_another}
+use Rattle.rr_auth.specs.Registries.{Reg, is_mntner_of, is_other_naming}
 use Rattle.rr_book.proofs.Order.{empty_book, values_of_book}
 use Rattle.rr_index.proofs.Counts.{insert_total, remove_total, sum_cons}
 use Rattle.rr_index.specs.NamingIndexes.{HasNamings, count_at, namings, namings_by}
@@ -186,7 +186,7 @@ counted_any p (x ∷ xs) =
     ∙ elim (p x) as (λ b. (nat_lt 0 (cond b 1 0) || list_any p xs) ≡ (b || list_any p xs))
     [ true ↦ refl | false ↦ refl ]
 
-named_one : (name : List ℕ) (o : Obj) → nat_lt 0 (namings_by name o) ≡ names_another name o
+named_one : (name : List ℕ) (o : Obj) → nat_lt 0 (namings_by name o) ≡ is_other_naming name o
 named_one name o =
     elim (is_mntner_of name o.key) as
     (λ b. nat_lt 0 (cond b 0 (count_by (λ n. bytes_eq n name) (names_of o)))
@@ -197,7 +197,7 @@ named_one name o =
 
 -- a maintainer is named where it is counted
 pub named_told : (name : List ℕ) (os : List Obj) → nat_lt 0 (sum_by (namings_by name) os)
-    ≡ list_any (names_another name) os
+    ≡ list_any (is_other_naming name) os
 named_told name [] = refl
 named_told name (o ∷ os) =
     ap (nat_lt 0) (sum_cons (namings_by name) o os)

@@ -12,7 +12,8 @@ use Rattle.rr_object.specs.declared.key.Key.TheVariants.{Inetnum, Route}
 abbrev pub is_among : List Ends → Ends → Bool
 is_among spans s = list_any (eq_by_cmp span_cmp s) spans
 
--- The key is that of an inetnum of one of these spans, or of a route whose prefix has one of those.
+-- The key is that of an inetnum of one of the first spans, or of a route whose prefix has one of
+-- the second spans.
 abbrev pub is_chosen : List Ends → List Ends → Key → Bool
 is_chosen spans routed (Inetnum s) = is_among spans s
 is_chosen spans routed (Route p n) = is_among routed (span_of p)

@@ -26,8 +26,8 @@ IsUnderNone sets o = (name : List ℕ) (key : Key)
 abbrev pub IsUncrossed : SpanIndex → Key → Type 0
 IsUncrossed of_spans k = is_crossed of_spans.inetnums of_spans.blocks k ≡ false
 
--- An object can be entered: its key stands under none of the sets that it names, and no span that
--- is held crosses it.
+-- An object can be entered: its key stands under none of the sets that it names, and no inetnum and
+-- no as-block that is held crosses it.
 pub record CanEnter (kept : Indexes) (o : Obj) : Type 0 where
   pub fresh : IsUnderNone kept.referrers.keys o
   pub apart : IsUncrossed kept.spans o.key

@@ -1,4 +1,4 @@
--- What is kept beside the objects of a registry.
+-- What the indexed book keeps beside the objects of a registry.
 use Rattle.rr_auth.specs.Registries.{Reg, Sound}
 use Rattle.rr_book.specs.SetIndexes.{HasReferrers}
 use Rattle.rr_book.specs.declared.set_index.SetIndex.{SetIndex}
@@ -20,12 +20,13 @@ pub record HasKeys (r : Reg) (of_spans : SpanIndex) (of_origins : OriginIndex)
   pub names : HasNames r of_names.keys
   pub referrers : HasReferrers r of_sets.keys
 
--- And so are the counts of the maintainers that they name (profile).
+-- The spans, the origins, the mntners' names and the referrers are those of the registry's objects.
+-- So are the counts of how often these name each maintainer (profile).
 pub record HasIndexes (r : Reg) (kept : Indexes) : Type 0 where
   pub keys : HasKeys r kept.spans kept.origins kept.names kept.referrers
   pub namings : HasNamings r kept.namings.counts
 
--- A sound registry with what is kept beside its objects (profile).
+-- A registry is sound, and the indexes are those of its objects (profile).
 pub record IsIndexed (r : Reg) (kept : Indexes) : Type 0 where
   pub sound : Sound r
   pub indexes : HasIndexes r kept

@@ -7,12 +7,13 @@ use Rattle.rr_number.specs.Spans.{Ends, covers}
 use Rattle.rr_object.specs.declared.key.Key.{Key}
 use Rattle.rr_object.specs.declared.key.Key.TheVariants.{Inetnum, Route}
 
--- the key of the inetnum of one address
+-- The key of the inetnum of one address.
 abbrev pub inetnum_at : ℕ → Key
 inetnum_at address = Inetnum (record { first = address; last = address })
 
--- a key that no route from this address on is below, and at most one route before it is not below:
--- the least of all where the address is 0, and else the last of the address before
+-- A key that no route from an address on is below, and at most one route before the address is not
+-- below. It is the least of all where the address is 0, which is told beside it, and else the last
+-- of the address before.
 abbrev pub routes_start : Bool → ℕ → Key
 routes_start true address = Route (masked 0 0) 0
 routes_start false address = Route (masked (address - 1) 32) greatest_as_number
@@ -20,16 +21,16 @@ routes_start false address = Route (masked (address - 1) 32) greatest_as_number
 abbrev pub routes_from : ℕ → Key
 routes_from address = routes_start (address == 0) address
 
--- a key that no route up to this address is above
+-- A key that no route up to an address is above.
 abbrev pub routes_to : ℕ → Key
 routes_to address = Route (masked address 32) greatest_as_number
 
--- the key is of an inetnum inside the span
+-- The key is that of an inetnum inside a span.
 abbrev pub is_inetnum_in : Ends → Key → Bool
 is_inetnum_in s (Inetnum t) = covers s t
 is_inetnum_in s _ = false
 
--- the key is of a route inside the span
+-- The key is that of a route inside a span.
 abbrev pub is_route_in : Ends → Key → Bool
 is_route_in s (Route p n) = covers s (span_of p)
 is_route_in s _ = false

@@ -14,7 +14,8 @@ abbrev pub HasNames : Reg → BTreeMap (List ℕ) Key → Type 0
 HasNames r keys = (name : List ℕ) → key_at (slice_cmp nat_cmp) keys name
     ≡ cond (contains_key r (Mntner name)) (Some (Mntner name)) None
 
--- The key of an object that is registered is entered; or nothing changes (profile).
+-- If the names before are those of a registry, the names after are those of the registry with an
+-- object under the key. Where memory runs out, they are still those of the registry (profile).
 pub record EntersName {X E : Type 0} (old : BTreeMap (List ℕ) Key) (k : Key)
     (new : BTreeMap (List ℕ) Key) (result : Result X E) : Type 0 where
   pub ok : OnOk result ((r : Reg) (o : Obj) → HasNames r old → HasNames (insert r k o) new)

@@ -19,7 +19,7 @@ namings name key names = cond (is_mntner_of name key) 0 (count_by (λ n. bytes_e
 abbrev pub namings_by : List ℕ → Obj → ℕ
 namings_by name o = namings name o.key (names_of o)
 
--- The count under a name, or 0.
+-- The count under a name, or 0 if there is none.
 abbrev pub count_at : BTreeMap (List ℕ) ℕ → List ℕ → ℕ
 count_at counts name = unwrap_or (count_under (slice_cmp nat_cmp) counts name) 0
 

@@ -12,7 +12,7 @@ use Rattle.rr_auth.specs.Registries.{Reg}
 abbrev pub origin_cmp : ℕ × PrefixParts → ℕ × PrefixParts → Ordering
 origin_cmp a b = ordering_then (nat_cmp a.0 b.0) (prefix_cmp a.1 b.1)
 
--- Exactly the registered routes stand there (profile).
+-- The origins with prefixes of a set are exactly those of the registered routes (profile).
 abbrev pub HasOrigins : Reg → BTreeSet (ℕ × PrefixParts) → Type 0
 HasOrigins r routes = (origin : ℕ) (prefix : PrefixParts)
     → contains origin_cmp routes (origin, prefix) ≡ contains_key r (Route prefix origin)

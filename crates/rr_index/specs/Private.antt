@@ -21,25 +21,26 @@ abbrev pub is_from : ℕ → ℕ × PrefixParts → Bool
 is_from origin route = is_le (origin_cmp (origin, masked 0 0) route)
     && not (is_lt (origin_cmp (origin, masked greatest_address 32) route))
 
--- The key's span crosses one that is held of its class.
+-- The key is that of an inetnum or an as-block, and its span crosses one that is held of its class.
 abbrev pub is_crossed : SpanMap (Unit {0}) → SpanMap (Unit {0}) → Key → Bool
 is_crossed inetnums blocks (Inetnum s) = crosses_some inetnums s
 is_crossed inetnums blocks (AsBlock s) = crosses_some blocks s
 is_crossed inetnums blocks _ = false
 
--- It is told truly of a route's key whether another route of the prefix is registered.
+-- Of a route's key it is said truly whether another route of its prefix is registered; of another
+-- key nothing is said.
 abbrev pub IsTold : Reg → Key → Bool → Type 0
 IsTold r (Route p n) true = (m : ℕ) × (contains_key (remove r (Route p n)) (Route p m) ≡ true)
 IsTold r (Route p n) false = (m : ℕ) → contains_key (remove r (Route p n)) (Route p m) ≡ false
 IsTold r _ told = Unit {0}
 
--- The object is put under its key; or nothing changes.
+-- The object is put under its key in the registry; or the registry stays, where memory runs out.
 pub record PutsObject {X E : Type 0} (old : Reg) (o : Obj) (new : Reg)
     (result : Result X E) : Type 0 where
   pub ok : OnOk result (new ≡ insert old o.key o)
   pub err : OnErr result (new ≡ old)
 
--- The span is held then; or nothing changes.
+-- The span is added to those that are held; or nothing changes, where memory runs out.
 pub record HoldsSpan {X E : Type 0} (old : SpanMap (Unit {0})) (s : Ends)
     (new : SpanMap (Unit {0})) (result : Result X E) : Type 0 where
   pub ok : OnOk result (new ≡ insert old s tt)

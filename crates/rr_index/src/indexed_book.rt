@@ -1,5 +1,5 @@
-//! A registry as objects by key, with what answers questions about spans, origins, sets and
-//! maintainers beside them.
+//! The book in which the program keeps its registry: objects by key, with what answers questions
+//! about spans, origins, sets and maintainers beside them.
 
 ghost use Rattle.std.specs.Prelude.{◌≡◌, None, true, is_some};
 ghost use Rattle.std.specs.FinMap.{get, insert};
@@ -47,7 +47,8 @@ impl Model for IndexedBook {
 }
 
 impl IndexedBook {
-    /// Puts an object in place of the one of its key.
+    /// Puts an object in place of the one of its key. The error is that memory ran out, and nothing
+    /// changes.
     fn change(&mut self, alloc: Global, object: Object) -> Result<(), AllocError>
         requires sound { Sound (insert self.old object.key object) }
         requires stands { is_some (get self.old object.key) ≡ true }
@@ -65,7 +66,8 @@ impl IndexedBook {
         }
     }
 
-    /// Puts an object of a key under which none stands.
+    /// Puts an object of a key under which none stands. The error is that memory ran out, and
+    /// nothing changes.
     fn add(&mut self, alloc: Global, object: Object) -> Result<(), AllocError>
         requires sound { Sound (insert self.old object.key object) }
         requires free { get self.old object.key ≡ None }

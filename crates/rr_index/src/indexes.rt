@@ -1,4 +1,5 @@
-//! What is kept beside the objects of a registry.
+//! What the indexed book keeps beside its objects. An object is entered in all indexes or in none,
+//! and taken out of all.
 
 ghost use Rattle.std.specs.Prelude.{◌≡◌, ℕ, IfOk, IsTrue, List, None, Some, OnErr, OnOk};
 ghost use Rattle.std.specs.Prelude.{false};
@@ -40,7 +41,7 @@ pub(crate) struct Indexes {
 }
 
 impl Indexes {
-    /// Those of no objects.
+    /// The indexes of no objects.
     pub(crate) fn new(alloc: Global) -> Indexes
         ensures { HasIndexes empty result }
     {
@@ -53,7 +54,8 @@ impl Indexes {
         }
     }
 
-    /// Those of objects that stand in the order of class and key; the error is that memory ran out.
+    /// The indexes of objects that stand in the order of class and key, and whose registry is
+    /// sound. The error is that memory ran out.
     pub(crate) fn of(alloc: Global, objects: &[Object]) -> Result<Indexes, AllocError>
         requires { IsBook objects.now }
         ensures { IfOk result (λ indexes. HasIndexes (book_of objects.now) indexes) }
@@ -65,9 +67,9 @@ impl Indexes {
         Ok(indexes)
     }
 
-    /// Enters an object of a key that stands under no set that the object names, and crosses no
-    /// span that is held. The error is that memory ran out, and it leaves the indexes those of the
-    /// same objects.
+    /// Enters an object of a key under which none is registered. The key must stand under no set
+    /// that the object names, and cross no span that is held. The error is that memory ran out, and
+    /// it leaves the indexes those of the same objects.
     pub(crate) fn enter(&mut self, alloc: Global, object: &Object) -> Result<(), AllocError>
         requires { CanEnter self.old object.now }
         ensures ok { OnOk result ((r : Reg) → HasIndexes r self.old → get r object.now.key
@@ -85,7 +87,8 @@ impl Indexes {
         }
     }
 
-    /// Enters the key of the object, under the sets that it names too.
+    /// Enters the key of the object, under the sets that it names too. If memory runs out, the
+    /// indexes stay those of the same objects.
     fn enter_keys(&mut self, alloc: Global, object: &Object) -> Result<(), AllocError>
         requires { CanEnter self.old object.now }
         ensures ok { OnOk result ((r : Reg) → HasKeys r self.old.spans self.old.origins
@@ -108,7 +111,8 @@ impl Indexes {
         }
     }
 
-    /// Enters the name, the origin and the span of the object.
+    /// Enters the name, the origin and the span of the object. If memory runs out, these indexes
+    /// stay those of the same objects.
     fn enter_key(&mut self, alloc: Global, object: &Object) -> Result<(), AllocError>
         requires { IsUncrossed self.old.spans object.now.key }
         ensures ok { OnOk result ((r : Reg) → HasPlaces r self.old.spans self.old.origins
@@ -131,7 +135,8 @@ impl Indexes {
         }
     }
 
-    /// Enters the origin and the span of the object.
+    /// Enters the origin and the span of the object. If memory runs out, these indexes stay those
+    /// of the same objects.
     fn enter_place(&mut self, object: &Object) -> Result<(), AllocError>
         requires { IsUncrossed self.old.spans object.now.key }
         ensures ok { OnOk result ((r : Reg) → HasPlaces r self.old.spans self.old.origins
@@ -208,7 +213,7 @@ impl Indexes {
         self.namings.take(gone);
     }
 
-    /// The same, and frees the object.
+    /// Takes out an object that is no longer among these objects, and frees it.
     pub(crate) fn leave_and_free(&mut self, objects: &ObjectMap, gone: Object)
         requires { Sound objects.now }
         ensures { (r : Reg) → HasIndexes r self.old → get r gone.key ≡ Some gone

@@ -1,4 +1,4 @@
-//! The maintainers of a registry, by name.
+//! The maintainers of a registry, by name: one of the indexes of the indexed book.
 
 ghost use Rattle.std.specs.Prelude.{◌≡◌};
 ghost use Rattle.std.specs.BTreeMap.{get as key_at};
@@ -23,7 +23,7 @@ pub(crate) struct NameIndex {
 }
 
 impl NameIndex {
-    /// No names.
+    /// An index without names.
     pub(crate) fn new(alloc: Global) -> NameIndex
         ensures { HasNames empty result.keys }
     {
@@ -50,7 +50,8 @@ impl NameIndex {
         }
     }
 
-    /// Puts the key under the name.
+    /// Puts the key of the mntner of the name under the name. The error is that memory ran out, and
+    /// nothing changes.
     fn put(&mut self, alloc: Global, name: &Name, key: &Key) -> Result<(), AllocError>
         requires { key.now ≡ Mntner name.now }
         ensures { EntersName self.old.keys (Mntner name.now) self.new.keys result }

@@ -1,4 +1,5 @@
-//! How often the objects of a registry name each maintainer.
+//! How often the objects of a registry name each maintainer: one of the indexes of the indexed
+//! book.
 
 ghost use Rattle.std.specs.Prelude.{◌≡◌, ◌+◌, ◌-◌, ℕ, List, [], ◌∷◌};
 ghost use Rattle.std.specs.Prelude.{◌==◌, cond, take, nat_lt, IfErr, IsTrue, OnErr, OnOk};
@@ -20,7 +21,7 @@ pub(crate) struct NamingIndex {
 }
 
 impl NamingIndex {
-    /// No names.
+    /// An index without names.
     pub(crate) fn new(alloc: Global) -> NamingIndex
         ensures { HasNamings empty result.counts }
     {
@@ -29,7 +30,7 @@ impl NamingIndex {
         }
     }
 
-    /// Whether the maintainer is named.
+    /// Whether the maintainer is named by an object other than its own mntner.
     pub(crate) fn is_named(&self, name: &Name) -> bool
         ensures { result ≡ nat_lt 0 (count_at self.now.counts name.now) }
     {

@@ -1,4 +1,4 @@
-//! Objects by key.
+//! The objects of the indexed book by key, in a balanced tree, and the lists that are read from it.
 
 ghost use Rattle.std.specs.Prelude.{◌≡◌, ◌&&◌, ◌||◌, [], ◌∷◌, None, Some};
 ghost use Rattle.std.specs.Prelude.{false, true, filter, is_some, map, IfErr, IfOk, OnErr, OnOk};
@@ -63,7 +63,7 @@ impl Model for ObjectMap {
 }
 
 impl ObjectMap {
-    /// No objects.
+    /// A map without objects.
     pub(crate) fn new(alloc: Global) -> ObjectMap
         ensures { result ≡ empty }
     {
@@ -72,8 +72,8 @@ impl ObjectMap {
         }
     }
 
-    /// Objects that stand in the order of class and key; it compares each only with the next. The
-    /// error is that memory ran out.
+    /// The map of objects that stand in the order of class and key; it compares each only with the
+    /// next. The error is that memory ran out.
     pub(crate) fn of(alloc: Global, objects: Vec<Object>) -> Result<ObjectMap, AllocError>
         requires { is_in_order objects.items ≡ true }
         ensures { IfOk result (λ kept. kept ≡ book_of objects.items) }
@@ -146,7 +146,8 @@ impl ObjectMap {
         Ok(found)
     }
 
-    /// The objects of the keys, in the order of class and key; the error is that memory ran out.
+    /// The objects of those keys that have one, in the order of class and key; the error is that
+    /// memory ran out.
     pub(crate) fn at_keys(
         &self,
         alloc: Global,
@@ -165,8 +166,8 @@ impl ObjectMap {
         Ok(found)
     }
 
-    /// The objects of the routes that the index has under the origin, in their order; the error is
-    /// that memory ran out.
+    /// The objects of the routes that the index has under the origin, in the order of their
+    /// prefixes; the error is that memory ran out.
     pub(crate) fn routes_of(
         &self,
         alloc: Global,
@@ -366,7 +367,7 @@ impl ObjectMap {
         Ok(origins)
     }
 
-    /// Whether a route of the key's prefix is there; no for a key that is not a route's.
+    /// Whether a route of the key's prefix is there, where the key is a route's.
     pub(crate) fn is_routed(&self, key: &Key) -> bool
         requires { Sound self.now }
         ensures { (r : Reg) → self.now ≡ remove r key.now → IsTold r key.now result }
@@ -388,7 +389,7 @@ impl ObjectMap {
     }
 }
 
-/// The keys of the inetnums of these spans.
+/// The keys of the inetnums of these spans; the error is that memory ran out.
 fn inetnum_keys(alloc: Global, spans: &[Span]) -> Result<BTreeSet<Key>, AllocError>
     ensures { IfOk result
         (λ keys. (k : Key) → contains key_cmp keys k ≡ is_chosen spans.now [] k) }

@@ -1,4 +1,4 @@
-//! The routes of a registry, by origin.
+//! The routes of a registry, by origin: one of the indexes of the indexed book.
 
 ghost use Rattle.std.specs.Prelude.{◌≡◌, IfOk, OnErr, OnOk, filter, map};
 ghost use Rattle.std.specs.FinMap.{empty, insert, remove};
@@ -22,7 +22,7 @@ pub(crate) struct OriginIndex {
 }
 
 impl OriginIndex {
-    /// No routes.
+    /// An index without routes.
     pub(crate) fn new(alloc: Global) -> OriginIndex
         ensures { HasOrigins empty result.routes }
     {

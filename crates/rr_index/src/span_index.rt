@@ -1,4 +1,5 @@
-//! The spans of registered objects.
+//! The spans of registered objects, by which what is closest and what crosses is found: one of the
+//! indexes of the indexed book.
 
 ghost use Rattle.std.specs.Prelude.{◌≡◌, OnErr, OnOk, IfSome, IfNone, false};
 ghost use Rattle.std.specs.FinMap.{empty, insert, remove};
@@ -26,7 +27,7 @@ pub(crate) struct SpanIndex {
 }
 
 impl SpanIndex {
-    /// No spans.
+    /// An index without spans.
     pub(crate) fn new(alloc: Global) -> SpanIndex
         ensures { HasSpans empty result.inetnums result.blocks result.routes }
     {

@@ -2,18 +2,18 @@
 use Rattle.std.specs.Prelude.{ℕ}
 use Rattle.rr_io.specs.declared.counting.Counted.{Counted}
 
--- the reader or writer itself
+-- the reader or writer whose calls are counted
 abbrev pub counted_inner : {T : Type 0} → Counted T → T
 counted_inner c = c.inner
 
--- its reads that failed
+-- how many reads of a counted reader failed
 abbrev pub counted_failed_reads : {T : Type 0} → Counted T → ℕ
 counted_failed_reads c = c.failed_reads
 
--- its writes that failed
+-- how many writes of a counted writer failed
 abbrev pub counted_failed_writes : {T : Type 0} → Counted T → ℕ
 counted_failed_writes c = c.failed_writes
 
--- its reads that did not fail
+-- how many reads of a counted reader did not fail
 abbrev pub counted_reads : {T : Type 0} → Counted T → ℕ
 counted_reads c = c.reads

@@ -4,15 +4,15 @@ use Rattle.std.specs.Prelude.{◌⊎◌, min, Result, Ok, Err}
 use Rattle.rr_io.specs.Told.{Told, Counts, Fails}
 use Rattle.rr_io.specs.declared.cutting.Cut.{Cut}
 
--- the reader or writer itself
+-- the reader or writer that is cut short
 abbrev pub cut_inner : {T : Type 0} → Cut T → T
 cut_inner c = c.inner
 
--- the reads that failed because it is cut
+-- how many reads failed because the reader is cut
 abbrev pub reads_cut : {T : Type 0} → Cut T → ℕ
 reads_cut c = c.failed_reads
 
--- the writes that failed because it is cut
+-- how many writes failed because the writer is cut
 abbrev pub writes_cut : {T : Type 0} → Cut T → ℕ
 writes_cut c = c.failed_writes
 
@@ -20,12 +20,12 @@ writes_cut c = c.failed_writes
 abbrev pub cut_step : {T : Type 0} → Cut T → ℕ
 cut_step c = c.step
 
--- how many bytes pass before each call fails (profile)
+-- how many bytes may still pass, after which each call fails (profile)
 abbrev pub cut_left : {T : Type 0} → Cut T → ℕ
 cut_left c = c.left
 
--- it tells what that inside tells, but as faults the sum of its own failed calls and of those
--- inside, up to 2^64 - 1 (profile)
+-- a cut reader or writer tells what the one inside tells, but as faults the sum of its own failed
+-- calls and of those inside, up to 2^64 - 1 (profile)
 abbrev pub cut_told : {T : Type 0} → (T → Told) → (Cut T → ℕ) → Cut T → Told
 cut_told told own c = record {
   bytes = (told c.inner).bytes;
@@ -34,7 +34,8 @@ cut_told told own c = record {
   aside = (told c.inner).aside;
 }
 
--- so many bytes passed in a call before the cut, which did not fail
+-- a call before the cut did not fail, and passed so many bytes, at most a step: so many fewer may
+-- still pass
 pub record Passes {T : Type 0} (own : Cut T → ℕ) (old new : Cut T) (count : ℕ) : Type 0 where
   pub uncut : 0 < cut_left old
   pub step : count ≤ cut_step old
@@ -62,8 +63,8 @@ FailsSomewhere told own old new =
     (FailsAtCut own old new ⊎ FailsInside told own old new)
     × (cut_left new ≡ cut_left old) × (cut_step new ≡ cut_step old)
 
--- one call: bytes passed where it is `Ok`, which it is only before the cut; it failed at the cut or
--- inside where it is `Err`
+-- one call of a cut reader or writer: where it is `Ok`, so many bytes passed before the cut; where
+-- it is `Err`, it failed at the cut, or the call of what is inside failed (profile)
 abbrev pub PassesUntilCut : {T E : Type 0} → (T → Told) → (Cut T → ℕ) → Cut T → Cut T
     → Result ℕ E → Type 0
 PassesUntilCut told own old new (Ok count) = Passes own old new count

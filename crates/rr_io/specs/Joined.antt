@@ -1,10 +1,10 @@
 -- What a connection is made of.
 use Rattle.rr_io.specs.declared.joining.Joined.{Joined}
 
--- its reader
+-- the reader of a connection that is made of two
 abbrev pub joined_reader : {R W : Type 0} → Joined R W → R
 joined_reader j = j.reader
 
--- its writer
+-- the writer of a connection that is made of two
 abbrev pub joined_writer : {R W : Type 0} → Joined R W → W
 joined_writer j = j.writer

@@ -12,23 +12,23 @@ pub record Gives (old new : Told) (bytes : List ℕ) : Type 0 where
   pub no_fault : new.faults ≡ old.faults
   pub aside : new.aside ≡ old.aside
 
--- so many reads were counted, each of them (profile)
+-- so many reads were counted, which did not fail (profile)
 abbrev pub CountsReads : Told → Told → ℕ → Type 0
 CountsReads old new count = Counts old.reads new.reads count
 
--- no byte is left
+-- a reader has no byte left
 pub record IsSpent (told : Told) : Type 0 where
   pub none_left : (xs : List ℕ) → told.bytes ≡ Some xs → xs ≡ []
 
--- so many bytes were given into the beginning of a buffer: none only at the end, or into an empty
--- buffer
+-- one read, which was counted, gave so many bytes into the beginning of a buffer: none only at the
+-- end, or where the buffer is empty (profile)
 pub record GivesInto (old new : Told) (buf : List ℕ) (count : ℕ) : Type 0 where
   pub bound : count ≤ length buf
   pub gives : Gives old new (take count buf)
   pub spent : count ≡ 0 → 0 < length buf → IsSpent new
   pub counts : CountsReads old new 1
 
--- one read into a buffer: it gave bytes where it is `Ok`, and failed where it is `Err`
+-- one read into a buffer: it gave bytes where it is `Ok`, and failed where it is `Err` (profile)
 abbrev pub ReadsOnce : {E : Type 0} → Told → Told → List ℕ → Result ℕ E → Type 0
 ReadsOnce old new buf (Ok count) = GivesInto old new buf count
 ReadsOnce old new buf (Err _) = Fails old new

@@ -10,13 +10,13 @@ pub record Takes (old new : Told) (bytes : List ℕ) : Type 0 where
   pub no_read : new.reads ≡ old.reads
   pub aside : new.aside ≡ old.aside
 
--- so many bytes were taken from the beginning of these: none only where there are none
+-- so many bytes were taken from the beginning of these: none only where there are none (profile)
 pub record TakesFirst (old new : Told) (bytes : List ℕ) (count : ℕ) : Type 0 where
   pub bound : count ≤ length bytes
   pub some : 0 < length bytes → 0 < count
   pub takes : Takes old new (take count bytes)
 
--- one write of these bytes: it took some where it is `Ok`, and failed where it is `Err`
+-- one write of these bytes: it took some where it is `Ok`, and failed where it is `Err` (profile)
 abbrev pub WritesOnce : {E : Type 0} → Told → Told → List ℕ → Result ℕ E → Type 0
 WritesOnce old new bytes (Ok count) = TakesFirst old new bytes count
 WritesOnce old new bytes (Err _) = Fails old new
@@ -35,7 +35,8 @@ pub record TakesPrefix (old new : Told) (bytes : List ℕ) : Type 0 where
 abbrev pub TakesSome : Told → Told → List ℕ → Type 0
 TakesSome old new bytes = Takes old new bytes ⊎ TakesPrefix old new bytes
 
--- the writing of these bytes: whole where it is `Ok`, cut short by a fault where it is `Err`
+-- the writing of these bytes: where it is `Ok`, all of them were taken; where it is `Err`, the
+-- beginning of them, and then a call failed
 abbrev pub Writes : {T E : Type 0} → Told → Told → List ℕ → Result T E → Type 0
 Writes old new bytes (Ok _) = Takes old new bytes
 Writes old new bytes (Err _) = TakesPrefix old new bytes

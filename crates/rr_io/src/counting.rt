@@ -1,4 +1,5 @@
-//! std's readers and writers, with their failed calls and their reads counted.
+//! std's readers and writers, with their failed calls and their reads counted: how the crates above
+//! make a `Source` or a `Sink` of one.
 ghost use Rattle.std.specs.Prelude.{◌≡◌};
 ghost use Rattle.rr_io.specs.Told.{Counts, alone};
 
@@ -43,7 +44,7 @@ impl<T> Counted<T> {
         self.reads
     }
 
-    /// The reader or writer itself.
+    /// The reader or writer inside, whose calls were counted.
     pub fn into_inner(self) -> T
         ensures { result ≡ counted_inner self }
     {
@@ -53,7 +54,7 @@ impl<T> Counted<T> {
 }
 
 /// Counts one more, up to `u64::MAX`.
-pub fn count_one(count: &mut u64)
+pub(crate) fn count_one(count: &mut u64)
     ensures { Counts count.old count.new 1 }
 {
     *count = count.saturating_add(1);

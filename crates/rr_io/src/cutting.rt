@@ -23,7 +23,8 @@ pub struct Cut<T> {
 impl<T> Cut<T> {
     ghost use Rattle.rr_io.specs.Cut.{cut_inner, cut_left, cut_step, reads_cut, writes_cut};
 
-    /// `inner`, cut after `left` bytes, at most `step` of them in a call.
+    /// `inner`, cut after `left` bytes, at most `step` of them in a call, which is at least one. No
+    /// call has failed at the cut so far.
     pub fn new(inner: T, step: usize, left: usize) -> Self
         requires { 0 < step }
         ensures inner { cut_inner result ≡ inner }
@@ -41,7 +42,7 @@ impl<T> Cut<T> {
         }
     }
 
-    /// The reader or writer itself.
+    /// The reader or writer inside.
     pub fn into_inner(self) -> T
         ensures { result ≡ cut_inner self }
     {

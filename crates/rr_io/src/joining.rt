@@ -23,14 +23,14 @@ impl<R, W> Joined<R, W> {
         Joined { reader, writer }
     }
 
-    /// What is read from.
+    /// The reader of the connection.
     pub fn reader(&self) -> &R
         ensures { result.now ≡ joined_reader self.now }
     {
         &self.reader
     }
 
-    /// What is written to.
+    /// The writer of the connection.
     pub fn writer(&self) -> &W
         ensures { result.now ≡ joined_writer self.now }
     {

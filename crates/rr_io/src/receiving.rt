@@ -1,7 +1,7 @@
-//! How much is read, and how a reading ends.
+//! The limits on the reading of a text, and how a reading ends: for all that reads a stream.
 ghost use Rattle.std.specs.Prelude.{◌≡◌, IsTrue, ◌↔◌};
 
-/// How many times a text is read at most (profile).
+/// How many reads the reading of a text makes at most (profile).
 pub const READ_LIMIT: u32 = 16_777_216;
 
 /// How many bytes a read of a text asks for at most (profile).

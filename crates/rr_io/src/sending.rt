@@ -1,11 +1,12 @@
-//! Writing whole texts.
+//! Whole texts written, by as many writes as it takes: for all that is printed to a `Sink`.
 ghost use Rattle.std.specs.Prelude.{flat_map};
 ghost use Rattle.rr_io.specs.Sending.{Writes};
 
 use super::Sink;
 use std::io;
 
-/// Writes all of `bytes`. After a fault the writer has taken the beginning of them.
+/// Writes all of `bytes`. The error is that a write failed: the writer has then taken the beginning
+/// of them, and not all.
 pub fn write_all<W: Sink>(writer: &mut W, bytes: &[u8]) -> io::Result<()>
     ensures { Writes (W.told writer.old) (W.told writer.new) bytes.now result }
 {
@@ -18,8 +19,8 @@ pub fn write_all<W: Sink>(writer: &mut W, bytes: &[u8]) -> io::Result<()>
     Ok(())
 }
 
-/// Writes all of the pieces, one after the other. After a fault the writer has taken the beginning
-/// of their bytes.
+/// Writes all of the pieces, one after the other. The error is that a write failed: the writer has
+/// then taken the beginning of their bytes, and not all.
 pub fn write_pieces<W: Sink>(writer: &mut W, pieces: &[&[u8]]) -> io::Result<()>
     ensures { Writes (W.told writer.old) (W.told writer.new)
         (flat_map (λ piece. piece.now) pieces.now) result }

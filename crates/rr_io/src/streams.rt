@@ -1,4 +1,4 @@
-//! Readers and writers as contracts see them.
+//! Readers and writers as contracts see them: what every function that reads or writes takes.
 ghost use Rattle.std.specs.Prelude.{◌≡◌};
 ghost use Rattle.rr_io.specs.Told.{Told, beside};
 ghost use Rattle.rr_io.specs.Sending.{WritesOnce};
@@ -13,7 +13,7 @@ pub trait Source {
     ghost told: { Self → Told };
 
     /// Reads some bytes into the beginning of `buf` and says how many: none only at the end, or
-    /// into an empty `buf`.
+    /// into an empty `buf`. The error is that the read failed: no byte was read, and it is counted.
     fn read(&mut self, buf: &mut [u8]) -> io::Result<usize>
         ensures { ReadsOnce (told self.old) (told self.new) buf.new result };
 
@@ -28,7 +28,8 @@ pub trait Sink {
     // The bytes that were taken, the count of failed writes, and what stands beside the writer.
     ghost told: { Self → Told };
 
-    /// Takes some bytes from the beginning of `bytes` and says how many: none only of no bytes.
+    /// Takes some bytes from the beginning of `bytes` and says how many: none only of no bytes. The
+    /// error is that the write failed: no byte was taken, and it is counted.
     fn write(&mut self, bytes: &[u8]) -> io::Result<usize>
         ensures { WritesOnce (told self.old) (told self.new) bytes.now result };
 

@@ -1,4 +1,4 @@
--- What a listener counts and keeps.
+-- What a listener counts and tells of its turns, for the contracts of `Listener`.
 use Rattle.std.specs.Prelude.{None}
 use Rattle.rr_desk.specs.Turns.{Tally}
 use Rattle.rr_listener.specs.declared.listener.Listener.{Listener}

@@ -1,4 +1,4 @@
--- What a call to a peer takes of its time (profile).
+-- What a call to a peer takes of its time, for the contracts of what reads and writes (profile).
 use Rattle.std.specs.Prelude.{◌≡◌, ℕ, ◌≤◌, None, IfOk, IsErr, IsSome, Result}
 use Rattle.std.specs.Duration.{as_nanos}
 use Rattle.std.specs.Option.{option_map}
@@ -10,15 +10,16 @@ pub record TakesUp (nanos : ℕ) (before after : Deadline) : Type 0 where
   pub taken : as_nanos after.taken ≡ nanos
   pub timeout : after.timeout ≡ before.timeout
 
--- at most so many bytes passed, and none of the time that was taken is given back (profile)
+-- if it did not fail, at most so many bytes passed; in any case none of the time that was taken is
+-- given back (profile)
 pub record SpendsTime {E : Type 0} (room : ℕ) (before after : Deadline) (result : Result ℕ E)
     : Type 0 where
   pub bound : IfOk result (λ count. count ≤ room)
   pub spends : as_nanos before.taken ≤ as_nanos after.taken
 
--- one call to a peer that is given so many seconds in all: if these were over it was not made, and
--- took no time; otherwise it waited for what was left of them at most, and what it waited is not
--- given back, whether it failed or not (profile)
+-- one call to a peer that is given so many seconds in all: if these were over, it failed and took
+-- no time; otherwise its timeout is `next_wait`. If it did not fail, at most so many bytes passed;
+-- in any case none of the time that was taken is given back (profile).
 pub record SpendsCall {E : Type 0} (seconds room : ℕ) (before after : Deadline)
     (result : Result ℕ E) : Type 0 where
   pub over : next_wait seconds (as_nanos before.taken) ≡ None → IsErr result × (after ≡ before)

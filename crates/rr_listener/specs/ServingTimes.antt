@@ -1,4 +1,4 @@
--- How long a peer is waited for (profile).
+-- How long a peer is waited for, for the contracts of `Deadline` and of each call (profile).
 use Rattle.std.specs.Prelude.{◌≡◌, ◌⊎◌, ℕ, ◌+◌, ◌-◌, ◌*◌, ◌/◌}
 use Rattle.std.specs.Prelude.{◌==◌, true, min, is_some, Option}
 use Rattle.std.specs.Prelude.{None, Some}
@@ -13,13 +13,13 @@ use Rattle.rr_listener.specs.declared.peer_writer.TheConstants.{BYTES_A_SECOND, 
 abbrev pub second : ℕ
 second = 1_000_000_000
 
--- what a call waits for a peer that has so much time left, in nanoseconds: 10 seconds at most, and
--- not past the end (profile)
+-- how many nanoseconds a call may wait for a peer that has so many left: 10 seconds at most, and
+-- not past the end; `None` if none is left (profile)
 abbrev pub wait_of : ℕ → Option ℕ
 wait_of left = if left == 0 then None else Some (min left (LONGEST_WAIT * second))
 
--- what the next call waits, in nanoseconds, if the peer is given so many seconds in all and has
--- taken so many nanoseconds
+-- how many nanoseconds the next call may wait for a peer that has so many seconds in all and took
+-- so many nanoseconds; `None` if its time is over
 abbrev pub next_wait : ℕ → ℕ → Option ℕ
 next_wait seconds taken = wait_of (seconds * second - taken)
 
@@ -30,13 +30,14 @@ pub record SetsWait (wait before after set : Option ℕ) : Type 0 where
   pub stands : after ≡ wait
   pub is_set : (set ≡ wait) ⊎ ((set ≡ None) × (before ≡ wait))
 
--- the same of timeouts, which are durations (profile)
+-- there is a wait, and it stands as the timeout of the next call, of timeouts that are durations
+-- (profile)
 abbrev pub SetsTimeout : Option ℕ → Option Duration → Option Duration → Option Duration
     → Type 0
 SetsTimeout wait before after set =
     SetsWait wait (option_map as_nanos before) (option_map as_nanos after) (option_map as_nanos set)
 
 -- how many seconds a peer is given to take a reply of which so many bytes went out: 60, and one
--- more for each 16 KiB (profile)
+-- more for each whole 16 KiB (profile)
 abbrev pub reply_time : ℕ → ℕ
 reply_time written = REPLY_TIME + written / BYTES_A_SECOND

@@ -22,7 +22,8 @@ pub struct Listener<'a> {
 }
 
 impl<'a> Listener<'a> {
-    /// A listener on this port, or on any free one if it is 0. The error is the system's.
+    /// A listener on this port of 127.0.0.1, or on any free one if it is 0; no turn was counted
+    /// yet. The error is the system's. Which port it is, no clause says.
     pub fn open(rt: &'a HostRuntime, port: u16) -> io::Result<Listener<'a>>
         ensures { IfOk result (λ listener. listener.turns ≡ 0) }
     {
@@ -35,13 +36,12 @@ impl<'a> Listener<'a> {
         })
     }
 
-    /// The port. The error is the system's.
+    /// The port that it listens on, though no clause says which. The error is the system's.
     pub fn port(&self) -> io::Result<u16> {
         Ok(self.socket.local_addr()?.port())
     }
 
-    /// Why no connection could be accepted in the last turn, if that is how it failed. The error is
-    /// the system's.
+    /// The system's error of the last accept, if that failed; each `accept` sets it.
     pub fn accept_error(&self) -> Option<&io::Error>
         ensures { option_map (λ error. error.now) result ≡ self.now.accept_error }
     {
@@ -84,7 +84,9 @@ impl<'a> Peers for Listener<'a> {
 
     ghost given = { λ _. None };
 
-    /// The next connection to the port. An error of the system is kept until the next accept.
+    /// The next connection to the port, of which no call has failed; its bytes are not told. An
+    /// error is a turn, and the system's is then kept for `accept_error`, otherwise none. The turns
+    /// there were and this one are within `u64`.
     fn accept(&mut self, _alloc: Global) -> Result<Stream<'a>, AcceptFault>
         requires { self.old.turns + 1 < 2 ^ 64 }
         ensures accepted { IfOk result (λ conn. IsAccepted

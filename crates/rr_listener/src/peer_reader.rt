@@ -1,4 +1,4 @@
-//! What a peer sends.
+//! What a peer sends, and how long its request is waited for.
 
 ghost use Rattle.std.specs.Prelude.{◌≡◌, length};
 ghost use Rattle.std.specs.Duration.{as_nanos};
@@ -33,8 +33,10 @@ pub struct PeerReader<'a> {
 }
 
 impl<'a> PeerReader<'a> {
-    /// The bytes that come over a socket.
-    pub fn new(rt: &'a HostRuntime, socket: PeerSocket) -> PeerReader<'a> {
+    /// The bytes that come over a socket, of whose peer no time is taken yet.
+    pub fn new(rt: &'a HostRuntime, socket: PeerSocket) -> PeerReader<'a>
+        ensures { as_nanos result.deadline.taken ≡ 0 }
+    {
         PeerReader {
             rt,
             socket,
@@ -46,11 +48,11 @@ impl<'a> PeerReader<'a> {
     /// of it. The error is the system's, or that the time is over.
     pub fn drain(mut self) -> io::Result<()> {
         self.deadline = Deadline::new();
-        self.take_in()
+        self.skip_rest()
     }
 
     /// Takes in what the peer still sends, of whose time for that none is taken yet.
-    fn take_in(&mut self) -> io::Result<()>
+    fn skip_rest(&mut self) -> io::Result<()>
         requires { as_nanos self.old.deadline.taken ≡ 0 }
     {
         let mut block = [0u8; READ_SIZE];
@@ -79,7 +81,8 @@ impl<'a> PeerReader<'a> {
 }
 
 impl Read for PeerReader<'_> {
-    /// Reads some bytes; the time that earlier reads took stays taken.
+    /// Reads some bytes, at most as many as `buf` has. The time that earlier reads took stays
+    /// taken. The error is the system's, or that the time is over.
     fn read(&mut self, buf: &mut [u8]) -> io::Result<usize>
         ensures { SpendsTime (length buf.new) self.old.deadline self.new.deadline result }
     {

@@ -1,6 +1,7 @@
-//! What a peer is sent.
+//! What a peer is sent, and how long it is given to take that.
 
 ghost use Rattle.std.specs.Prelude.{◌≡◌, ◌+◌, ◌-◌, ◌^◌, IfOk, OnErr, length, min, nat_lt};
+ghost use Rattle.std.specs.Duration.{as_nanos};
 ghost use Rattle.rr_listener.specs.PeerCalls.{SpendsCall, SpendsTime};
 ghost use Rattle.rr_listener.specs.ServingTimes.{reply_time};
 
@@ -19,10 +20,10 @@ pub const REPLY_TIME: u64 = 60;
 pub const BYTES_A_SECOND: u64 = 16_384;
 
 /// The bytes that a peer is sent. It has to take them within 60 seconds and one more for each 16
-/// KiB that went out. A call waits for 10 seconds at most, and is made again if its time is over
-/// before that of the reply, up to 90 seconds in which no byte passes: the system lets a writer go
-/// on only once a good part of its buffer is free, which takes a slow and steady reader longer than
-/// 10.
+/// KiB that went out. A call waits for 10 seconds at most. It is made again if its time is over
+/// before that of the reply, up to 90 seconds in which no byte passes. For the system lets a writer
+/// go on only once a good part of its buffer is free, which takes a slow and steady reader longer
+/// than 10.
 #[derive(Drop)]
 pub struct PeerWriter<'a> {
     rt: &'a HostRuntime,
@@ -32,8 +33,11 @@ pub struct PeerWriter<'a> {
 }
 
 impl<'a> PeerWriter<'a> {
-    /// The bytes that go over a socket.
-    pub fn new(rt: &'a HostRuntime, socket: PeerSocket) -> PeerWriter<'a> {
+    /// The bytes that go over a socket, of which none went out and for which no time is taken yet.
+    pub fn new(rt: &'a HostRuntime, socket: PeerSocket) -> PeerWriter<'a>
+        ensures untaken { as_nanos result.deadline.taken ≡ 0 }
+        ensures unwritten { result.written ≡ 0 }
+    {
         PeerWriter {
             rt,
             socket,
@@ -76,7 +80,8 @@ impl<'a> PeerWriter<'a> {
 }
 
 impl Write for PeerWriter<'_> {
-    /// Writes some bytes; the time that earlier writes took stays taken.
+    /// Writes some bytes, at most as many as `buf` has. The time that earlier writes took stays
+    /// taken. The error is the system's, or that the time is over.
     fn write(&mut self, buf: &[u8]) -> io::Result<usize>
         ensures { SpendsTime (length buf.now) self.old.deadline self.new.deadline result }
     {

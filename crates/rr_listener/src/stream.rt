@@ -1,4 +1,4 @@
-//! Connections over TCP.
+//! Connections over TCP: how one is accepted, and how it is ended.
 
 ghost use Rattle.std.specs.Prelude.{◌≡◌, ◌<◌, IfOk, None};
 ghost use Rattle.rr_desk.specs.Turns.{IsFresh};
@@ -14,7 +14,7 @@ use std::net::TcpListener;
 pub type Stream<'a> = Joined<Counted<PeerReader<'a>>, Counted<PeerWriter<'a>>>;
 
 /// Waits for the next connection to a socket. The error is the system's.
-pub fn accept_stream<'a>(rt: &'a HostRuntime, socket: &TcpListener) -> io::Result<Stream<'a>>
+pub(crate) fn accept_stream<'a>(rt: &'a HostRuntime, socket: &TcpListener) -> io::Result<Stream<'a>>
     ensures fresh { IfOk result (λ stream. IsFresh
         (⟦<Stream<'static> as Source>⟧.told stream)
         (⟦<Stream<'static> as Sink>⟧.told stream)) }
@@ -30,9 +30,9 @@ pub fn accept_stream<'a>(rt: &'a HostRuntime, socket: &TcpListener) -> io::Resul
 }
 
 /// Ends a connection, and closes it. If the peer may get what was written it is told first that
-/// nothing more comes, and what it still sends is taken in for a while: a socket that is closed
+/// nothing more comes, and what it still sends is taken in for a while. For a socket that is closed
 /// over bytes that were not read resets the connection, and the peer may lose the reply.
-pub fn end_stream(stream: Stream<'_>) {
+pub(crate) fn end_stream(stream: Stream<'_>) {
     let (reader, writer) = stream.into_parts();
     if writer.failed_writes() > 0 {
         return;

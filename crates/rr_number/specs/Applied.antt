@@ -16,7 +16,7 @@ use Rattle.rr_number.specs.declared.operator.Operator.TheVariants.{Plain, Plus, 
 unfoldable pub applied : Operator → RangeParts → Option RangeParts
 applied operator r = option_map (range_of r.prefix) (lengths_under operator (bounds_of r))
 
--- A prefix carries an operator, or none, right after it (RFC 2622, 2).
+-- A text spells this prefix and, right after it, this operator, which may be none (RFC 2622, 2).
 pub record IsRanged (text : List ℕ) (prefix : PrefixParts) (operator : Operator) : Type 0 where
   pub before : List ℕ
   pub rest : List ℕ
@@ -24,7 +24,7 @@ pub record IsRanged (text : List ℕ) (prefix : PrefixParts) (operator : Operato
   pub first : IsPrefix before prefix
   pub second : IsOperator rest operator
 
--- A prefix and an operator as a text spells them both (RFC 2622, 2).
+-- A text spells a pair: a prefix and, right after it, an operator, which may be none (RFC 2622, 2).
 abbrev pub IsRangedText : List ℕ → PrefixParts × Operator → Type 0
 IsRangedText text ranged = IsRanged text ranged.0 ranged.1
 
@@ -38,12 +38,12 @@ ranged_from before rest =
 unfoldable pub ranged_of : List ℕ → Option (PrefixParts × Operator)
 ranged_of text = ranged_from (before_first (λ b. b == caret) text) (from_first caret text)
 
--- Whether there are bounds, and these (profile).
+-- Whether there are bounds, and they are those given (profile).
 abbrev pub is_bounds : Option Bounds → Bounds → Bool
 is_bounds None b = false
 is_bounds (Some c) b = c.low == b.low && c.high == b.high
 
--- An operator says a range where it makes it of the bare prefix (profile).
+-- An operator says a range where it makes the range of the range's prefix alone (profile).
 abbrev pub says : Operator → RangeParts → Bool
 says operator r = is_bounds (lengths_under operator (bounds_of (bare r.prefix))) (bounds_of r)
 
@@ -53,6 +53,7 @@ operator_for r =
     if says Plain r then Plain
     else (if says Plus r then Plus else (if says Minus r then Minus else Lengths (bounds_of r)))
 
--- A range is printed as its prefix with that operator (profile).
+-- A range is printed as its prefix and, right after it, the operator that is chosen for it
+-- (profile).
 unfoldable pub range_text : RangeParts → List ℕ
 range_text r = prefix_text r.prefix ++ operator_text (operator_for r)

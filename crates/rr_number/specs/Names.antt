@@ -7,11 +7,11 @@ use Rattle.rr_bytes.specs.LetterCase.{upper}
 use Rattle.rr_bytes.specs.NameBytes.{is_name}
 use Rattle.rr_number.specs.AnySets.{as_any, rs_any}
 
--- The name that a text spells, in upper case.
+-- The name that a text spells, in upper case, if it spells one (RFC 2622, 2; profile).
 abbrev pub name_of : List ℕ → Option (List ℕ)
 name_of bs = if is_name bs then Some (upper bs) else None
 
--- A name as it is kept: in upper case.
+-- A name as it is kept, which is in upper case (profile).
 pub record IsUpperName (name : List ℕ) : Type 0 where
   pub spelled : is_name name ≡ true
   pub upper_case : upper name ≡ name
@@ -37,6 +37,6 @@ is_maintainer_name name =
     not (is_reserved name)
     && (not (starts_with nat_eq name (codes "AS-")) && not (starts_with nat_eq name (codes "RS-")))
 
--- The maintainer's name that a text spells, in upper case.
+-- The maintainer's name that a text spells, in upper case, if it spells one (RFC 2622, 2).
 abbrev pub maintainer_name_of : List ℕ → Option (List ℕ)
 maintainer_name_of bs = if is_maintainer_name (upper bs) then name_of bs else None

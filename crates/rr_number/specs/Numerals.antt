@@ -13,14 +13,14 @@ pub record IsNumber (most limit : ℕ) (text : List ℕ) (n : ℕ) : Type 0 wher
   pub value : digits_value 10 text ≡ n
   pub fits : n < limit
 
--- Whether the text spells a number so (profile).
+-- Whether a text spells a number below the limit in one to `most` digits (profile).
 abbrev pub is_number : ℕ → ℕ → List ℕ → Bool
 is_number most limit text =
     all_ascii_digits text
     && (nat_lt 0 (length text)
     && (nat_le (length text) most && nat_lt (digits_value 10 text) limit))
 
--- The number that the text spells so, if it does (profile).
+-- The number below the limit that a text spells in one to `most` digits, if it does (profile).
 unfoldable pub number_of : ℕ → ℕ → List ℕ → Option ℕ
 number_of most limit text =
     if is_number most limit text then Some (digits_value 10 text) else None

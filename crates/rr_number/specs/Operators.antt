@@ -90,7 +90,7 @@ lengths_text low high =
     if low == high then caret ∷ decimal low
     else caret ∷ (decimal low ++ (dash ∷ decimal high))
 
--- An operator is printed as it is spelled (profile).
+-- An operator is printed as nothing, `^+`, `^-`, `^n` or `^n-m` (profile).
 unfoldable pub operator_text : Operator → List ℕ
 operator_text Plain = []
 operator_text Plus = caret ∷ plus ∷ []

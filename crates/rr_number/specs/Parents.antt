@@ -1,4 +1,4 @@
--- What names the parent of a set.
+-- Which part of a set's name names the set's parent, and what that parent is.
 use Rattle.std.specs.Prelude.{ℕ, List, [], ◌∷◌, Option, None, Some, if◌then◌else◌}
 use Rattle.std.specs.List.{join_with_byte, list_all}
 use Rattle.std.specs.Option.{option_map, option_map_or}
@@ -22,12 +22,13 @@ parent_text_by (c ∷ cs) = Some (join_with_byte 58 (c ∷ cs))
 unfoldable pub parent_text : List ℕ → Option (List ℕ)
 parent_text text = parent_text_by (but_last (components text))
 
--- A text names an AS, or nothing where it has AS numbers alone, several of them, or else a set
--- (RFC 2622, 5; profile).
+-- A text that is an AS number names that AS, one of several AS numbers alone names nothing, and any
+-- other names a set (RFC 2622, 5; profile).
 abbrev pub named_by : List ℕ → Parent
 named_by text = option_map_or Number (as_number_of text)
     (if list_all is_as_number (components text) then Bare else Set text)
 
--- A set is below what all components of its name but the last name (RFC 2622, 5; RFC 2725, 9).
+-- The parent of a set is what its name without the last component names, if the name has several
+-- components (RFC 2622, 5; RFC 2725, 9).
 abbrev pub parent_of : List ℕ → Option Parent
 parent_of text = option_map named_by (parent_text text)

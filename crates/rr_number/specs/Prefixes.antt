@@ -15,12 +15,12 @@ pub record PrefixParts : Type 0 where
   pub address : ℕ
   pub length : ℕ
 
--- How many addresses share their first bits, so many of them (RFC 2622, 2).
+-- How many addresses a prefix of this length has (RFC 2622, 2).
 abbrev pub count_of : ℕ → ℕ
 count_of length = 2 ^ (32 - length)
 
--- The address is one, the length is at most 32 (RFC 2622, 2), and the bits past the length are zero
--- (profile).
+-- A prefix has an address below 2^32 and a length of at most 32 (RFC 2622, 2), and its bits past
+-- the length are zero (profile).
 pub record IsMasked (p : PrefixParts) : Type 0 where
   pub short : p.length ≤ 32
   pub fits : p.address < 2 ^ 32
@@ -31,7 +31,7 @@ pub record IsMasked (p : PrefixParts) : Type 0 where
 abbrev pub masked : ℕ → ℕ → PrefixParts
 masked address length = record { address = address - address % count_of length; length = length }
 
--- A prefix has the span of the addresses from its own on, as many as share its bits (RFC 2622, 2).
+-- The span of a prefix begins at its address, and has all addresses of the prefix (RFC 2622, 2).
 abbrev pub span_of : PrefixParts → Ends
 span_of p = record { first = p.address; last = p.address + (count_of p.length - 1) }
 

@@ -10,12 +10,13 @@ use Rattle.rr_number.specs.Ranges.{RangeParts, IsRange, admits, bare, bounds_of,
 use Rattle.rr_number.specs.Spans.{covers}
 use Rattle.rr_number.specs.declared.operator.Operator.{Operator}
 
--- A length lies between two (RFC 2622, 2).
+-- A length is not below the least one and not above the greatest (RFC 2622, 2).
 abbrev pub is_between : Bounds → ℕ → Bool
 is_between b n = nat_le b.low n && nat_le n b.high
 
--- Under an operator a range admits what its prefix covers, of the lengths that the operator's row
--- gives; where it is dropped, no prefix has such a length (RFC 2622, 2).
+-- What an operator makes of a range admits what the range's prefix covers, of the lengths that the
+-- operator makes of its lengths; where the operator drops the range, no prefix has such a length
+-- (RFC 2622, 2).
 abbrev pub OperatorsAdmit : Type 0
 OperatorsAdmit =
     (o : Operator) (r : RangeParts) (q : PrefixParts) → IsMasked q
@@ -34,7 +35,7 @@ abbrev pub PrintedRangesAreRead : Type 0
 PrintedRangesAreRead =
     (r : RangeParts) → IsRange r → IsRanged (range_text r) r.prefix (operator_for r)
 
--- That operator makes the range of the prefix alone (profile).
+-- The operator with which a range is printed makes the range of its prefix alone (profile).
 abbrev pub PrintedOperatorsMakeRanges : Type 0
 PrintedOperatorsMakeRanges =
     (r : RangeParts) → IsRange r → applied (operator_for r) (bare r.prefix) ≡ Some r

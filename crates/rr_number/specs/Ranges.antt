@@ -12,7 +12,8 @@ pub record RangeParts : Type 0 where
   pub low : ℕ
   pub high : ℕ
 
--- The prefix is one, and the lengths go up from its own to 32 at most (RFC 2622, 2).
+-- A range has a prefix whose bits past its length are zero, a least length not below the prefix's,
+-- and a greatest that is not below the least and not above 32 (RFC 2622, 2).
 pub record IsRange (r : RangeParts) : Type 0 where
   pub masked : IsMasked r.prefix
   pub inside : r.prefix.length ≤ r.low
@@ -27,12 +28,12 @@ range_of p b = record { prefix = p; low = b.low; high = b.high }
 abbrev pub bounds_of : RangeParts → Bounds
 bounds_of r = record { low = r.low; high = r.high }
 
--- The range of a prefix alone has its own length (RFC 2622, 2).
+-- The range of a prefix alone: its least and its greatest length are the prefix's (RFC 2622, 2).
 abbrev pub bare : PrefixParts → RangeParts
 bare p = record { prefix = p; low = p.length; high = p.length }
 
--- A range admits a prefix that its prefix covers and whose length lies between its two
--- (RFC 2622, 2).
+-- A range admits a prefix that the range's own prefix covers, and whose length is not below the
+-- range's least and not above its greatest (RFC 2622, 2).
 abbrev pub admits : RangeParts → PrefixParts → Bool
 admits r q =
     covers (span_of r.prefix) (span_of q) && (nat_le r.low q.length && nat_le q.length r.high)

@@ -13,7 +13,7 @@ use Rattle.rr_number.specs.Names.{is_reserved}
 use Rattle.rr_number.specs.declared.set_kind.SetKind.{SetKind}
 use Rattle.rr_number.specs.declared.set_kind.SetKind.TheVariants.{AsSet, RouteSet}
 
--- What the names of sets of a kind begin with (RFC 2622, 2).
+-- What the words of sets of a kind begin with: `AS-` or `RS-` (RFC 2622, 2).
 abbrev pub word_start : SetKind → List ℕ
 word_start AsSet = codes "AS-"
 word_start RouteSet = codes "RS-"
@@ -26,13 +26,14 @@ components text = slice_split (λ b. b == 58) text
 abbrev pub is_as_number : List ℕ → Bool
 is_as_number component = is_some (as_number_of component)
 
--- The word of a set is a name that begins as its kind's do and is not reserved (RFC 2622, 5).
+-- A word of sets of a kind is a name that begins as the words of the kind do and is not reserved
+-- (RFC 2622, 5).
 abbrev pub is_set_word : SetKind → List ℕ → Bool
 is_set_word kind component =
     is_name component && (starts_with nat_eq (upper component) (word_start kind)
     && not (is_reserved (upper component)))
 
--- A component is an AS number or the word of a set (RFC 2622, 5).
+-- A component is an AS number or a word of sets of the kind (RFC 2622, 5).
 abbrev pub is_component : SetKind → List ℕ → Bool
 is_component kind component = is_as_number component || is_set_word kind component
 
@@ -42,7 +43,8 @@ abbrev pub is_name_of_kind : SetKind → List ℕ → Bool
 is_name_of_kind kind text =
     list_all (is_component kind) (components text) && list_any (is_set_word kind) (components text)
 
--- `AS-ANY` and `RS-ANY` name sets only by themselves (RFC 2622, 5; profile).
+-- A text is `AS-ANY` or `RS-ANY`, in any letter case, which name sets only by themselves
+-- (RFC 2622, 5; profile).
 abbrev pub is_any_set : List ℕ → Bool
 is_any_set text = bytes_eq (upper text) as_any || bytes_eq (upper text) rs_any
 
@@ -50,8 +52,8 @@ is_any_set text = bytes_eq (upper text) as_any || bytes_eq (upper text) rs_any
 abbrev pub set_name_limit : ℕ
 set_name_limit = 255
 
--- A set's name has at most 255 bytes as it is spelled (profile), and its components are of one kind
--- (RFC 2622, 5).
+-- A set's name has at most 255 bytes as it is spelled (profile), and is `AS-ANY`, `RS-ANY`, or
+-- components of one kind (RFC 2622, 5).
 unfoldable pub is_set_name : List ℕ → Bool
 is_set_name text = nat_le (length text) set_name_limit
     && (is_any_set text || (is_name_of_kind AsSet text || is_name_of_kind RouteSet text))
@@ -65,25 +67,25 @@ component_text component = option_map_or as_number_text (as_number_of component)
 unfoldable pub set_text : List ℕ → List ℕ
 set_text text = join_with_byte 58 (map component_text (components text))
 
--- The set's name that a text spells, as it is printed.
+-- The set's name that a text spells, as it is printed, if it spells one (RFC 2622, 5).
 abbrev pub set_name_of : List ℕ → Option (List ℕ)
 set_name_of text = if is_set_name text then Some (set_text text) else None
 
--- A set's name as it is kept: as it is printed.
+-- A set's name as it is kept, which is as it is printed (profile).
 pub record IsSetText (text : List ℕ) : Type 0 where
   pub spelled : is_set_name text ≡ true
   pub printed : set_text text ≡ text
 
--- Whether a set's name, as it is printed, has a component that begins as a kind's names do.
+-- Whether a set's name, as it is printed, has a component that begins as the words of a kind do.
 abbrev pub has_word_start : SetKind → List ℕ → Bool
 has_word_start kind text =
     list_any (λ component. starts_with nat_eq component (word_start kind)) (components text)
 
--- A set is an as-set where a component of its name begins as those of as-sets do (RFC 2622, 5).
+-- A set is an as-set where a component of its name begins with `AS-` (RFC 2622, 5).
 abbrev pub is_as_set : List ℕ → Bool
 is_as_set text = has_word_start AsSet text
 
--- The kind of a set is told by the components beside AS numbers: an as-set, and else a route-set
--- (RFC 2622, 5).
+-- The kind of the set that a name names: an as-set where a component begins with `AS-`, and else a
+-- route-set (RFC 2622, 5).
 abbrev pub kind_of : List ℕ → SetKind
 kind_of text = if is_as_set text then AsSet else RouteSet

@@ -1,6 +1,5 @@
-//! Addresses.
+//! IPv4 addresses, which are read, printed and ordered here: parts of prefixes, and ends of spans.
 ghost use Rattle.std.specs.Prelude.{◌≡◌, ◌<◌, ◌^◌, Some};
-ghost use Rattle.rr_io.specs.Sending.{Writes};
 ghost use Rattle.rr_number.specs.Addresses.{IsAddress, address_of, address_text, joined_of};
 ghost use Rattle.rr_number.specs.Addresses.{octet_of};
 ghost use Rattle.rr_number.specs.ExactReads.{ReadsExactly};
@@ -10,9 +9,8 @@ use crate::digits::read_number;
 use crate::ends::End;
 use crate::number_text::NumberText;
 use rr_bytes::cut_at;
-use rr_io::{Sink, write_all};
+use std::fmt;
 use std::marker::Model;
-use std::{fmt, io};
 
 /// An IPv4 address, a number below 2^32. Addresses are ordered as numbers (RFC 791, 3).
 #[derive(Clone, Copy, Debug, PartialEq, Eq, PartialOrd, Ord)]
@@ -38,7 +36,7 @@ impl Address {
         Address { bits }
     }
 
-    /// The address as a number.
+    /// The address as a number, which is below 2^32.
     pub fn to_bits(self) -> u32
         ensures { Shows (λ bits. bits < 2 ^ 32) self self result }
     {
@@ -46,7 +44,8 @@ impl Address {
     }
 
     /// The address that the whole text spells: four numbers below 256, of one to three digits each,
-    /// joined by dots. There is none where the text is spelled otherwise (RFC 2622, 2).
+    /// joined by dots. There is none where the text is spelled otherwise (RFC 2622, 2; digits:
+    /// profile).
     pub fn read(text: &[u8]) -> Option<Address>
         ensures { ReadsExactly IsAddress address_of text.now result }
     {
@@ -60,14 +59,6 @@ impl Address {
         let mut text = NumberText::new();
         Address::push_end(self.bits, &mut text);
         text
-    }
-
-    /// Writes the address's text. After a fault the writer has taken the beginning of it.
-    pub fn print_to<W: Sink>(&self, writer: &mut W) -> io::Result<()>
-        ensures { Writes (W.told writer.old) (W.told writer.new)
-            (address_text self.now) result }
-    {
-        write_all(writer, self.text().as_bytes())
     }
 }
 

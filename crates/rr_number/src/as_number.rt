@@ -1,4 +1,4 @@
-//! AS numbers.
+//! AS numbers, which are read, printed and ordered here: keys of aut-nums, and ends of as-blocks.
 ghost use Rattle.std.specs.Prelude.{◌≡◌, length, ◌+◌, ◌≤◌};
 ghost use Rattle.std.specs.Prelude.{Some};
 ghost use Rattle.rr_io.specs.Sending.{Writes};
@@ -43,14 +43,14 @@ impl Model for AsNumber {
 }
 
 impl AsNumber {
-    /// The AS of a number; none is above the greatest.
+    /// The AS number of this value: each number of 32 bits is one (RFC 6793, 3).
     pub fn new(number: u32) -> Self
         ensures { result ≡ number }
     {
         AsNumber { number }
     }
 
-    /// The number.
+    /// The AS number as a number, at most 4294967295.
     pub fn number(self) -> u32
         ensures { Shows (λ number. number ≤ greatest_as_number) self self result }
     {
@@ -58,7 +58,8 @@ impl AsNumber {
     }
 
     /// The AS number that the bytes spell: `AS`, in any letter case, and 1 to 10 digits of a number
-    /// of at most 4294967295 (RFC 2622, 2; RFC 6793, 3; the count of digits: profile).
+    /// of at most 4294967295; `None` where they spell none (RFC 2622, 2; RFC 6793, 3; the count of
+    /// digits: profile).
     pub fn read(bytes: &[u8]) -> Option<Self>
         ensures { ReadsExactly IsAsNumber as_number_of bytes.now result }
     {

@@ -52,7 +52,7 @@ impl AsSpan {
     }
 
     /// The block that the text spells: two AS numbers with `-` between them, which may have blanks
-    /// on either side, the first not above the last (profile).
+    /// on either side, the first not above the last; `None` where it spells none (profile).
     pub fn read(text: &[u8]) -> Option<Self>
         ensures { ReadsExactly IsAsSpanText as_span_of text.now result }
     {

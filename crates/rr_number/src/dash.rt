@@ -1,4 +1,4 @@
-//! Two texts with a dash between them.
+//! Two texts with a dash between them, as the keys of inetnums and as-blocks are spelled.
 ghost use Rattle.std.specs.Prelude.{◌≡◌};
 ghost use Rattle.std.specs.Option.{option_map};
 ghost use Rattle.rr_number.specs.Dashes.{dashed_of};

@@ -1,4 +1,4 @@
-//! Decimal numbers.
+//! Decimal numbers within a limit: octets, lengths and AS numbers are read by them.
 ghost use Rattle.std.specs.Prelude.{◌≡◌, ◌<◌, ◌≤◌, IfSome};
 ghost use Rattle.rr_number.specs.Numerals.{number_of};
 

@@ -72,15 +72,17 @@ pub fn printed_blocks_are_read()
     ensures { (block : Ends) → IsAsSpan block → IsAsSpanText (as_span_text block) block }
 {}
 
-/// A name is read again from its bytes, and letter case makes no difference to what is read.
+/// A name is read again from its bytes, letter case makes no difference to what is read, and what
+/// is read is in upper case.
 pub fn names_are_read_again()
     ensures again { (name : List ℕ) → IsUpperName name → name_of name ≡ Some name }
     ensures case_ignored { (a b : List ℕ) → upper a ≡ upper b → name_of a ≡ name_of b }
     ensures kept { (bs name : List ℕ) → name_of bs ≡ Some name → IsUpperName name }
 {}
 
-/// A set's name is read again from its printed text, in any letter case; the components beside AS
-/// numbers tell its kind, and its parent has all of them but the last.
+/// A set's name is read again from its printed text, and from it in any letter case. What is read
+/// has the components of the spelling, each as it is printed. Unless it is `AS-ANY` or `RS-ANY`,
+/// its components are those of its kind. Its parent has all of them but the last.
 pub fn set_names_are_read_again()
     ensures again { SetNamesAreReadAgain }
     ensures case_ignored { SetNamesIgnoreCase }
@@ -109,8 +111,8 @@ pub fn spans_tell_prefixes()
     ensures { SpansTellPrefixes }
 {}
 
-/// Under an operator a range admits what its prefix covers, of the lengths that the operator's row
-/// gives; where it is dropped, no prefix has such a length.
+/// What an operator makes of a range admits what the range's prefix covers, of the lengths that the
+/// operator makes of its lengths. Where the operator drops the range, no prefix has such a length.
 pub fn operators_admit_what_they_say()
     ensures { OperatorsAdmit }
 {}

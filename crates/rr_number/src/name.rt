@@ -62,8 +62,8 @@ impl Model for Name {
 }
 
 impl Name {
-    /// The name that the bytes spell, in any letter case; `None` where they spell none.
-    /// A reserved word is a name.
+    /// The name that the bytes spell, in any letter case; `None` where they spell none. A reserved
+    /// word is a name. The error is that memory ran out.
     pub fn read(alloc: Global, bytes: &[u8]) -> Result<Option<Self>, AllocError>
         ensures { IfOk result (λ name. name ≡ name_of bytes.now) }
     {
@@ -76,7 +76,7 @@ impl Name {
     }
 
     /// The maintainer's name that the bytes spell, in any letter case; `None` where they spell
-    /// none, as `AS-X` or a reserved word.
+    /// none, as `AS-X` or a reserved word. The error is that memory ran out.
     pub fn read_maintainer(alloc: Global, bytes: &[u8]) -> Result<Option<Self>, AllocError>
         ensures { IfOk result (λ name. name ≡ maintainer_name_of bytes.now) }
     {
@@ -117,7 +117,7 @@ impl Name {
         write_all(writer, self.as_bytes())
     }
 
-    /// An equal name.
+    /// An equal name; the error is that memory ran out.
     pub fn copy(&self, alloc: Global) -> Result<Self, AllocError>
         ensures { IfOk result (λ name. name ≡ self.now) }
     {

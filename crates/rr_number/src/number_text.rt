@@ -1,4 +1,4 @@
-//! Printed text on the stack.
+//! The printed text of an address, an AS number, or a value made of them, which lies on the stack.
 ghost use Rattle.std.specs.Prelude.{◌≡◌, ◌+◌, ◌≤◌, [], ◌++◌, length};
 ghost use Rattle.std.specs.Fmt.{decimal};
 ghost use Rattle.rr_number.specs.NumberTextParts.{Appends};
@@ -8,11 +8,11 @@ use arrayvec::ArrayString;
 use itoa::Buffer;
 use std::marker::Model;
 
-/// The most bytes of the printed text of a number.
+/// The most bytes that a `NumberText` has.
 pub const NUMBER_SIZE: usize = 40;
 
-/// The printed text of a number: at most 40 bytes, which lie in the value itself, so printing takes
-/// no memory.
+/// The printed text of an address, an AS number, or a prefix, span, operator or range: at most 40
+/// bytes, which lie in the value itself, so printing takes no memory.
 #[derive(Clone, Drop)]
 pub struct NumberText {
     text: ArrayString<NUMBER_SIZE>,
@@ -62,14 +62,14 @@ impl NumberText {
         self.push_number(u32::from(number));
     }
 
-    /// The text.
+    /// The text, of at most 40 bytes.
     pub fn as_str(&self) -> &str
         ensures { Shows (λ text. length text ≤ NUMBER_SIZE) self.now self.now result.now }
     {
         self.text.as_str()
     }
 
-    /// The bytes of the text.
+    /// The bytes of the text, at most 40.
     pub fn as_bytes(&self) -> &[u8]
         ensures { Shows (λ text. length text ≤ NUMBER_SIZE) self.now self.now result.now }
     {

@@ -1,7 +1,6 @@
-//! Range operators.
+//! Range operators, as `^24-32`: read, printed, and applied to ranges.
 ghost use Rattle.std.specs.Prelude.{◌≡◌, ◌+◌, ◌<◌, ◌≤◌, ◌↔◌};
 ghost use Rattle.std.specs.Prelude.{IsSome, IfSome, length, Some};
-ghost use Rattle.rr_io.specs.Sending.{Writes};
 ghost use Rattle.rr_number.specs.Applied.{applied};
 ghost use Rattle.rr_number.specs.Bounds.{IsBounds};
 ghost use Rattle.rr_bytes.specs.Cuts.{cut_at};
@@ -17,9 +16,8 @@ use crate::number_text::{NUMBER_SIZE, NumberText};
 use crate::prefix::read_length;
 use crate::range::Range;
 use rr_bytes::cut_at;
-use rr_io::{Sink, write_all};
+use std::fmt;
 use std::marker::Model;
-use std::{fmt, io};
 
 /// What a range operator says of a prefix's length (RFC 2622, 2). A prefix carries at most one.
 #[derive(Clone, Copy, Debug, PartialEq, Eq, PartialOrd, Ord)]
@@ -100,8 +98,8 @@ impl Operator {
         read_operator(text)
     }
 
-    /// What the operator makes of the range; none where it drops it, as `^8` a range of lengths
-    /// from 16 (RFC 2622, 2).
+    /// What the operator makes of the range; none where it drops the range, as `^8` drops one of
+    /// lengths from 16 (RFC 2622, 2).
     #[tactic(auto, unfolding(crate::specs::Applied::applied, crate::specs::Applied::lengths_under))]
     pub fn apply(self, range: Range) -> Option<Range>
         ensures { result ≡ applied self range }
@@ -124,14 +122,6 @@ impl Operator {
         let mut text = NumberText::new();
         self.push_to(&mut text);
         text
-    }
-
-    /// Writes the operator's text. After a fault the writer has taken the beginning of it.
-    pub fn print_to<W: Sink>(&self, writer: &mut W) -> io::Result<()>
-        ensures { Writes (W.told writer.old) (W.told writer.new)
-            (operator_text self.now) result }
-    {
-        write_all(writer, self.text().as_bytes())
     }
 
     /// Appends the operator's text, at most 8 bytes.

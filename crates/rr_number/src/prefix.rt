@@ -1,4 +1,4 @@
-//! Prefixes.
+//! Prefixes, as `192.0.2.0/24`, which are read, printed and compared here: keys of routes.
 ghost use Rattle.std.specs.Prelude.{◌≡◌, ◌+◌, ◌<◌, ◌≤◌, IfSome};
 ghost use Rattle.std.specs.Prelude.{length, Some};
 ghost use Rattle.rr_io.specs.Sending.{Writes};
@@ -40,8 +40,8 @@ impl Model for Prefix {
 }
 
 impl Prefix {
-    /// The prefix of this length that the address lies in: the bits past the length are read as
-    /// zero (profile).
+    /// The prefix of this length, which is at most 32, that the address lies in: the bits past the
+    /// length are read as zero (profile).
     pub fn new(address: Address, length: u8) -> Self
         requires { length ≤ 32 }
         ensures { result ≡ masked address length }
@@ -129,7 +129,7 @@ impl fmt::Display for Prefix {
     }
 }
 
-/// How many addresses share their first bits, so many of them.
+/// How many addresses a prefix of this length has.
 #[inline]
 fn count(length: u8) -> u64
     requires { length ≤ 32 }

@@ -1,7 +1,6 @@
-//! Ranges of prefixes.
+//! Ranges of prefixes, as route-sets and `mnt-routes` have them: a prefix and bounds on lengths.
 ghost use Rattle.std.specs.Prelude.{◌≡◌, ◌≤◌};
 ghost use Rattle.std.specs.Prelude.{if◌then◌else◌, length, nat_le, Some};
-ghost use Rattle.rr_io.specs.Sending.{Writes};
 ghost use Rattle.rr_number.specs.Applied.{IsRangedText, operator_for, ranged_from, range_text};
 ghost use Rattle.rr_number.specs.Applied.{ranged_of};
 ghost use Rattle.rr_number.specs.ExactReads.{ReadsExactly};
@@ -12,9 +11,8 @@ use crate::number_text::NumberText;
 use crate::operator::{LengthBounds, Operator};
 use crate::prefix::Prefix;
 use rr_bytes::cut_before;
-use rr_io::{Sink, write_all};
+use std::fmt;
 use std::marker::Model;
-use std::{fmt, io};
 
 /// A range of prefixes: those that the prefix covers and whose length lies from `low` to `high`.
 /// Ranges are ordered by address, length, `low` and `high` (profile).
@@ -68,8 +66,8 @@ impl Range {
         }
     }
 
-    /// Whether the range holds the prefix: its own covers it, and its length lies between the two
-    /// (RFC 2622, 2).
+    /// Whether the range has the prefix: the range's own prefix covers it, and its length is not
+    /// below `low` and not above `high` (RFC 2622, 2).
     pub fn admits(self, prefix: Prefix) -> bool
         ensures { result ≡ admits self prefix }
     {
@@ -97,8 +95,8 @@ impl Range {
         self.high
     }
 
-    /// The operator that makes the range of its prefix alone: the first of none, `^+`, `^-` and
-    /// lengths.
+    /// The operator that makes the range of its prefix alone: the first that does, of none, `^+`,
+    /// `^-` and lengths (profile).
     pub fn operator(self) -> Operator
         ensures { result ≡ operator_for self }
     {
@@ -120,14 +118,6 @@ impl Range {
         self.prefix.push_to(&mut text);
         self.operator().push_to(&mut text);
         text
-    }
-
-    /// Writes the range's text. After a fault the writer has taken the beginning of it.
-    pub fn print_to<W: Sink>(&self, writer: &mut W) -> io::Result<()>
-        ensures { Writes (W.told writer.old) (W.told writer.new)
-            (range_text self.now) result }
-    {
-        write_all(writer, self.text().as_bytes())
     }
 }
 

@@ -1,4 +1,4 @@
-//! The kinds of sets.
+//! The kinds of sets that have names: as-sets and route-sets.
 
 ghost use Rattle.std.specs.Prelude.{◌≡◌};
 ghost use Rattle.rr_number.specs.SetNames.{word_start};
@@ -13,7 +13,7 @@ pub enum SetKind {
 }
 
 impl SetKind {
-    /// What the words of sets of the kind begin with, in upper case (RFC 2622, 2).
+    /// What the words of sets of the kind begin with: `AS-` or `RS-` (RFC 2622, 2).
     pub fn word_start(self) -> &'static [u8]
         ensures { result.now ≡ word_start self }
     {

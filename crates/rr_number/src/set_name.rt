@@ -51,7 +51,8 @@ impl Model for SetName {
 
 impl SetName {
     /// The set's name that the bytes spell, in any letter case and with leading zeros in AS
-    /// numbers; `None` where they spell none. `AS-ANY` and `RS-ANY` are names of sets.
+    /// numbers; `None` where they spell none. `AS-ANY` and `RS-ANY` are names of sets. The error is
+    /// that memory ran out.
     pub fn read(alloc: Global, bytes: &[u8]) -> Result<Option<Self>, AllocError>
         ensures { IfOk result (λ name. name ≡ set_name_of bytes.now) }
     {
@@ -71,7 +72,7 @@ impl SetName {
         &text.bytes
     }
 
-    /// The kind of the set.
+    /// The kind of the set that the name names.
     pub fn kind(&self) -> SetKind
         ensures { result ≡ kind_of self.now }
     {
@@ -110,7 +111,7 @@ impl SetName {
         write_all(writer, self.as_bytes())
     }
 
-    /// An equal name.
+    /// An equal name; the error is that memory ran out.
     pub fn copy(&self, alloc: Global) -> Result<Self, AllocError>
         ensures { IfOk result (λ name. name ≡ self.now) }
     {

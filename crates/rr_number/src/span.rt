@@ -39,7 +39,7 @@ impl Model for Span {
 }
 
 impl Span {
-    /// The span from `first` to `last`.
+    /// The span from `first` to `last`, which is not below it.
     pub fn new(first: u32, last: u32) -> Span
         requires { first ≤ last }
         ensures { result ≡ record { first = first; last = last } }

@@ -24,7 +24,8 @@ salt_limit = 16
 abbrev pub is_salt : List ℕ → Bool
 is_salt salt = nat_le (length salt) salt_limit && list_all is_ascii_alphanumeric salt
 
--- a salt, a colon and the 64 hexadecimal digits of a digest, in either case (profile)
+-- the salt and the digest that a word spells, if it does: a salt, a colon and the 64 hexadecimal
+-- digits of a digest, in either case (profile)
 unfoldable pub salted_digest_of : List ℕ → Option AuthParts
 salted_digest_of word =
     let salt = before_first is_colon word in
@@ -45,6 +46,6 @@ auth_of_words (scheme ∷ further) =
     if is_sha256_pw scheme then option_map Some (option_and_then salted_digest_of (only further))
     else Some None
 
--- a value of `auth`: the words of it (RFC 2622, 3)
+-- what a value of `auth` stands for, by its words (RFC 2622, 3)
 abbrev pub auth_item : List ℕ → Option (Option AuthParts)
 auth_item value = auth_of_words (words value)

@@ -1,9 +1,9 @@
--- What is kept of that which few objects say.
+-- What an object keeps of the attributes that few objects have.
 use Rattle.std.specs.Prelude.{Bool, [], ◌&&◌, ◌==◌, Box, Option, None, Some, false, length, not}
 use Rattle.rr_object.specs.Parts.{ExtraParts}
 use Rattle.rr_object.specs.declared.extra.Extra.{Extra}
 
--- an object that says nothing of this
+-- what an object says that has neither `mnt-lower`, `mnt-routes` and `auth` nor anything of sets
 abbrev pub nothing : ExtraParts
 nothing = record {
   lower = [];
@@ -14,17 +14,17 @@ nothing = record {
   member_of = [];
 }
 
--- it says nothing of sets
+-- an object says nothing of sets
 abbrev pub says_nothing_of_sets : ExtraParts → Bool
 says_nothing_of_sets e = length e.members == 0 && not e.by_ref.any
     && length e.by_ref.names == 0 && length e.member_of == 0
 
--- it says nothing
+-- an object has neither `mnt-lower`, `mnt-routes` and `auth` nor anything of sets
 abbrev pub says_nothing : ExtraParts → Bool
 says_nothing e = says_nothing_of_sets e
     && length e.lower == 0 && length e.routes == 0 && length e.auths == 0
 
--- what an object says that keeps this
+-- what an object says, by what it keeps: where it keeps nothing, it says nothing
 abbrev pub kept_extra : {Z : Type 0} → Option (Box Extra Z) → ExtraParts
 kept_extra None = nothing
 kept_extra (Some extra) = extra.value

@@ -1,4 +1,4 @@
--- Why a paragraph is not an object.
+-- What a call answers that may find a fault in a paragraph, and the code of each fault.
 use Rattle.std.specs.Prelude.{◌≡◌, ◌≢◌, Result, Ok, Err, IfOk, IfErr}
 use Rattle.rr_object.specs.declared.object_fault.ObjectFault.{ObjectFault}
 use Rattle.rr_object.specs.declared.object_fault.ObjectFault.TheVariants.{UnknownClass, BadKey}
@@ -7,7 +7,7 @@ use Rattle.rr_object.specs.declared.object_fault.ObjectFault.TheVariants.{OtherS
 use Rattle.rr_object.specs.declared.code.Code.{Code}
 use Rattle.rr_object.specs.declared.code.Code.TheVariants.{E02, E03, E04, E05, E06, E90}
 
--- the answer is this one, unless memory ran out
+-- a call answers this value, or this fault, unless memory runs out (profile)
 pub record GivesUnlessMemory {X : Type 0} (expected answer : Result X ObjectFault) : Type 0 where
   pub ok : IfOk answer (λ x. expected ≡ Ok x)
   pub fault : IfErr answer (λ fault. fault ≢ Memory → expected ≡ Err fault)

@@ -13,7 +13,7 @@ pub record IsNameAlone (items : List (List ℕ)) (grant : GrantParts) : Type 0 w
   pub named : maintainer_name_of item ≡ Some grant.name
   pub value : grant ≡ for_each_prefix grant.name
 
--- so is a maintainer's name and `ANY` (RFC 2725, 10)
+-- a maintainer's name and `ANY` are an entry for each prefix (RFC 2725, 10)
 pub record IsNameWithAny (items : List (List ℕ)) (grant : GrantParts) : Type 0 where
   pub item : List ℕ
   pub keyword : List ℕ
@@ -32,7 +32,8 @@ pub record IsNameWithRanges (items : List (List ℕ)) (grant : GrantParts) : Typ
   pub good : are_good range_item listed ≡ true
   pub value : grant ≡ record { name = grant.name; any = false; ranges = meant range_item listed }
 
--- an entry is spelled in one of these three ways (RFC 2725, 10; profile)
+-- an entry is spelled as a maintainer's name alone, or with `ANY` or ranges in braces after it
+-- (RFC 2725, 10; profile)
 abbrev pub IsGrant : List (List ℕ) → GrantParts → Type 0
 IsGrant items grant =
     IsNameAlone items grant ⊎ (IsNameWithAny items grant ⊎ IsNameWithRanges items grant)
@@ -53,13 +54,13 @@ AreGrants [] items = items ≡ []
 AreGrants (grant ∷ grants) items =
     IsHeadThenRest (λ head. IsGrant head grant) (AreGrants grants) items
 
--- what is read of items is what they spell (RFC 2725, 10)
+-- the entries that are read of items are those that the items spell (RFC 2725, 10)
 abbrev pub ReadGrantsAreSpelled : Type 0
 ReadGrantsAreSpelled =
     (items : List (List ℕ)) (grants : List GrantParts) → grants_of items ≡ Some grants
     → AreGrants grants items
 
--- what items spell is read of them (RFC 2725, 10)
+-- the entries that items spell are those that are read of them (RFC 2725, 10)
 abbrev pub SpelledGrantsAreRead : Type 0
 SpelledGrantsAreRead =
     (items : List (List ℕ)) (grants : List GrantParts) → AreGrants grants items

@@ -15,11 +15,11 @@ use Rattle.rr_object.specs.Parts.{GrantParts}
 abbrev pub is_any : List ℕ → Bool
 is_any item = is_keyword (codes "any") item
 
--- ranges stand in braces: an opening one (RFC 2725, 10)
+-- the opening brace before ranges (RFC 2725, 10)
 abbrev pub is_opening : List ℕ → Bool
 is_opening item = bytes_eq item (codes "{")
 
--- and a closing one (RFC 2725, 10)
+-- the closing brace after ranges (RFC 2725, 10)
 abbrev pub is_closing : List ℕ → Bool
 is_closing item = bytes_eq item (codes "}")
 
@@ -32,11 +32,11 @@ range_item item = option_map (λ ranged. applied ranged.1 (bare ranged.0)) (rang
 abbrev pub for_each_prefix : List ℕ → GrantParts
 for_each_prefix name = record { name = name; any = true; ranges = [] }
 
--- an entry for the prefixes that a range admits, none yet (RFC 2725, 10)
+-- an entry for the prefixes that ranges admit, with no range yet (RFC 2725, 10)
 abbrev pub for_no_prefix : List ℕ → GrantParts
 for_no_prefix name = record { name = name; any = false; ranges = [] }
 
--- an entry for one range more, where that is not dropped (RFC 2725, 10; profile)
+-- an entry with one range more, unless that range is dropped (RFC 2725, 10; profile)
 abbrev pub with_range : GrantParts → Option RangeParts → GrantParts
 with_range grant None = grant
 with_range grant (Some range) =

@@ -11,7 +11,7 @@ use Rattle.rr_text.specs.Meanings.{value_meaning}
 abbrev pub values_of : List ℕ → List Field → List (List ℕ)
 values_of name fields = map (λ field. value_meaning field.lines) (filter (has_name name) fields)
 
--- the one value, where there is one alone (RFC 2622, 2)
+-- the only value of a list, if it has exactly one (RFC 2622, 2)
 abbrev pub only : {X : Type 0} → List X → Option X
 only [] = None
 only (value ∷ []) = Some value
@@ -33,7 +33,7 @@ is_brace b = (b == 123) || (b == 125)
 abbrev pub spaced : List ℕ → List ℕ
 spaced text = flat_map (λ b. if is_brace b then 32 ∷ (b ∷ (32 ∷ [])) else b ∷ []) text
 
--- each item is well spelled; `read` gives nothing for a bad one (profile)
+-- each item of a list is well spelled: `read` gives nothing for a badly spelled one (profile)
 abbrev pub are_good : {X : Type 0} → (List ℕ → Option (Option X)) → List (List ℕ) → Bool
 are_good read listed = list_all (λ item. is_some (read item)) listed
 
@@ -43,6 +43,6 @@ abbrev pub meant_by : {X : Type 0} → Option (Option X) → Option X
 meant_by None = None
 meant_by (Some meant) = meant
 
--- what the items stand for (profile)
+-- what the items of a list stand for, without those that stand for nothing (profile)
 abbrev pub meant : {X : Type 0} → (List ℕ → Option (Option X)) → List (List ℕ) → List X
 meant read listed = filter_map (λ item. meant_by (read item)) listed

@@ -23,7 +23,7 @@ pub record IsRoute (prefix : PrefixParts) (origin : ℕ) : Type 0 where
   pub masked : IsMasked prefix
   pub numbered : origin ≤ greatest_as_number
 
--- a registered set has a name of its kind (RFC 2622, 5), which is not `AS-ANY` or `RS-ANY`
+-- a registered set has a name of its kind (RFC 2622, 5), which is neither `AS-ANY` nor `RS-ANY`
 -- (profile)
 pub record IsSetKey (kind : SetKind) (name : List ℕ) : Type 0 where
   pub text : IsSetText name
@@ -40,8 +40,8 @@ HasKeyParts (Route prefix origin) = IsRoute prefix origin
 HasKeyParts (AsSet name) = IsSetText name
 HasKeyParts (RouteSet name) = IsSetText name
 
--- a key is well formed where it has such parts, and a set's name is one of the key's class
--- (RFC 2622, 2 and 5; profile)
+-- a key is well formed where its parts are names, spans, prefixes and AS numbers, and a set's name
+-- is of the key's class and neither `AS-ANY` nor `RS-ANY` (RFC 2622, 2 and 5; profile)
 abbrev pub IsKeyValue : Key → Type 0
 IsKeyValue (Mntner name) = IsUpperName name
 IsKeyValue (AsBlock block) = IsAsSpan block
@@ -51,7 +51,8 @@ IsKeyValue (Route prefix origin) = IsRoute prefix origin
 IsKeyValue (AsSet name) = IsSetKey kinds.AsSet name
 IsKeyValue (RouteSet name) = IsSetKey kinds.RouteSet name
 
--- a key as numbers: the ends of a span, the parts of a route, the bytes of a name
+-- the numbers that are the parts of a key: the ends of a span, an AS number, the parts of a route,
+-- the bytes of a name
 abbrev pub words_of : Key → List ℕ
 words_of (Mntner n) = n
 words_of (AsBlock s) = s.first ∷ (s.last ∷ [])
@@ -61,8 +62,8 @@ words_of (Route p n) = p.address ∷ (p.length ∷ (n ∷ []))
 words_of (AsSet n) = n
 words_of (RouteSet n) = n
 
--- keys in the order of a registry: by the class's number, then by these numbers as in a dictionary
--- (profile)
+-- keys in the order of a registry: by the number of the class, then by the numbers that are their
+-- parts, as in a dictionary (profile)
 abbrev pub key_cmp : Key → Key → Ordering
 key_cmp a b =
     ordering_then (nat_cmp (class_number (class_of a)) (class_number (class_of b)))
@@ -75,8 +76,10 @@ class_and_bytes_cmp a b =
     ordering_then (nat_cmp (class_number (class_of a)) (class_number (class_of b)))
     (slice_cmp nat_cmp (key_bytes a) (key_bytes b))
 
--- two keys of a class have equal bytes only if they are equal (profile)
+-- two keys are equal if they are of one class and their bytes are equal
+abbrev pub BytesTell : Key → Key → Type 0
+BytesTell a b = class_of a ≡ class_of b → key_bytes a ≡ key_bytes b → a ≡ b
+
+-- two keys of a class that are well formed have equal bytes only if they are equal (profile)
 abbrev pub BytesTellKeys : Type 0
-BytesTellKeys =
-    (a b : Key) → IsKeyValue a → IsKeyValue b → class_of a ≡ class_of b
-    → key_bytes a ≡ key_bytes b → a ≡ b
+BytesTellKeys = (a b : Key) → IsKeyValue a → IsKeyValue b → BytesTell a b

@@ -41,15 +41,15 @@ abbrev pub route_key_of : List ℕ → List ℕ → Option Key
 route_key_of prefix origin =
     option_and_then (λ p. option_map (Route p) (as_number_of origin)) (prefix_of prefix)
 
--- the key that two words spell (profile)
+-- the key of a route that two words spell, its prefix and its origin (profile)
 abbrev pub route_key_of_words : List (List ℕ) → Option Key
 route_key_of_words [] = None
 route_key_of_words (prefix ∷ []) = None
 route_key_of_words (prefix ∷ (origin ∷ [])) = route_key_of prefix origin
 route_key_of_words (prefix ∷ (origin ∷ (other ∷ others))) = None
 
--- the key that a text spells: for a route its prefix, blanks and its origin, and else the value of
--- the class attribute (profile)
+-- the key that a text spells: for a route its prefix, blanks and its origin, and else what the
+-- first attribute of the object means (profile)
 unfoldable pub key_of_text : Class → List ℕ → Option Key
 key_of_text class.Mntner text = option_map Mntner (maintainer_name_of text)
 key_of_text class.AsBlock text = option_map AsBlock (as_span_of text)
@@ -59,7 +59,7 @@ key_of_text class.Route text = route_key_of_words (words text)
 key_of_text class.AsSet text = option_map AsSet (as_set_key_of text)
 key_of_text class.RouteSet text = option_map RouteSet (route_set_key_of text)
 
--- the key of an object whose class attribute means this: for a route, that prefix and the one
+-- the key of an object whose first attribute means this text: for a route, this prefix and the one
 -- `origin` (RFC 2622, 4)
 unfoldable pub key_at : Class → List ℕ → List Field → Option Key
 key_at class.Mntner text fields = key_of_text class.Mntner text
@@ -71,7 +71,7 @@ key_at class.Route text fields =
 key_at class.AsSet text fields = key_of_text class.AsSet text
 key_at class.RouteSet text fields = key_of_text class.RouteSet text
 
--- a key, or the fault that there is none (profile)
+-- a key, or the fault that the key is bad (profile)
 abbrev pub or_bad_key : Option Key → Result Key ObjectFault
 or_bad_key None = Err BadKey
 or_bad_key (Some key) = Ok key

@@ -28,10 +28,10 @@ names_of object =
     ((object.maintainers ++ object.lower) ++ map (λ grant. grant.name) object.routes)
     ++ object.by_ref.names
 
--- the object names the maintainer in one of these attributes (profile)
+-- an object names a maintainer in `mnt-by`, `mnt-lower`, `mnt-routes` or `mbrs-by-ref` (profile)
 abbrev pub object_names : List ℕ → Obj → Bool
 object_names name object = list_any (λ n. bytes_eq n name) (names_of object)
 
--- the objects that references lend
+-- the objects to which references point, in their order
 abbrev pub lent : List (Bor Obj) → List Obj
 lent objects = map (λ object. object.now) objects

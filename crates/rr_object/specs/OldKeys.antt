@@ -20,7 +20,7 @@ use Rattle.rr_object.specs.KeyTexts.{bytes_with}
 abbrev pub has_two_octets : ℕ → Bool
 has_two_octets number = nat_le number greatest_16_bit_as_number
 
--- such a number as four hexadecimal digits in lower case (profile)
+-- a 16-bit AS number as four hexadecimal digits in lower case (profile)
 abbrev pub four_digits : ℕ → List ℕ
 four_digits number = encode_lower (to_be_bytes w16 number)
 
@@ -44,14 +44,15 @@ abbrev pub old_key_bytes : Key → Option (List ℕ)
 old_key_bytes key =
     if list_all has_two_octets (numbers_in key) then Some (bytes_with four_digits key) else None
 
--- two keys of a class have equal old bytes only if they are equal (profile)
+-- two well-formed keys of a class have equal bytes in tables of version 1 only if they are equal
+-- (profile)
 abbrev pub OldBytesTellKeys : Type 0
 OldBytesTellKeys =
     (a b : Key) (bytes : List ℕ) → IsKeyValue a → IsKeyValue b → class_of a ≡ class_of b
     → old_key_bytes a ≡ Some bytes → old_key_bytes b ≡ Some bytes → a ≡ b
 
--- keys that have old bytes are ordered by the numbers of their classes, then by these bytes
--- (profile)
+-- well-formed keys that have bytes in tables of version 1 are ordered by the numbers of their
+-- classes, then by these bytes (profile)
 abbrev pub OldBytesKeepOrder : Type 0
 OldBytesKeepOrder =
     (a b : Key) (x y : List ℕ) → IsKeyValue a → IsKeyValue b → old_key_bytes a ≡ Some x

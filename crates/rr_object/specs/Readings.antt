@@ -80,7 +80,8 @@ breaks WithItems kind fields = not (is_filled (items_of kind fields))
 breaks Freely kind fields = false
 breaks AsText kind fields = false
 
--- the same of an attribute in an object of a class (RFC 2622, 3 to 6; RFC 2725, 10)
+-- an attribute stands more or less often than it may in an object of a class, or has no item where
+-- it needs one (RFC 2622, 3 to 6; RFC 2725, 10)
 abbrev pub is_miscounted_in : Class → Kind → List Field → Bool
 is_miscounted_in class kind fields = breaks (occurs kind class) kind fields
 
@@ -115,15 +116,16 @@ is_pseudo_attribute field = has_name (codes "password") field || has_name (codes
 abbrev pub maintainers_of : Kind → Class → List Field → List (List ℕ)
 maintainers_of kind class fields = meant maintainer_item (items_read kind class fields)
 
--- and that these are well spelled (RFC 2622, 3)
+-- the maintainers that an attribute of an object names are well spelled (RFC 2622, 3)
 abbrev pub are_maintainers : Kind → Class → List Field → Bool
 are_maintainers kind class fields = are_good maintainer_item (items_read kind class fields)
 
--- a pseudo-attribute, or a source that is not a name (profile; RFC 2622, 2)
+-- a paragraph has a pseudo-attribute, or a source that is not a name (profile; RFC 2622, 2)
 unfoldable pub has_bad_text : List Field → Bool
 has_bad_text fields = list_any is_pseudo_attribute fields || is_none (source_of fields)
 
--- a bad value of `mnt-by`, `mnt-lower`, `mnt-routes` or `auth` (RFC 2622, 3; RFC 2725, 10)
+-- a paragraph has a bad value of `mnt-by`, `mnt-lower`, `mnt-routes` or `auth` (RFC 2622, 3;
+-- RFC 2725, 10)
 unfoldable pub has_bad_authority : Class → List Field → Bool
 has_bad_authority class fields =
     not (are_maintainers MntBy class fields)
@@ -131,7 +133,7 @@ has_bad_authority class fields =
     || (is_none (grants_of (items_read MntRoutes class fields))
     || not (are_good auth_item (items_read Auth class fields))))
 
--- a bad value of `members`, `mbrs-by-ref` or `member-of` (RFC 2622, 5)
+-- a paragraph has a bad value of `members`, `mbrs-by-ref` or `member-of` (RFC 2622, 5)
 unfoldable pub has_bad_membership : Class → List Field → Bool
 has_bad_membership class fields =
     not (are_good (member_item class) (items_read Members class fields))
@@ -164,14 +166,15 @@ obj_at key fields =
       member_of = meant set_item (items_read MemberOf class fields);
     }
 
--- the faults after that of the key: a bad count, then a bad value (profile)
+-- the object of a paragraph whose key is this, or its first fault: a bad count, then a bad value
+-- (profile)
 abbrev pub obj_of_key : List Field → Key → Result Obj ObjectFault
 obj_of_key fields key =
     if is_miscounted (class_of key) fields then Err BadCount
     else if has_bad_value (class_of key) fields then Err BadValue
     else Ok (obj_at key fields)
 
--- a fault goes before what comes after it (profile)
+-- the fault of a first step, or what the next step makes of its result (profile)
 abbrev pub result_and_then : {X Y : Type 0} → (X → Result Y ObjectFault)
     → Result X ObjectFault → Result Y ObjectFault
 result_and_then next (Ok x) = next x

@@ -1,4 +1,4 @@
-//! Lines of `auth`.
+//! Lines of `auth` as they are kept with a mntner: a salt and a digest.
 
 ghost use Rattle.std.specs.Prelude.{◌≡◌, IfOk};
 
@@ -8,7 +8,8 @@ use std::marker::Model;
 /// How many bytes a SHA-256 digest has (FIPS 180-4).
 pub const DIGEST_BYTES: usize = 32;
 
-/// A secret's trace: the SHA-256 digest of the salt followed by the secret (profile).
+/// A salt of 0 to 16 letters or digits, and the SHA-256 digest of the salt followed by a secret
+/// (profile).
 #[derive(Debug, Drop)]
 pub struct Auth {
     salt: Vec<u8>,
@@ -36,14 +37,14 @@ impl Auth {
         Ok(Auth { salt, digest })
     }
 
-    /// The salt, 0 to 16 letters or digits.
+    /// The salt.
     pub fn salt(&self) -> &[u8]
         ensures { result.now ≡ self.now.salt }
     {
         self.salt.as_slice()
     }
 
-    /// The digest.
+    /// The digest, of 32 bytes.
     pub fn digest(&self) -> &[u8; DIGEST_BYTES]
         ensures { result.now ≡ self.now.digest }
     {

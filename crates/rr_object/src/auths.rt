@@ -1,4 +1,4 @@
-//! Reading values of `auth`.
+//! Values of `auth` read: for objects, and for the settings from which a desk is made.
 
 ghost use Rattle.std.specs.Prelude.{◌≡◌, ◌≢◌, map, IfErr, IfOk, None, Some};
 ghost use Rattle.std.specs.Char.{is_ascii_alphanumeric};
@@ -15,7 +15,8 @@ use std::alloc::Global;
 /// The most bytes of a salt (profile).
 const SALT_BYTES: usize = 16;
 
-/// What a value of `auth` stands for: a salt and a digest, or `None` for another scheme.
+/// What a value of `auth` stands for: a salt and a digest, or `None` for another scheme than
+/// SHA256-PW. The error is `BadValue` where it is badly spelled, or that memory ran out.
 pub fn read_auth(alloc: Global, value: &[u8]) -> Result<Option<Auth>, ObjectFault>
     ensures good { IfOk result (λ read. auth_item value.now ≡ Some read) }
     ensures bad { IfErr result

@@ -1,4 +1,4 @@
-//! The classes of objects.
+//! The seven classes of objects, with their names and numbers.
 
 ghost use Rattle.std.specs.Prelude.{◌≡◌, ◌<◌, ◌≤◌};
 ghost use Rattle.rr_object.specs.Classes.{class_name, class_named, class_number};
@@ -33,7 +33,8 @@ const ALL: [Class; 7] = [
 ];
 
 impl Class {
-    /// The class whose attribute has this name, in lower case; `None` where there is none.
+    /// The class whose objects begin with an attribute of this name, which is given in lower case;
+    /// `None` where there is none.
     pub fn named(name: &[u8]) -> Option<Class>
         ensures { result ≡ class_named name.now }
     {

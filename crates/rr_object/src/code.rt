@@ -1,4 +1,4 @@
-//! The codes of refused items.
+//! The codes of refused items: which verdicts give, and reports print.
 
 ghost use Rattle.std.specs.Prelude.{◌≡◌, Some};
 ghost use Rattle.rr_object.specs.Codes.{code_name};

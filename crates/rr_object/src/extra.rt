@@ -1,4 +1,4 @@
-//! What few objects say.
+//! What few objects say, which `object` keeps apart, so that the others stay small.
 
 ghost use Rattle.std.specs.Prelude.{◌≡◌, IfOk};
 ghost use Rattle.rr_object.specs.Extras.{kept_extra, says_nothing, says_nothing_of_sets};

@@ -1,4 +1,4 @@
-//! Keys of objects.
+//! Keys of objects: what names an object in its class.
 
 ghost use Rattle.std.specs.Prelude.{◌≡◌, IfOk};
 ghost use Rattle.rr_object.specs.Keys.{class_of, is_mntner_of, key_of_kind};

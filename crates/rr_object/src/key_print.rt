@@ -1,4 +1,4 @@
-//! Keys as texts.
+//! Keys as texts: as reports print them, and as the bytes in rows and of the order of keys.
 
 ghost use Rattle.std.specs.Prelude.{◌≡◌, ◌∷◌, ◌++◌, IfOk, OnOk};
 ghost use Rattle.std.specs.List.{list_all};
@@ -43,8 +43,8 @@ impl Key {
         }
     }
 
-    /// The bytes of the key's parts, each of which is well formed, by which the keys of a class are
-    /// ordered and stored; the error is that memory ran out.
+    /// The bytes by which the keys of a class are ordered and stored; the error is that memory ran
+    /// out. Each part of the key is well formed.
     pub fn bytes(&self, alloc: Global) -> Result<Vec<u8>, AllocError>
         ensures value { IfOk result (λ bytes. bytes.items ≡ key_bytes self.now) }
         ensures parts { HasKeyParts self.now }

@@ -1,4 +1,4 @@
-//! The interpreted attributes.
+//! The interpreted attributes, and how often each stands in an object of each class.
 
 ghost use Rattle.std.specs.Prelude.{◌≡◌};
 ghost use Rattle.rr_object.specs.Kinds.{is_read, kind_name, occurs};

@@ -5,11 +5,9 @@ ghost use Rattle.std.specs.Prelude.{◌≡◌, ◌<◌, List, Ok, Some, length, 
 ghost use Rattle.rr_text.specs.Fields.{Field};
 ghost use Rattle.rr_object.specs.FirstFaults.{FirstFaultIsTold, ObjectsSayTheirParagraphs};
 ghost use Rattle.rr_object.specs.GrantTexts.{ReadGrantsAreSpelled, SpelledGrantsAreRead};
-ghost use Rattle.rr_object.specs.KeyOrders.{BytesTellKeys, HasKeyParts, IsKeyValue};
+ghost use Rattle.rr_object.specs.KeyOrders.{BytesTell, BytesTellKeys, HasKeyParts, IsKeyValue};
 ghost use Rattle.rr_object.specs.KeyOrders.{class_and_bytes_cmp, key_cmp};
 ghost use Rattle.rr_object.specs.KeySpellings.{key_of, key_of_text};
-ghost use Rattle.rr_object.specs.KeyTexts.{key_bytes};
-ghost use Rattle.rr_object.specs.Keys.{class_of};
 ghost use Rattle.rr_object.specs.Objects.{Obj};
 ghost use Rattle.rr_object.specs.OldKeys.{OldBytesKeepOrder, OldBytesTellKeys};
 ghost use Rattle.rr_object.specs.Readings.{obj_of, object_of};
@@ -25,7 +23,8 @@ pub fn the_first_fault_is_told()
     ensures says { ObjectsSayTheirParagraphs }
 {}
 
-/// The object in a registry of a source is the one of any source.
+/// The object that a paragraph is in a registry of a source is the one that it is in a registry of
+/// any source.
 pub fn an_object_is_of_its_paragraph()
     ensures { (fields : List Field) (source : List ℕ) (object : Obj)
         → object_of fields source ≡ Ok object
@@ -50,14 +49,15 @@ pub fn an_object_has_a_maintainer()
         → 0 < length object.maintainers }
 {}
 
-/// Keys are ordered by the numbers of their classes, then by their parts.
+/// Keys are ordered by the numbers of their classes, then by the numbers that are their parts, as
+/// in a dictionary.
 #[tactic(auto, using(crate::proofs::DerivedOrder::derived_order))]
 pub fn keys_compare_by_their_parts()
     ensures { (a b : keys.Key) → ⟦<Key as Ord>⟧.cmp a b ≡ key_cmp a b }
 {}
 
-/// Keys are ordered by the numbers of their classes, then by their bytes, and two keys of a class
-/// have equal bytes only if they are equal.
+/// Well-formed keys are ordered by the numbers of their classes, then by their bytes, and two of a
+/// class have equal bytes only if they are equal.
 pub fn keys_compare_as_their_bytes()
     ensures order { (a b : keys.Key) → IsKeyValue a → IsKeyValue b
         → ⟦<Key as Ord>⟧.cmp a b ≡ class_and_bytes_cmp a b }
@@ -97,15 +97,14 @@ pub fn a_key_has_its_parts(key: &Key)
 pub fn any_two_keys_compare_as_their_bytes(key: &Key, other: &Key)
     ensures order { ⟦<Key as Ord>⟧.cmp key.now other.now
         ≡ class_and_bytes_cmp key.now other.now }
-    ensures told { class_of key.now ≡ class_of other.now
-        → key_bytes key.now ≡ key_bytes other.now → key.now ≡ other.now }
+    ensures told { BytesTell key.now other.now }
 {
     a_key_has_its_parts(key);
     a_key_has_its_parts(other);
 }
 
-/// Two keys of a class have equal old bytes only if they are equal, and keys that have old bytes
-/// are ordered by the numbers of their classes, then by these.
+/// Old bytes are those of tables of version 1. Well-formed keys of a class have equal old bytes
+/// only if they are equal; keys that have such are ordered by class number, then by them.
 pub fn old_bytes_tell_keys_in_their_order()
     ensures told { OldBytesTellKeys }
     ensures order { OldBytesKeepOrder }
@@ -123,7 +122,7 @@ pub fn keys_are_read_well_formed()
 {}
 
 /// The entries of `mnt-routes` that are read of items are those that the items spell, and items
-/// that spell none are refused.
+/// that spell no list of entries are refused.
 pub fn grants_are_read_as_spelled()
     ensures read { ReadGrantsAreSpelled }
     ensures spelled { SpelledGrantsAreRead }

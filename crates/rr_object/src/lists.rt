@@ -1,4 +1,4 @@
-//! The values of a paragraph's attributes, and the items of lists.
+//! The values of a paragraph's attributes, and the items of lists: for the reading of objects.
 
 ghost use Rattle.std.specs.Prelude.{◌≡◌, IfOk, map};
 ghost use Rattle.rr_text.specs.Fields.{has_name};

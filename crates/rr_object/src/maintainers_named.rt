@@ -29,7 +29,8 @@ impl<'a> Model for MaintainersNamed<'a> {
 }
 
 impl Object {
-    /// The maintainers that the object names.
+    /// The maintainers that the object names in `mnt-by`, `mnt-lower`, `mnt-routes` and
+    /// `mbrs-by-ref`, in this order.
     pub fn maintainers_named(&self) -> MaintainersNamed<'_>
         ensures { result ≡ names_of self.now }
     {
@@ -41,7 +42,7 @@ impl Object {
         }
     }
 
-    /// Whether the object names the maintainer.
+    /// Whether the object names the maintainer in one of these attributes.
     pub fn names(&self, name: &Name) -> bool
         ensures { result ≡ object_names name.now self.now }
     {

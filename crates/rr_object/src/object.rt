@@ -1,4 +1,4 @@
-//! Objects of the registry.
+//! Objects of the registry, each read from its paragraph.
 
 ghost use Rattle.std.specs.Prelude.{◌≡◌, ◌≢◌, Err, IfErr, IfOk, Ok, Some};
 ghost use Rattle.rr_object.specs.Faults.{GivesUnlessMemory};
@@ -69,7 +69,7 @@ impl Object {
     }
 
     /// The object that a paragraph of this key is in the registry of this source, or its first
-    /// fault; the class and the key, which were read, have none.
+    /// fault, or that memory ran out; the class and the key, which were read, have none.
     #[tactic(auto, unfolding(crate::specs::Readings::object_of))]
     pub fn read_with_key(
         alloc: Global,
@@ -101,7 +101,8 @@ impl Object {
         }
     }
 
-    /// What names the object; the name of a set is one of its kind.
+    /// What names the object. It is well formed: the name of a set is one of its kind, and neither
+    /// `AS-ANY` nor `RS-ANY`.
     #[tactic(auto, using(crate::proofs::KeyBounds::obj_key_formed))]
     pub fn key(&self) -> &Key
         ensures value { result.now ≡ self.now.key }

@@ -1,4 +1,4 @@
-//! Why a paragraph is not an object.
+//! Why a paragraph is not an object, in the order in which a paragraph is judged.
 
 ghost use Rattle.std.specs.Prelude.{◌≡◌};
 ghost use Rattle.rr_object.specs.Faults.{code_of};

@@ -1,4 +1,4 @@
-//! What the attributes of a paragraph say.
+//! What the attributes of a paragraph say, for `object`: of its source, of authority and of sets.
 
 ghost use Rattle.std.specs.Prelude.{◌≡◌, ◌≢◌, IfErr, IfOk, None, Some, false, map};
 ghost use Rattle.std.specs.Prelude.{true};

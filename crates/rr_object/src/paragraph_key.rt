@@ -18,8 +18,8 @@ use std::alloc::{AllocError, Global};
 
 /// The key of a paragraph: its first attribute names the class, and the value of that is the key; a
 /// route's key is the prefix and the one `origin` (RFC 2622, 2 and 4). `UnknownClass` where there
-/// is no attribute or the first names no class, `BadKey` where what it says is not a key of the
-/// class, or that memory ran out.
+/// is no attribute or the first names no class; `BadKey` where what it says is not a key of the
+/// class; `Memory` where memory ran out.
 pub fn key_of(alloc: Global, paragraph: &Paragraph) -> Result<Key, ObjectFault>
     ensures { GivesUnlessMemory (key_of paragraph.now) result }
 {

@@ -1,4 +1,4 @@
-//! Objects as they are shown to everybody.
+//! Objects as they are shown to everybody in answers and dumps: without the values of `auth`.
 
 ghost use Rattle.std.specs.Prelude.{◌≡◌, IfOk};
 ghost use Rattle.rr_object.specs.Readings.{public_of};
@@ -24,8 +24,9 @@ pub fn public(alloc: Global, object: &Object) -> Result<Paragraph, AllocError>
     object.paragraph().with_values(alloc, SECRET, FILTERED)
 }
 
-/// Appends the canonical text of that paragraph, without a copy of it. The error is that memory ran
-/// out: then some bytes may have been appended.
+/// Appends the canonical text of an object's paragraph for public answers, each value of `auth` in
+/// it the line `# filtered`. The error is that memory ran out: then some bytes may have been
+/// appended.
 #[tactic(auto, unfolding(crate::specs::Readings::public_of))]
 pub fn print_public(out: &mut Vec<u8>, object: &Object) -> Result<(), AllocError>
     ensures { MayAdd (canonical (public_of object.now)) out.old.items out.new.items result }

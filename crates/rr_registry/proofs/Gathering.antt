@@ -18,13 +18,14 @@ use Rattle.rr_object.specs.KeyOrders.{IsKeyValue, key_cmp}
 use Rattle.rr_auth.specs.Conditions.{crosses_registered}
 use Rattle.rr_object.specs.Keys.{is_mntner_of}
 use Rattle.rr_auth.specs.Registries.{Reg, maintainer, some_is_unknown, keys_cross}
+use Rattle.rr_auth.specs.Registries.{is_crossed_by_some}
 use Rattle.rr_object.proofs.KeyLaws.{keys_total}
 use Rattle.rr_auth.proofs.Crossing.{keys_cross_back, crosses_itself}
 use Rattle.rr_auth.specs.Elements.{IsIn}
 use Rattle.rr_auth.proofs.Members.{found_in, none_passes}
 use Rattle.rr_auth.proofs.Keeping.{after_insert}
 use Rattle.rr_book.specs.Books.{book_of, put_in, IsBook}
-use Rattle.rr_registry.specs.Loading.{gathered, clash, clash_of, is_crossed_by_some, is_key_of_some}
+use Rattle.rr_registry.specs.Loading.{gathered, clash, clash_of, is_key_of_some}
 use Rattle.rr_registry.specs.Loading.{load_fault, unnamed}
 use Rattle.rr_registry.specs.Private.{IsApart, IsTakenIn, IsGathered}
 use Rattle.rr_registry.specs.declared.load.LoadFault.{LoadFault}

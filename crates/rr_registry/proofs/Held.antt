@@ -20,7 +20,7 @@ use Rattle.rr_object.specs.KeyOrders.{IsKeyValue, key_cmp}
 use Rattle.rr_object.specs.Objects.{Obj}
 use Rattle.rr_object.proofs.KeyLaws.{keys_exact, same_key, tied_key}
 use Rattle.rr_auth.proofs.Members.{none_passes, passing_one, some_passes}
-use Rattle.rr_auth.specs.Registries.{keys_cross}
+use Rattle.rr_auth.specs.Registries.{keys_cross, is_crossed_by_some}
 use Rattle.rr_book.proofs.Crossing.{none_crosses}
 use Rattle.rr_book.specs.Books.{entry, put_in}
 use Rattle.rr_cover.proofs.Ordered.{crosses_found, crosses_missed}
@@ -29,7 +29,7 @@ use Rattle.rr_registry.proofs.Gathering.{is_overlap, none_apart, taken_in}
 use Rattle.rr_registry.specs.declared.gathered.Gathered.{Gathered}
 use Rattle.rr_registry.specs.declared.load.LoadFault.{LoadFault}
 use Rattle.rr_registry.specs.declared.load.LoadFault.TheVariants.{Memory, Overlap}
-use Rattle.rr_registry.specs.Loading.{clash_of, is_crossed_by_some, is_key_of_some}
+use Rattle.rr_registry.specs.Loading.{clash_of, is_key_of_some}
 use Rattle.rr_registry.specs.Private.{HoldsSpans, IsApart, IsConsistent, IsEntered, IsTakenIn}
 
 -- the derived order of keys is their order

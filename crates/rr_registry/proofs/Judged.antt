@@ -12,19 +12,19 @@ use Rattle.rr_auth.specs.declared.item.Item.TheVariants.{Submit, Delete as Delet
 use Rattle.rr_auth.specs.declared.verdict.Verdict.{Verdict}
 use Rattle.rr_auth.specs.declared.verdict.Verdict.TheVariants.{Add, Change, Delete, Refuse}
 use Rattle.rr_auth.specs.Registries.{Reg, Sound}
-use Rattle.rr_auth.specs.Verdicts.{after, is_met_by}
+use Rattle.rr_auth.specs.Verdicts.{after, fits_item}
 use Rattle.rr_registry.specs.Private.{IsJudged}
 use Rattle.rr_registry.specs.Runs.{IsCarriedOut, IsStep, outcome_of}
 use Rattle.rr_registry.specs.declared.outcome.Outcome.{Outcome}
 
-refusal_met : (i : Item) → is_met_by i (Refuse E90) ≡ true
+refusal_met : (i : Item) → fits_item i (Refuse E90) ≡ true
 refusal_met (Submit o) = refl
 refusal_met (DeleteItem k) = refl
 
 module _ (r : Reg) (secrets : List (List ℕ)) (judged : Verdict) where
-  pub judged_is_met : (i : Item) → IsJudged r secrets i judged → is_met_by i judged ≡ true
-  judged_is_met i (inl is) = ap (is_met_by i) is ∙ verdicts_are_met r secrets i
-  judged_is_met i (inr refused) = ap (is_met_by i) refused ∙ refusal_met i
+  pub judged_is_met : (i : Item) → IsJudged r secrets i judged → fits_item i judged ≡ true
+  judged_is_met i (inl is) = ap (fits_item i) is ∙ verdicts_are_met r secrets i
+  judged_is_met i (inr refused) = ap (fits_item i) refused ∙ refusal_met i
 
   pub added_is_sound : (o : Obj) → Sound r → IsKeyValue o.key → IsJudged r secrets (Submit o)
       judged → judged ≡ Add → Sound (insert r o.key o)

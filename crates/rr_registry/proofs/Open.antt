@@ -10,8 +10,9 @@ use Rattle.std.proofs.lemmas.Bool.Decides.{nat_tests}
 use Rattle.std.proofs.lemmas.List.{append-nil, reverse-append}
 use Rattle.rr_number.specs.Spans.{Ends, crosses}
 use Rattle.rr_auth.specs.Elements.{IsIn}
-use Rattle.rr_registry.specs.OpenSpanParts.{IsFalling, IsWithinFirsts, IsJoined, IsKept, IsRising}
-use Rattle.rr_registry.specs.OpenSpanParts.{IsShortened, Rises, ends_below}
+use Rattle.rr_registry.specs.OpenSpanParts.{NeverRises, IsWithinFirsts, IsJoined, IsKept}
+use Rattle.rr_registry.specs.OpenSpanParts.{NeverFalls}
+use Rattle.rr_registry.specs.OpenSpanParts.{IsShortened, ComesAfter, ends_below}
 
 -- before any span
 pub none_kept : (gone : Ends → Bool) (first : ℕ) (outer level : List ℕ) → first ≡ 0 → outer ≡ [] →
@@ -65,8 +66,8 @@ module _ {A : Type 0} where
       elim (in_either x (reverse xs) (y ∷ []) (subst (IsIn x) (reverse-append (y ∷ []) xs) i))
       [ inl j ↦ inr (from_reverse x xs j) | inr j ↦ inl (only x y j) ]
 
-falling_more : (xs : List ℕ) (y : ℕ) → IsFalling xs → ((x : ℕ) → IsIn x xs → y ≤ x) →
-    IsFalling (xs ++ y ∷ [])
+falling_more : (xs : List ℕ) (y : ℕ) → NeverRises xs → ((x : ℕ) → IsIn x xs → y ≤ x) →
+    NeverRises (xs ++ y ∷ [])
 falling_more [] y f least = ((λ z i. absurd i), tt)
 falling_more (x ∷ xs) y f least = (
   (λ z i. elim (in_either z xs (y ∷ []) i) [
@@ -77,12 +78,12 @@ falling_more (x ∷ xs) y f least = (
   falling_more xs y f.1 (λ z i. least z (inr i)),
 )
 
-falling_prefix : (xs ys : List ℕ) → IsFalling (xs ++ ys) → IsFalling xs
+falling_prefix : (xs ys : List ℕ) → NeverRises (xs ++ ys) → NeverRises xs
 falling_prefix [] ys f = tt
 falling_prefix (x ∷ xs) ys f = ((λ y i. f.0 y (in_head y xs ys i)), falling_prefix xs ys f.1)
 
-rising_more : (xs : List ℕ) (y : ℕ) → IsRising xs → ((x : ℕ) → IsIn x xs → x ≤ y) →
-    IsRising (xs ++ y ∷ [])
+rising_more : (xs : List ℕ) (y : ℕ) → NeverFalls xs → ((x : ℕ) → IsIn x xs → x ≤ y) →
+    NeverFalls (xs ++ y ∷ [])
 rising_more [] y f most = ((λ z i. absurd i), tt)
 rising_more (x ∷ xs) y f most = (
   (λ z i. elim (in_either z xs (y ∷ []) i) [
@@ -94,11 +95,11 @@ rising_more (x ∷ xs) y f most = (
 )
 
 -- numbers that rise, turned round after falling ones that are all above them
-falling_on : (outer level : List ℕ) → IsFalling outer → IsRising level →
-    ((x y : ℕ) → IsIn x outer → IsIn y level → y ≤ x) → IsFalling (outer ++ reverse level)
-falling_on outer [] falling rising within = subst IsFalling (sym (append-nil outer)) falling
+falling_on : (outer level : List ℕ) → NeverRises outer → NeverFalls level →
+    ((x y : ℕ) → IsIn x outer → IsIn y level → y ≤ x) → NeverRises (outer ++ reverse level)
+falling_on outer [] falling rising within = subst NeverRises (sym (append-nil outer)) falling
 falling_on outer (y ∷ level) falling rising within =
-    subst IsFalling (append_assoc outer (reverse level) (y ∷ []) ∙ ap (λ ys. outer ++ ys)
+    subst NeverRises (append_assoc outer (reverse level) (y ∷ []) ∙ ap (λ ys. outer ++ ys)
     (sym (reverse-append (y ∷ []) level)))
     (falling_more (outer ++ reverse level) y (falling_on outer level falling rising.1
     (λ x z i j. within x z i (inr j)))
@@ -109,7 +110,7 @@ falling_on outer (y ∷ level) falling rising within =
     ]))
 
 -- the last of falling numbers is below none of them
-pub falling_last : (xs : List ℕ) (i d : ℕ) → IsFalling xs → i + 1 ≡ length xs → (x : ℕ) →
+pub falling_last : (xs : List ℕ) (i d : ℕ) → NeverRises xs → i + 1 ≡ length xs → (x : ℕ) →
     IsIn x xs → get_or xs i d ≤ x
 falling_last [] i d f e x at = absurd at
 falling_last (y ∷ []) i d f e x (inl is) = let last : i ≡ 0 = omega arith in
@@ -131,8 +132,8 @@ pub moved_on : (gone : Ends → Bool) (old first : ℕ) (outer level left : List
     IsKept gone old outer level → IsShortened first (outer ++ reverse level) left →
     IsKept gone first left []
 moved_on gone old first outer level left up held short = record {
-  falling = falling_prefix left short.gone
-      (subst IsFalling short.cut (falling_on outer level held.falling held.rising held.within));
+  falling = falling_prefix left short.taken
+      (subst NeverRises short.cut (falling_on outer level held.falling held.rising held.within));
   rising = tt;
   within = λ x y i j. absurd j;
   kept = λ t is. elim (held.kept t is) as
@@ -147,7 +148,7 @@ moved_on gone old first outer level left up held short = record {
   where
     still : (t : Ends) → IsIn t.last (outer ++ reverse level) → (t.last < first)
         ⊎ (((t.first ≡ first) × IsIn t.last []) ⊎ IsIn t.last left)
-    still t i = elim (in_either t.last left short.gone (subst (IsIn t.last) short.cut i))
+    still t i = elim (in_either t.last left short.taken (subst (IsIn t.last) short.cut i))
         [ inl j ↦ inr (inr j) | inr j ↦ inl (short.below t.last j) ]
 
 apart_free : (t s : Ends) → t.last < s.first → crosses t s ≡ false
@@ -168,7 +169,7 @@ pub record IsPassing (gone : Ends → Bool) (s : Ends) (more : Ends → Bool) (f
 
 -- a span after spans of its first number that the outer ones all reach
 pub passed : (gone more : Ends → Bool) (s : Ends) (first : ℕ) (outer level : List ℕ) →
-    s.first ≡ first → IsKept gone first outer level → Rises gone s → IsJoined gone s more
+    s.first ≡ first → IsKept gone first outer level → ComesAfter gone s → IsJoined gone s more
     → ((x : ℕ) → IsIn x outer → s.last ≤ x) → IsPassing gone s more first outer
     (level ++ s.last ∷ [])
 passed gone more s first outer level here held rises joined reached = record {
@@ -213,8 +214,8 @@ passed gone more s first outer level here held rises joined reached = record {
 pub shortened_more : (first : ℕ) (whole left now : List ℕ) (last : ℕ) → left ≡ now ++ last ∷ [] →
     last < first → IsShortened first whole left → IsShortened first whole now
 shortened_more first whole left now last is below h = record {
-  gone = last ∷ h.gone;
-  cut = h.cut ∙ ap (λ xs. xs ++ h.gone) is ∙ append_assoc now (last ∷ []) h.gone;
+  taken = last ∷ h.taken;
+  cut = h.cut ∙ ap (λ xs. xs ++ h.taken) is ∙ append_assoc now (last ∷ []) h.taken;
   below = λ x i. elim i as (λ _. x < first) [ inl e ↦ rw e below | inr j ↦ h.below x j ];
 }
 

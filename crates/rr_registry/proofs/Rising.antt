@@ -24,15 +24,16 @@ use Rattle.rr_object.specs.KeyOrders.{IsKeyValue, key_cmp}
 use Rattle.rr_object.specs.Objects.{Obj}
 use Rattle.rr_auth.specs.Elements.{IsIn}
 use Rattle.rr_auth.proofs.Members.{all_fail, passing_one, some_passes}
-use Rattle.rr_auth.specs.Registries.{keys_cross}
+use Rattle.rr_auth.specs.Registries.{keys_cross, is_crossed_by_some}
 use Rattle.rr_book.proofs.Crossing.{none_crosses}
 use Rattle.rr_book.proofs.Order.{empty_book}
 use Rattle.rr_book.specs.Books.{book_of, entry, is_in_order, put_in}
 use Rattle.rr_registry.proofs.Gathering.{clash_next, none_apart, taken_in}
 use Rattle.rr_registry.proofs.Held.{crossing_block, crossing_inetnum}
 use Rattle.rr_registry.specs.declared.open_spans.OpenSpans.{OpenSpans}
-use Rattle.rr_registry.specs.Loading.{clash, gathered, is_crossed_by_some, is_key_of_some}
-use Rattle.rr_registry.specs.OpenSpanParts.{ArePassed, HasPassed, IsJoined, IsPassed, Passes, Rises}
+use Rattle.rr_registry.specs.Loading.{clash, gathered, is_key_of_some}
+use Rattle.rr_registry.specs.OpenSpanParts.{AreGoneOver, HasGoneOver, IsJoined, IsGoneOver}
+use Rattle.rr_registry.specs.OpenSpanParts.{GoesOver, ComesAfter}
 use Rattle.rr_registry.specs.Private.{IsApart, IsGathered, is_below}
 
 less : (r : Ordering) → is_lt r ≡ true → r ≡ Less
@@ -175,15 +176,15 @@ spans_of key os s = is_key_of_some (key s) os
 
 -- what is told of spans that are gone over
 abbrev pub GoesOn : OpenSpans → Ends → OpenSpans → Type 0
-GoesOn before s now = (gone more : Ends → Bool) → HasPassed gone before → Rises gone s →
-    IsJoined gone s more → Passes gone s more now
+GoesOn before s now = (gone more : Ends → Bool) → HasGoneOver gone before → ComesAfter gone s →
+    IsJoined gone s more → GoesOver gone s more now
 
 -- spans of a class stay gone over after an object of another
 others_passed : (key : Ends → Key) (os : List Obj) (o : Obj) (passed : OpenSpans) →
     ((s : Ends) → eq_by_cmp key_cmp (key s) o.key ≡ false)
-    → HasPassed (spans_of key os) passed → HasPassed (spans_of key (os ++ o ∷ [])) passed
+    → HasGoneOver (spans_of key os) passed → HasGoneOver (spans_of key (os ++ o ∷ [])) passed
 others_passed key os o passed other held =
-    subst (λ (gone : Ends → Bool). HasPassed gone passed)
+    subst (λ (gone : Ends → Bool). HasGoneOver gone passed)
     (λ i s. sym (one_more (key s) os o ∙ or_no_more (spans_of key os s)
     (eq_by_cmp key_cmp (key s) o.key) (other s)) i) held
 
@@ -194,7 +195,7 @@ module _ (key : Ends → Key) (same_span : (s t : Ends) → key s ≡ key t → 
     × ((k ≡ key t) × (crosses t s ≡ true)))
     (os : List Obj) (o : Obj) (s : Ends) (is : o.key ≡ key s) (rise : is_in_order (os ++ o ∷ [])
     ≡ true) where
-  span_rises : Rises (spans_of key os) s
+  span_rises : ComesAfter (spans_of key os) s
   span_rises t held =
       let one = passing_one (λ x. eq_by_cmp key_cmp (key t) x.key) os held in
       below t s (ap (λ k. key_cmp k (key s)) (same_key (key t) one.0.key one.1.1)
@@ -223,8 +224,9 @@ module _ (key : Ends → Key) (same_span : (s t : Ends) → key s ≡ key t → 
       both_ways _ (apart at.0 held) at.1.1))
 
   -- what is told of spans goes for the objects of a class
-  span_passed : (before now : OpenSpans) → HasPassed (spans_of key os) before → GoesOn before s now
-      → (is_crossed_by_some o.key os ≡ false) × HasPassed (spans_of key (os ++ o ∷ [])) now
+  span_passed : (before now : OpenSpans) → HasGoneOver (spans_of key os) before →
+      GoesOn before s now
+      → (is_crossed_by_some o.key os ≡ false) × HasGoneOver (spans_of key (os ++ o ∷ [])) now
   span_passed before now held told =
       let p = told (spans_of key os) (spans_of key (os ++ o ∷ [])) held span_rises span_joined in
       (span_free p.free, p.passed)
@@ -243,9 +245,9 @@ words_below a b c d e =
     ] refl e
 
 module _ (os : List Obj) (o : Obj) (inetnums blocks : OpenSpans)
-    (held : ArePassed os inetnums blocks) where
+    (held : AreGoneOver os inetnums blocks) where
   pub inetnum_passed : (s : Ends) (now : OpenSpans) → o.key ≡ Inetnum s →
-      is_in_order (os ++ o ∷ []) ≡ true → GoesOn inetnums s now → IsPassed os o now blocks
+      is_in_order (os ++ o ∷ []) ≡ true → GoesOn inetnums s now → IsGoneOver os o now blocks
   inetnum_passed s now is rise told =
       let p = span_passed Inetnum (λ t u e. cc) (λ t u e. words_below t.first t.last u.first u.last
       e) crossing_inetnum os o s is rise inetnums now held.inetnums_are told in
@@ -259,7 +261,7 @@ module _ (os : List Obj) (o : Obj) (inetnums blocks : OpenSpans)
       }
 
   pub block_passed : (s : Ends) (now : OpenSpans) → o.key ≡ AsBlock s → is_in_order (os ++ o ∷ [])
-      ≡ true → GoesOn blocks s now → IsPassed os o inetnums now
+      ≡ true → GoesOn blocks s now → IsGoneOver os o inetnums now
   block_passed s now is rise told =
       let p = span_passed AsBlock (λ t u e. cc) (λ t u e. words_below t.first t.last u.first u.last
       e) crossing_block os o s is rise blocks now held.blocks_are told in
@@ -274,7 +276,7 @@ module _ (os : List Obj) (o : Obj) (inetnums blocks : OpenSpans)
 
   no_span_passed : (k : Key) → o.key ≡ k → is_crossed_by_some k os ≡ false →
       ((s : Ends) → eq_by_cmp key_cmp (Inetnum s) k ≡ false) →
-      ((s : Ends) → eq_by_cmp key_cmp (AsBlock s) k ≡ false) → IsPassed os o inetnums blocks
+      ((s : Ends) → eq_by_cmp key_cmp (AsBlock s) k ≡ false) → IsGoneOver os o inetnums blocks
   no_span_passed k is free no_inetnum no_block = record {
     free = ap (λ l. is_crossed_by_some l os) is ∙ free;
     passed = record {
@@ -286,7 +288,7 @@ module _ (os : List Obj) (o : Obj) (inetnums blocks : OpenSpans)
   }
 
   pub rest_passed : (k : Key) → o.key ≡ k → ((s : Ends) → k ≡ Inetnum s → ⊥) →
-      ((s : Ends) → k ≡ AsBlock s → ⊥) → IsPassed os o inetnums blocks
+      ((s : Ends) → k ≡ AsBlock s → ⊥) → IsGoneOver os o inetnums blocks
   rest_passed (Mntner n) is a b = no_span_passed (Mntner n) is (none_crosses (Mntner n) os refl)
       (λ s. refl) (λ s. refl)
   rest_passed (AsBlock s) is a b = absurd (b s refl)
@@ -306,12 +308,12 @@ pub record IsReached (os before left : List Obj) (n : ℕ) (inetnums blocks : Op
   pub apart : IsApart before
   pub same_clash : clash before (n + 1) left ≡ clash [] 1 os
   pub same_whole : gathered (book_of before) left ≡ gathered empty os
-  pub passed : ArePassed before inetnums blocks
+  pub passed : AreGoneOver before inetnums blocks
 
 abbrev pub IsReachedAt : List Obj → ℕ → OpenSpans → OpenSpans → Type 0
 IsReachedAt os n inetnums blocks = IsReached os (take n os) (drop n os) n inetnums blocks
 
-pub none_reached : (os : List Obj) (inetnums blocks : OpenSpans) → ArePassed [] inetnums blocks →
+pub none_reached : (os : List Obj) (inetnums blocks : OpenSpans) → AreGoneOver [] inetnums blocks →
     IsReachedAt os 0 inetnums blocks
 none_reached os inetnums blocks held = record {
   apart = none_apart;
@@ -324,7 +326,7 @@ none_reached os inetnums blocks held = record {
 more_reached : (os before rest : List Obj) (n : ℕ) (o : Obj)
     (inetnums blocks more_inetnums more_blocks : OpenSpans)
     → IsReached os before (o ∷ rest) n inetnums blocks → is_in_order (before ++ o ∷ []) ≡ true →
-    IsKeyValue o.key → IsPassed before o more_inetnums more_blocks
+    IsKeyValue o.key → IsGoneOver before o more_inetnums more_blocks
     → IsReached os (before ++ o ∷ []) rest (n + 1) more_inetnums more_blocks
 more_reached os before rest n o inetnums blocks more_inetnums more_blocks held rise formed passed =
     let grown = before ++ o ∷ [] in
@@ -343,7 +345,7 @@ pub next_reached : (os : List Obj) (n : ℕ) (o : Obj) (k : Key)
     o.key ≡ k → is_in_order os ≡ true
     → IsKeyValue o.key → IsReachedAt os n inetnums blocks
     → ((xs : List Obj) (x : Obj) → x.key ≡ k → is_in_order (xs ++ x ∷ []) ≡ true →
-    ArePassed xs inetnums blocks → IsPassed xs x more_inetnums more_blocks)
+    AreGoneOver xs inetnums blocks → IsGoneOver xs x more_inetnums more_blocks)
     → IsReachedAt os (n + 1) more_inetnums more_blocks
 next_reached os n o k inetnums blocks more_inetnums more_blocks inside is own rise formed held told
     =

@@ -25,7 +25,7 @@ are_foreign_or_own h r submitted =
 abbrev pub own_submitted : Holding → Reg → List Submitted → List Submitted
 own_submitted h r submitted = filter (λ s. not (is_foreign h r s.secrets)) submitted
 
--- The outcomes of these.
+-- The outcomes of what is submitted and not foreign in the registry.
 abbrev pub own_outcomes : Holding → Reg → List Submitted → List Outcome → List Outcome
 own_outcomes h r [] outcomes = []
 own_outcomes h r (s ∷ ss) [] = []
@@ -45,13 +45,15 @@ pub record IsConfined (h : Holding) (before : Reg) (submitted : List Submitted)
   pub held_alone : IsHeld h alone
   pub undisturbed : own_submitted h before submitted ≡ [] → Agree h before ended
 
--- Whoever holds a prefix, where each of what is submitted is foreign or theirs.
+-- For whoever holds a prefix, a run is confined where each of what is submitted is foreign or their
+-- own.
 abbrev pub Confines : Reg → List Submitted → List Outcome → Reg → Type 0
 Confines before submitted outcomes ended =
     (h : Holding) → IsHeld h before → are_foreign_or_own h before submitted ≡ true
     → IsConfined h before submitted outcomes ended
 
--- So does each run from a sound registry.
+-- Each run from a sound registry is confined, for whoever holds a prefix, where each of what is
+-- submitted is foreign or their own.
 abbrev pub RunsConfine : Type 0
 RunsConfine =
     (r s : Reg) (submitted : List Submitted) (outcomes : List Outcome)

@@ -24,7 +24,7 @@ ForeignItemsLeave =
     → LeavesOthers r secrets (step r secrets i)
 
 -- In two registries an item has one verdict, they agree after it on what is held, and the prefix is
--- held in both.
+-- still held in both.
 pub record IsAlike (h : Holding) (r q : Reg) (secrets : List (List ℕ)) (i : Item) : Type 0 where
   pub verdicts : verdict r secrets i ≡ verdict q secrets i
   pub agree : Agree h (step r secrets i) (step q secrets i)

@@ -94,8 +94,8 @@ Agree h r q = (k : Key) → is_held h k ≡ true → get r k ≡ get q k
 abbrev pub is_foreign : Holding → Reg → List (List ℕ) → Bool
 is_foreign h r secrets = not (names_pass r secrets h.holders)
 
--- A key of an inetnum inside the prefix, of a route inside it with an origin of the holders, or of
--- a set under their ASes.
+-- The key is that of an inetnum inside the prefix, of a route inside it with an origin of the
+-- holders, or of a set under their ASes.
 abbrev pub is_within : Holding → Key → Bool
 is_within h (Inetnum s) = covers (space_of h) s
 is_within h (Route p n) = covers (space_of h) (span_of p) && has_number h n
@@ -107,7 +107,7 @@ is_within h _ = false
 abbrev pub same_ends : Ends → Ends → Bool
 same_ends s t = s.first == t.first && s.last == t.last
 
--- A key of an inetnum or a route of exactly the prefix.
+-- The key is that of an inetnum or a route of exactly the prefix.
 abbrev pub is_whole : Holding → Key → Bool
 is_whole h (Inetnum s) = same_ends s (space_of h)
 is_whole h (Route p n) = same_prefix p h.prefix

@@ -8,7 +8,7 @@ use Rattle.std.specs.FinMap.{empty, insert}
 use Rattle.rr_object.specs.declared.key.Key.{Key}
 use Rattle.rr_object.specs.KeyOrders.{key_cmp}
 use Rattle.rr_object.specs.Objects.{Obj, names_of}
-use Rattle.rr_auth.specs.Registries.{Reg, keys_cross, some_is_unknown}
+use Rattle.rr_auth.specs.Registries.{Reg, is_crossed_by_some, some_is_unknown}
 use Rattle.rr_registry.specs.declared.load.LoadFault.{LoadFault}
 use Rattle.rr_registry.specs.declared.load.LoadFault.TheVariants.{Duplicate, Overlap, Unnamed}
 use Rattle.rr_registry.specs.declared.load.LoadFault.TheVariants.{Memory}
@@ -22,23 +22,21 @@ gathered r (o ∷ os) = gathered (insert r o.key o) os
 abbrev pub is_key_of_some : Key → List Obj → Bool
 is_key_of_some k os = list_any (λ o. eq_by_cmp key_cmp k o.key) os
 
--- Some object of a list crosses this key (profile).
-abbrev pub is_crossed_by_some : Key → List Obj → Bool
-is_crossed_by_some k os = list_any (λ o. keys_cross o.key k) os
-
--- The fault of an object that is the n-th of a list: some object before it has its key, or else one
+-- The clash of an object that is the n-th of a list: some object before it has its key, or else one
 -- before it crosses it (profile).
 abbrev pub clash_of : List Obj → ℕ → Obj → Option LoadFault
 clash_of before n o =
     if is_key_of_some o.key before then Some (Duplicate n)
     else (if is_crossed_by_some o.key before then Some (Overlap n) else None)
 
--- The first such fault of the objects of a list after others, the first of them being the n-th.
+-- The first clash of the objects of a list that comes after other objects, the first of the list
+-- being the n-th (profile).
 abbrev pub clash : List Obj → ℕ → List Obj → Option LoadFault
 clash before n [] = None
 clash before n (o ∷ os) = option_or (clash_of before n o) (clash (before ++ o ∷ []) (n + 1) os)
 
--- The first object of a list that names a maintainer who is not in the registry.
+-- The fault of the first object of a list that names a maintainer who is not in the registry
+-- (profile).
 abbrev pub unnamed : Reg → List Obj → Option LoadFault
 unnamed r os = option_map (λ i. Unnamed (i + 1)) (position (λ o. some_is_unknown r (names_of o)) os)
 

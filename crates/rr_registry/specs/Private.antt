@@ -17,14 +17,14 @@ use Rattle.rr_auth.specs.declared.verdict.Verdict.TheVariants.{Refuse}
 use Rattle.rr_auth.specs.declared.known.Known.{Known}
 use Rattle.rr_auth.specs.Known.{IsKnown}
 use Rattle.rr_auth.specs.Laws.{IsItem}
-use Rattle.rr_auth.specs.Registries.{Reg, Sound, keys_cross}
+use Rattle.rr_auth.specs.Registries.{Reg, Sound, keys_cross, is_crossed_by_some}
 use Rattle.rr_auth.specs.Verdicts.{verdict}
 use Rattle.rr_book.specs.Books.{book_of, entry, is_in_order}
 use Rattle.rr_cover.specs.SpanMaps.{SpanMap}
 use Rattle.rr_registry.specs.declared.gathered.Gathered.{Gathered}
 use Rattle.rr_registry.specs.declared.load.LoadFault.{LoadFault}
 use Rattle.rr_registry.specs.declared.load.LoadFault.TheVariants.{Memory}
-use Rattle.rr_registry.specs.Loading.{clash, clash_of, gathered, is_crossed_by_some, is_key_of_some}
+use Rattle.rr_registry.specs.Loading.{clash, clash_of, gathered, is_key_of_some}
 
 -- Objects in order whose registry has each under its own well formed key and no two that cross:
 -- sound but for names.
@@ -92,7 +92,8 @@ pub record IsKept (r : Reg) (known : Known) : Type 0 where
 abbrev pub IsJudged : Reg → List (List ℕ) → Item → Verdict → Type 0
 IsJudged r secrets item judged = (judged ≡ verdict r secrets item) ⊎ (judged ≡ Refuse E90)
 
--- A well formed item is judged, and the secrets stay as they were.
+-- The verdict on an item is that of the rules, or a refusal with E90 if memory runs out. The item
+-- is well formed, and the secrets stay as they were (profile).
 pub record JudgesItem (r : Reg) (secrets : List (List ℕ)) (item : Item) (judged : Verdict)
     (after : List (List ℕ)) : Type 0 where
   pub verdict_is : IsJudged r secrets item judged

@@ -25,7 +25,7 @@ pub record IsSplit (r t : Reg) (first later : List Submitted)
   pub first_run : Run r first first_outcomes between
   pub later_run : Run between later later_outcomes t
 
--- A run of both lists is a run of the first and then a run of the second.
+-- A run of two lists, one after the other, is a run of the first and then a run of the second.
 abbrev pub RunsPart : Type 0
 RunsPart =
     (r t : Reg) (first later : List Submitted) (outcomes : List Outcome)
@@ -48,7 +48,8 @@ AreReadIn source [] = Unit {0}
 AreReadIn source (submitted ∷ later) =
     IfOk submitted.action (IsReadIn source) × AreReadIn source later
 
--- A run from a registry of a source ends at one, whatever is submitted that is read in that source.
+-- A run from a registry of a source ends at a registry of that source, whatever is submitted that
+-- is read in it.
 abbrev pub RunsStayOfSource : Type 0
 RunsStayOfSource =
     (source : List ℕ) (r s : Reg) (submitted : List Submitted) (outcomes : List Outcome)

@@ -45,13 +45,14 @@ abbrev pub IsStep : Reg → List (List ℕ) → Item → Outcome → Reg → Typ
 IsStep before secrets item outcome then =
     IsCarriedOut before (verdict before secrets item) item outcome then
 
--- What was refused as it was read keeps its code and leaves the registry; an item is a step
--- (profile).
+-- What was refused as it was read keeps its code and leaves the registry as it was; an item is a
+-- step (profile).
 abbrev pub Decides : Reg → List (List ℕ) → Result Item Code → Outcome → Reg → Type 0
 Decides before secrets (Ok item) outcome then = IsStep before secrets item outcome then
 Decides before secrets (Err code) outcome then = (outcome ≡ Refused code) × (then ≡ before)
 
--- Each in turn is decided, over the registry that the one before it left (profile).
+-- Each of what is submitted is decided in turn, over the registry that the one before it left
+-- (profile).
 abbrev pub Run : Reg → List Submitted → List Outcome → Reg → Type 0
 Run before [] [] then = then ≡ before
 Run before [] (outcome ∷ outcomes) then = ⊥
@@ -60,7 +61,8 @@ Run before (submitted ∷ later) (outcome ∷ outcomes) then =
     (between : Reg) × Decides before submitted.secrets submitted.action outcome between
     × Run between later outcomes then
 
--- What is submitted is run, or nothing changes where memory runs out for the outcomes (profile).
+-- All that is submitted is run, in order; or nothing changes, where memory runs out for the
+-- outcomes (profile).
 pub record MayRun {E : Type 0} (before : Reg) (submitted : List Submitted) (then : Reg)
     (result : Result (Vec Outcome) E) : Type 0 where
   pub run : IfOk result (λ outcomes. Run before submitted outcomes.items then)

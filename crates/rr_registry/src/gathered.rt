@@ -1,11 +1,13 @@
-//! Objects that are put together, one after the other.
+//! Objects that are put together one after the other, in any order. A list that does not stand in
+//! order is loaded by this.
 
 ghost use Rattle.std.specs.Prelude.{◌≡◌, ◌⊎◌, [], List, IfErr, IfOk, OnOk, false, true};
 ghost use Rattle.std.specs.BTreeMap.{insert_entry};
 ghost use Rattle.std.specs.FinMap.{insert};
 ghost use Rattle.rr_object.specs.Objects.{Obj};
 ghost use Rattle.rr_cover.specs.SpanMaps.{crosses_some};
-ghost use Rattle.rr_registry.specs.Loading.{clash_of, is_crossed_by_some, is_key_of_some};
+ghost use Rattle.rr_auth.specs.Registries.{is_crossed_by_some};
+ghost use Rattle.rr_registry.specs.Loading.{clash_of, is_key_of_some};
 ghost use Rattle.rr_registry.specs.Private.{HoldsSpans, IsConsistent, IsEntered, IsTakenIn};
 ghost use Rattle.rr_registry.specs.Private.{objects_of};
 
@@ -32,7 +34,7 @@ pub(crate) struct Spans {
 }
 
 impl Gathered {
-    /// No objects.
+    /// Nothing gathered yet.
     pub(crate) fn new(alloc: Global) -> Gathered
         ensures consistent { IsConsistent result }
         ensures none { objects_of result ≡ [] }
@@ -46,7 +48,8 @@ impl Gathered {
         }
     }
 
-    /// Puts the n-th object among those before it.
+    /// Puts the n-th object among those before it. The fault is that one before it has its key, or
+    /// else that its span crosses one of those, or that memory ran out.
     pub(crate) fn take_in(&mut self, alloc: Global, n: u64, object: Object) -> Result<(), LoadFault>
         requires { IsConsistent self.old }
         ensures ok { OnOk result (IsTakenIn (objects_of self.old) n object (objects_of self.new)) }
@@ -60,7 +63,8 @@ impl Gathered {
         }
     }
 
-    /// Enters the span of the n-th object, whose key must not stand there yet, and copies the key.
+    /// Enters the span of the n-th object, and copies its key. The fault is that one before it has
+    /// its key, or else that its span crosses one of those, or that memory ran out.
     fn enter(&mut self, alloc: Global, n: u64, key: &Key) -> Result<Key, LoadFault>
         requires { IsConsistent self.old }
         ensures copy { IfOk result (λ copy. copy ≡ key.now) }
@@ -87,7 +91,8 @@ impl Gathered {
 }
 
 impl Spans {
-    /// Enters the span of the n-th object, where its key is one.
+    /// Enters the span of the n-th object, where its key is that of an inetnum or an as-block. The
+    /// fault is that the span crosses one that is held, or that memory ran out.
     fn enter(&mut self, n: u64, key: &Key) -> Result<(), LoadFault>
         ensures ok { OnOk result ((os : List Obj) → HoldsSpans os self.old.inetnums
             self.old.blocks → IsEntered os key.now self.new.inetnums self.new.blocks) }
@@ -113,7 +118,8 @@ fn put(objects: &mut BTreeMap<Key, Object>, key: Key, object: Object) -> Result<
     Ok(())
 }
 
-/// Puts the span of the n-th object among those of its class.
+/// Puts the span of the n-th object among those of its class. The fault is that it crosses one of
+/// those, or that memory ran out.
 fn hold(nest: &mut SpanNest<()>, n: u64, span: Span) -> Result<(), LoadFault>
     ensures ok { OnOk result (nest.new ≡ insert nest.old span tt) }
     ensures free { OnOk result (crosses_some nest.old span ≡ false) }

@@ -1,9 +1,10 @@
-//! Objects that stand in the order of their keys already.
+//! Whether objects stand in the order of their keys already and none cross, so that a registry is
+//! loaded from them as they are. The contracts say only what `true` means.
 
 ghost use Rattle.std.specs.Prelude.{◌≡◌, [], ◌∷◌, ◌++◌, IfOk, IsTrue, List, true};
 ghost use Rattle.rr_object.specs.Objects.{Obj};
 ghost use Rattle.rr_book.specs.Books.{is_in_order};
-ghost use Rattle.rr_registry.specs.OpenSpanParts.{ArePassed, IsPassed};
+ghost use Rattle.rr_registry.specs.OpenSpanParts.{AreGoneOver, IsGoneOver};
 ghost use Rattle.rr_registry.specs.Private.{IsGathered, is_below};
 
 use crate::open_spans::OpenSpans;
@@ -12,39 +13,39 @@ use std::alloc::{AllocError, Global};
 
 /// The inetnums and the as-blocks of objects that are gone over in the order of their keys.
 #[derive(Drop)]
-struct Passed {
+struct GoneOver {
     inetnums: OpenSpans,
     blocks: OpenSpans,
 }
 
-impl Passed {
-    /// No objects.
-    fn new(alloc: Global) -> Passed
-        ensures { ArePassed [] result.inetnums result.blocks }
+impl GoneOver {
+    /// Nothing gone over yet.
+    fn new(alloc: Global) -> GoneOver
+        ensures { AreGoneOver [] result.inetnums result.blocks }
     {
-        Passed {
+        GoneOver {
             inetnums: OpenSpans::new(alloc),
             blocks: OpenSpans::new(alloc),
         }
     }
 
-    /// Goes on to the key of an object after those before it, and says whether it crosses none of
-    /// them.
-    fn pass(&mut self, key: &Key) -> Result<bool, AllocError>
+    /// Goes on to the key of an object after those before it: true only if it crosses none of them.
+    /// The error is that memory ran out.
+    fn go_over(&mut self, key: &Key) -> Result<bool, AllocError>
         ensures { IfOk result (λ free. (os : List Obj) (o : Obj) → o.key ≡ key.now
             → is_in_order (os ++ o ∷ []) ≡ true
-            → ArePassed os self.old.inetnums self.old.blocks
-            → IsTrue free → IsPassed os o self.new.inetnums self.new.blocks) }
+            → AreGoneOver os self.old.inetnums self.old.blocks
+            → IsTrue free → IsGoneOver os o self.new.inetnums self.new.blocks) }
     {
         match key {
-            Key::Inetnum(span) => self.inetnums.pass(*span),
-            Key::AsBlock(block) => self.blocks.pass(block.span()),
+            Key::Inetnum(span) => self.inetnums.go_over(*span),
+            Key::AsBlock(block) => self.blocks.go_over(block.span()),
             _ => Ok(true),
         }
     }
 }
 
-/// Whether the objects stand as they are gathered: their keys strictly rise, and no two spans
+/// True only if the objects stand as they are gathered: their keys strictly rise, and no two spans
 /// cross. It takes O(n) steps for n objects, and the error is that memory ran out.
 pub(crate) fn are_gathered(alloc: Global, objects: &[Object]) -> Result<bool, AllocError>
     ensures { IfOk result (λ gathered. IsTrue gathered → IsGathered objects.now objects.now) }
@@ -80,14 +81,14 @@ fn is_below(object: &Object, others: &[Object]) -> bool
     }
 }
 
-/// Whether no two of objects whose keys rise cross.
+/// True only if no two of objects, whose keys rise, cross. The error is that memory ran out.
 fn none_cross(alloc: Global, objects: &[Object]) -> Result<bool, AllocError>
     requires { is_in_order objects.now ≡ true }
     ensures { IfOk result (λ apart. IsTrue apart → IsGathered objects.now objects.now) }
 {
-    let mut passed = Passed::new(alloc);
+    let mut gone_over = GoneOver::new(alloc);
     for object in objects {
-        if !passed.pass(object.key())? {
+        if !gone_over.go_over(object.key())? {
             return Ok(false);
         }
     }

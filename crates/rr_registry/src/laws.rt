@@ -21,13 +21,14 @@ pub fn runs_stay_sound()
     ensures { RunsStaySound }
 {}
 
-/// A run from a registry of a source ends at one, where all items are read in that source.
+/// A run from a registry of a source ends at a registry of that source, where all items are read in
+/// it.
 pub fn runs_stay_of_their_source()
     ensures { RunsStayOfSource }
 {}
 
-/// A run from a sound registry answers the holders of a prefix as if nobody else had submitted
-/// anything, and leaves what they hold to them.
+/// Where each item is foreign to the holders of a prefix or their own, a run from a sound registry
+/// answers these as if nobody else had submitted anything. It leaves what they hold to them.
 pub fn runs_confine_what_is_foreign()
     ensures { RunsConfine }
 {}

@@ -1,4 +1,5 @@
-//! Lists of objects taken as registries.
+//! Lists of objects taken as registries: those of a new registry, of a dump that is loaded, and of
+//! the rows of a database.
 
 ghost use Rattle.std.specs.Prelude.{◌≡◌, ◌||◌, ◌<◌, ℕ, List};
 ghost use Rattle.std.specs.Prelude.{IfOk, IfSome, MatchResult, OnOk, length, not, position};
@@ -103,7 +104,8 @@ fn add_mntner(alloc: Global, mntners: &mut BTreeSet<Name>, key: &Key) -> Result<
     }
 }
 
-/// The place of the first object that names a maintainer who is not among the objects.
+/// The place of the first object that names a maintainer who is not among the objects; none if
+/// there is no such object.
 fn first_unnamed(alloc: Global, objects: &[Object]) -> Result<Option<usize>, AllocError>
     ensures value { IfOk result (λ place. place ≡ position (λ o. list_any
         (λ n. not (list_any (λ x. is_mntner_of n x.key) objects.now)) (names_of o)) objects.now) }

@@ -1,10 +1,12 @@
-//! Spans that are gone over in their order.
+//! Whether spans of one class cross, as a registry is loaded from objects that stand in order
+//! already: n spans are gone over once, in O(n) steps. The contracts say only what `true` means.
+//! After `false` the objects are gathered one by one, which finds what crosses.
 
-ghost use Rattle.std.specs.Prelude.{◌≡◌, ◌≤◌, ℕ, Bool, false, IfOk, IsTrue, OnOk};
+ghost use Rattle.std.specs.Prelude.{◌≡◌, ◌≤◌, ℕ, Bool, IfOk, IsTrue, OnOk};
 ghost use Rattle.rr_number.specs.Spans.{Ends};
 ghost use Rattle.rr_auth.specs.Elements.{IsIn};
-ghost use Rattle.rr_registry.specs.OpenSpanParts.{HasPassed, IsFalling, IsJoined, IsKept};
-ghost use Rattle.rr_registry.specs.OpenSpanParts.{IsShortened, Passes, Rises, ends_below};
+ghost use Rattle.rr_registry.specs.OpenSpanParts.{HasGoneOverNone, IsKept, IsShortened, MayGoOver};
+ghost use Rattle.rr_registry.specs.OpenSpanParts.{NeverRises, ends_below};
 
 use rr_number::Span;
 use std::alloc::{AllocError, Global};
@@ -23,10 +25,9 @@ pub(crate) struct OpenSpans {
 }
 
 impl OpenSpans {
-    /// No spans.
+    /// Nothing gone over yet.
     pub(crate) fn new(alloc: Global) -> OpenSpans
-        ensures { (gone : Ends → Bool) → ((t : Ends) → gone t ≡ false)
-            → HasPassed gone result }
+        ensures { HasGoneOverNone result }
     {
         OpenSpans {
             first: 0,
@@ -35,12 +36,10 @@ impl OpenSpans {
         }
     }
 
-    /// Goes on to a span that comes after those before it, and says whether it crosses none of
-    /// them. n spans take O(n) steps together, and the error is that memory ran out.
-    pub(crate) fn pass(&mut self, span: Span) -> Result<bool, AllocError>
-        ensures { IfOk result (λ free. (gone more : Ends → Bool) → HasPassed gone self.old
-            → Rises gone span → IsJoined gone span more → IsTrue free
-            → Passes gone span more self.new) }
+    /// Goes on to a span that comes after those before it: true only if it crosses none of them. n
+    /// spans take O(n) steps together, and the error is that memory ran out.
+    pub(crate) fn go_over(&mut self, span: Span) -> Result<bool, AllocError>
+        ensures { IfOk result (MayGoOver self.old span self.new) }
     {
         self.move_on(span.first())?;
         if !reach(&self.outer, span.last()) {
@@ -87,9 +86,9 @@ fn ends_below(lasts: &[u32], first: u32) -> bool
     }
 }
 
-/// Whether falling numbers all reach this one.
+/// True only if all of the numbers, which never rise, reach this one.
 fn reach(lasts: &[u32], last: u32) -> bool
-    ensures { IsTrue result → IsFalling lasts.now → (x : ℕ) → IsIn x lasts.now
+    ensures { IsTrue result → NeverRises lasts.now → (x : ℕ) → IsIn x lasts.now
         → last ≤ x }
 {
     match lasts.last() {

@@ -1,4 +1,4 @@
-//! Outcomes of items.
+//! What became of an item: what a registry or a ledger returns for it, and a report tells.
 
 use rr_object::Code;
 

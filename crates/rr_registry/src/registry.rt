@@ -1,9 +1,10 @@
-//! Registries, and what items do to them.
+//! Registries, and what items do to them. Desks and submissions decide items by `apply`; queries
+//! and dumps read the lists.
 
 ghost use Rattle.std.specs.Prelude.{◌≡◌, ◌⊎◌, true, IfOk};
 ghost use Rattle.std.specs.FinMap.{empty, insert, remove, values};
 ghost use Rattle.rr_auth.specs.declared.verdict.Verdict.TheVariants.{Add, Change, Delete};
-ghost use Rattle.rr_auth.specs.Verdicts.{is_met_by};
+ghost use Rattle.rr_auth.specs.Verdicts.{fits_item};
 ghost use Rattle.rr_auth.specs.Laws.{IsItem};
 ghost use Rattle.rr_registry.specs.ConfinementLaws.{LeavesOthers};
 ghost use Rattle.rr_registry.specs.Private.{JudgesItem};
@@ -68,7 +69,8 @@ impl<B: Keeper> Registry<B> {
         }
     }
 
-    /// The book of the registry, over which other questions can be asked.
+    /// The book of the registry, which has the same objects and answers other questions about them.
+    /// The registry is sound.
     pub fn book(&self) -> &B
         ensures same { B.contents result.now ≡ self.now }
         ensures sound { Sound self.now }
@@ -87,7 +89,8 @@ impl<B: Keeper> Registry<B> {
         true
     }
 
-    /// The objects in the order of class and key; the error is that memory ran out.
+    /// The objects in the order of class and key; the error is that memory ran out. The registry is
+    /// sound.
     pub fn objects(&self, alloc: Global) -> Result<Vec<&Object>, AllocError>
         ensures { ListsOf self.now (λ objects. lent objects.items ≡ values self.now) result }
     {
@@ -113,7 +116,7 @@ impl<B: Keeper> Registry<B> {
     /// Does with the item, which is well formed, what its verdict says, over this registry and
     /// these secrets (RFC 2725, 9; profile). If memory runs out the item is refused with E90 and
     /// nothing changes. What the holders of a prefix hold stays as it was where none of the secrets
-    /// is theirs.
+    /// is theirs. The secrets stay as they were.
     #[tactic(auto, using(crate::proofs::Judged::carried_out))]
     pub fn apply(&mut self, alloc: Global, secrets: &mut Secrets, item: Item) -> Outcome
         ensures step { IsStep self.old secrets.old item result self.new }
@@ -144,7 +147,7 @@ impl<B: Keeper> Registry<B> {
     fn submit(&mut self, alloc: Global, judged: Verdict, object: Object) -> Outcome
         requires added { judged ≡ Add → Sound (insert self.old object.key object) }
         requires changed { judged ≡ Change → Sound (insert self.old object.key object) }
-        requires possible { is_met_by (Item.Submit object) judged ≡ true }
+        requires possible { fits_item (Item.Submit object) judged ≡ true }
         ensures { IsCarriedOut self.old judged (Item.Submit object) result self.new }
     {
         match judged {
@@ -173,7 +176,7 @@ impl<B: Keeper> Registry<B> {
     /// Carries out the verdict on a deletion.
     fn delete(&mut self, judged: Verdict, key: &Key) -> Outcome
         requires deleted { judged ≡ Delete → Sound (remove self.old key.now) }
-        requires possible { is_met_by (Item.Delete key.now) judged ≡ true }
+        requires possible { fits_item (Item.Delete key.now) judged ≡ true }
         ensures { IsCarriedOut self.old judged (Item.Delete key.now) result self.new }
     {
         match judged {

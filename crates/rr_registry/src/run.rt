@@ -1,4 +1,4 @@
-//! Runs of what is submitted.
+//! Runs of what is submitted: items decided one after the other. Tests run lists of items by this.
 
 ghost use Rattle.std.specs.Prelude.{IfOk, OnOk};
 
@@ -25,9 +25,10 @@ impl<B: Keeper> Registry<B> {
     ghost use Rattle.rr_registry.specs.RunLaws.{AreFormed};
     ghost use Rattle.rr_registry.specs.Runs.{Decides, MayRun};
 
-    /// Decides in turn what was submitted and gives the outcome of each; the error is that memory
-    /// ran out for the outcomes, before the first item, and leaves the registry as it was. The
-    /// holders of a prefix are answered as if nobody else had submitted anything.
+    /// Decides in turn what was submitted and gives the outcome of each. The error is that memory
+    /// ran out for the outcomes, before the first item, and leaves the registry as it was. Where
+    /// each item is foreign to the holders of a prefix or their own, these are answered as if
+    /// nobody else had submitted anything.
     pub fn run_items(
         &mut self,
         alloc: Global,

@@ -1,7 +1,7 @@
 //! What no clause says: that heads are read in pieces of any size, and what worked requests ask and
 //! are replied. What is expected comes from the rules, read by hand.
 use rr_http::{
-    Asked, BodyEnd, BodySize, HEAD_SIZE, Head, Page, Refusal, read_body, read_head, read_request,
+    Asked, BodyEnd, BodySize, HEAD_LIMIT, Head, Page, Refusal, read_body, read_head, read_request,
     write_refusal,
 };
 use rr_io::{Counted, Cut, Sink, Source};
@@ -23,7 +23,7 @@ enum Seen {
 
 /// What a connection wants that gives these bytes, at most `step` in a read.
 fn outcome(text: &[u8], step: usize) -> Seen {
-    let mut buf = [0u8; HEAD_SIZE];
+    let mut buf = [0u8; HEAD_LIMIT];
     let mut reader = Cut::new(Counted::new(text), step.max(1), 100_000);
     match read_head(&mut reader, &mut buf) {
         Ok((head, count)) => wanted(head, &buf[..count]),

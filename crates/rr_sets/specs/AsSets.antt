@@ -37,7 +37,7 @@ IsAnyNumber r name n = IsTrue (bytes_eq name as_any) × ((a : Obj) × (get r (Au
 abbrev pub IsDirect : Reg → List ℕ → ℕ → Type 0
 IsDirect r name n = ListsNumber r name n ⊎ (BelongsTo r name n ⊎ IsAnyNumber r name n)
 
--- A chain of listed names leads to the set (RFC 2622, 5).
+-- A chain of listed names, which may be empty, leads from one set to another (RFC 2622, 5).
 abbrev pub IsReachedSet : Reg → List ℕ → List ℕ → Type 0
 IsReachedSet r start name = IsReached (ListsSet r) (start ∷ []) name
 
@@ -45,10 +45,10 @@ IsReachedSet r start name = IsReached (ListsSet r) (start ∷ []) name
 abbrev pub InAsSet : Reg → List ℕ → ℕ → Type 0
 InAsSet r start n = (name : List ℕ) × IsReachedSet r start name × IsDirect r name n
 
--- There is such an as-set: it is registered, or `AS-ANY` (RFC 2622, 5).
+-- There is an as-set of the name: it is registered, or the name is `AS-ANY` (RFC 2622, 5).
 abbrev pub has_as_set : Reg → List ℕ → Bool
 has_as_set r name = is_some (get r (AsSet name)) || bytes_eq name as_any
 
--- A chain of listed names leads to a name that is no such set (profile).
+-- A chain of listed names leads from a set to a name of which there is no as-set (profile).
 abbrev pub IsMissing : Reg → List ℕ → List ℕ → Type 0
 IsMissing r start name = IsReachedSet r start name × (has_as_set r name ≡ false)

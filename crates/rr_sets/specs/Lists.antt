@@ -13,7 +13,7 @@ use Rattle.rr_object.specs.declared.key.Key.{Key}
 use Rattle.rr_object.specs.declared.key.Key.TheVariants.{AutNum, Route}
 use Rattle.rr_sets.specs.KeyParts.{origin_of}
 
--- The list lends exactly the objects that have the property, each once.
+-- A list of references points to exactly the objects that have the property, each once.
 pub record ListsOnce (P : Obj → Type 0) (objects : List (Bor Obj)) : Type 0 where
   pub same : (o : Obj) → Contains (lent objects) o ↔ P o
   pub once : HasNoRepeats (lent objects)

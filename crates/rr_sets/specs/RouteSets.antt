@@ -29,7 +29,7 @@ use Rattle.rr_sets.specs.SetObjects.{takes}
 abbrev pub registered_set : Reg → List ℕ → Option Obj
 registered_set r name = get r (key_of_kind (kind_of name) name)
 
--- There is such a set: it is registered, or `AS-ANY` or `RS-ANY` (RFC 2622, 5).
+-- There is a set of the name: it is registered, or the name is `AS-ANY` or `RS-ANY` (RFC 2622, 5).
 abbrev pub has_set : Reg → List ℕ → Bool
 has_set r name = is_some (registered_set r name) || (bytes_eq name as_any || bytes_eq name rs_any)
 
@@ -56,7 +56,7 @@ abbrev pub Refers : Reg → MemberSet → MemberSet → Operator → Type 0
 Refers r (AutNum n) other operator = ⊥
 Refers r (Set name) other operator = RefersAs (kind_of name) r name other operator
 
--- The references are exactly those of the set.
+-- A list has exactly the references of a set.
 abbrev pub AreReferences : Reg → MemberSet → List (Edge MemberSet Operator) → Type 0
 AreReferences r set references = (other : MemberSet) (operator : Operator)
     → Contains references (record { to = other; label = operator }) ↔ Refers r set other operator
@@ -88,28 +88,29 @@ IsByReference r name range =
 abbrev pub IsAnyRange : Reg → List ℕ → RangeParts → Type 0
 IsAnyRange r name range = IsTrue (bytes_eq name rs_any) × ((n : ℕ) × IsOriginated r n range)
 
--- A range is in a set itself: a route of the AS has its prefix, the set lists it, a route belongs
--- to the set by its own word, or the set is `RS-ANY` (RFC 2622, 5).
+-- An AS or a set has a range itself: a route of the AS has its prefix, the set lists it, a route of
+-- its prefix belongs to the set by its own word, or the set is `RS-ANY` (RFC 2622, 5).
 abbrev pub HasRange : Reg → MemberSet → RangeParts → Type 0
 HasRange r (AutNum n) range = IsOriginated r n range
 HasRange r (Set name) range =
     ListsRange r name range ⊎ (IsByReference r name range ⊎ IsAnyRange r name range)
 
--- Some chain of references leads from the set of the name to a set that has a range itself, which
--- the operators of the chain, put to it from the last to the first, make into this one, none
--- dropping it (RFC 2622, 5).
+-- A range is in the set of a name: some chain of references leads from that set to a set or AS that
+-- has a range itself, and the operators of the chain, from the last to the first, make this range
+-- of it (RFC 2622, 5).
 abbrev pub InRouteSet : Reg → List ℕ → RangeParts → Type 0
 InRouteSet r start range = carried.IsFound (Refers r) (HasRange r) applied (Set start) range
 
--- A chain of references leads from the set of the name to the set (RFC 2622, 5).
+-- A chain of references, which may be empty, leads from the set of the name to this set or AS
+-- (RFC 2622, 5).
 abbrev pub IsReachedFrom : Reg → List ℕ → MemberSet → Type 0
 IsReachedFrom r start set = carried.IsReachedFrom (Refers r) (Set start) set
 
--- A chain of references leads to a name that is not a set's (profile).
+-- A chain of references leads from a set to a name of which there is no set (profile).
 abbrev pub IsMissingName : Reg → List ℕ → List ℕ → Type 0
 IsMissingName r start name = IsReachedFrom r start (Set name) × (has_set r name ≡ false)
 
--- References lead to more than `limit` sets, or to more than `limit` pairs of such a set and a
--- range that it stands for (profile).
+-- References lead to more than `limit` sets and ASes, or to more than `limit` pairs of one of these
+-- and a range that it stands for (profile).
 abbrev pub HasTooMany : Reg → ℕ → List ℕ → Type 0
 HasTooMany r limit start = carried.IsTooMany (Refers r) (HasRange r) applied limit (Set start)

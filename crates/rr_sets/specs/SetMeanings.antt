@@ -39,14 +39,16 @@ route_set_at r limit name = record {
   Overflows = HasTooMany r limit name;
 }
 
--- The members are what is in the set, and the names that are missing, each in ascending order.
+-- An expansion lists exactly what is in a set, and the names that are missing, both in ascending
+-- order (RFC 2622, 5; profile).
 pub record StandsFor {X : Type 0} (cmp : X → X → Ordering) (set : Meaning X)
     (members : Members X) : Type 0 where
   pub found : ListsInOrder cmp set.Has members.found.items
   pub missing : ListsInOrder (slice_cmp nat_cmp) set.Lacks members.missing.items
 
--- A set that there is is expanded, unless it is over the limit or memory runs out; the fault says
--- that there is no such set, or that it is over the limit, exactly where that is so (profile).
+-- An expansion lists what a set stands for. Unless memory runs out, its fault is `NoSuchSet`
+-- exactly where there is no such set, and `TooMany` exactly where there is one and it is over the
+-- limit (RFC 2622, 5; the limit: profile).
 pub record Expands {X : Type 0} (cmp : X → X → Ordering) (set : Meaning X)
     (result : Result (Members X) ExpandFault) : Type 0 where
   pub found : IfOk result (StandsFor cmp set)

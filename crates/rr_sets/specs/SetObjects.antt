@@ -20,8 +20,8 @@ number_listed (member.Range r) = None
 number_listed (member.Set (set.AutNum n) operator) = Some n
 number_listed (member.Set (set.Set name) operator) = None
 
--- The set takes the object's word that it belongs to it: `mbrs-by-ref` lists `ANY` or a maintainer
--- in its `mnt-by` (RFC 2622, 5).
+-- A set takes an object's word that the object belongs to it: the set's `mbrs-by-ref` lists `ANY`
+-- or a maintainer in the object's `mnt-by` (RFC 2622, 5).
 abbrev pub takes : ByRefParts → Obj → Bool
 takes by_ref object = by_ref.any || list_any
     (λ name. list_any (λ maintainer. bytes_eq maintainer name) object.maintainers) by_ref.names

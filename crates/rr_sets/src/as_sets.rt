@@ -1,4 +1,4 @@
-//! The expansion of as-sets.
+//! The expansion of as-sets into AS numbers.
 
 ghost use Rattle.std.specs.Prelude.{◌≡◌, ◌↔◌, ◌||◌, ◌++◌, ◌∷◌, [], ℕ, List, not, true, false};
 ghost use Rattle.std.specs.Prelude.{Contains, IfOk, OnOk, filter, is_some};
@@ -126,7 +126,7 @@ fn reached_sets<B: SetBook>(
 }
 
 /// The names of sets that an as-set lists, where it is registered.
-pub fn names_listed(alloc: Global, set: Option<&Object>) -> Result<Vec<SetName>, AllocError>
+pub(crate) fn names_listed(alloc: Global, set: Option<&Object>) -> Result<Vec<SetName>, AllocError>
     ensures { IfOk result (λ names. (r : Reg) (name : List ℕ)
         → option_copied set.entry ≡ get r (AsSet name)
         → (listed : List ℕ) → Contains names.items listed ↔ ListsSet r name listed) }
@@ -216,7 +216,7 @@ fn add_missing(
 }
 
 /// The list in ascending order, without repeats.
-pub fn sorted<T: Ord + Drop>(alloc: Global, list: Vec<T>) -> Result<Vec<T>, AllocError>
+pub(crate) fn sorted<T: Ord + Drop>(alloc: Global, list: Vec<T>) -> Result<Vec<T>, AllocError>
     ensures { IfOk result (λ sorted. PutsInOrder T.cmp list.items sorted.items) }
 {
     ascending(alloc, distinct(alloc, list)?)

@@ -1,4 +1,4 @@
-//! Registries, as the expansion of sets asks about them.
+//! Registries, as the expansion of sets asks about them: each book implements this trait.
 
 ghost use Rattle.std.specs.Prelude.{◌≡◌, IfOk, filter};
 ghost use Rattle.std.specs.FinMap.{values};
@@ -9,8 +9,8 @@ use rr_number::{AsNumber, Prefix, SetName};
 use rr_object::Object;
 use std::alloc::{AllocError, Global};
 
-/// A registry that can be asked for the objects that speak of sets. The errors are that memory ran
-/// out.
+/// A sound registry that can be asked for the objects that speak of sets. The errors are that
+/// memory ran out.
 pub trait SetBook: Book {
     ghost use Rattle.rr_auth.specs.Registries.{ListsOf};
     ghost use Rattle.rr_sets.specs.KeyParts.{prefix_from};

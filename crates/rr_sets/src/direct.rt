@@ -1,4 +1,5 @@
-//! The AS numbers that are in an as-set itself.
+//! The AS numbers that are in an as-set itself, without those of the sets that it lists: for both
+//! expansions.
 
 ghost use Rattle.std.specs.Prelude.{◌≡◌, ◌↔◌, ◌⊎◌, ℕ, Contains, IfOk};
 ghost use Rattle.std.specs.List.{filter_map};
@@ -16,7 +17,7 @@ use std::alloc::{AllocError, Global};
 
 /// The AS numbers that are in the set itself, where one may come twice; `set` is its object, if it
 /// is registered.
-pub fn direct_numbers<B: SetBook>(
+pub(crate) fn direct_numbers<B: SetBook>(
     alloc: Global,
     book: &B,
     name: &SetName,
@@ -71,7 +72,7 @@ fn any_numbers<B: SetBook>(
 }
 
 /// The registered as-set of the name in a book, which is sound; the error is that memory ran out.
-pub fn as_set<'a, B: SetBook>(
+pub(crate) fn as_set<'a, B: SetBook>(
     alloc: Global,
     book: &'a B,
     name: &SetName,

@@ -5,7 +5,7 @@ use rr_number::SetName;
 use std::alloc::{AllocError, AllocFailed};
 use thiserror::Error;
 
-/// What a set stands for, and the names that its members name in vain.
+/// What a set stands for, and the names of sets that it reaches and that are missing.
 #[derive(Drop)]
 pub struct Members<T> {
     /// What is in the set, in ascending order.

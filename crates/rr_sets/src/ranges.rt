@@ -1,4 +1,4 @@
-//! The ranges that are in a set itself.
+//! The ranges that are in a set itself, without those of its references: for `route_sets`.
 
 ghost use Rattle.std.specs.Prelude.{◌≡◌, ◌↔◌, ◌⊎◌, Contains, IfOk, map};
 ghost use Rattle.std.specs.List.{filter_map};
@@ -20,7 +20,7 @@ use rr_object::{Key, Member, Object};
 use std::alloc::{AllocError, Global};
 
 /// The ranges that are in the set of the name itself, where one may come twice.
-pub fn ranges_in<B: SetBook>(
+pub(crate) fn ranges_in<B: SetBook>(
     alloc: Global,
     book: &B,
     name: &SetName,
@@ -34,7 +34,7 @@ pub fn ranges_in<B: SetBook>(
 }
 
 /// The ranges of the routes of an AS.
-pub fn ranges_of_origin<B: SetBook>(
+pub(crate) fn ranges_of_origin<B: SetBook>(
     alloc: Global,
     book: &B,
     origin: AsNumber,
@@ -79,7 +79,7 @@ fn any_ranges<B: SetBook>(alloc: Global, book: &B, name: &SetName) -> Result<Vec
 }
 
 /// The registered set of the name in a book, which is sound; the error is that memory ran out.
-pub fn registered_set<'a, B: SetBook>(
+pub(crate) fn registered_set<'a, B: SetBook>(
     alloc: Global,
     book: &'a B,
     name: &SetName,
@@ -92,7 +92,11 @@ pub fn registered_set<'a, B: SetBook>(
 }
 
 /// Whether there is a set of the name.
-pub fn has_set<B: SetBook>(alloc: Global, book: &B, name: &SetName) -> Result<bool, AllocError>
+pub(crate) fn has_set<B: SetBook>(
+    alloc: Global,
+    book: &B,
+    name: &SetName,
+) -> Result<bool, AllocError>
     ensures { IfOk result (λ known. known ≡ has_set (B.contents book.now) name.now) }
 {
     let registered = registered_set(alloc, book, name)?.is_some();

@@ -1,4 +1,4 @@
-//! The sets to which a set refers.
+//! The sets and ASes to which a set refers, each with its operator: for `route_sets`.
 
 ghost use Rattle.std.specs.Prelude.{◌≡◌, ◌↔◌, ◌++◌, Contains, IfOk, map};
 ghost use Rattle.std.specs.List.{filter_map};
@@ -21,7 +21,7 @@ pub type Reference = Edge<MemberSet, Operator>;
 
 /// The sets to which the set refers, in ascending order: each once under each operator, however
 /// often it is listed.
-pub fn references_of<B: SetBook>(
+pub(crate) fn references_of<B: SetBook>(
     alloc: Global,
     book: &B,
     set: &MemberSet,
@@ -137,7 +137,7 @@ fn references_listed(alloc: Global, members: &[Member]) -> Result<Vec<Reference>
 }
 
 /// An equal set; the error is that memory ran out.
-pub fn copy_of(alloc: Global, set: &MemberSet) -> Result<MemberSet, AllocError>
+pub(crate) fn copy_of(alloc: Global, set: &MemberSet) -> Result<MemberSet, AllocError>
     ensures { IfOk result (λ same. same ≡ set.now) }
 {
     match set {

@@ -9,7 +9,7 @@ use Rattle.sqlite_trees.specs.declared.store.Store.{Ghosts}
 use Rattle.sqlite.specs.State.{State, HasCleanDisk, KeepsCommit, Survives}
 use Rattle.sqlite.specs.Held.{Held, state}
 use Rattle.sqlite.proofs.StateLemmas.{survives_then}
-use Rattle.rr_store.specs.Contents.{IsTidy, Alters, Adds, RunsOn, Removes, is_name_among}
+use Rattle.rr_store.specs.Contents.{IsTidy, Alters, Adds, RunsOn, RemovesRows, is_name_among}
 use Rattle.rr_store.specs.Contents.{is_name_of}
 use Rattle.rr_store.specs.StepParts.{IsOver}
 use Rattle.rr_store.proofs.OtherLemmas.{others_itself, others_then}
@@ -151,13 +151,14 @@ or_not false = refl
 
 module _ (class : ℕ) (key : List ℕ) where
   pub none_removed : {S : Type 0} (g : Ghosts S) (old : Held S) →
-      HasAltered g old old (Removes (is_name_among class key []))
-  none_removed g old = none_altered g old (Removes (is_name_among class key [])) all_kept
+      HasAltered g old old (RemovesRows (is_name_among class key []))
+  none_removed g old = none_altered g old (RemovesRows (is_name_among class key [])) all_kept
 
   one_less : (names : List (List ℕ)) (name : List ℕ) (before mid after : List Row) →
-      Removes (is_name_among class key names) before mid → Removes (is_name_of class key name) mid
+      RemovesRows (is_name_among class key names) before mid →
+      RemovesRows (is_name_of class key name) mid
       after
-      → Removes (is_name_among class key (names ++ name ∷ [])) before after
+      → RemovesRows (is_name_among class key (names ++ name ∷ [])) before after
   one_less names name before mid after first last =
       last
       ∙ ap (filter (λ row. not (is_name_of class key name row))) first
@@ -168,13 +169,13 @@ module _ (class : ℕ) (key : List ℕ) where
       (or_not (is_name_of class key name row))) before)
 
   pub removed_more : {S : Type 0} (g : Ghosts S) (old mid new : Held S) (names : List (List ℕ))
-      (name : List ℕ) → HasAltered g old mid (Removes (is_name_among class key names))
+      (name : List ℕ) → HasAltered g old mid (RemovesRows (is_name_among class key names))
       → (IsOver g IsTidy mid → HasCleanDisk (state g new) → Alters (state g mid).now
-      (state g new).now 4 (Removes (is_name_of class key name))) →
+      (state g new).now 4 (RemovesRows (is_name_of class key name))) →
       (HasCleanDisk (state g new) → RunsOn (state g mid) (state g new))
       → (HasCleanDisk (state g new) → KeepsCommit (state g mid) (state g new)) →
       Survives (state g mid) (state g new) (λ _. ⊥) → HasAltered g old new
-      (Removes (is_name_among class key (names ++ name ∷ [])))
+      (RemovesRows (is_name_among class key (names ++ name ∷ [])))
   removed_more g old mid new names name = altered_more g old mid new
-      (Removes (is_name_among class key names)) (Removes (is_name_of class key name))
-      (Removes (is_name_among class key (names ++ name ∷ []))) (one_less names name)
+      (RemovesRows (is_name_among class key names)) (RemovesRows (is_name_of class key name))
+      (RemovesRows (is_name_among class key (names ++ name ∷ []))) (one_less names name)

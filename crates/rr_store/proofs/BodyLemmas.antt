@@ -3,7 +3,7 @@ use Rattle.std.proofs.Common.{◌≡◌, ◌≢◌, ℕ, not, List, [], ◌∷�
 use Rattle.std.proofs.Common.{OnOk, sym, ap, subst, subst₂, ◌∙◌, arith, IsPermutation}
 use Rattle.std.specs.List.{AllByRecursion}
 use Rattle.sqlite.specs.Effect.{Database}
-use Rattle.rr_store.specs.Contents.{Alters, Adds, KeepsOthers, Removes, contents, is_name_among}
+use Rattle.rr_store.specs.Contents.{Alters, Adds, KeepsOthers, RemovesRows, contents, is_name_among}
 use Rattle.rr_store.specs.Contents.{is_object_of, is_named_of, object_values, named_values}
 use Rattle.sqlite_value.specs.Order.{Row}
 use Rattle.std.specs.Prelude.{codes}
@@ -59,10 +59,10 @@ pub forgotten : (class : ℕ) (key : List ℕ) (names : List (List ℕ)) (rows :
     (old mid new : Database) → AreOfObjects old → mid ≡ old →
     IsPermutation (filter (is_object_of class key) (contents (old.trees 2))) rows
     → AllByRecursion (AreNamesOf names) rows →
-    Alters mid new 4 (Removes (is_name_among class key names)) →
-    Alters old new 4 (Removes (is_named_of class key))
+    Alters mid new 4 (RemovesRows (is_name_among class key names)) →
+    Alters old new 4 (RemovesRows (is_named_of class key))
 forgotten class key names rows old mid new held same found all alters =
-    let gone = subst (λ db. Alters db new 4 (Removes (is_name_among class key names))) same
+    let gone = subst (λ db. Alters db new 4 (RemovesRows (is_name_among class key names))) same
     alters in
     record {
       tidy = gone.tidy;
@@ -91,8 +91,8 @@ added_by class key body names a b c first second = record {
 
 -- and here they go
 pub taken_by : (class : ℕ) (key : List ℕ) (a b c : Database) →
-    Alters a b 4 (Removes (is_named_of class key)) →
-    Alters b c 2 (Removes (is_object_of class key)) → IsTakenOut class key a c
+    Alters a b 4 (RemovesRows (is_named_of class key)) →
+    Alters b c 2 (RemovesRows (is_object_of class key)) → IsTakenOut class key a c
 taken_by class key a b c first second = record {
   tidy = second.tidy;
   objects = second.change ∙ ap (λ rows. filter (λ row. not (is_object_of class key row))

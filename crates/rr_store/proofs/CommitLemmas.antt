@@ -1,5 +1,5 @@
 -- What a transaction leaves once it has ended, and what a stop during it may leave.
-use Rattle.std.proofs.Common.{◌≡◌, true, Ok, Err, Result, IsOk, IsErr, OnOk, OnErr, IsTrue}
+use Rattle.std.proofs.Common.{◌≡◌, true, false, Ok, Err, Result, IsOk, IsErr, OnOk, OnErr, IsTrue}
 use Rattle.std.proofs.Common.{sym, ap, subst, ◌∙◌, arith}
 use Rattle.sqlite_trees.specs.declared.store.Store.{Ghosts}
 use Rattle.sqlite.specs.Effect.{Database}
@@ -43,7 +43,7 @@ module _ {S X Y E F : Type 0} (g : Ghosts S) (old begun mid new : Held S) (work 
       (kept : HasCleanDisk (state g mid) → KeepsCommit (state g begun) (state g mid))
       (goes_on : HasCleanDisk (state g mid) → OnOk work (RunsOn (state g begun) (state g mid)))
       (settled : IsTrue (state g old).is_open → (state g old).now ≡ (state g old).committed)
-      (done : OnOk result (IsOk work))
+      (autocommit : new.in_transaction ≡ false) (done : OnOk result (IsOk work))
       (ok : HasCleanDisk (state g new) → OnOk result ((state g new).now ≡ (state g mid).now))
       (is_open : HasCleanDisk (state g new) → OnOk result (IsTrue (state g new).is_open))
       (was_open : HasCleanDisk (state g new) → OnOk result (IsTrue (state g mid).is_open))
@@ -84,6 +84,7 @@ module _ {S X Y E F : Type 0} (g : Ghosts S) (old begun mid new : Held S) (work 
     -- a transaction writes what its work made
     pub ended_writes : Transacts g Change old new result
     ended_writes = record {
+      autocommit = autocommit;
       opened = λ clean on.
           open_from clean
           (of_both result _ (was_open clean) (on_err_as result (err clean on) (λ both. both.1)));
@@ -109,7 +110,8 @@ pub transacted : {S X Y E F : Type 0} (g : Ghosts S) (old begun mid new : Held S
 transacted g old begun mid new work result Seen Change begins over step ends settled =
     ended_writes g old begun mid new work result Change begins
     (step.made (begun_over g old begun Seen begins over)) ends.survives step.survives
-    step.kept step.goes_on settled ends.done ends.ok ends.is_open ends.was_open ends.err
+    step.kept step.goes_on settled ends.autocommit ends.done ends.ok ends.is_open ends.was_open
+    ends.err
 
 module _ {S : Type 0} (g : Ghosts S) (old new : Held S) (P Q : Database → Database → Type 0) where
   -- and what is written, too
@@ -117,6 +119,7 @@ module _ {S : Type 0} (g : Ghosts S) (old new : Held S) (P Q : Database → Data
       P (state g old).now db → Q (state g old).now db) → Transacts g P old new r →
       Transacts g Q old new r
   writes_as r follows w = record {
+    autocommit = w.autocommit;
     opened = w.opened;
     done = λ clean. then_ok r (w.done clean) (follows clean (state g new).now);
     is_open = w.is_open;
@@ -133,6 +136,7 @@ module _ {S : Type 0} (g : Ghosts S) (old new : Held S) (P Q : Database → Data
   writes_failed (Ok x) q is_r is_q w = absurd (let e = is_r in cc)
   writes_failed (Err e) (Ok y) is_r is_q w = absurd (let e = is_q in cc)
   writes_failed (Err e) (Err f) is_r is_q w = record {
+    autocommit = w.autocommit;
     opened = w.opened;
     done = λ clean. tt;
     is_open = λ clean. tt;
@@ -143,6 +147,7 @@ module _ {S : Type 0} (g : Ghosts S) (old new : Held S) (P Q : Database → Data
   pub writes_ok : {X E Y F : Type 0} (x : X) (r : Result X E) (y : Y) (q : Result Y F) → r ≡ Ok x →
       q ≡ Ok y → Transacts g P old new r → Transacts g P old new q
   writes_ok x r y q is_r is_q w = record {
+    autocommit = w.autocommit;
     opened = w.opened;
     done = λ clean. rw is_q (rw is_r at (w.done clean));
     is_open = λ clean. rw is_q (rw is_r at (w.is_open clean));

@@ -165,10 +165,11 @@ module _ {S : Type 0} (g : Ghosts S) (a b : Held S) where
 
 -- without the three tables that is told
 pub untabled : {S X : Type 0} (g : Ghosts S) (conn : Held S) (Read : Database → X → Type 0)
-    (Bad : Database → Type 0) → (HasTables (database g conn).schema → ⊥) →
+    (Bad : Database → Type 0) → conn.in_transaction ≡ false →
+    (HasTables (database g conn).schema → ⊥) →
     Inspects g conn conn (Err (Store no_tables)) Read (HasBadRow Bad)
-untabled g conn Read Bad none = record {
-  looks = record { rests = rests_itself g conn; same = λ clean. tt };
+untabled g conn Read Bad mode none = record {
+  looks = record { rests = rests_itself g conn mode; same = λ clean. tt };
   read = λ clean. tt;
   why = λ clean. no_bad_row Bad (database g conn) no_tables;
   cause = λ error is tidy clean. absurd (none tidy.has);
@@ -241,13 +242,13 @@ module _ {S : Type 0} (g : Ghosts S) (text : List ℕ) (params : Row) (told : Is
     (settled : IsTrue (state g old).is_open → (state g old).now ≡ (state g old).committed) where
   -- that was refused
   module _ (plain : HasCleanDisk (state g old) → IsPlain (understood old.schema text))
-      (error : Error)
+      (mode : new.in_transaction ≡ false) (error : Error)
       (failed : HasCleanDisk (state g new) →
       FailsToQuery text params (state g old) (state g new) error)
       (survives : Survives (state g old) (state g new)
       (CommitsShowing text params (state g old))) where
     rested : Rests g old new
-    rested = rests_failed g text params old new plain settled
+    rested = rests_failed g text params old new plain settled mode
         (λ clean. (error, failed clean)) survives
 
     pub not_counted : (tree : ℕ) → Counts g tree old new (Err error)
@@ -269,7 +270,8 @@ module _ {S : Type 0} (g : Ghosts S) (text : List ℕ) (params : Row) (told : Is
     }
 
   -- that began, and whose rows were read one at a time
-  module _ (begun : Held S) (b : Begins g text params old begun) where
+  module _ (begun : Held S) (b : Begins g text params old begun)
+      (mode : begun.in_transaction ≡ false) where
     pub inspected : {X : Type 0} (r : Result X OpenFault) (Read : Database → X → Type 0)
         (Why : Database → OpenFault → Type 0) → HasStreamed g begun new r →
         (HasCleanDisk (state g new) → IfOk r (Read (database g old))) →
@@ -277,7 +279,7 @@ module _ {S : Type 0} (g : Ghosts S) (text : List ℕ) (params : Row) (told : Is
         (HasCleanDisk (state g new) → IfErr r (IfStore (FailsAfterRows g begun new))) →
         Inspects g old new r Read Why
     inspected r Read Why streams read why fails = record {
-      looks = streamed g r old begun new b.same b.survives streams settled;
+      looks = streamed g r old begun new b.same b.survives streams mode settled;
       read = read;
       why = why;
       cause = reads_fail g text params told old new begun b streams.survives r fails;
@@ -303,7 +305,7 @@ module _ {S : Type 0} (g : Ghosts S) (text : List ℕ) (params : Row) (told : Is
 
       pub counted : Counts g tree old new r
       counted = record {
-        looks = streamed g r old begun new b.same b.survives streams settled;
+        looks = streamed g r old begun new b.same b.survives streams mode settled;
         numbered = λ clean. on_each r _ _ (numbered clean) (λ count rest.
             keyed_by ((state g old).now.trees tree) rest.0 (ranked clean rest.0 rest.1).same
             rest.2);

@@ -29,8 +29,11 @@ pub kept_by : {S X E : Type 0} (g : Ghosts S) (Change : Database → Database �
     (old new : Held S) (r : Result X E) → IsKept g old → Transacts g Change old new r
     → (AreOfObjects (state g old).now → Change (state g old).now (state g new).now →
     AreOfObjects (state g new).now) → IsKept g new
-kept_by g Change old new r kept w follows clean on =
-    let before : AreOfObjects (state g old).now = kept (omega (arith, clean, w.crash.clean))
-    (w.opened clean on) in
-    of_both r _ (then_ok r (w.done clean) (follows before))
-    (on_err_as r (w.kept clean on) (λ is. subst AreOfObjects (sym is) before))
+kept_by g Change old new r kept w follows = record {
+  autocommit = w.autocommit;
+  held = λ clean on.
+      let before : AreOfObjects (state g old).now = kept.held (omega (arith, clean, w.crash.clean))
+      (w.opened clean on) in
+      of_both r _ (then_ok r (w.done clean) (follows before))
+      (on_err_as r (w.kept clean on) (λ is. subst AreOfObjects (sym is) before));
+}

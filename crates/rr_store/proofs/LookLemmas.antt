@@ -1,5 +1,5 @@
 -- A query with no RETURNING leaves the database as it is, also where it fails.
-use Rattle.std.proofs.Common.{◌≡◌, ◌⊎◌, inl, inr, ℕ, List, Option, Some, None, Ok, Err}
+use Rattle.std.proofs.Common.{◌≡◌, ◌⊎◌, false, inl, inr, ℕ, List, Option, Some, None, Ok, Err}
 use Rattle.std.proofs.Common.{Result, IfOk, IfErr, IsErr, OnOk, OnErr, IsTrue, refl, sym, subst}
 use Rattle.std.proofs.Common.{◌∙◌, arith}
 use Rattle.sqlite_value.specs.Order.{Row}
@@ -176,8 +176,9 @@ shown_of (Ok x) items sql params old new R h f = f x h
 shown_of (Err e) items sql params old new R h f = tt
 
 module _ {S : Type 0} (g : Ghosts S) where
-  pub rests_itself : (h : Held S) → Rests g h h
-  rests_itself h = record {
+  pub rests_itself : (h : Held S) → h.in_transaction ≡ false → Rests g h h
+  rests_itself h mode = record {
+    autocommit = mode;
     opened = λ clean on. on;
     same = λ clean on.
         refl;
@@ -189,6 +190,7 @@ module _ {S : Type 0} (g : Ghosts S) where
     -- of what was read twice, too, nothing changes
     pub rests_then : Rests g b c → Rests g a c
     rests_then two = record {
+      autocommit = two.autocommit;
       opened = λ clean on. (same (omega (arith, clean, two.crash.clean))).0.was_open;
       same = λ clean on. two.same clean on
           ∙ (same (omega (arith, clean, two.crash.clean))).0.now_is;
@@ -210,6 +212,7 @@ module _ {S : Type 0} (g : Ghosts S) where
         let before : HasCleanDisk (state g c) → HasCleanDisk (state g b) = λ clean.
         omega (arith, clean, two.crash.clean) in
         record {
+          autocommit = two.autocommit;
           opened = λ clean on. (same (before clean)).0.was_open;
           done = λ clean. then_ok r (two.done clean) (λ made. subst (λ d. Change d (state g c).now)
               (same (before clean)).0.now_is made);
@@ -231,6 +234,7 @@ module _ {S : Type 0} (g : Ghosts S) where
       (r : Result X E) → IsErr r → Rests g a b → Transacts g Change a b r
   unwritten Change a b (Ok x) is one = absurd (let e = is in cc)
   unwritten Change a b (Err e) is one = record {
+    autocommit = one.autocommit;
     opened = one.opened;
     done = λ clean. tt;
     is_open = λ clean. tt;
@@ -243,10 +247,11 @@ module _ {S : Type 0} (g : Ghosts S) where
   pub rests_failed : (sql : List ℕ) (params : Row) (old new : Held S) →
       (HasCleanDisk (state g old) → IsPlain (understood old.schema sql)) →
       (IsTrue (state g old).is_open → (state g old).now ≡ (state g old).committed)
-      → (HasCleanDisk (state g new) → (e : Error) × FailsToQuery sql params (state g old)
-      (state g new) e) → Survives (state g old) (state g new)
+      → new.in_transaction ≡ false → (HasCleanDisk (state g new) → (e : Error) × FailsToQuery sql
+      params (state g old) (state g new) e) → Survives (state g old) (state g new)
       (CommitsShowing sql params (state g old)) → Rests g old new
-  rests_failed sql params old new plain settled failed survives = record {
+  rests_failed sql params old new plain settled mode failed survives = record {
+    autocommit = mode;
     opened = λ clean on. let f = failed clean in failed_open sql params (state g old) (state g new)
         on f.0 f.1;
     same = λ clean on. let f = failed clean in failed_same sql params (state g old) (state g new)

@@ -36,7 +36,8 @@ use Rattle.rr_store.specs.Texts.{named_numbers, object_numbers, select_meta, sel
 use Rattle.rr_store.specs.Texts.{select_naming, select_object, select_of_key, select_sorted_named}
 use Rattle.rr_store.specs.Queries.{Means, alone, rowids_of, rows_of, object_tests, name_tests}
 use Rattle.rr_store.specs.Queries.{naming_tests}
-use Rattle.rr_store.specs.Contents.{AreNumbered, IsTidy, IsOfOther, Alters, Adds, Removes, IsInRank}
+use Rattle.rr_store.specs.Contents.{AreNumbered, IsTidy, IsOfOther, Alters, Adds, RemovesRows}
+use Rattle.rr_store.specs.Contents.{IsInRank}
 use Rattle.rr_store.specs.Contents.{columns, contents, number, numbered, meta_values, object_values}
 use Rattle.rr_store.specs.Contents.{named_values, meets_tests, is_object_of, is_name_of, are_joined}
 use Rattle.rr_store.specs.Contents.{pointed, by_one, by_two, by_three}
@@ -139,7 +140,7 @@ module _ (at tree : ℕ) (ours : IsOurs tree) (name : List ℕ) (cols : List Col
       (same : (row : Row) → list_all (holds (params ∷ row ∷ [])) tests ≡ meets_tests tests params
       (columns row)) where
     deletes : (count : ℕ) → Executes text params old new (Ok count) → Alters old.now new.now tree
-        (Removes (meets_tests tests params))
+        (RemovesRows (meets_tests tests params))
     deletes count h =
         let l = tidy.has.layout in
         let rows = old.now.trees tree in
@@ -160,7 +161,8 @@ module _ (at tree : ℕ) (ours : IsOurs tree) (name : List ℕ) (cols : List Col
         let keyed = keyed_at tree old.now ours tidy in
         let left : without_all rows (ids_of did.0) ≡ filter (λ row. not (p row)) rows =
         without_those p rows (ids_of did.0) keyed ids in
-        altered l tidy.has.apart tree ours _ old.now new.now (Removes (meets_tests tests params))
+        altered l tidy.has.apart tree ours _ old.now new.now
+        (RemovesRows (meets_tests tests params))
         tidy tidy.has.is did.2
         (subst AreNumbered (sym left) (filter_keyed (λ row. not (p row)) rows keyed))
         (ap contents left ∙ ap (λ (q : Row → Bool). contents (filter (λ row. not (q row)) rows))
@@ -171,7 +173,7 @@ module _ (at tree : ℕ) (ours : IsOurs tree) (name : List ℕ) (cols : List Col
   clears : (means : (l : Layout) → Means l text (Delete at (alone (rowids_of tree [])))) →
       (seen : (db : Trees) → overlay db [] tree ≡ db tree) → (count : ℕ) → Executes text params old
       new (Ok count)
-      → Alters old.now new.now tree (Removes (λ row. true))
+      → Alters old.now new.now tree (RemovesRows (λ row. true))
   clears means seen count h = deletes [] means seen (λ row. refl) count h
 
 either : {X : Type 0} (b : Bool) (x : X) → cond b x x ≡ x
@@ -216,7 +218,7 @@ inserts_named name class key old new tidy count h =
 
 pub deletes_object : (class : ℕ) (key : List ℕ) (old new : State) → IsTidy old.now → (count : ℕ) →
     Executes delete_object (Int (pos class) ∷ Text key ∷ []) old new (Ok count)
-    → Alters old.now new.now 2 (Removes (is_object_of class key))
+    → Alters old.now new.now 2 (RemovesRows (is_object_of class key))
 deletes_object class key old new tidy count h =
     deletes 1 2 (inr (inl refl)) _ _ (λ l. l.object) (λ l. refl) delete_object
     (Int (pos class) ∷ Text key ∷ []) old new tidy object_tests delete_object_is (λ db. refl)
@@ -224,24 +226,24 @@ deletes_object class key old new tidy count h =
 
 pub deletes_name : (name : List ℕ) (class : ℕ) (key : List ℕ) (old new : State) → IsTidy old.now →
     (count : ℕ) → Executes delete_name (named_values name class key) old new (Ok count)
-    → Alters old.now new.now 4 (Removes (is_name_of class key name))
+    → Alters old.now new.now 4 (RemovesRows (is_name_of class key name))
 deletes_name name class key old new tidy count h =
     deletes 2 4 (inr (inr refl)) _ _ (λ l. l.named) (λ l. refl) delete_name
     (named_values name class key) old new tidy name_tests delete_name_is (λ db. refl)
     (λ row. refl) count h
 
 pub clears_meta : (old new : State) → IsTidy old.now → (count : ℕ) → Executes clear_meta [] old new
-    (Ok count) → Alters old.now new.now 0 (Removes (λ row. true))
+    (Ok count) → Alters old.now new.now 0 (RemovesRows (λ row. true))
 clears_meta old new tidy = clears 0 0 (inl refl) _ _ (λ l. l.meta) (λ l. refl) clear_meta [] old
     new tidy clear_meta_is (λ db. refl)
 
 pub clears_object : (old new : State) → IsTidy old.now → (count : ℕ) → Executes clear_object [] old
-    new (Ok count) → Alters old.now new.now 2 (Removes (λ row. true))
+    new (Ok count) → Alters old.now new.now 2 (RemovesRows (λ row. true))
 clears_object old new tidy = clears 1 2 (inr (inl refl)) _ _ (λ l. l.object) (λ l. refl)
     clear_object [] old new tidy clear_object_is (λ db. refl)
 
 pub clears_named : (old new : State) → IsTidy old.now → (count : ℕ) → Executes clear_named [] old
-    new (Ok count) → Alters old.now new.now 4 (Removes (λ row. true))
+    new (Ok count) → Alters old.now new.now 4 (RemovesRows (λ row. true))
 clears_named old new tidy = clears 2 4 (inr (inr refl)) _ _ (λ l. l.named) (λ l. refl) clear_named
     [] old new tidy clear_named_is (λ db. refl)
 

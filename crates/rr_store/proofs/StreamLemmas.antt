@@ -107,13 +107,14 @@ module _ {S : Type 0} (g : Ghosts S) where
       (same : HasCleanDisk (state g begun) → IsUnchanged (state g old) (state g begun))
       (first : Survives (state g old) (state g begun) (λ _. ⊥))
       (two : HasStreamed g begun new r) where
-    pub streamed : (IsTrue (state g old).is_open → (state g old).now ≡ (state g old).committed) →
-        Looks g old new r
-    streamed settled =
+    pub streamed : begun.in_transaction ≡ false → (IsTrue (state g old).is_open → (state g old).now
+        ≡ (state g old).committed) → Looks g old new r
+    streamed mode settled =
         let before : HasCleanDisk (state g new) → HasCleanDisk (state g begun) = λ clean.
         omega (arith, clean, two.survives.clean) in
         record {
           rests = record {
+            autocommit = two.autocommit mode;
             opened = λ clean on. (same (before clean)).0.was_open;
             same = λ clean on. kept (same (before clean)) (two.left clean) on;
             crash = survives_then (state g old) (state g begun) (state g new) (λ _. ⊥) (λ _. ⊥)

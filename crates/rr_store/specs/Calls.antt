@@ -1,5 +1,5 @@
 -- What a call leaves of a connection.
-use Rattle.std.specs.Prelude.{◌≡◌, ◌⊎◌, Result, IsSome, IsTrue, OnErr, OnOk}
+use Rattle.std.specs.Prelude.{◌≡◌, ◌⊎◌, false, Result, IsSome, IsTrue, OnErr, OnOk}
 use Rattle.sqlite_trees.specs.declared.error.StoreError.{StoreError}
 use Rattle.sqlite_trees.specs.declared.store.Store.{Ghosts}
 use Rattle.sqlite_trees.specs.Tree.{Trees}
@@ -50,12 +50,13 @@ module _ {S : Type 0} (g : Ghosts S) where
   IsSettled conn = IsTrue (state g conn).is_open
       → (trees : Trees) → (state g conn).may_leave trees → trees ≡ (database conn).trees
 
-  -- what may be committed where the connection is open
+  -- trees may be committed only where the connection is open, and a given property is true of them
   abbrev pub WhereOpen : Held S → (Trees → Type 0) → Trees → Type 0
   WhereOpen conn Commits trees = IsTrue (state g conn).is_open × Commits trees
 
-  -- nothing changes, and a stop leaves what it left before
+  -- nothing changes, a stop leaves what it left before, and no transaction is under way
   pub record Rests (old new : Held S) : Type 0 where
+    pub autocommit : new.in_transaction ≡ false
     pub opened : WhileOpen new (IsTrue (state g old).is_open)
     pub same : WhileOpen new (database new ≡ database old)
     pub crash : Survives (state g old) (state g new) (λ _. ⊥)
@@ -66,9 +67,11 @@ module _ {S : Type 0} (g : Ghosts S) where
     pub same : OnCleanDisk new (OnOk result (IsUnchanged (state g old) (state g new)))
 
   -- one transaction makes this change, or fails and leaves the rows as they were, while the
-  -- connection is open; a stop leaves one of the two, and the change only where it was open before
+  -- connection is open; a stop leaves one of the two, and the change only where it was open before;
+  -- in any case no transaction is under way then
   pub record Transacts {X E : Type 0} (Change : Database → Database → Type 0) (old new : Held S)
       (result : Result X E) : Type 0 where
+    pub autocommit : new.in_transaction ≡ false
     pub opened : WhileOpen new (IsTrue (state g old).is_open)
     pub done : OnCleanDisk new (OnOk result (Change (database old) (database new)))
     pub is_open : OnCleanDisk new (OnOk result (IsTrue (state g new).is_open))

@@ -44,8 +44,8 @@ pub record IsOfOther (tree : ℕ) : Type 0 where
   pub object : tree ≢ object_tree
   pub named : tree ≢ named_tree
 
--- beside the rows of the three tables all stays: the schema, the rows of each other table, and what
--- each other tree has that is of no index, as the one that lists the schema
+-- all but the rows of the three tables stays: the schema, the rows of each other table, and each
+-- other tree that is not an index's. The tree that lists the schema is such a tree
 pub record KeepsOthers (old new : Database) : Type 0 where
   pub schema : new.schema ≡ old.schema
   pub tables : AllByRecursion
@@ -53,7 +53,7 @@ pub record KeepsOthers (old new : Database) : Type 0 where
   pub trees : (tree : ℕ) → IsOfOther tree → IsNoIndex old.schema tree
       → new.trees tree ≡ old.trees tree
 
--- the rows of one of the three tables change so, and all else stays
+-- the rows of one of the three tables change in a given way, and all else stays
 pub record Alters (old new : Database) (tree : ℕ)
     (Change : List Row → List Row → Type 0) : Type 0 where
   pub tidy : IsTidy new
@@ -68,8 +68,8 @@ abbrev pub Adds : List Row → List Row → List Row → Type 0
 Adds rows old new = IsPermutation (rows ++ old) new
 
 -- the rows that pass the test are taken out
-abbrev pub Removes : (Row → Bool) → List Row → List Row → Type 0
-Removes test old new = new ≡ filter (λ row. not (test row)) old
+abbrev pub RemovesRows : (Row → Bool) → List Row → List Row → Type 0
+RemovesRows test old new = new ≡ filter (λ row. not (test row)) old
 
 -- a statement ran in the transaction, which goes on
 pub record RunsOn (old new : State) : Type 0 where

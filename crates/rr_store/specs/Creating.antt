@@ -1,5 +1,5 @@
 -- What becomes of a call that makes a store.
-use Rattle.std.specs.Prelude.{◌≡◌, ◌≢◌, IsTrue, List, map}
+use Rattle.std.specs.Prelude.{◌≡◌, ◌≢◌, false, IsTrue, List, map}
 use Rattle.std.specs.List.{AllByRecursion}
 use Rattle.sqlite_trees.specs.declared.store.Store.{Ghosts}
 use Rattle.sqlite.specs.declared.error.Error.{Error}
@@ -30,14 +30,14 @@ FailsOverRow g old new error =
     HasTables (database g old).schema → HasSomeRow (database g old) → FailsFor g old new error
 
 module _ {S : Type 0} (g : Ghosts S) (objects : List Obj) (conn : Held S) where
-  -- what a stop may leave beside what it left before: where the connection was open and the
-  -- database had room for it, the store of the objects, whole
+  -- what a stop may leave beside what it left before: the whole store of the objects, where the
+  -- connection was open and the database had room for it
   abbrev pub LeavesStore : Held S → Type 0
   LeavesStore new = Survives (state g conn) (state g new)
       (WhereOpen g conn (TreesOf (IsMadeWith (IsStoreOf objects) (database g conn))))
 
-  -- a database that had room for it, over a connection that was open, is the store of the objects
-  -- (profile)
+  -- a database that had room for a new store, over a connection that was open, is now the store of
+  -- the objects (profile)
   pub record MakesStore (store : Held S) : Type 0 where
     pub filled : OnCleanDisk g store (IsStoreOf objects (database g store))
     pub tables : OnCleanDisk g store (HasItsTables (database g conn) (database g store))
@@ -47,9 +47,11 @@ module _ {S : Type 0} (g : Ghosts S) (objects : List Obj) (conn : Held S) where
     pub vacant : OnCleanDisk g store (IsVacant (database g conn))
     pub crash : LeavesStore store
 
-  -- the rows are as they were, while the connection is open; where one stood in the tables, that is
-  -- the fault, unless the database failed; where other tables stood, that is the fault
+  -- no transaction is under way, and the rows are as they were, while the connection is open. Where
+  -- the three tables had a row, that is the fault, unless the database failed. Where other tables
+  -- stood in place of the three, that is the fault
   pub record FailsToMake (left : Held S) (fault : CreateFault) : Type 0 where
+    pub autocommit : left.in_transaction ≡ false
     pub was_open : WhileOpen g left (IsTrue (state g conn).is_open)
     pub kept : WhileOpen g left (database g left ≡ database g conn)
     pub settled : IsSettled g left

@@ -7,11 +7,12 @@ use Rattle.rr_store.specs.Contents.{KeepsOthers}
 use Rattle.rr_store.specs.Creating.{IsStoreOf}
 use Rattle.rr_store.specs.Made.{IsBare, no_schema, with_named}
 
--- nothing stands in the database
+-- the database has no table, index or view
 abbrev pub IsBlank : Database → Type 0
 IsBlank db = db.schema ≡ no_schema
 
--- the database has the three tables that their texts make, with no row, and nothing else
+-- the database has the three tables, as their CREATE statements make them, without a row, and
+-- nothing else
 pub record HasNewTables (db : Database) : Type 0 where
   pub bare : IsBare db
   pub schema : db.schema ≡ with_named

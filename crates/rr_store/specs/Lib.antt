@@ -1,4 +1,5 @@
 pub mod Adding
+pub mod Asking
 pub mod Calls
 pub mod CheckParts
 pub mod Contents

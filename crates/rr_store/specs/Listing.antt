@@ -32,9 +32,10 @@ FailsToList g source old new fault =
     (objects : List Obj) → AreStored source objects (database g old)
     → (error : Error) → fault ≡ Store error → FailsFor g old new error
 
--- a store is asked for objects of the source: rows are read, and nothing changes; why that fails is
--- told; and a stop after that, while the connection is open, leaves the rows that stand
-pub record Asks {S X : Type 0} (g : Ghosts S) (source : List ℕ) (old new : Held S)
+-- a store is asked for objects of the source: rows are read, and nothing changes; where that fails
+-- over rows of objects of the source, the database's error has a cause outside the rows; and a stop
+-- after the call, while the connection is open, leaves the rows that stand (profile)
+pub record AsksStore {S X : Type 0} (g : Ghosts S) (source : List ℕ) (old new : Held S)
     (result : Result X StoreFault) : Type 0 where
   pub looks : Looks g old new result
   pub cause : IfErr result (FailsToList g source old new)

@@ -17,9 +17,9 @@ module _ {S : Type 0} (g : Ghosts S) where
   abbrev pub IsSeen : (Database → Type 0) → Held S → Type 0
   IsSeen Seen conn = OnCleanDisk g conn (Seen (database g conn))
 
-  -- over such a database that holds
-  abbrev pub Over : (Database → Type 0) → Held S → Type 0 → Type 0
-  Over Seen conn Then = IsSeen Seen conn → Then
+  -- if this is true of the database where the disk has returned what was written, then that is true
+  abbrev pub IfSeen : (Database → Type 0) → Held S → Type 0 → Type 0
+  IfSeen Seen conn Then = IsSeen Seen conn → Then
 
   -- a query finds this in the tables, and nothing changes; it fails for a cause outside the rows
   pub record Selects {X : Type 0} (old new : Held S) (result : Result X Error)

@@ -36,8 +36,9 @@ upper_block root source =
 abbrev pub has_mntner : List ℕ → List Obj → Bool
 has_mntner name objects = list_any (λ object. is_mntner_of name object.key) objects
 
--- tables of version 1 held objects of the source, the root's mntner among them; those of version 2
--- hold the same objects and that block, and all else stays (profile)
+-- tables of version 1 held objects of the source, the root's mntner among them. Tables of version 2
+-- now hold the same objects and the block of the AS numbers of more than 16 bits, and all else
+-- stays (profile)
 pub record IsMigrated (root source : List ℕ) (old new : Database) : Type 0 where
   pub objects : List Obj
   pub upper : Obj
@@ -67,7 +68,9 @@ IsOfOldRows NoRoot = Unit {0}
 IsOfOldRows (Store error) = ⊥
 IsOfOldRows Memory = ⊥
 
--- why tables are not migrated (profile)
+-- what a fault says of tables that are not migrated. They say another version, or have bad rows and
+-- say no other version, or lack the root's mntner. Where the three tables are not there, that is
+-- told first (profile)
 pub record RefusesOldTables (root source : List ℕ) (db : Database) (fault : MigrateFault)
     : Type 0 where
   pub wrong_version : (number : ℕ) → fault ≡ WrongVersion number → SaysOther Old number db
@@ -99,9 +102,10 @@ module _ {S : Type 0} (g : Ghosts S) (root source : List ℕ) (conn : Held S) wh
     pub settled : IsSettled g store
     pub crash : LeavesMigrated store
 
-  -- the rows are as they were, while the connection is open, and a fault of the rows says why they
-  -- are not migrated
+  -- no transaction is under way, the rows are as they were, while the connection is open, and a
+  -- fault of the rows says why they are not migrated
   pub record FailsToMigrate (left : Held S) (fault : MigrateFault) : Type 0 where
+    pub autocommit : left.in_transaction ≡ false
     pub was_open : WhileOpen g left (IsTrue (state g conn).is_open)
     pub kept : WhileOpen g left (database g left ≡ database g conn)
     pub settled : IsSettled g left

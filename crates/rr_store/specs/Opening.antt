@@ -60,8 +60,9 @@ IsOfRows Memory = ⊥
 abbrev pub IfStore : (Error → Type 0) → OpenFault → Type 0
 IfStore P fault = (error : Error) → fault ≡ Store error → P error
 
--- why tables are not read as those of the version asked for: another is said, and that is told
--- before bad rows; where the three are not there, that is told first (profile)
+-- what a fault says of tables that are not read as those of the version asked for. They say another
+-- version, or have bad rows and say no other version. Where the three tables are not there, that is
+-- told first (profile)
 pub record RefusesTables (version : Version) (source : List ℕ) (db : Database) (fault : OpenFault)
     : Type 0 where
   pub wrong_version : (number : ℕ) → fault ≡ WrongVersion number
@@ -82,8 +83,9 @@ pub record Inspects {S : Type 0} (g : Ghosts S) {X : Type 0} (old new : Held S)
   pub why : OnCleanDisk g new (IfErr result (Why (database g old)))
   pub cause : IfErr result (IfStore (FailsOverTidy g old new))
 
--- rows are inspected so, and in any case what is read is listed so
-pub record Lists {S : Type 0} (g : Ghosts S) {X : Type 0} (old new : Held S)
+-- rows are read, and nothing changes, as `Inspects` has it; and what is read has one property more,
+-- which does not depend on what the disk returned (profile)
+pub record InspectsWith {S : Type 0} (g : Ghosts S) {X : Type 0} (old new : Held S)
     (result : Result X OpenFault) (Listed : X → Type 0) (Read : Database → X → Type 0)
     (Why : Database → OpenFault → Type 0) : Type 0 where
   pub inspects : Inspects g old new result Read Why
@@ -102,7 +104,8 @@ module _ {S : Type 0} (g : Ghosts S) (source : List ℕ) (conn : Held S) where
     pub settled : IsSettled g store
     pub crash : Survives (state g conn) (state g store) (λ _. ⊥)
 
-  -- the rows are as they were, and a fault of the rows says why they are not read
+  -- nothing changes while the connection is open, and a fault of the rows says why they are not
+  -- read; where the tables were tidy, the database's error has a cause outside the rows
   pub record FailsToOpen (left : Held S) (fault : OpenFault) : Type 0 where
     pub rests : Rests g conn left
     pub settled : IsSettled g left

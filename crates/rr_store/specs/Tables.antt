@@ -85,17 +85,17 @@ object_tree = 2
 abbrev pub named_tree : ℕ
 named_tree = 4
 
--- what is said of the tables, by name: their version (profile)
+-- the table `meta`: what is said of the tables, by name, as their version (profile)
 abbrev pub meta : Rules → Table
 meta = table_with (codes "meta") meta_tree
     (required (codes "name") kind.Text ∷ required (codes "value") kind.Text ∷ [])
 
--- the objects, by class and key, with their canonical texts (profile)
+-- the table `object`: the objects, by class and key, with their canonical texts (profile)
 abbrev pub object : Rules → Table
 object = table_with (codes "object") object_tree (required (codes "class") kind.Integer
     ∷ required (codes "okey") kind.Text ∷ required (codes "body") kind.Blob ∷ [])
 
--- which objects name which maintainers (profile)
+-- the table `named`: which objects name which maintainers (profile)
 abbrev pub named : Rules → Table
 named = table_with (codes "named") named_tree (required (codes "maintainer") kind.Text
     ∷ required (codes "class") kind.Integer ∷ required (codes "okey") kind.Text ∷ [])
@@ -110,7 +110,7 @@ pub record Layout : Type 0 where
   pub indexes : List Index
   pub views : List View
 
--- the three tables come first, in this order (profile)
+-- the schema of a layout: the three tables come first, in this order (profile)
 abbrev pub laid : Layout → Schema
 laid l = record {
   tables = meta l.meta ∷ object l.object ∷ named l.named ∷ l.others;
@@ -119,12 +119,12 @@ laid l = record {
   views = l.views;
 }
 
--- the reference is to none of the three tables
+-- a foreign key is to none of the three tables
 abbrev pub refers_elsewhere : Reference → Bool
 refers_elsewhere reference = not (same_name (codes "meta") reference.parent
     || same_name (codes "object") reference.parent || same_name (codes "named") reference.parent)
 
--- another table has a later tree than `named`, and no foreign key to the three
+-- a table beside the three has a later tree than `named`, and no foreign key to the three
 abbrev pub stands_apart : Table → Bool
 stands_apart table = nat_lt named_tree table.tree && list_all refers_elsewhere table.references
 

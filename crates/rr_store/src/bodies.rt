@@ -1,7 +1,7 @@
-//! What a transaction does before its commit.
+//! What a transaction that adds, puts or takes out one object does before its commit.
 
 ghost use Rattle.std.specs.Prelude.{[], ◌∷◌, map};
-ghost use Rattle.rr_store.specs.Contents.{Adds, Alters, IsTidy, Removes, is_name_among};
+ghost use Rattle.rr_store.specs.Contents.{Adds, Alters, IsTidy, RemovesRows, is_name_among};
 ghost use Rattle.rr_store.specs.Contents.{is_named_of, named_values};
 ghost use Rattle.rr_store.specs.Entries.{IsAdded, IsPut, IsTakenOut};
 ghost use Rattle.rr_store.specs.Maps.{AreOfObjects};
@@ -59,7 +59,7 @@ fn remove_names<S: Alter>(
     key: &[u8],
 ) -> Result<(), Error>
     ensures { StepsWhereOpen S.Store IsTidy
-        (λ old new. Alters old new named_tree (Removes (is_name_among class key.now names.now)))
+        (λ old new. Alters old new named_tree (RemovesRows (is_name_among class key.now names.now)))
         tx.old tx.new result }
 {
     for name in names {
@@ -79,7 +79,7 @@ fn forget_names<S: Alter>(
 ) -> Result<(), StoreFault>
     requires { IsOver S.Store AreOfObjects tx.old.conn.now }
     ensures { Steps S.Store AreOfObjects
-        (λ old new. Alters old new named_tree (Removes (is_named_of class key.now)))
+        (λ old new. Alters old new named_tree (RemovesRows (is_named_of class key.now)))
         tx.old tx.new result }
 {
     let rows = rows_of_key(tx, class, key)?;

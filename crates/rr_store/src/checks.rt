@@ -17,8 +17,8 @@ ghost use Rattle.rr_store.specs.Versions.{version_text};
 ghost use Rattle.rr_store.specs.declared.store_fault.OpenFault.TheVariants.{BadRow, Memory};
 ghost use Rattle.rr_store.specs.declared.store_fault.OpenFault.TheVariants.{WrongVersion};
 ghost use Rattle.rr_store.specs.declared.version.Version.TheVariants.{Current};
-ghost use Rattle.rr_store.specs.LookParts.{IsTabled, Over};
-ghost use Rattle.rr_store.specs.Opening.{AreListed, Inspects, Lists};
+ghost use Rattle.rr_store.specs.LookParts.{IfSeen, IsTabled};
+ghost use Rattle.rr_store.specs.Opening.{AreListed, Inspects, InspectsWith};
 ghost use Rattle.rr_store.specs.CheckParts.{HasBadRow, TableGives};
 ghost use Rattle.rr_store.specs.ReadingParts.{IsRowFault};
 
@@ -60,7 +60,7 @@ pub(crate) fn check_version<S: Alter>(
     conn: &mut IdleConnection<S>,
     version: Version,
 ) -> Result<(), OpenFault>
-    ensures { Over S.Store IsTabled conn.old
+    ensures { IfSeen S.Store IsTabled conn.old
         (Inspects S.Store conn.old conn.new result
         (λ db _. HasVersion (version_text version) db)
         (λ db. IsVersionFault version (meta_rows (db.trees meta_tree)))) }
@@ -77,7 +77,7 @@ pub(crate) fn check_objects<S: Alter>(
     source: &Name,
     version: Version,
 ) -> Result<Vec<Object>, OpenFault>
-    ensures inspects { Over S.Store IsTabled conn.old
+    ensures inspects { IfSeen S.Store IsTabled conn.old
         (Inspects S.Store conn.old conn.new result
         (λ db objects. AreNumbered (db.trees object_tree)
         × TableGives version source.now objects.items db)
@@ -94,12 +94,13 @@ pub(crate) fn all_objects<S: Alter>(
     alloc: Global,
     source: &Name,
 ) -> Result<Vec<Object>, OpenFault>
-    ensures { Lists S.Store conn.old conn.new result
+    ensures { InspectsWith S.Store conn.old conn.new result
         (λ objects. AreListed source.now objects.items)
         (λ db objects. HoldsObjects current_form source.now objects.items
         (contents (db.trees object_tree)))
         (HasBadRow (HoldNone Current source.now)) }
 {
+    conn.note_idle();
     if !has_tables(conn.schema()) {
         return Err(OpenFault::Store(NO_TABLES));
     }
@@ -135,7 +136,7 @@ fn check_sorted_names<S: Alter>(
     objects: &[Object],
     version: Version,
 ) -> Result<(), OpenFault>
-    ensures { Over S.Store IsTabled conn.old
+    ensures { IfSeen S.Store IsTabled conn.old
         (Inspects S.Store conn.old conn.new result
         (λ db _. NamesAre version objects.now db)
         (HasBadRow (λ db. NamesAre version objects.now db → ⊥))) }
@@ -151,7 +152,7 @@ fn check_maintainers<S: Alter>(
     objects: &[Object],
     version: Version,
 ) -> Result<(), OpenFault>
-    ensures { Over S.Store IsTabled conn.old
+    ensures { IfSeen S.Store IsTabled conn.old
         (Inspects S.Store conn.old conn.new result
         (λ db _. NamesAre version objects.now db)
         (HasBadRow (λ db. NamesAre version objects.now db → ⊥))) }
@@ -170,7 +171,7 @@ pub(crate) fn check_named_table<S: Alter>(
     objects: &[Object],
     version: Version,
 ) -> Result<(), OpenFault>
-    ensures { Over S.Store IsTabled conn.old
+    ensures { IfSeen S.Store IsTabled conn.old
         (Inspects S.Store conn.old conn.new result
         (λ db _. AreNumbered (db.trees named_tree) × NamesAre version objects.now db)
         (HasBadRow (λ db. NamesAre version objects.now db → ⊥))) }
@@ -187,13 +188,14 @@ pub(crate) fn naming_objects<S: Alter>(
     source: &Name,
     name: &Name,
 ) -> Result<Vec<Object>, OpenFault>
-    ensures lists { Lists S.Store conn.old conn.new result
+    ensures lists { InspectsWith S.Store conn.old conn.new result
         (λ objects. AreListed source.now objects.items)
         (λ db objects. NamedPointsTo source.now name.now objects.items db)
         (HasBadRow (HoldNone Current source.now)) }
     ensures memory { OnCleanDisk S.Store conn.new (IfErr result (λ fault. fault ≡ Memory →
         IsUnchanged (state S.Store conn.old) (state S.Store conn.new))) }
 {
+    conn.note_idle();
     if !has_tables(conn.schema()) {
         return Err(OpenFault::Store(NO_TABLES));
     }

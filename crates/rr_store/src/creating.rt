@@ -94,6 +94,7 @@ pub(crate) fn create_where_vacant<S: Alter>(
     ensures cause { IfErr result (λ fault. (error : Error) → fault ≡ Store error →
         FailsOverRow S.Store conn.old conn.new error) }
 {
+    conn.note_idle();
     let schema = conn.schema();
     if is_blank(schema) {
         return Ok(create_in_blank(conn, alloc, objects)?);

@@ -1,4 +1,4 @@
-//! The end of a transaction.
+//! The end of a transaction: each write of the store commits by this, or is rolled back.
 
 ghost use Rattle.std.specs.Prelude.{IsTrue, OnOk};
 ghost use Rattle.sqlite.specs.Held.{state};

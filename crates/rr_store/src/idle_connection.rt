@@ -1,9 +1,10 @@
-//! A connection in no transaction.
+//! A connection in no transaction: what all calls of the store take, and a closed store gives back.
 
-ghost use Rattle.std.specs.Prelude.{◌≡◌, false, IsTrue};
+ghost use Rattle.std.specs.Prelude.{◌≡◌, false, IfErr, IfOk, IsTrue};
 ghost use Rattle.sqlite.specs.Held.{state};
 ghost use Rattle.sqlite.specs.State.{Survives};
-ghost use Rattle.rr_store.specs.Calls.{IsSettled};
+ghost use Rattle.rr_store.specs.Asking.{QueryFails, QueryShows};
+ghost use Rattle.rr_store.specs.Calls.{IsSettled, OnCleanDisk};
 
 use sqlite::{Alter, Connection, Error, Row};
 use sqlite_schema::schema::Schema;
@@ -53,14 +54,29 @@ impl<S: Alter> IdleConnection<S> {
         self.inner.schema()
     }
 
-    /// The answer of a query, in a transaction that is rolled back, so that nothing is committed.
+    /// The rows that a query without parameters shows, or SQLite's error if it shows none. It is
+    /// asked in a transaction of its own that is rolled back: nothing is committed, and a stop
+    /// leaves what one before the call left. What is said of the rows is true where the disk has
+    /// returned what was written.
     pub fn ask(&mut self, query: &str) -> Result<Vec<Row>, Error>
-        ensures { Survives (state S.Store self.old) (state S.Store self.new) (λ _. ⊥) }
+        ensures autocommit { self.new.in_transaction ≡ false }
+        ensures crash { Survives (state S.Store self.old) (state S.Store self.new) (λ _. ⊥) }
+        ensures shown { OnCleanDisk S.Store self.new (IfOk result (λ rows.
+            QueryShows S.Store query.now self.old rows.items)) }
+        ensures refused { OnCleanDisk S.Store self.new (IfErr result
+            (QueryFails S.Store query.now self.old self.new)) }
     {
         let mut tx = self.inner.transaction();
         let rows = tx.query_all(query, &[]);
         tx.rollback();
         rows
+    }
+
+    /// Tells the caller's proof that the connection is in no transaction.
+    pub fn note_idle(&self)
+        ensures { self.now.in_transaction ≡ false }
+    {
+        let _ = &self.inner;
     }
 
     /// Tells the caller's proof that the rows are those last committed, and what a stop leaves.

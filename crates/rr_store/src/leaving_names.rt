@@ -70,7 +70,8 @@ fn names_of_row(alloc: Global, row: &Row) -> Result<Vec<Name>, StoreFault>
     }
 }
 
-/// The same of the rows of a class and a key, of which there is at most one.
+/// The maintainers that the object names, each once, whose row is the one row of a class and a key.
+/// A fault of the store says that these rows are not the one of an object.
 pub(crate) fn names_of_rows(alloc: Global, rows: &[Row]) -> Result<Vec<Name>, StoreFault>
     ensures names { IfOk result (λ names. AllByRecursion (AreNamesOf names.items) rows.now) }
     ensures refused { IfErr result (λ fault. fault ≢ Memory → (object : _) → IsObject object →

@@ -1,5 +1,5 @@
-//! Objects kept in SQLite, and whom they name, in three tables that always hold exactly their rows:
-//! their texts, the rows that a set of objects has in them, and what each statement on them does.
+//! The store: objects kept in SQLite, and whom they name, in three tables that hold exactly their
+//! rows. A desk keeps the objects of its registry in it.
 #![tactic(auto)]
 
 mod bodies;

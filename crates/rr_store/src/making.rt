@@ -1,4 +1,4 @@
-//! The tables of a new store.
+//! The three tables of a new store, made in a transaction.
 
 ghost use Rattle.std.specs.Prelude.{◌≡◌, []};
 ghost use Rattle.rr_store.specs.FillingParts.{HasNewTables, IsBlank};

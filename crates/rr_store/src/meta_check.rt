@@ -21,6 +21,7 @@ pub(crate) fn check_meta<S: Alter>(conn: &mut IdleConnection<S>) -> Result<(), E
         ¬ HasTables conn.old.schema → error ≡ no_tables) }
     ensures cause { IfErr result (FailsOverTidy S.Store conn.old conn.new) }
 {
+    conn.note_idle();
     if !has_tables(conn.schema()) {
         return Err(NO_TABLES);
     }

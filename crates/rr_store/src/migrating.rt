@@ -87,6 +87,7 @@ fn rewrite<S: Alter>(
     ensures { Transacts S.Store (IsRewritten root.now source.now objects.items)
         conn.old conn.new result }
 {
+    conn.note_idle();
     let Some(upper) = upper_object(alloc, root, source)? else {
         return Err(StoreFault::Store(BAD_ROWS));
     };

@@ -1,4 +1,4 @@
-//! The objects of rows.
+//! Objects read from rows, and put in the order of their keys.
 
 ghost use Rattle.std.specs.Prelude.{◌≡◌, ◌++◌, [], ◌∷◌, IfErr, IfOk, IfSome};
 ghost use Rattle.std.specs.Prelude.{IsPermutation, IsSome};

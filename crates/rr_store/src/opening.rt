@@ -1,12 +1,13 @@
-//! The objects that the tables hold.
+//! The objects that the tables hold, read where a store is opened or migrated; or why the tables
+//! are refused.
 
 ghost use Rattle.rr_store.specs.Maps.{HasVersion};
 ghost use Rattle.rr_store.specs.CheckParts.{HasNumberedMeta};
 ghost use Rattle.rr_store.specs.Opening.{AreStoredAs, HoldNone};
 ghost use Rattle.rr_store.specs.Opening.{RefusesTables};
 ghost use Rattle.rr_store.specs.Versions.{version_text};
-ghost use Rattle.rr_store.specs.LookParts.{Over};
-ghost use Rattle.rr_store.specs.Opening.{AreListed, Lists};
+ghost use Rattle.rr_store.specs.LookParts.{IfSeen};
+ghost use Rattle.rr_store.specs.Opening.{AreListed, InspectsWith};
 ghost use Rattle.rr_store.specs.CheckParts.{HasBadRow};
 
 use crate::checks::{check_named_table, check_objects, check_version};
@@ -27,7 +28,7 @@ fn checked_objects<S: Alter>(
     source: &Name,
     version: Version,
 ) -> Result<Vec<Object>, OpenFault>
-    ensures { Over S.Store HasNumberedMeta conn.old (Lists S.Store conn.old conn.new result
+    ensures { IfSeen S.Store HasNumberedMeta conn.old (InspectsWith S.Store conn.old conn.new result
         (λ objects. AreListed source.now objects.items)
         (λ db objects. HasVersion (version_text version) db →
         AreStoredAs version source.now objects.items db)
@@ -45,7 +46,7 @@ fn read_tables<S: Alter>(
     source: &Name,
     version: Version,
 ) -> Result<Vec<Object>, OpenFault>
-    ensures { Over S.Store HasNumberedMeta conn.old (Lists S.Store conn.old conn.new result
+    ensures { IfSeen S.Store HasNumberedMeta conn.old (InspectsWith S.Store conn.old conn.new result
         (λ objects. AreListed source.now objects.items)
         (λ db objects. AreStoredAs version source.now objects.items db)
         (RefusesTables version source.now)) }
@@ -61,7 +62,7 @@ pub(crate) fn stored_objects<S: Alter>(
     source: &Name,
     version: Version,
 ) -> Result<Vec<Object>, OpenFault>
-    ensures { Lists S.Store conn.old conn.new result
+    ensures { InspectsWith S.Store conn.old conn.new result
         (λ objects. AreListed source.now objects.items)
         (λ db objects. AreStoredAs version source.now objects.items db)
         (RefusesTables version source.now) }

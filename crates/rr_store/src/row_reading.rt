@@ -1,4 +1,4 @@
-//! Queries on the three tables.
+//! Queries on the three tables, asked by the checks of `checks`, `meta_check` and `vacancy`.
 
 ghost use Rattle.std.specs.Prelude.{◌≡◌, [], map, IfErr, IfOk};
 ghost use Rattle.std.specs.Prelude.{IsTrue};
@@ -16,7 +16,7 @@ ghost use Rattle.rr_store.specs.CheckParts.{NamedPointsTo, NamedPointsToNone, Na
 ghost use Rattle.rr_store.specs.CheckParts.{TableHoldsNone};
 ghost use Rattle.rr_store.specs.Opening.{AreObjectsOf};
 ghost use Rattle.rr_store.specs.declared.store_fault.OpenFault.TheVariants.{Memory};
-ghost use Rattle.rr_store.specs.LookParts.{Counts, IsTabled, Over, Selects};
+ghost use Rattle.rr_store.specs.LookParts.{Counts, IfSeen, IsTabled, Selects};
 ghost use Rattle.rr_store.specs.Opening.{Inspects};
 ghost use Rattle.rr_store.specs.CheckParts.{HasBadRow, TableGives};
 
@@ -49,7 +49,7 @@ fn look<S: Alter>(
 
 /// The names and values of the rows of `meta`, in order of the names.
 pub(crate) fn meta_rows<S: Alter>(conn: &mut IdleConnection<S>) -> Result<Vec<Row>, Error>
-    ensures { Over S.Store IsTabled conn.old
+    ensures { IfSeen S.Store IsTabled conn.old
         (Selects S.Store conn.old conn.new result (λ db rows.
         IsInRank by_two (meta_rows (db.trees meta_tree)) rows.items)) }
 {
@@ -62,7 +62,7 @@ pub(crate) fn meta_rows<S: Alter>(conn: &mut IdleConnection<S>) -> Result<Vec<Ro
 
 /// The rows of `named` without their numbers, by maintainer, class and key.
 pub(crate) fn sorted_named_rows<S: Alter>(conn: &mut IdleConnection<S>) -> Result<Vec<Row>, Error>
-    ensures { Over S.Store IsTabled conn.old
+    ensures { IfSeen S.Store IsTabled conn.old
         (Selects S.Store conn.old conn.new result (λ db rows.
         IsInRank by_three (contents (db.trees named_tree)) rows.items)) }
 {
@@ -75,7 +75,7 @@ pub(crate) fn sorted_named_rows<S: Alter>(conn: &mut IdleConnection<S>) -> Resul
 
 /// The numbers of the rows of `meta`, in order.
 pub(crate) fn meta_numbers<S: Alter>(conn: &mut IdleConnection<S>) -> Result<Vec<Row>, Error>
-    ensures { Over S.Store IsTabled conn.old
+    ensures { IfSeen S.Store IsTabled conn.old
         (Selects S.Store conn.old conn.new result (λ db rows.
         IsInRank by_one (map number (db.trees meta_tree)) rows.items)) }
 {
@@ -84,7 +84,7 @@ pub(crate) fn meta_numbers<S: Alter>(conn: &mut IdleConnection<S>) -> Result<Vec
 
 /// The numbers of the rows of `object`, in order.
 pub(crate) fn object_numbers<S: Alter>(conn: &mut IdleConnection<S>) -> Result<Vec<Row>, Error>
-    ensures { Over S.Store IsTabled conn.old
+    ensures { IfSeen S.Store IsTabled conn.old
         (Selects S.Store conn.old conn.new result (λ db rows.
         IsInRank by_one (map number (db.trees object_tree)) rows.items)) }
 {
@@ -93,7 +93,7 @@ pub(crate) fn object_numbers<S: Alter>(conn: &mut IdleConnection<S>) -> Result<V
 
 /// The numbers of the rows of `named`, in order.
 pub(crate) fn named_numbers<S: Alter>(conn: &mut IdleConnection<S>) -> Result<Vec<Row>, Error>
-    ensures { Over S.Store IsTabled conn.old
+    ensures { IfSeen S.Store IsTabled conn.old
         (Selects S.Store conn.old conn.new result (λ db rows.
         IsInRank by_one (map number (db.trees named_tree)) rows.items)) }
 {
@@ -102,7 +102,7 @@ pub(crate) fn named_numbers<S: Alter>(conn: &mut IdleConnection<S>) -> Result<Ve
 
 /// How many rows `meta` has, which have to have numbers of their own.
 pub(crate) fn count_meta<S: Alter>(conn: &mut IdleConnection<S>) -> Result<usize, Error>
-    ensures { Over S.Store IsTabled conn.old
+    ensures { IfSeen S.Store IsTabled conn.old
         (Counts S.Store meta_tree conn.old conn.new result) }
 {
     conn.note_committed();
@@ -114,7 +114,7 @@ pub(crate) fn count_meta<S: Alter>(conn: &mut IdleConnection<S>) -> Result<usize
 
 /// How many rows `object` has, which have to have numbers of their own.
 pub(crate) fn count_object<S: Alter>(conn: &mut IdleConnection<S>) -> Result<usize, Error>
-    ensures { Over S.Store IsTabled conn.old
+    ensures { IfSeen S.Store IsTabled conn.old
         (Counts S.Store object_tree conn.old conn.new result) }
 {
     conn.note_committed();
@@ -126,7 +126,7 @@ pub(crate) fn count_object<S: Alter>(conn: &mut IdleConnection<S>) -> Result<usi
 
 /// How many rows `named` has, which have to have numbers of their own.
 pub(crate) fn count_named<S: Alter>(conn: &mut IdleConnection<S>) -> Result<usize, Error>
-    ensures { Over S.Store IsTabled conn.old
+    ensures { IfSeen S.Store IsTabled conn.old
         (Counts S.Store named_tree conn.old conn.new result) }
 {
     conn.note_committed();
@@ -145,7 +145,7 @@ pub(crate) fn read_objects<S: Alter>(
     source: &Name,
     version: Version,
 ) -> Result<Vec<Object>, OpenFault>
-    ensures inspects { Over S.Store IsTabled conn.old
+    ensures inspects { IfSeen S.Store IsTabled conn.old
         (Inspects S.Store conn.old conn.new result
         (λ db objects. TableGives version source.now objects.items db)
         (HasBadRow (TableHoldsNone version source.now))) }
@@ -166,7 +166,7 @@ pub(crate) fn names_in_turn<S: Alter>(
     objects: &[Object],
     version: Version,
 ) -> Result<bool, OpenFault>
-    ensures { Over S.Store IsTabled conn.old
+    ensures { IfSeen S.Store IsTabled conn.old
         (Inspects S.Store conn.old conn.new result
         (λ db are. IsTrue are → NamesAre version objects.now db) (HasBadRow (λ _. ⊥))) }
 {
@@ -185,12 +185,12 @@ pub(crate) fn read_naming<S: Alter>(
     source: &Name,
     name: &[u8],
 ) -> Result<Vec<Object>, OpenFault>
-    ensures inspects { Over S.Store IsTabled conn.old
+    ensures inspects { IfSeen S.Store IsTabled conn.old
         (Inspects S.Store conn.old conn.new result
         (λ db objects. NamedPointsTo source.now name.now objects.items db)
         (HasBadRow (NamedPointsToNone source.now name.now))) }
     ensures of_source { IfOk result (λ objects. AreObjectsOf source.now objects.items) }
-    ensures memory { Over S.Store IsTabled conn.old
+    ensures memory { IfSeen S.Store IsTabled conn.old
         (OnCleanDisk S.Store conn.new (IfErr result (λ fault. fault ≡ Memory →
         IsUnchanged (state S.Store conn.old) (state S.Store conn.new)))) }
 {

@@ -1,4 +1,4 @@
-//! Whether a schema has the three tables.
+//! The three tables in a schema: whether they are there, and which trees are theirs.
 
 ghost use Rattle.std.specs.Prelude.{◌≡◌, [], ◌∷◌, true, false, codes, IsTrue};
 ghost use Rattle.std.specs.List.{list_all};

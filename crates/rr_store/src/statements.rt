@@ -1,8 +1,8 @@
-//! One statement of a transaction each.
+//! The statements of a transaction that add, take out or read rows, one in each function.
 
 ghost use Rattle.std.specs.Prelude.{◌≡◌, [], ◌∷◌, filter, true, IfOk};
 ghost use Rattle.std.specs.Prelude.{IsPermutation};
-ghost use Rattle.rr_store.specs.Contents.{Adds, Alters, IsTidy, Removes, contents};
+ghost use Rattle.rr_store.specs.Contents.{Adds, Alters, IsTidy, RemovesRows, contents};
 ghost use Rattle.rr_store.specs.Contents.{is_name_of, is_object_of, meta_values, named_values};
 ghost use Rattle.rr_store.specs.Contents.{object_values};
 ghost use Rattle.rr_store.specs.Tables.{meta_tree, named_tree, object_tree};
@@ -78,7 +78,7 @@ pub(crate) fn remove_object<S: Alter>(
     key: &[u8],
 ) -> Result<usize, Error>
     ensures { Steps S.Store IsTidy
-        (λ old new. Alters old new object_tree (Removes (is_object_of class key.now)))
+        (λ old new. Alters old new object_tree (RemovesRows (is_object_of class key.now)))
         tx.old tx.new result }
 {
     tx.execute(
@@ -95,7 +95,7 @@ pub(crate) fn remove_name<'x, S: Alter>(
     key: &'x [u8],
 ) -> Result<usize, Error>
     ensures { Steps S.Store IsTidy
-        (λ old new. Alters old new named_tree (Removes (is_name_of class key.now name.now)))
+        (λ old new. Alters old new named_tree (RemovesRows (is_name_of class key.now name.now)))
         tx.old tx.new result }
 {
     tx.execute(
@@ -130,7 +130,7 @@ pub(crate) fn rows_of_key<S: Alter>(
 /// Takes out all rows of `meta`.
 pub(crate) fn clear_meta<S: Alter>(tx: &mut Transaction<'_, S>) -> Result<usize, Error>
     ensures { Steps S.Store IsTidy
-        (λ old new. Alters old new meta_tree (Removes (λ _. true)))
+        (λ old new. Alters old new meta_tree (RemovesRows (λ _. true)))
         tx.old tx.new result }
 {
     tx.execute("DELETE FROM meta", &[])
@@ -139,7 +139,7 @@ pub(crate) fn clear_meta<S: Alter>(tx: &mut Transaction<'_, S>) -> Result<usize,
 /// Takes out all rows of `object`.
 pub(crate) fn clear_objects<S: Alter>(tx: &mut Transaction<'_, S>) -> Result<usize, Error>
     ensures { Steps S.Store IsTidy
-        (λ old new. Alters old new object_tree (Removes (λ _. true)))
+        (λ old new. Alters old new object_tree (RemovesRows (λ _. true)))
         tx.old tx.new result }
 {
     tx.execute("DELETE FROM object", &[])
@@ -148,7 +148,7 @@ pub(crate) fn clear_objects<S: Alter>(tx: &mut Transaction<'_, S>) -> Result<usi
 /// Takes out all rows of `named`.
 pub(crate) fn clear_names<S: Alter>(tx: &mut Transaction<'_, S>) -> Result<usize, Error>
     ensures { Steps S.Store IsTidy
-        (λ old new. Alters old new named_tree (Removes (λ _. true)))
+        (λ old new. Alters old new named_tree (RemovesRows (λ _. true)))
         tx.old tx.new result }
 {
     tx.execute("DELETE FROM named", &[])

@@ -1,6 +1,6 @@
-//! The store.
+//! The store: what a desk calls to keep the objects of its registry in a database.
 
-ghost use Rattle.std.specs.Prelude.{◌≡◌, [], ◌∷◌, List, IfErr, IfOk};
+ghost use Rattle.std.specs.Prelude.{◌≡◌, [], ◌∷◌, false, List, IfErr, IfOk};
 ghost use Rattle.sqlite.specs.Held.{state};
 ghost use Rattle.sqlite.specs.State.{IsUnchanged};
 ghost use Rattle.rr_object.specs.Classes.{class_number};
@@ -13,14 +13,14 @@ ghost use Rattle.rr_store.specs.Maps.{Puts, TakesOut};
 ghost use Rattle.rr_store.specs.Adding.{AddsTo};
 ghost use Rattle.rr_store.specs.Calls.{OnCleanDisk, database};
 ghost use Rattle.rr_store.specs.Creating.{FailsToMake, MakesStore};
-ghost use Rattle.rr_store.specs.Listing.{AreAll, AreNaming, Asks};
+ghost use Rattle.rr_store.specs.Listing.{AreAll, AreNaming, AsksStore};
 ghost use Rattle.rr_store.specs.Migrating.{FailsToMigrate, MigratesStore};
 ghost use Rattle.rr_store.specs.Opening.{AreObjectsOf, FailsToOpen, OpensStore};
 ghost use Rattle.rr_store.specs.Opening.{RefusesTables};
 ghost use Rattle.rr_store.specs.declared.version.Version.TheVariants.{Old};
 ghost use Rattle.rr_store.specs.declared.store_fault.StoreFault.TheVariants.{Memory};
-ghost use Rattle.rr_store.specs.Opening.{AreListed, Lists};
-ghost use Rattle.rr_store.specs.Storing.{Stores, Writes};
+ghost use Rattle.rr_store.specs.Opening.{AreListed, InspectsWith};
+ghost use Rattle.rr_store.specs.Storing.{Stores, WritesRows};
 
 use crate::checks::{all_objects, naming_objects};
 use crate::creating::create_where_vacant;
@@ -37,8 +37,9 @@ use sqlite::Alter;
 use std::alloc::Global;
 use std::marker::Model;
 
-/// A connection whose tables hold the rows of some objects and no others; a contract sees the
-/// connection.
+/// A connection in no transaction whose tables, while it is open, hold the rows of some objects and
+/// no others; a contract sees the connection. What the calls say of rows, and of why SQLite failed,
+/// is true where the disk has returned what was written.
 #[derive(Drop)]
 pub struct Store<S: Alter> {
     conn: IdleConnection<S>,
@@ -83,10 +84,13 @@ impl<S: Alter> Store<S> {
     }
 
     /// Opens the store of the objects of the source that the tables of version 2 hold, and gives
-    /// these in order of class and key. After a fault the connection is given back; `WrongVersion`
-    /// and `BadRow` say why the tables are refused. No row is changed in either case: a stop during
-    /// the call leaves what one before it left; one after it, while the connection is open, the
-    /// rows that stand.
+    /// these in order of class and key. The connection was open then, and stays so. After a fault
+    /// it is given back; `WrongVersion` and `BadRow` say why the tables are refused, `BadRow` only
+    /// if no row of `meta` says another version. Where the three are not there, the fault is
+    /// `Store`. Where they are, and each of their rows has its own number, SQLite's error has a
+    /// cause outside the rows. No row is changed while the connection is open. A stop during the
+    /// call leaves what one before it left; one after it, while the connection is open, the rows
+    /// that stand.
     pub fn open_all(
         alloc: Global,
         mut conn: IdleConnection<S>,
@@ -121,14 +125,16 @@ impl<S: Alter> Store<S> {
     }
 
     /// The objects of the source that tables of version 1 hold, in order of class and key, or why
-    /// they were not read; `WrongVersion` and `BadRow` say why the tables are refused. Nothing
-    /// changes, nor what a stop leaves.
+    /// they were not read. `WrongVersion` and `BadRow` say why the tables are refused; where the
+    /// three are not there, the fault is `Store`. Where they are, and each of their rows has its
+    /// own number, SQLite's error has a cause outside the rows. Nothing changes, nor what a stop
+    /// leaves.
     pub fn old_objects(
         alloc: Global,
         conn: &mut IdleConnection<S>,
         source: &Name,
     ) -> Result<Vec<Object>, OpenFault>
-        ensures { Lists S.Store conn.old conn.new result
+        ensures { InspectsWith S.Store conn.old conn.new result
             (λ objects. AreListed source.now objects.items)
             (λ db objects. AreOldStored source.now objects.items db)
             (RefusesTables Old source.now) }
@@ -136,12 +142,15 @@ impl<S: Alter> Store<S> {
         stored_objects(conn, alloc, source, Version::Old)
     }
 
-    /// The store of the objects that tables of version 1 hold, written anew as those of version 2,
-    /// and of the block of the AS numbers of more than 16 bits, which the root maintains (RFC
-    /// 6793), by one transaction; all else in the file stays. After a fault the connection is given
-    /// back, and the rows are as they were, while it is open; `WrongVersion`, `BadRow` and `NoRoot`
-    /// say why the tables are refused. A stop during the call leaves the rows before it or the new
-    /// ones; one after it, while the connection is open, those that stand.
+    /// The store of the objects that tables of version 1 hold, written anew by one transaction as
+    /// those of version 2. With them comes the block of the AS numbers of more than 16 bits, which
+    /// the root maintains (RFC 6793); all else in the file stays. After a fault the connection is
+    /// given back, and the rows are as they were, while it is open. `WrongVersion`, `BadRow` and
+    /// `NoRoot` say why the tables are refused; where the three are not there, the fault is
+    /// `Store`. Where they are, and each of their rows has its own number, SQLite's error has a
+    /// cause outside the rows. But where they could be migrated, no clause says why the call
+    /// failed. A stop during the call leaves the rows before it or the new ones; one after it,
+    /// while the connection is open, those that stand.
     pub fn migrate(
         alloc: Global,
         mut conn: IdleConnection<S>,
@@ -175,9 +184,10 @@ impl<S: Alter> Store<S> {
 
     /// Puts the rows of the object, which is such as readers make.
     fn put_rows_of(&mut self, alloc: Global, object: &Object) -> Result<(), StoreFault>
-        ensures { Writes S.Store (IsPut (entry_of object.now)) (Puts object.now.key object.now)
+        ensures { WritesRows S.Store (IsPut (entry_of object.now)) (Puts object.now.key object.now)
             self.old self.new result }
     {
+        self.conn.note_idle();
         let entry = Entry::of(alloc, object)?;
         put_entry(&mut self.conn, alloc, &entry)
     }
@@ -197,9 +207,10 @@ impl<S: Alter> Store<S> {
 
     /// Adds the rows of the object, which is such as readers make.
     fn add_rows_of(&mut self, alloc: Global, object: &Object) -> Result<(), StoreFault>
-        ensures { Writes S.Store (IsAdded (entry_of object.now ∷ []))
+        ensures { WritesRows S.Store (IsAdded (entry_of object.now ∷ []))
             (AddsTo object.now.key object.now) self.old self.new result }
     {
+        self.conn.note_idle();
         let entry = Entry::of(alloc, object)?;
         insert_entry(&mut self.conn, &entry)
     }
@@ -218,10 +229,11 @@ impl<S: Alter> Store<S> {
 
     /// Takes out the rows of the object with this key, which has the parts of its class.
     fn remove_rows_of(&mut self, alloc: Global, key: &Key) -> Result<(), StoreFault>
-        ensures { Writes S.Store
+        ensures { WritesRows S.Store
             (IsTakenOut (class_number (class_of key.now)) (key_bytes key.now)) (TakesOut key.now)
             self.old self.new result }
     {
+        self.conn.note_idle();
         let class = key.class().number();
         let bytes = key.bytes(alloc)?;
         remove_entry(&mut self.conn, alloc, class, &bytes)
@@ -233,7 +245,7 @@ impl<S: Alter> Store<S> {
     /// fault of the store has a cause outside the rows. Nothing changes, nor what a stop during the
     /// call leaves; one after it, while the connection is open, leaves the rows that stand.
     pub fn all(&mut self, alloc: Global, source: &Name) -> Result<Vec<Object>, StoreFault>
-        ensures asks { Asks S.Store source.now self.old self.new result }
+        ensures asks { AsksStore S.Store source.now self.old self.new result }
         ensures all { OnCleanDisk S.Store self.new (IfOk result (λ all.
             AreAll (database S.Store self.old) all.items)) }
         ensures of_source { IfOk result (λ all. AreObjectsOf source.now all.items) }
@@ -252,7 +264,7 @@ impl<S: Alter> Store<S> {
         source: &Name,
         name: &Name,
     ) -> Result<Vec<Object>, StoreFault>
-        ensures asks { Asks S.Store source.now self.old self.new result }
+        ensures asks { AsksStore S.Store source.now self.old self.new result }
         ensures naming { OnCleanDisk S.Store self.new (IfOk result (λ those.
             AreNaming name.now (database S.Store self.old) those.items)) }
         ensures of_source { IfOk result (λ those. AreObjectsOf source.now those.items) }
@@ -264,9 +276,10 @@ impl<S: Alter> Store<S> {
         Ok(objects?)
     }
 
-    /// Gives the connection back, with its rows as they are.
+    /// Gives the connection back, in no transaction, with its rows as they are.
     pub fn close(self) -> IdleConnection<S>
-        ensures { result ≡ self }
+        ensures same { result ≡ self }
+        ensures autocommit { result.in_transaction ≡ false }
     {
         let Store { conn } = self;
         conn

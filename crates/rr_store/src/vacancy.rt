@@ -4,7 +4,7 @@ ghost use Rattle.std.specs.Prelude.{◌≡◌, IsTrue};
 ghost use Rattle.rr_store.specs.Made.{no_schema};
 ghost use Rattle.rr_store.specs.Tables.{meta_tree, named_tree, object_tree};
 ghost use Rattle.rr_store.specs.VacancyParts.{SaysEmpty};
-ghost use Rattle.rr_store.specs.LookParts.{IsSeen, IsTabled, Over, Selects};
+ghost use Rattle.rr_store.specs.LookParts.{IfSeen, IsSeen, IsTabled, Selects};
 ghost use Rattle.rr_store.specs.VacancyParts.{SaysBare};
 
 use crate::idle_connection::IdleConnection;
@@ -22,7 +22,7 @@ pub(crate) fn is_blank(schema: &Schema) -> bool
 
 /// Whether `meta` has no row.
 fn meta_is_empty<S: Alter>(conn: &mut IdleConnection<S>) -> Result<bool, Error>
-    ensures { Over S.Store IsTabled conn.old
+    ensures { IfSeen S.Store IsTabled conn.old
         (Selects S.Store conn.old conn.new result
         (λ db is. SaysEmpty (db.trees meta_tree) is)) }
 {
@@ -32,7 +32,7 @@ fn meta_is_empty<S: Alter>(conn: &mut IdleConnection<S>) -> Result<bool, Error>
 
 /// Whether `object` has no row.
 fn object_is_empty<S: Alter>(conn: &mut IdleConnection<S>) -> Result<bool, Error>
-    ensures { Over S.Store IsTabled conn.old
+    ensures { IfSeen S.Store IsTabled conn.old
         (Selects S.Store conn.old conn.new result
         (λ db is. SaysEmpty (db.trees object_tree) is)) }
 {
@@ -42,7 +42,7 @@ fn object_is_empty<S: Alter>(conn: &mut IdleConnection<S>) -> Result<bool, Error
 
 /// Whether `named` has no row.
 fn named_is_empty<S: Alter>(conn: &mut IdleConnection<S>) -> Result<bool, Error>
-    ensures { Over S.Store IsTabled conn.old
+    ensures { IfSeen S.Store IsTabled conn.old
         (Selects S.Store conn.old conn.new result
         (λ db is. SaysEmpty (db.trees named_tree) is)) }
 {

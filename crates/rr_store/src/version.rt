@@ -1,4 +1,4 @@
-//! The versions of tables.
+//! The versions of tables, and how each writes its number and its keys.
 
 ghost use Rattle.std.specs.Prelude.{◌≡◌, ◌<◌, ◌^◌, decimal, IfOk, IfSome, IsTrue};
 ghost use Rattle.std.specs.Prelude.{None, Some};

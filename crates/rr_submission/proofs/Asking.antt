@@ -24,7 +24,7 @@ use Rattle.rr_registry.specs.RunLaws.{AreReadIn}
 use Rattle.rr_submission.specs.SubmissionItems.{AreItems, ItemRequest, submitted}
 use Rattle.rr_submission.specs.SubmissionItems.AreItems.{at_end, secrets_alone, requested, faulty}
 use Rattle.rr_submission.specs.SubmissionItems.AreItems.{unread_for_memory}
-use Rattle.rr_submission.specs.ItemParts.{Shows}
+use Rattle.rr_submission.specs.ItemParts.{ShowsKeyOf}
 use Rattle.rr_submission.specs.Requests.{Asked, IsRequest, action_of, request_of, request_of_key}
 use Rattle.rr_submission.specs.Requests.{submitted_object, unread}
 
@@ -80,7 +80,7 @@ IsRequest-at_fault source fields own OtherSource e k =
 -- shown, and the item is as it is read in the source
 abbrev IsTied : List ℕ → Asked → Type 0
 IsTied source request =
-    IfOk request.action (λ item. Shows request.key item × IsReadIn source item)
+    IfOk request.action (λ item. ShowsKeyOf request.key item × IsReadIn source item)
 
 one_key : (key other : Key) (read : Result Key ObjectFault) → read ≡ Ok key → read ≡ Ok other →
     key ≡ other
@@ -129,11 +129,11 @@ IsTied-request : (source : List ℕ) (fields : List Field) (request : Asked) →
 IsTied-request source fields request (inl e) = subst (IsTied source) (sym e)
     (tied_request source fields)
 IsTied-request source fields request (inr lacks) =
-    subst (λ action. IfOk action (λ item. Shows request.key item × IsReadIn source item))
+    subst (λ action. IfOk action (λ item. ShowsKeyOf request.key item × IsReadIn source item))
     (sym lacks.refused) tt
 
 shown_of_tied : (source : List ℕ) (key : Option Key) (action : Result Item Code) →
-    IsTied source (record { key = key; action = action }) → IfOk action (Shows key)
+    IsTied source (record { key = key; action = action }) → IfOk action (ShowsKeyOf key)
 shown_of_tied source key (Ok item) h = h.0
 shown_of_tied source key (Err code) h = tt
 
@@ -141,12 +141,12 @@ shown_of_tied source key (Err code) h = tt
 pub shown_action : (source : List ℕ) (own : List Field) (key : Key) (deletes : Bool)
     (action : Result Item Code) → key_of own ≡ Ok key →
     (action ≡ action_of source own key deletes) ⊎ (action ≡ Err E90) →
-    IfOk action (Shows (Some key))
+    IfOk action (ShowsKeyOf (Some key))
 shown_action source own key deletes action k (inl a) =
-    subst (λ it. IfOk it (Shows (Some key))) (sym a) (shown_of_tied source (Some key)
+    subst (λ it. IfOk it (ShowsKeyOf (Some key))) (sym a) (shown_of_tied source (Some key)
     (action_of source own key deletes) (tied_action source own key deletes k))
 shown_action source own key deletes action k (inr a) =
-    subst (λ it. IfOk it (Shows (Some key))) (sym a) tt
+    subst (λ it. IfOk it (ShowsKeyOf (Some key))) (sym a) tt
 
 read_item : (source : List ℕ) (key : Option Key) (action : Result Item Code) →
     IsTied source (record { key = key; action = action }) → IfOk action (IsReadIn source)

@@ -4,14 +4,14 @@ use Rattle.rr_submission.specs.declared.ending.Ending.{Ending}
 use Rattle.rr_submission.specs.declared.ending.Ending.TheVariants.{Complete, ReadFault, Memory}
 use Rattle.rr_submission.specs.declared.ending.Ending.TheVariants.{Stopped}
 
--- what stands before the count of items
+-- what stands in a last line before the count of items
 abbrev pub before_count : Ending → List ℕ
 before_count Complete = codes "% items "
 before_count ReadFault = codes "% read fault after "
 before_count Memory = codes "% memory after "
 before_count Stopped = codes "% stopped after "
 
--- what stands after it
+-- what stands in a last line after the count of items
 abbrev pub after_count : Ending → List ℕ
 after_count Complete = codes "\n"
 after_count ReadFault = codes " items\n"

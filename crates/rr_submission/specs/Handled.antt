@@ -18,7 +18,7 @@ use Rattle.rr_submission.specs.SubmissionItems.{AreItems, ItemRequest, submitted
 use Rattle.rr_submission.specs.SubmissionLaws.{ConfinesItems}
 use Rattle.rr_submission.specs.Reports.{item_line, lines_from, stop_lines}
 
--- the line of the last item could not be written: it was decided, the items told before it had been
+-- the last item was decided, and its line could not be written: the items before it had been
 -- decided and their lines written whole
 pub record HandlesSome (source : List ℕ) (entries : List (Result (List Field) TextFault))
     (old new : Reg) (writer_old writer_new : Told) (count : ℕ) : Type 0 where
@@ -40,9 +40,9 @@ abbrev pub StopsAt : {L : Type 0} → Ghosts L → L → List (List ℕ) → Res
 StopsAt g old secrets (Ok item) new = g.Stops old secrets item new
 StopsAt g old secrets (Err code) new = ⊥
 
--- the ledger stopped at the last item: the items told before it had been decided and their lines
--- written whole, and it has its line with the code E91 and the last line after that, as far as they
--- could be written
+-- the ledger stopped at the last item: the items before it had been decided and their lines written
+-- whole. Its line with the code E91 and the last line after that were written as far as they could
+-- be
 pub record HandlesThenStops {L : Type 0} (g : Ghosts L) (source : List ℕ)
     (entries : List (Result (List Field) TextFault)) (old new : L) (writer_old writer_new : Told)
     (count : ℕ) : Type 0 where

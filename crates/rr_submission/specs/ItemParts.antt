@@ -42,5 +42,5 @@ Finds source start now p given secrets_old secrets_new (Err ended) =
     (ended ≢ Whole) × FindsNone source start now given secrets_old ended
 
 -- the key that is shown is the one of the item
-abbrev pub Shows : Option Key → Item → Type 0
-Shows key item = key ≡ Some (key_about item)
+abbrev pub ShowsKeyOf : Option Key → Item → Type 0
+ShowsKeyOf key item = key ≡ Some (key_about item)

@@ -52,7 +52,7 @@ abbrev pub action_of : List ℕ → List Field → Key → Bool → Result Item 
 action_of source own key true = Ok (Delete key)
 action_of source own key false = submitted_object (object_of own source)
 
--- what is asked where the key was read or not
+-- what a paragraph asks whose key was read, or the refusal if its key was not read
 abbrev pub request_of_key : List ℕ → List Field → Bool → Result Key ObjectFault → Asked
 request_of_key source own deletes (Err fault) = unread (code_of fault)
 request_of_key source own deletes (Ok key) =

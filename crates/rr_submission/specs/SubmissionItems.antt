@@ -14,7 +14,8 @@ pub record ItemRequest : Type 0 where
   pub secrets : List (List ℕ)
   pub request : Asked
 
--- what is submitted to the registry of it: the key is for the report alone
+-- what is submitted to the registry of an item: its secrets, and what it asks; its key is for the
+-- report alone
 abbrev pub submitted : ItemRequest → Submitted
 submitted item = record { secrets = item.secrets; action = item.request.action }
 

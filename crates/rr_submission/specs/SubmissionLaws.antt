@@ -33,6 +33,7 @@ ConfinesTexts source r =
     → AreItems source [] entries (items ++ later) → Run r (map submitted items) outcomes s
     → Confines r (map submitted items) outcomes s
 
--- from a sound registry each text's items are confined
+-- from each sound registry each text is confined. Where each of its first items is foreign or their
+-- own, a run of these answers the holders of a prefix as if nobody else had submitted anything
 abbrev pub ItemsAreConfined : Type 0
 ItemsAreConfined = (source : List ℕ) (r : Reg) → Sound r → ConfinesTexts source r

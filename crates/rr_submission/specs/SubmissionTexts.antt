@@ -4,11 +4,11 @@ use Rattle.std.specs.List.{list_all, list_any}
 use Rattle.rr_bytes.specs.Parts.{joined_by_space}
 use Rattle.rr_text.specs.Fields.{Field, has_name}
 
--- `password` gives a secret
+-- an attribute is `password`, which gives a secret
 abbrev pub is_password : Field → Bool
 is_password field = has_name (codes "password") field
 
--- `delete` asks for the deletion of the object; its value says nothing
+-- an attribute is `delete`, which asks for the deletion of the object; its value says nothing
 abbrev pub is_delete : Field → Bool
 is_delete field = has_name (codes "delete") field
 

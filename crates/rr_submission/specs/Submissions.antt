@@ -33,7 +33,7 @@ pub record Sides : Type 0 where
   pub before : Reg
   pub after : Reg
 
--- the two sides of these readers, writers and registries, each before and after
+-- a reader, a writer and a registry, each before and after, as the record of them
 abbrev pub sides : Told → Told → Told → Told → Reg → Reg → Sides
 sides reader_old reader_new writer_old writer_new before after = record {
   reader_before = reader_old;
@@ -57,8 +57,8 @@ pub record IsDone (source : List ℕ) (sides : Sides) (done : Done) : Type 0 whe
   pub counted : done.items ≡ length items
   pub refused : done.refused ≡ refusals outcomes
 
--- a read failed, or the text had no end within 16,777,216 reads: the items of its whole part were
--- decided and their lines written, and the last line was written or cut short
+-- a read failed, or the text had no end within 16,777,216 reads. The items up to its last blank
+-- line were decided and their lines written, and the last line was written or cut short
 pub record IsReadFault (source : List ℕ) (sides : Sides) (count : ℕ) : Type 0 where
   pub text : List ℕ
   pub end : ReadEnd

@@ -1,4 +1,4 @@
-//! The last line of a report.
+//! The last line of a report, which says how the submission ended.
 
 ghost use Rattle.std.specs.Prelude.{◌≡◌};
 ghost use Rattle.rr_io.specs.Sending.{Writes};
@@ -46,7 +46,7 @@ impl Ending {
 
 /// Writes the last line of a report on this many items, whole in the first call of the writer.
 /// After a fault the writer has taken the beginning of it.
-pub fn write_last_line<W: Sink>(writer: &mut W, ending: Ending, items: u64) -> io::Result<()>
+pub(crate) fn write_last_line<W: Sink>(writer: &mut W, ending: Ending, items: u64) -> io::Result<()>
     ensures { Writes (W.told writer.old) (W.told writer.new)
         (last_line ending items) result }
 {

@@ -1,4 +1,4 @@
-//! Submissions: read, decided item by item, and reported.
+//! Submissions: read, decided item by item, and reported. A desk takes submissions by `submit`.
 
 ghost use Rattle.std.specs.Prelude.{◌≡◌, ◌+◌, ◌<◌, ◌^◌, true, false, if◌then◌else◌};
 ghost use Rattle.std.specs.Prelude.{IfOk, OnOk, OnErr};
@@ -9,7 +9,7 @@ ghost use Rattle.rr_submission.specs.Reports.{stop_lines};
 ghost use Rattle.rr_submission.specs.Handled.{StopsAt};
 ghost use Rattle.rr_submission.specs.HandledParts.{Begins, CanCount, HandlesItems, HandlesOne};
 ghost use Rattle.rr_submission.specs.HandledParts.{RunsOn};
-ghost use Rattle.rr_submission.specs.ItemParts.{Shows};
+ghost use Rattle.rr_submission.specs.ItemParts.{ShowsKeyOf};
 ghost use Rattle.rr_submission.specs.Submissions.{RefusesSubmission, SubmitsText};
 ghost use Rattle.rr_submission.specs.Submissions.{UnlessStoreFault};
 
@@ -32,24 +32,26 @@ use std::io;
 
 /// Submits what the reader gives to a ledger with a registry of this source, and writes the report.
 /// The items are read, decided and reported one by one, in order, in memory that grows with the
-/// secrets of the text and what is remembered of them, and otherwise not.
+/// secrets of the text and what is remembered of them, and otherwise not. Where all goes well, the
+/// whole report is written, and the result counts the items and those that were refused.
 ///
-/// - Where a read fails, or the text has no end within 16,777,216 reads, the items up to the last
-///   blank line that came are decided and reported, and a last line says so.
-/// - Where the line of an item cannot be written, that item and those before it stand, and those
-///   after it are not decided, though up to 4,096 bytes after it may have been read. Where only the
-///   last line cannot be written, all items stand.
-/// - Where the ledger stops at an item, those before it stand, and its line with the code E91 and a
-///   last line are written as far as they can be. After every other end a ledger that ran still
-///   runs.
-/// - Where the ledger was stopped before, nothing is read, decided or written.
-/// - Where memory runs out before the first item, nothing is read or decided, and a last line says
-///   so.
+/// - `ReadFault`: where a read fails, or the text has no end within 16,777,216 reads, the items up
+///   to the last blank line that came are decided and reported. A last line says so, as far as it
+///   can be written.
+/// - `WriteFault`: where the line of an item cannot be written, that item and those before it
+///   stand. Those after it are not decided, though up to 4,096 bytes after it may have been read.
+///   Where only the last line cannot be written, all items stand.
+/// - `StoreFault`: where the ledger stops at an item, those before it stand. Its line with the code
+///   E91 and a last line are written as far as they can be. After every other end a ledger that ran
+///   still runs.
+/// - `Stopped`: where the ledger was stopped before, nothing is read, decided or written.
+/// - `Memory`: where memory runs out before the first item, nothing is read or decided. A last line
+///   says so, as far as it can be written.
 ///
-/// What the holders of a prefix hold is changed by no item of others. Where the ledger stops, this
-/// is said of the items before that one, of which the ledger says what it leaves. What lasts of a
-/// ledger through any items lasts, and what is so of it between items is so, however the submission
-/// ends.
+/// Where each item is foreign to the holders of a prefix or their own, these are answered as if
+/// nobody else had submitted anything. Where the ledger stops at an item, this is said of the items
+/// before that one; what the stop leaves is what `Stops` of the ledger says. What lasts of a ledger
+/// through any items lasts, and what is so of it between items is so, however the submission ends.
 pub fn submit<L: Ledger, R: Source, W: Sink>(
     alloc: Global,
     ledger: &mut L,
@@ -195,7 +197,7 @@ fn decide<L: Ledger>(
     action: Result<Item, Code>,
 ) -> Result<Outcome, Stopped>
     requires running { L.is_stopped ledger.old ≡ false }
-    requires about { IfOk action (Shows key.now) }
+    requires about { IfOk action (ShowsKeyOf key.now) }
     ensures decides { IfOk result (λ outcome. Decides
         (L.registry ledger.old) secrets.old action outcome (L.registry ledger.new)) }
     ensures running { OnOk result (L.is_stopped ledger.new ≡ false) }

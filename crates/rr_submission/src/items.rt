@@ -1,4 +1,4 @@
-//! The items of a text in turn.
+//! The items of a text in turn, as the handling of a submission takes them.
 
 ghost use Rattle.std.specs.Prelude.{◌≡◌, ◌∷◌, ◌++◌, ◌<◌, [], List, IfOk, OnOk};
 ghost use Rattle.std.specs.Prelude.{OnErr, OnSome};
@@ -22,7 +22,7 @@ use std::alloc::{AllocError, Global};
 /// error says how the reading broke off before that, and is never `Whole`. The secrets of the
 /// paragraphs that it passes are added to `secrets`. Where memory runs out, the item is refused
 /// with E90.
-pub fn next_item<R: Source>(
+pub(crate) fn next_item<R: Source>(
     alloc: Global,
     paragraphs: &mut Paragraphs,
     reader: &mut R,

@@ -1,4 +1,4 @@
-//! Items with their keys.
+//! An item with its key, as a ledger is given it.
 
 ghost use Rattle.std.specs.Prelude.{◌≡◌};
 ghost use Rattle.rr_auth.specs.Laws.{key_about};
@@ -29,7 +29,7 @@ impl<'a> Model for KeyedItem<'a> {
 }
 
 impl<'a> KeyedItem<'a> {
-    /// An item with its key.
+    /// The item with its key.
     pub(crate) fn of(key: &'a Key, item: Item) -> KeyedItem<'a>
         requires { key.now ≡ key_about item }
         ensures { result ≡ item }
@@ -37,7 +37,7 @@ impl<'a> KeyedItem<'a> {
         KeyedItem { key, item }
     }
 
-    /// The key, and the item.
+    /// The key that the item is about, and the item.
     pub fn parts(self) -> (&'a Key, Item)
         ensures key { result.0.now ≡ key_about self.entry }
         ensures item { result.1 ≡ self.entry }

@@ -3,7 +3,7 @@
 
 ghost use Rattle.rr_submission.specs.SubmissionLaws.{ItemsAreConfined, ItemsKeepTheSource};
 
-/// The items of a text leave a registry of their source, whatever they ask.
+/// From a registry of their source, the items of a text leave one of it, whatever they ask.
 pub fn items_keep_the_source()
     ensures { ItemsKeepTheSource }
 {}

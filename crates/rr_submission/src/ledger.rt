@@ -29,10 +29,10 @@ pub trait Ledger {
     // What lasts whatever it decides: of the ledger before any items, and the ledger after them.
     ghost Lasts: { Self → Self → Type 0 };
 
-    // What is so of it between items, stopped or not.
+    // What is true of it before and after each item, also where it stops at one.
     ghost Kept: { Self → Type 0 };
 
-    /// Whether it is stopped. Its registry is sound, stopped or not.
+    /// Whether it is stopped. Its registry is sound and `Kept` is true of it, stopped or not.
     fn stopped(&self) -> bool
         ensures is { result ≡ is_stopped self.now }
         ensures sound { Sound (registry self.now) }

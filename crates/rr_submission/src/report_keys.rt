@@ -1,4 +1,4 @@
-//! Keys in a line of a report.
+//! How a key is printed in a line of a report.
 
 ghost use Rattle.std.specs.Prelude.{◌≡◌, ◌+◌, ◌≤◌, ◌∷◌, ◌++◌, length};
 ghost use Rattle.rr_number.specs.AsNumbers.{as_number_text};

@@ -13,7 +13,7 @@ use std::io;
 
 /// Writes the line of an item, whole in the first call of the writer. After a fault the writer has
 /// taken the beginning of it.
-pub fn write_item_line<W: Sink>(
+pub(crate) fn write_item_line<W: Sink>(
     writer: &mut W,
     number: u64,
     key: &Option<Key>,

@@ -1,4 +1,4 @@
-//! What paragraphs of a submission ask.
+//! What a paragraph of a submission asks, as `items` reads it and `handling` decides it.
 
 ghost use Rattle.std.specs.Prelude.{◌≡◌, ◌⊎◌, Err, None, Ok, Some};
 ghost use Rattle.rr_object.specs.KeySpellings.{key_of};
@@ -26,11 +26,11 @@ impl Model for Request {
     ghost Value = { Asked };
 
     ghost use Rattle.std.specs.Prelude.{IfOk};
-    ghost use Rattle.rr_submission.specs.ItemParts.{Shows};
+    ghost use Rattle.rr_submission.specs.ItemParts.{ShowsKeyOf};
 
     ghost view = { λ r. record { key = r.key; action = r.action } };
 
-    ghost invariant = { λ r. IfOk r.action (Shows r.key) };
+    ghost invariant = { λ r. IfOk r.action (ShowsKeyOf r.key) };
 }
 
 impl Request {
@@ -61,7 +61,7 @@ impl Request {
         }
     }
 
-    /// What is asked by a paragraph of this key.
+    /// What is asked by a paragraph of this key. Where memory runs out, it is refused with E90.
     #[tactic(auto, using(crate::proofs::Asking::shown_action))]
     fn about(alloc: Global, own: Paragraph, source: &Name, key: Key, deletes: bool) -> Request
         requires { key_of own ≡ Ok key }
@@ -79,7 +79,7 @@ impl Request {
         }
     }
 
-    /// What is asked about the object of a key.
+    /// What is asked about the object of a key: an item, or the code of its refusal.
     fn action(
         alloc: Global,
         own: Paragraph,

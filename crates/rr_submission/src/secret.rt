@@ -1,4 +1,4 @@
-//! Secrets of submissions.
+//! The secret that an attribute of a submission gives.
 
 ghost use Rattle.std.specs.Prelude.{◌≡◌, IfOk};
 ghost use Rattle.rr_submission.specs.SubmissionTexts.{secret_of};
@@ -9,7 +9,7 @@ use std::alloc::{AllocError, Global};
 
 /// The secret that an attribute `password` gives: the lines of its value joined by one space, `#`
 /// kept (profile). The error is out of memory.
-pub fn secret_of(alloc: Global, attribute: &Attribute) -> Result<Vec<u8>, AllocError>
+pub(crate) fn secret_of(alloc: Global, attribute: &Attribute) -> Result<Vec<u8>, AllocError>
     ensures { IfOk result (λ secret. secret.items ≡ secret_of attribute.now) }
 {
     let lines = attribute.lines(alloc)?;

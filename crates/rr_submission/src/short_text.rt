@@ -1,4 +1,5 @@
-//! A short text while it is put together, on the stack.
+//! A short text while it is put together, on the stack: a line of a report, or a reply over HTTP
+//! without an answer.
 
 ghost use Rattle.std.specs.Prelude.{◌≡◌, ◌+◌, ◌≤◌, [], ◌++◌, decimal, length};
 

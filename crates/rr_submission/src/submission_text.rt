@@ -8,14 +8,14 @@ use rr_text::{Attribute, Paragraph};
 use std::alloc::{AllocError, Global};
 
 /// Whether an attribute gives a secret.
-pub fn is_password(attribute: &Attribute) -> bool
+pub(crate) fn is_password(attribute: &Attribute) -> bool
     ensures { result ≡ is_password attribute.now }
 {
     attribute.has_name(b"password")
 }
 
 /// Whether a paragraph gives secrets and is not an item.
-pub fn is_secrets_alone(paragraph: &Paragraph) -> bool
+pub(crate) fn is_secrets_alone(paragraph: &Paragraph) -> bool
     ensures { result ≡ is_secrets_alone paragraph.now }
 {
     paragraph
@@ -24,14 +24,14 @@ pub fn is_secrets_alone(paragraph: &Paragraph) -> bool
 }
 
 /// Whether a paragraph asks for a deletion.
-pub fn asks_deletion(paragraph: &Paragraph) -> bool
+pub(crate) fn asks_deletion(paragraph: &Paragraph) -> bool
     ensures { result ≡ asks_deletion paragraph.now }
 {
     paragraph.has(b"delete")
 }
 
 /// The paragraph less its attributes `password` and `delete`; the error is out of memory.
-pub fn own_paragraph(alloc: Global, paragraph: Paragraph) -> Result<Paragraph, AllocError>
+pub(crate) fn own_paragraph(alloc: Global, paragraph: Paragraph) -> Result<Paragraph, AllocError>
     ensures { IfOk result (λ own. own ≡ own_fields paragraph) }
 {
     let asked = paragraph.without(alloc, b"password")?;

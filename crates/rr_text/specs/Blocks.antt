@@ -20,12 +20,12 @@ has_line (line ∷ others) = true
 unfoldable pub blocks : List (List ℕ) → List (List (List ℕ))
 blocks lines = filter has_line (map from_unskipped (slice_split is_blank_line lines))
 
--- the lines from the first blank one on
+-- the lines of a text from its first blank one on
 unfoldable pub from_blank : List (List ℕ) → List (List ℕ)
 from_blank [] = []
 from_blank (line ∷ others) = if is_blank_line line then line ∷ others else from_blank others
 
--- the lines from the first one on that is neither blank nor skipped
+-- the lines of a text from the first one on that is neither blank nor skipped
 unfoldable pub from_block : List (List ℕ) → List (List ℕ)
 from_block [] = []
 from_block (line ∷ others) = if is_paragraph_line line then line ∷ others else from_block others

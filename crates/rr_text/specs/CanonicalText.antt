@@ -28,7 +28,8 @@ further_line (b ∷ bs) = replicate value_column 32 ++ b ∷ bs
 abbrev pub ended : List ℕ → List ℕ
 ended line = line ++ 10 ∷ []
 
--- the line of a name and a value's first line, and one for each further line of the value
+-- an attribute's printed lines: one of its name and the first line of its value, and one for each
+-- further line
 abbrev pub value_text : List ℕ → List (List ℕ) → List ℕ
 value_text name [] = []
 value_text name (first ∷ further) =

@@ -1,6 +1,6 @@
 -- What a text spells: one entry for each block, a paragraph or a fault (RFC 2622, 2).
-use Rattle.std.specs.Prelude.{ℕ, length, drop, nat_lt, List, [], ◌∷◌, Option, Some, None}
-use Rattle.std.specs.Prelude.{Result, Ok, Err, map, if◌then◌else◌}
+use Rattle.std.specs.Prelude.{◌≡◌, ℕ, ◌<◌, ◌≤◌, length, drop, nat_lt, List, [], ◌∷◌}
+use Rattle.std.specs.Prelude.{Option, Some, None, Result, Ok, Err, map, if◌then◌else◌}
 use Rattle.std.specs.List.{after_first, concat}
 use Rattle.rr_text.specs.declared.text_fault.TextFault.{TextFault}
 use Rattle.rr_text.specs.declared.text_fault.TextFault.TheVariants.{TooLarge}
@@ -11,9 +11,9 @@ use Rattle.rr_bytes.specs.LetterCase.{lowered}
 use Rattle.rr_bytes.specs.Trims.{trim}
 use Rattle.rr_text.specs.Bytes.{is_colon}
 use Rattle.rr_text.specs.Lines.{text_lines, line_kind}
-use Rattle.rr_text.specs.Blocks.{blocks}
+use Rattle.rr_text.specs.Blocks.{blocks, place_after}
 use Rattle.rr_text.specs.Faults.{written_name, block_fault}
-use Rattle.rr_text.specs.Fields.{Field}
+use Rattle.rr_text.specs.Fields.{Field, AreFields}
 
 -- the line of a value that a line opens with: what stands after its first colon (RFC 2622, 2)
 abbrev pub opened_value : List ℕ → List ℕ
@@ -59,7 +59,7 @@ block_fields (line ∷ others) =
 abbrev pub size_limit : ℕ
 size_limit = 65536
 
--- the fault if there is one, and else the paragraph
+-- the entry of a fault if there is one, and else of these attributes
 abbrev pub unless_fault : Option TextFault → List Field → Result (List Field) TextFault
 unless_fault None fields = Ok fields
 unless_fault (Some fault) fields = Err fault
@@ -73,3 +73,14 @@ block_entry lines =
 -- the entries of a text, one for each block in order
 unfoldable pub entries : List ℕ → List (Result (List Field) TextFault)
 entries text = map block_entry (blocks (text_lines text))
+
+-- the first entry of a text from a place on is this paragraph, which has an attribute and is well
+-- formed; the other entries are those from this later place on, which is the one after the
+-- paragraph and not past the end (RFC 2622, 2)
+pub record IsNext (text : List ℕ) (from : ℕ) (found : List Field × ℕ) : Type 0 where
+  pub first : entries (drop from text) ≡ Ok found.0 ∷ entries (drop found.1 text)
+  pub place : found.1 ≡ place_after from text
+  pub later : from < found.1
+  pub within : found.1 ≤ length text
+  pub filled : 0 < length found.0
+  pub fields : AreFields found.0

@@ -42,7 +42,7 @@ fault_by_kind is_first line Opening =
 unfoldable pub line_fault : Bool → List ℕ → Option TextFault
 line_fault is_first line = fault_by_kind is_first line (line_kind line)
 
--- the fault of the first line, of these that do not begin a block, that has one
+-- the first fault of lines that do not begin a block
 unfoldable pub later_fault : List (List ℕ) → Option TextFault
 later_fault [] = None
 later_fault (line ∷ others) = option_or (line_fault false line) (later_fault others)

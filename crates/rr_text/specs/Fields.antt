@@ -32,7 +32,7 @@ pub record IsField (field : Field) : Type 0 where
   pub some : 0 < length field.lines
   pub good : AllByRecursion IsLine field.lines
 
--- each attribute of a paragraph is one
+-- each attribute of a list is well formed: a good name in lower case, and at least one good line
 abbrev pub AreFields : List Field → Type 0
 AreFields fields = AllByRecursion IsField fields
 
@@ -40,7 +40,7 @@ AreFields fields = AllByRecursion IsField fields
 abbrev pub has_name : List ℕ → Field → Bool
 has_name name field = bytes_eq field.name name
 
--- attributes of this name get this line as their value
+-- an attribute with this line as its value if it has this name, and else as it is
 abbrev pub with_value : List ℕ → List ℕ → Field → Field
 with_value name line field =
     if has_name name field then record { name = field.name; lines = line ∷ [] } else field

@@ -28,19 +28,20 @@ BlankLineJoins = (prefix blank back : List ℕ) → are_whole_lines prefix ≡ t
     → IsWholeLine blank → is_blank_line blank ≡ true
     → entries (prefix ++ (blank ++ back)) ≡ entries prefix ++ entries back
 
--- a dump is canonical texts, each with an empty line after it
+-- canonical text that is not too large and an empty line put their paragraph before the entries of
+-- what follows
 abbrev pub CanonicalLeads : Type 0
 CanonicalLeads = (fields : List Field) (rest : List ℕ) → 0 < length fields → AreFields fields
     → length (canonical fields) ≤ size_limit
     → entries (canonical fields ++ 10 ∷ rest) ≡ Ok fields ∷ entries rest
 
--- a skipped line that is no part of a block spells nothing
+-- a skipped line before a text, with the LF that ends it, spells nothing
 abbrev pub SkippedLinePassed : Type 0
 SkippedLinePassed = (line rest : List ℕ) → IsWholeLine line → is_skipped_line line ≡ true
     → entries (line ++ rest) ≡ entries rest
 
--- a text that ends with the last blank line whose LF was read keeps its entries apart from what
--- follows, which may break off
+-- a text that ends with the LF of a blank line keeps its entries apart from what follows, which may
+-- break off
 abbrev pub ClosedTextJoins : Type 0
 ClosedTextJoins = (prefix back : List ℕ) → whole_part prefix ≡ prefix
     → (entries (prefix ++ back) ≡ entries prefix ++ entries back)

@@ -20,7 +20,7 @@ use Rattle.rr_text.specs.WholePart.{whole_part, whole_entries}
 abbrev pub Entry : Type 0
 Entry = Result (List Field) TextFault
 
--- how the reading stands
+-- how the reading of a text stands: open, ended, broken or endless
 abbrev pub state_of : Paragraphs → ReaderState
 state_of p = p.state
 
@@ -28,17 +28,18 @@ state_of p = p.state
 abbrev pub reads_of : Paragraphs → ℕ
 reads_of p = p.reads
 
--- the bytes that were read and stand after what was given
+-- the bytes that were read and of which no entry was given yet
 abbrev pub held : Paragraphs → List ℕ
 held p = drop p.from (take p.to p.block)
 
--- nothing was read
+-- paragraphs of a text of which nothing was read
 pub record IsNew (p : Paragraphs) : Type 0 where
   pub state : state_of p ≡ Open
   pub no_read : reads_of p ≡ 0
   pub none_held : held p ≡ []
 
--- what was given keeps apart from what comes: it ends with a blank line, or nothing comes
+-- the prefix whose entries were given is apart from what comes: it ends with a blank line, or
+-- nothing comes
 abbrev pub KeepsApart : ReaderState → Told → List ℕ → List ℕ → Type 0
 KeepsApart Open now prefix left = whole_part prefix ≡ prefix
 KeepsApart Ended now prefix left = (left ≡ []) × IsSpent now
@@ -72,8 +73,8 @@ pub record HasEnded (start now : Told) (ended : ReadEnd) (given : List Entry) : 
   pub reads : Reads start now text ended
   pub spelled : entries_by ended text ≡ given
 
--- what was given with an answer: one entry more, or those were all. If memory ran out the entry is
--- passed untold
+-- an answer gives one entry more, or says that these were all; if memory ran out, an entry is
+-- passed over, and is not told
 abbrev pub GivesNext : Told → Told → Paragraphs → List Entry
     → Result (Option (List Field)) TextFault → Type 0
 GivesNext start now p given (Ok None) = (state_of p ≡ Ended) × HasEnded start now end.Whole given
@@ -130,11 +131,11 @@ Nearer before after (Err fault.Memory) = after < before
 Nearer before after (Err fault.Read) = ⊤
 Nearer before after (Err fault.Endless) = ⊤
 
--- the answer of one call for the next paragraph: it goes on with what was given before, it is the
--- same for good once the reading ended, it comes nearer to the last one, a paragraph has
--- attributes,
--- and what stands beside the reader stays
-pub record Answers {R : Type 0} (told : R → Told) (before after : R) (old new : Paragraphs)
+-- what one call for the next paragraph answers: it goes on after all that was given before; once
+-- the reading has ended it is the same for good; each answer but the last one leaves fewer to come;
+-- a paragraph has at least one attribute, and its attributes are well formed; and of a connection,
+-- the other side stays as it was (profile)
+pub record AnswersNext {R : Type 0} (told : R → Told) (before after : R) (old new : Paragraphs)
     (answer : Result (Option (List Field)) TextFault) : Type 0 where
   pub given : GivesOn (told before) (told after) old new answer
   pub stays : Stays (state_of old) before after old new answer
@@ -143,10 +144,10 @@ pub record Answers {R : Type 0} (told : R → Told) (before after : R) (old new 
       × AreFields paragraph))
   pub aside : (told after).aside ≡ (told before).aside
 
--- the reader of a reader of paragraphs
+-- the reader from which a reader of paragraphs reads its text
 abbrev pub reader_of : {R : Type 0} → ParagraphReader R → R
 reader_of made = made.reader
 
--- where it stands
+-- the paragraphs of a reader of paragraphs, with what it has read and not given
 abbrev pub paragraphs_of : {R : Type 0} → ParagraphReader R → Paragraphs
 paragraphs_of reader = reader.paragraphs

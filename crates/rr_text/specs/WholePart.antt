@@ -11,13 +11,13 @@ use Rattle.rr_text.specs.Entries.{entries}
 abbrev pub closes : List ℕ → Bool
 closes line = is_blank_line line && list_any is_line_feed line
 
--- a line is kept where it closes, or where a later one does
+-- a line is kept where it is a blank one whose LF was read, or where a later line is
 abbrev pub kept_before : Bool → List ℕ → List (List ℕ) → List (List ℕ)
 kept_before true line kept = line ∷ kept
 kept_before false line [] = []
 kept_before false line (next ∷ kept) = line ∷ (next ∷ kept)
 
--- the lines up to the last one that closes, itself included
+-- the lines up to the last blank one whose LF was read, itself included
 unfoldable pub closed_lines : List (List ℕ) → List (List ℕ)
 closed_lines [] = []
 closed_lines (line ∷ others) = kept_before (closes line) line (closed_lines others)
@@ -26,7 +26,7 @@ closed_lines (line ∷ others) = kept_before (closes line) line (closed_lines ot
 unfoldable pub whole_part : List ℕ → List ℕ
 whole_part text = concat (closed_lines (text_lines text))
 
--- the entries that count after a read fault: those of the blocks that such a blank line follows
--- (profile)
+-- the entries that count of a text after a read fault: those of its blocks that a blank line
+-- follows whose LF was read (profile)
 abbrev pub whole_entries : List ℕ → List (Result (List Field) TextFault)
 whole_entries text = entries (whole_part text)

@@ -1,4 +1,4 @@
-//! The attributes of a text in turn.
+//! The attributes of a paragraph's text in turn: what `Paragraph::attributes` gives.
 
 ghost use Rattle.std.specs.Prelude.{◌≡◌, ◌∷◌};
 ghost use Rattle.std.specs.Iterator.{YieldsFirst, item_count};

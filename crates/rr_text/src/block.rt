@@ -1,4 +1,4 @@
-//! The blocks of a text: runs of lines between blank ones.
+//! The blocks of a text, which are runs of lines between blank ones: `reader` takes them in turn.
 
 ghost use Rattle.std.specs.Prelude.{◌≡◌, ◌<◌, ◌≤◌, ◌∷◌, ◌++◌, ◌⊎◌};
 ghost use Rattle.std.specs.Prelude.{ℕ, List, [], length, drop, true, IfSome, IfNone};

@@ -26,8 +26,8 @@ pub fn print_onto(out: &mut Vec<u8>, paragraph: &Paragraph) -> Result<(), AllocE
 }
 
 /// Appends the canonical text of a paragraph in which each attribute of this name, which is given
-/// in lower case, has this one line as its value: that of `Paragraph::with_values`, without the
-/// copy. The error is out of memory: then some bytes may have been appended.
+/// in lower case, has this one line as its value. For a good line it is the text of
+/// `Paragraph::with_values`. The error is out of memory: then some bytes may have been appended.
 pub fn print_onto_with_values(
     out: &mut Vec<u8>,
     paragraph: &Paragraph,

@@ -1,4 +1,4 @@
-//! Lines that are as they are printed, found without printing them.
+//! Whether lines are as they are printed, found without printing them: for `read_canonical`.
 
 ghost use Rattle.std.specs.Prelude.{◌≡◌, ◌≤◌};
 ghost use Rattle.std.specs.List.{list_all};

@@ -1,4 +1,4 @@
-//! What is wrong with lines and blocks.
+//! What is wrong with lines and blocks, for all that reads a block as a paragraph.
 
 ghost use Rattle.std.specs.Prelude.{◌≡◌, Some, None};
 ghost use Rattle.rr_text.specs.Lines.{text_lines};

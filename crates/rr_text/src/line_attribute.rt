@@ -1,4 +1,4 @@
-//! Attributes that paragraphs are made of.
+//! Attributes made in memory, of which `Paragraph::new` makes a paragraph.
 
 ghost use Rattle.std.specs.Prelude.{◌≡◌, IfOk};
 
@@ -7,7 +7,7 @@ use crate::text::Text;
 use std::alloc::{AllocError, Global};
 use std::marker::Model;
 
-/// An attribute with a value of one line, in memory of its own. By itself it may hold any bytes.
+/// An attribute with a value of one line, in memory of its own. By itself it may have any bytes.
 #[derive(Debug, Drop)]
 pub struct LineAttribute {
     name: Text,

@@ -61,7 +61,7 @@ impl Paragraph {
         &self.text
     }
 
-    /// The attributes in order.
+    /// The attributes in order, fewer than 2^63; they have good names and values.
     #[tactic(auto, using(crate::proofs::KeptLemmas::fields_few))]
     pub fn attributes(&self) -> Attributes<'_>
         ensures value { result ≡ self.now }
@@ -99,7 +99,8 @@ impl Paragraph {
     }
 
     /// A copy in which each attribute of this name, which is given in lower case, has this one
-    /// line as its value; the error is out of memory.
+    /// line as its value. The line has no blanks round it, no LF and no refused byte. The error is
+    /// out of memory.
     pub fn with_values(
         &self,
         alloc: Global,

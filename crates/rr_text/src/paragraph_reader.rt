@@ -1,7 +1,7 @@
-//! A reader with the paragraphs of its text.
+//! A reader together with the paragraphs of its text: `Paragraphs` for one reader alone.
 
 ghost use Rattle.std.specs.Prelude.{◌≡◌, [], IfOk};
-ghost use Rattle.rr_text.specs.ParagraphReaders.{Answers, HasGiven, paragraphs_of, reader_of};
+ghost use Rattle.rr_text.specs.ParagraphReaders.{AnswersNext, HasGiven, paragraphs_of, reader_of};
 
 use crate::paragraph::Paragraph;
 use crate::paragraphs::Paragraphs;
@@ -30,11 +30,11 @@ impl<R: Source> ParagraphReader<R> {
         Ok(ParagraphReader { reader, paragraphs })
     }
 
-    /// The next paragraph of the text; `None` at its end (RFC 2622, 2). After `Read` and `Endless`
-    /// the answer is the same for good; after another fault the next paragraph follows. `Memory`
-    /// passes a paragraph.
+    /// The next paragraph of the text; `None` at its end (RFC 2622, 2). After `None`, `Read` and
+    /// `Endless` the answer is the same for good; after another fault the next paragraph follows.
+    /// `Memory` passes over a paragraph.
     pub fn next(&mut self, alloc: Global) -> Result<Option<Paragraph>, TextFault>
-        ensures { Answers R.told (reader_of self.old) (reader_of self.new)
+        ensures { AnswersNext R.told (reader_of self.old) (reader_of self.new)
             (paragraphs_of self.old) (paragraphs_of self.new) result }
     {
         self.paragraphs.next(alloc, &mut self.reader)

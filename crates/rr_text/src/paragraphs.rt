@@ -43,7 +43,7 @@ impl Paragraphs {
     ghost use Rattle.rr_io.specs.Told.{Told};
     ghost use Rattle.rr_text.specs.DraftParts.{HasEntry, IsUnclosed};
     ghost use Rattle.rr_text.specs.ReaderParts as parts;
-    ghost use Rattle.rr_text.specs.ParagraphReaders.{Answers, HasGiven, IsNew, held, reads_of};
+    ghost use Rattle.rr_text.specs.ParagraphReaders.{AnswersNext, HasGiven, IsNew, held, reads_of};
     ghost use Rattle.rr_text.specs.ParagraphReaders.{state_of};
 
     /// The paragraphs of a text of which nothing was read; the error is that memory ran out.
@@ -64,14 +64,14 @@ impl Paragraphs {
     }
 
     /// The next paragraph of the text that this reader gives; `None` at its end (RFC 2622, 2). The
-    /// reader is the same in each call. After `Read` and `Endless` the answer is the same for good;
-    /// after another fault the next paragraph follows. `Memory` passes a paragraph.
+    /// reader is the same in each call. After `None`, `Read` and `Endless` the answer is the same
+    /// for good; after another fault the next paragraph follows. `Memory` passes over a paragraph.
     pub fn next<R: Source>(
         &mut self,
         alloc: Global,
         reader: &mut R,
     ) -> Result<Option<Paragraph>, TextFault>
-        ensures { Answers R.told reader.old reader.new self.old self.new result }
+        ensures { AnswersNext R.told reader.old reader.new self.old self.new result }
     {
         match self.state {
             ReaderState::Open => self.next_open(alloc, reader),
@@ -87,7 +87,7 @@ impl Paragraphs {
         reader: &mut R,
     ) -> Result<Option<Paragraph>, TextFault>
         requires { state_of self.old ≡ ReaderState.Open }
-        ensures { Answers R.told reader.old reader.new self.old self.new result }
+        ensures { AnswersNext R.told reader.old reader.new self.old self.new result }
     {
         let state = self.gather(reader);
         self.state = state;

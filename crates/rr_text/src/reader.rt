@@ -1,10 +1,9 @@
-//! The paragraphs of a text in turn.
+//! The paragraphs of a text in memory, in turn.
 
 ghost use Rattle.std.specs.Prelude.{◌≡◌, ◌≢◌, ◌<◌, ◌≤◌, IfOk, IfErr, IfSome};
 ghost use Rattle.std.specs.Prelude.{None, Ok, Err, [], ◌∷◌, length, drop};
-ghost use Rattle.rr_text.specs.Fields.{AreFields};
 ghost use Rattle.rr_text.specs.Blocks.{place_after};
-ghost use Rattle.rr_text.specs.Entries.{entries};
+ghost use Rattle.rr_text.specs.Entries.{IsNext, entries};
 
 use crate::block::take_block;
 use crate::entry::read_entry;
@@ -12,8 +11,10 @@ use crate::paragraph::Paragraph;
 use crate::text_fault::TextFault;
 use std::alloc::Global;
 
-/// The first paragraph of the text from a place on, with the place after it; `None` where there
-/// is no more (RFC 2622, 2). After a fault, `skip_paragraph` gives the place to go on at.
+/// The first paragraph of the text from a place on, with a later place, which is the one after it;
+/// `None` where there is no more (RFC 2622, 2). Both places are not past the end of the text. The
+/// error is the paragraph's fault, or that memory ran out; then `skip_paragraph` gives the place to
+/// go on at.
 pub fn next_paragraph(
     alloc: Global,
     text: &[u8],
@@ -21,14 +22,7 @@ pub fn next_paragraph(
 ) -> Result<Option<(Paragraph, usize)>, TextFault>
     requires { from ≤ length text.now }
     ensures none { IfOk result (λ next. next ≡ None → entries (drop from text.now) ≡ []) }
-    ensures found { IfOk result (λ next. IfSome next (λ found.
-        entries (drop from text.now) ≡ Ok found.0 ∷ entries (drop found.1 text.now))) }
-    ensures place { IfOk result
-        (λ next. IfSome next (λ found. found.1 ≡ place_after from text.now)) }
-    ensures after { IfOk result
-        (λ next. IfSome next (λ found. (from < found.1) × (found.1 ≤ length text.now))) }
-    ensures fields { IfOk result
-        (λ next. IfSome next (λ found. (0 < length found.0) × AreFields found.0)) }
+    ensures found { IfOk result (λ next. IfSome next (IsNext text.now from)) }
     ensures fault { IfErr result (λ fault. fault ≢ TextFault.Memory
         → entries (drop from text.now) ≡ Err fault ∷ drop 1 (entries (drop from text.now))) }
 
@@ -45,7 +39,8 @@ pub fn next_paragraph(
 }
 
 /// The place after the first paragraph of the text from a place on, whether it has a fault or not:
-/// the one that `next_paragraph` gives, and the end of the text where there is no more.
+/// the one that `next_paragraph` gives, and the end of the text where there is no more. The place
+/// is not past that end.
 pub fn skip_paragraph(text: &[u8], from: usize) -> usize
     requires { from ≤ length text.now }
     ensures others { entries (drop result text.now) ≡ drop 1 (entries (drop from text.now)) }

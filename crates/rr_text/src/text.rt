@@ -1,4 +1,4 @@
-//! Byte strings in memory of their own.
+//! Byte strings in memory of their own: for what is read or printed and then kept.
 
 ghost use Rattle.std.specs.Prelude.{◌≡◌, IfOk};
 
@@ -20,13 +20,6 @@ impl Model for Text {
 }
 
 impl Text {
-    /// The text of these bytes.
-    pub fn from_vec(bytes: Vec<u8>) -> Text
-        ensures { result ≡ bytes.items }
-    {
-        Text { bytes }
-    }
-
     /// A copy of these bytes; the error is that memory ran out.
     pub fn from_slice(alloc: Global, bytes: &[u8]) -> Result<Text, AllocError>
         ensures { IfOk result (λ text. text ≡ bytes.now) }

@@ -1,4 +1,4 @@
-//! Why a paragraph cannot be read.
+//! Why a paragraph or a text cannot be read.
 
 ghost use Rattle.std.specs.Prelude.{◌≡◌};
 ghost use Rattle.rr_text.specs.declared.text_fault.TextFault.TheVariants.{Memory};

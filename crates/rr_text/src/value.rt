@@ -1,4 +1,4 @@
-//! What values say.
+//! What the value of an attribute says, without its comments: for all that interprets attributes.
 
 ghost use Rattle.std.specs.Prelude.{◌≡◌, IfOk, map};
 ghost use Rattle.rr_text.specs.Meanings as meanings;

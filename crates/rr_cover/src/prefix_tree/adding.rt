@@ -1,4 +1,4 @@
-//! Putting prefixes into a tree.
+//! Putting values into a tree of prefixes.
 
 ghost use Rattle.std.specs.Prelude.{◌≡◌, true, false, Some, IfOk, IfSome};
 ghost use Rattle.std.specs.Option.{option_or};
@@ -6,8 +6,8 @@ ghost use Rattle.rr_number.specs.Prefixes.{span_of};
 ghost use Rattle.rr_number.specs.Spans.{Ends, covers};
 ghost use Rattle.rr_cover.specs.PrefixTrees.{IsFork, IsTree};
 ghost use Rattle.rr_cover.specs.TreeParts.{own, standing, is_above, root_of, IsParting};
-ghost use Rattle.rr_cover.specs.TreeParts.{StaysRooted, StaysRootedWith, CanPut, CanGrow, Grows};
-ghost use Rattle.rr_cover.specs.TreeParts.{Puts};
+ghost use Rattle.rr_cover.specs.TreeParts.{StaysRooted, StaysRootedWith, CanPut, CanBranch, Grows};
+ghost use Rattle.rr_cover.specs.TreeParts.{PutsInTree};
 
 use super::parting::parting;
 use super::reading::{is_same, is_upper};
@@ -16,7 +16,7 @@ use rr_number::Prefix;
 use std::alloc::Global;
 use std::mem;
 
-/// A node of the prefix with no value and nothing below it, if memory is had.
+/// A node of the prefix with no value and nothing below it, unless memory runs out.
 fn bare<T: Drop>(alloc: Global, prefix: Prefix) -> Option<Box<Node<T>>>
     ensures { IfSome result (λ node. node.value.prefix ≡ prefix) }
 {
@@ -32,7 +32,7 @@ fn bare<T: Drop>(alloc: Global, prefix: Prefix) -> Option<Box<Node<T>>>
     }
 }
 
-/// The node with a value as the root of two trees.
+/// The node, with a value or none, as the root of two trees.
 fn make_root<T: Drop>(
     mut node: Box<Node<T>>,
     value: Option<T>,
@@ -72,9 +72,9 @@ fn is_above<T>(tree: &Tree<T>, prefix: Prefix) -> bool
     }
 }
 
-/// The node with a value above a tree, all of whose prefixes lie in one half of its prefix.
+/// The node with a value above a tree, which lies in one half of the node's prefix.
 fn above<T: Drop>(node: Box<Node<T>>, value: T, root: Prefix, tree: Tree<T>) -> Tree<T>
-    requires ready { CanGrow tree root node.value.prefix }
+    requires ready { CanBranch tree root node.value.prefix }
     requires covered { covers (span_of node.value.prefix) (span_of root) ≡ true }
     requires short { covers (span_of root) (span_of node.value.prefix) ≡ false }
     ensures { Grows tree (span_of node.value.prefix) value node.value.prefix result }
@@ -94,7 +94,7 @@ fn beside<T: Drop>(
     root: Prefix,
     tree: Tree<T>,
 ) -> Tree<T>
-    requires ready { CanGrow tree root node.value.prefix }
+    requires ready { CanBranch tree root node.value.prefix }
     requires parted { IsParting fork.value.prefix node.value.prefix root }
     ensures { Grows tree (span_of node.value.prefix) value fork.value.prefix result }
 {
@@ -107,8 +107,8 @@ fn beside<T: Drop>(
     }
 }
 
-/// The node with a value beside the tree, where neither root covers the other. If memory runs out,
-/// nothing changes and the value comes back.
+/// Puts the node with a value beside the tree: neither its prefix nor the root's covers the other.
+/// If memory runs out, nothing changes and the value comes back.
 fn part<T: Drop>(
     tree: &mut Tree<T>,
     alloc: Global,
@@ -116,10 +116,10 @@ fn part<T: Drop>(
     node: Box<Node<T>>,
     value: T,
 ) -> Result<(), T>
-    requires ready { CanGrow tree.old root node.value.prefix }
+    requires ready { CanBranch tree.old root node.value.prefix }
     requires one { covers (span_of node.value.prefix) (span_of root) ≡ false }
     requires other { covers (span_of root) (span_of node.value.prefix) ≡ false }
-    ensures puts { Puts tree.old (span_of node.value.prefix) value tree.new result }
+    ensures puts { PutsInTree tree.old (span_of node.value.prefix) value tree.new result }
     ensures root { StaysRootedWith (span_of node.value.prefix) tree.old tree.new }
 {
     let Some(fork) = bare(alloc, parting(node.prefix, node.prefix, root)) else {
@@ -135,7 +135,7 @@ fn part<T: Drop>(
 fn place<T: Drop>(tree: &mut Tree<T>, alloc: Global, prefix: Prefix, value: T) -> Result<(), T>
     requires ready { CanPut tree.old prefix }
     requires short { is_above tree.old (span_of prefix) ≡ false }
-    ensures puts { Puts tree.old (span_of prefix) value tree.new result }
+    ensures puts { PutsInTree tree.old (span_of prefix) value tree.new result }
     ensures root { StaysRootedWith (span_of prefix) tree.old tree.new }
 {
     let Some(node) = bare(alloc, prefix) else {
@@ -164,7 +164,7 @@ pub(super) fn set<T: Drop>(
 ) -> Result<Option<T>, T>
     requires { CanPut tree.old prefix }
     ensures stood { IfOk result (λ old. old ≡ standing tree.old (span_of prefix)) }
-    ensures puts { Puts tree.old (span_of prefix) value tree.new result }
+    ensures puts { PutsInTree tree.old (span_of prefix) value tree.new result }
     ensures root { StaysRootedWith (span_of prefix) tree.old tree.new }
 {
     if is_above(tree, prefix) {
@@ -176,7 +176,8 @@ pub(super) fn set<T: Drop>(
     }
 }
 
-/// Puts the value at the prefix, which the root covers: so there is one.
+/// Puts the value at the prefix, which the root covers, so the tree is not empty. If memory runs
+/// out, nothing changes and the value comes back.
 #[cycle(insertion)]
 fn set_below<T: Drop>(
     tree: &mut Tree<T>,
@@ -187,7 +188,7 @@ fn set_below<T: Drop>(
     requires ready { CanPut tree.old prefix }
     requires over { is_above tree.old (span_of prefix) ≡ true }
     ensures stood { IfOk result (λ old. old ≡ standing tree.old (span_of prefix)) }
-    ensures puts { Puts tree.old (span_of prefix) value tree.new result }
+    ensures puts { PutsInTree tree.old (span_of prefix) value tree.new result }
     ensures root { StaysRooted tree.old tree.new }
 {
     match tree {

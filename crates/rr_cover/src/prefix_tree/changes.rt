@@ -1,18 +1,18 @@
-//! Changing a tree of prefixes.
+//! Taking prefixes out of a tree.
 
 ghost use Rattle.std.specs.Prelude.{◌≡◌, true};
 ghost use Rattle.rr_number.specs.Prefixes.{span_of};
 ghost use Rattle.rr_number.specs.Spans.{Ends};
 ghost use Rattle.rr_cover.specs.PrefixTrees.{IsTree};
 ghost use Rattle.rr_cover.specs.TreeParts.{standing, is_empty, is_idle, only_side, StaysRooted};
-ghost use Rattle.rr_cover.specs.TreeParts.{Takes};
+ghost use Rattle.rr_cover.specs.TreeParts.{TakesFromTree};
 
 use super::reading::{is_same, is_upper};
 use super::{Node, Tree};
 use rr_number::Prefix;
 use std::mem;
 
-/// Whether a node has no value and a prefix on one side at most, so that the tree can do without
+/// Whether a node has no value and prefixes on one side at most, so that the tree can do without
 /// it.
 fn is_idle<T>(node: &Node<T>) -> bool
     ensures { result ≡ is_idle node.now.value node.now.lower node.now.upper }
@@ -20,6 +20,7 @@ fn is_idle<T>(node: &Node<T>) -> bool
     node.value.is_none() && (is_empty(&node.lower) || is_empty(&node.upper))
 }
 
+/// Whether the tree has no node.
 fn is_empty<T>(tree: &Tree<T>) -> bool
     ensures { result ≡ is_empty tree.now }
 {
@@ -57,11 +58,11 @@ fn tidy<T: Drop>(tree: Tree<T>) -> Tree<T>
     }
 }
 
-/// Takes out the value that stands at the prefix.
+/// Takes out the value that stands at the prefix, and the root if the tree can do without it.
 #[cycle(removal)]
 pub(super) fn take<T: Drop>(tree: &mut Tree<T>, prefix: Prefix) -> Option<T>
     requires { IsTree tree.old }
-    ensures { Takes tree.old (span_of prefix) tree.new result }
+    ensures { TakesFromTree tree.old (span_of prefix) tree.new result }
 {
     let value = take_below(tree, prefix);
     let whole = mem::replace(tree, Tree::Empty);
@@ -74,7 +75,7 @@ pub(super) fn take<T: Drop>(tree: &mut Tree<T>, prefix: Prefix) -> Option<T>
 #[cycle(removal)]
 fn take_below<T: Drop>(tree: &mut Tree<T>, prefix: Prefix) -> Option<T>
     requires { IsTree tree.old }
-    ensures { Takes tree.old (span_of prefix) tree.new result }
+    ensures { TakesFromTree tree.old (span_of prefix) tree.new result }
 {
     match tree {
         Tree::Empty => None,

@@ -12,7 +12,7 @@ use super::{Node, Tree};
 use rr_number::{Prefix, Span};
 use std::alloc::AllocError;
 
-/// Puts the prefix at the end of the list, where it is wanted.
+/// Puts the prefix at the end of the list, if it is wanted.
 fn push_if(wanted: bool, prefix: Prefix, out: &mut Vec<Prefix>) -> Result<(), AllocError>
     ensures ok { OnOk result ((u : Ends) → is_listed out.new.items u
         ≡ (is_listed out.old.items u || (eq_by_cmp span_cmp u (span_of prefix) && wanted))) }
@@ -23,7 +23,8 @@ fn push_if(wanted: bool, prefix: Prefix, out: &mut Vec<Prefix>) -> Result<(), Al
     Ok(())
 }
 
-/// Puts the list in order of first, then last address, each prefix once.
+/// Puts the list in order of first, then last address, each prefix once. The tree has no prefix
+/// twice: dropping repeats spares a proof of that.
 pub(super) fn put_in_order(prefixes: &mut Vec<Prefix>)
     ensures rising { IsStrictlySortedBy span_cmp (map span_of prefixes.new.items) }
     ensures same { (u : Ends)
@@ -33,7 +34,8 @@ pub(super) fn put_in_order(prefixes: &mut Vec<Prefix>)
     prefixes.dedup_by_key(|prefix| prefix.span());
 }
 
-/// Lists the prefixes that cover the span. A part whose root does not cover it has none.
+/// Puts the prefixes of a tree that cover the span at the end of the list. A part whose root does
+/// not cover it has none.
 pub(super) fn push_covering<T>(
     tree: &Tree<T>,
     span: Span,
@@ -63,7 +65,8 @@ fn has_inside<T>(node: &Node<T>, span: Span) -> bool
     node.value.is_some() && span.covers(node.prefix.span())
 }
 
-/// Lists the prefixes that lie inside the span. A part whose root does not meet it has none.
+/// Puts the prefixes of a tree that lie inside the span at the end of the list. A part whose root
+/// does not meet it has none.
 pub(super) fn push_inside<T>(
     tree: &Tree<T>,
     span: Span,

@@ -7,7 +7,7 @@ ghost use Rattle.rr_cover.specs.TreeParts.{IsParting};
 
 use rr_number::Prefix;
 
-/// The prefix that is a bit shorter and covers the prefix.
+/// The prefix that covers the prefix and is a bit shorter.
 fn shorter(prefix: Prefix) -> Prefix
     requires { 0 < prefix.length }
     ensures { result ≡ masked prefix.address (prefix.length - 1) }
@@ -15,8 +15,8 @@ fn shorter(prefix: Prefix) -> Prefix
     Prefix::new(prefix.address(), prefix.length() - 1)
 }
 
-/// The longest prefix that covers a prefix and another one, sought from one on that covers the
-/// first alone.
+/// The longest prefix that covers two prefixes, neither of which covers the other. It is sought
+/// from `common` on, which covers the first of them alone.
 pub(super) fn parting(common: Prefix, prefix: Prefix, other: Prefix) -> Prefix
     requires common { IsMasked common }
     requires masked { IsMasked other }

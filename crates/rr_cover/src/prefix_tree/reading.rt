@@ -18,7 +18,7 @@ pub(super) fn is_same(prefix: Prefix, other: Prefix) -> bool
     prefix.span() == other.span()
 }
 
-/// Whether a span lies in the upper half of another one that has the addresses of a prefix.
+/// Whether a span lies in the upper half of a prefix.
 pub(super) fn is_upper(prefix: Prefix, span: Span) -> bool
     ensures { result ≡ in_upper prefix span }
 {
@@ -56,7 +56,7 @@ pub(super) fn find<T>(tree: &Tree<T>, prefix: Prefix) -> Option<&T>
     }
 }
 
-/// The smallest prefix held that covers the prefix.
+/// The smallest prefix held that covers the prefix, with its value.
 pub(super) fn smallest_cover<T>(tree: &Tree<T>, prefix: Prefix) -> Option<(Prefix, &T)>
     requires { IsTree tree.now }
     ensures found { IfSome result

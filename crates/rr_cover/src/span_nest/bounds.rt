@@ -1,21 +1,22 @@
-//! What a node knows of the last numbers from it on.
+//! Bounds on the last numbers of a part of the search tree.
 
 ghost use Rattle.std.specs.Prelude.{◌≡◌};
 ghost use Rattle.rr_cover.specs.NestParts.{with_before, with_after};
 
-/// What a node knows of the last numbers from it on, so that no side is looked at in vain.
+/// Bounds that a node keeps on the last numbers of its span and of those below it. By them a
+/// search passes by sides that have nothing to find.
 #[derive(Clone, Copy)]
 pub(super) struct Bounds {
-    /// The least last number.
+    /// No last number is below this one.
     pub(super) least: u32,
-    /// The greatest last number of the side before and the node's own.
+    /// No last number of the side before, nor the node's own, is above this one.
     pub(super) before: u32,
-    /// The greatest last number of the side after.
+    /// No last number of the side after is above this one.
     pub(super) after: u32,
 }
 
 impl Bounds {
-    /// These bounds with a last number more in the side before.
+    /// These bounds, widened so that the side before may have the last number.
     pub(super) fn with_before(self, last: u32) -> Bounds
         ensures { result ≡ with_before self last }
     {
@@ -26,7 +27,7 @@ impl Bounds {
         }
     }
 
-    /// These bounds with a last number more in the side after.
+    /// These bounds, widened so that the side after may have the last number.
     pub(super) fn with_after(self, last: u32) -> Bounds
         ensures { result ≡ with_after self last }
     {

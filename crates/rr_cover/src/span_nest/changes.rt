@@ -1,4 +1,4 @@
-//! Changing a search tree and keeping it balanced (AVL).
+//! Changing the search tree of a nest, and keeping it balanced (AVL).
 
 ghost use Rattle.std.specs.Prelude.{◌≡◌, nat_le, None, Some, is_some, IfOk, IfSome, IfNone};
 ghost use Rattle.std.specs.Prelude.{OnErr};
@@ -6,7 +6,8 @@ ghost use Rattle.std.specs.Option.{option_or};
 ghost use Rattle.rr_number.specs.Spans.{Ends, IsSpan};
 ghost use Rattle.rr_cover.specs.SpanNests.{at_span, is_ahead, standing, Only, IsBound, IsNest};
 ghost use Rattle.rr_cover.specs.NestParts.{with_before, with_after, IsTakenApart, Precedes};
-ghost use Rattle.rr_cover.specs.NestParts.{CanJoin, Joins, HoldsSame, Lacks, Gains, Loses, Puts};
+ghost use Rattle.rr_cover.specs.NestParts.{CanJoin, Joins, HoldsSame, Lacks, Gains, Loses};
+ghost use Rattle.rr_cover.specs.NestParts.{PutsInNest};
 
 use super::bounds::Bounds;
 use super::reading::{is_ahead, is_same};
@@ -15,7 +16,7 @@ use rr_number::Span;
 use std::alloc::Global;
 use std::mem;
 
-/// How many levels the tree has.
+/// How many levels the tree has, as its root says.
 fn height<T>(nest: &Nest<T>) -> u8 {
     match nest {
         Nest::Empty => 0,
@@ -61,7 +62,7 @@ fn open<T: Drop>(nest: Nest<T>) -> Option<(Box<Node<T>>, Nest<T>, Nest<T>)>
     }
 }
 
-/// What a node with the span knows of the last numbers from it on.
+/// The bounds of a node with the span and the two sides.
 fn bounds_over<T>(span: Span, before: &Nest<T>, after: &Nest<T>) -> Bounds
     requires { IsNest before.now × IsNest after.now }
     ensures { IsBound result span before.now after.now }
@@ -204,8 +205,8 @@ fn rebalance_root<T: Drop>(nest: &mut Nest<T>)
     }
 }
 
-/// Lets a last number into the bounds of the side before, and tells whether that side rose to the
-/// node's height.
+/// Widens the node's bounds so that the side before may have the last number, and tells whether
+/// that side rose to the node's height.
 fn grow_before<T>(node: &mut Node<T>, last: u32) -> bool
     ensures { node.new ≡ record node.old { bounds = with_before node.old.bounds last } }
 {
@@ -213,8 +214,8 @@ fn grow_before<T>(node: &mut Node<T>, last: u32) -> bool
     node.height <= height(&node.before)
 }
 
-/// Lets a last number into the bounds of the side after, and tells whether that side rose to the
-/// node's height.
+/// Widens the node's bounds so that the side after may have the last number, and tells whether
+/// that side rose to the node's height.
 fn grow_after<T>(node: &mut Node<T>, last: u32) -> bool
     ensures { node.new ≡ record node.old { bounds = with_after node.old.bounds last } }
 {
@@ -281,7 +282,7 @@ fn split_first<T: Drop>(
     (first, rest)
 }
 
-/// Two trees as one.
+/// Two trees as one: the spans of the first stand ahead of those of the second.
 fn join<T: Drop>(before: Nest<T>, after: Nest<T>) -> Nest<T>
     requires order { Precedes before after }
     requires nests { IsNest before × IsNest after }
@@ -304,7 +305,7 @@ fn into_value<T: Drop>(node: Node<T>) -> T
     value
 }
 
-/// The tree without a span, and the value that stood there.
+/// The value that stands at the span, and the tree without it.
 fn take_out<T: Drop>(nest: Nest<T>, span: Span) -> (Option<T>, Nest<T>)
     requires { IsNest nest }
     ensures value { result.0 ≡ standing nest span }
@@ -331,7 +332,7 @@ fn take_out<T: Drop>(nest: Nest<T>, span: Span) -> (Option<T>, Nest<T>)
 fn replace<T: Drop>(nest: &mut Nest<T>, span: Span, value: T) -> Result<T, T>
     requires { IsNest nest.old }
     ensures stood { IfOk result (λ old. standing nest.old span ≡ Some old) }
-    ensures puts { Puts nest.old span value nest.new result }
+    ensures puts { PutsInNest nest.old span value nest.new result }
     ensures missing { OnErr result (standing nest.old span ≡ None) }
     ensures kept { (s : Ends) → is_some (standing nest.new s) ≡ is_some (standing nest.old s) }
 {
@@ -354,7 +355,7 @@ fn replace<T: Drop>(nest: &mut Nest<T>, span: Span, value: T) -> Result<T, T>
 fn add<T: Drop>(nest: &mut Nest<T>, alloc: Global, span: Span, value: T) -> Result<(), T>
     requires order { IsNest nest.old }
     requires missing { standing nest.old span ≡ None }
-    ensures { Puts nest.old span value nest.new result }
+    ensures { PutsInNest nest.old span value nest.new result }
 {
     let node = Node {
         span,
@@ -387,7 +388,7 @@ pub(super) fn set<T: Drop>(
 ) -> Result<Option<T>, T>
     requires { IsNest nest.old }
     ensures stood { IfOk result (λ old. old ≡ standing nest.old span) }
-    ensures puts { Puts nest.old span value nest.new result }
+    ensures puts { PutsInNest nest.old span value nest.new result }
 {
     let value = match replace(nest, span, value) {
         Ok(old) => return Ok(Some(old)),

@@ -1,26 +1,48 @@
-//! Listing the spans of a search tree.
+//! Listing the spans of the search tree of a nest.
 
 ghost use Rattle.std.specs.Prelude.{◌≡◌, ◌||◌, ◌&&◌, is_some, OnOk};
-ghost use Rattle.std.specs.List.{list_any};
+ghost use Rattle.std.specs.List.Sorted.{IsStrictlySortedBy};
 ghost use Rattle.std.specs.Ordering.{eq_by_cmp};
 ghost use Rattle.rr_number.specs.Spans.{Ends, covers, span_cmp};
+ghost use Rattle.rr_cover.specs.NestParts.{lists_span};
 ghost use Rattle.rr_cover.specs.SpanNests.{standing, IsNest};
 
 use super::Nest;
-use crate::in_order::push_if;
 use rr_number::Span;
 use std::alloc::AllocError;
 
-/// Lists the spans that cover the span. A part that reaches its last number and begins in time has
-/// one.
+/// Puts the span at the end of the list, if it is wanted.
+fn push_if(wanted: bool, span: Span, out: &mut Vec<Span>) -> Result<(), AllocError>
+    ensures ok { OnOk result ((u : Ends) → lists_span out.new.items u
+        ≡ (lists_span out.old.items u || (eq_by_cmp span_cmp u span && wanted))) }
+{
+    if wanted {
+        out.push(span)?;
+    }
+    Ok(())
+}
+
+/// Puts the list in order of first, then last number, each span once. The tree has the greatest of
+/// the spans with one first number first, so its order is another. It has no span twice: dropping
+/// repeats spares a proof of that.
+pub(super) fn put_in_order(spans: &mut Vec<Span>)
+    ensures rising { IsStrictlySortedBy span_cmp spans.new.items }
+    ensures same { (u : Ends) → lists_span spans.new.items u ≡ lists_span spans.old.items u }
+{
+    spans.sort_unstable();
+    spans.dedup();
+}
+
+/// Puts the spans of a tree that cover the span at the end of the list. Parts are passed by if none
+/// of their spans reaches its last number, or all begin after its first.
 pub(super) fn push_covering<T>(
     nest: &Nest<T>,
     span: Span,
     out: &mut Vec<Span>,
 ) -> Result<(), AllocError>
     requires { IsNest nest.now }
-    ensures ok { OnOk result ((u : Ends) → list_any (eq_by_cmp span_cmp u) out.new.items
-        ≡ (list_any (eq_by_cmp span_cmp u) out.old.items
+    ensures ok { OnOk result ((u : Ends) → lists_span out.new.items u
+        ≡ (lists_span out.old.items u
         || (is_some (standing nest.now u) && covers u span))) }
 {
     match nest {
@@ -39,16 +61,16 @@ pub(super) fn push_covering<T>(
     }
 }
 
-/// Lists the spans that lie inside the span. A part that begins within it and has a last number
-/// within it has one.
+/// Puts the spans of a tree that lie inside the span at the end of the list. Parts are passed by if
+/// all of their spans end after it, or begin outside it.
 pub(super) fn push_inside<T>(
     nest: &Nest<T>,
     span: Span,
     out: &mut Vec<Span>,
 ) -> Result<(), AllocError>
     requires { IsNest nest.now }
-    ensures ok { OnOk result ((u : Ends) → list_any (eq_by_cmp span_cmp u) out.new.items
-        ≡ (list_any (eq_by_cmp span_cmp u) out.old.items
+    ensures ok { OnOk result ((u : Ends) → lists_span out.new.items u
+        ≡ (lists_span out.old.items u
         || (is_some (standing nest.now u) && covers span u))) }
 {
     match nest {

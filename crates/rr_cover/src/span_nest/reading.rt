@@ -1,4 +1,4 @@
-//! Looking spans up in a search tree.
+//! Looking spans up in the search tree of a nest.
 
 ghost use Rattle.std.specs.Prelude.{◌≡◌, ◌+◌, true, false, nat_le, is_some, IfSome};
 ghost use Rattle.std.specs.Prelude.{IfNone};
@@ -12,7 +12,8 @@ ghost use Rattle.rr_cover.specs.NestParts.{SomeCrosses, NoneCrosses};
 use super::{Nest, Node};
 use rr_number::Span;
 
-/// Whether a span stands ahead of another: outer spans stand ahead of those inside them.
+/// Whether a span stands ahead of another: it begins before it, or begins with it and ends after
+/// it. So outer spans stand ahead of those inside them.
 pub(super) fn is_ahead(span: Span, other: Span) -> bool
     ensures { result ≡ is_ahead span other }
 {
@@ -46,10 +47,10 @@ pub(super) fn find<T>(nest: &Nest<T>, span: Span) -> Option<&T>
 }
 
 /// The node of the last span in order of those that begin below a number and reach another one.
-/// Where all spans of a part begin below it, the greatest last numbers tell which side to take, so
-/// one way down is gone.
+/// Where all spans of a part begin below it, the greatest last numbers tell which side to take: so
+/// the search goes down one way only.
 #[cycle(reaching)]
-pub(super) fn last_reaching<T>(nest: &Nest<T>, below: u64, to: u64) -> Option<&Node<T>>
+fn last_reaching<T>(nest: &Nest<T>, below: u64, to: u64) -> Option<&Node<T>>
     requires { IsNest nest.now }
     ensures found { IfSome result
         (λ node. IsLastReaching nest.now below to node.now.span node.now.value) }
@@ -70,15 +71,10 @@ pub(super) fn last_reaching<T>(nest: &Nest<T>, below: u64, to: u64) -> Option<&N
     }
 }
 
-/// The same of a side that has no last number above a greatest one: it is looked at only where that
-/// reaches.
+/// The same node of a side, whose last numbers are at most `greatest`. Where that does not reach,
+/// the side is not looked at.
 #[cycle(reaching)]
-pub(super) fn last_reaching_in<T>(
-    side: &Nest<T>,
-    greatest: u32,
-    below: u64,
-    to: u64,
-) -> Option<&Node<T>>
+fn last_reaching_in<T>(side: &Nest<T>, greatest: u32, below: u64, to: u64) -> Option<&Node<T>>
     requires order { IsNest side.now }
     requires bound { Only (λ s. nat_le s.last greatest) side.now }
     ensures found { IfSome result

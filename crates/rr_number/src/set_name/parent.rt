@@ -1,4 +1,4 @@
-//! The parents of sets.
+//! What the name of a set says to be above the set, as `AS64496` is above `AS64496:AS-X`.
 
 ghost use Rattle.std.specs.Prelude.{◌≡◌, IfOk};
 ghost use Rattle.std.specs.List.{list_all};
@@ -12,19 +12,20 @@ use crate::name_text::NameText;
 use rr_bytes::cut_at;
 use std::alloc::{AllocError, Global};
 
-/// What all components of a set's name but the last name (RFC 2622, 5; RFC 2725, 9).
+/// What is above a set: what its name without the last component names (RFC 2622, 5; RFC 2725, 9).
 #[derive(Debug, PartialEq, Eq, Drop)]
 pub enum Parent {
-    /// They are one AS number: its aut-num.
+    /// One AS number is left: its aut-num.
     Number(AsNumber),
-    /// They are a set's name: that set.
+    /// A set's name is left: that set.
     Set(SetName),
-    /// They are several AS numbers alone, which name nothing.
+    /// Several AS numbers alone are left, which name nothing.
     Bare,
 }
 
 impl SetName {
-    /// What all components but the last name; `None` where there is one component.
+    /// What the name without its last component names; `None` where it has one component. The error
+    /// is that memory ran out.
     pub fn parent(&self, alloc: Global) -> Result<Option<Parent>, AllocError>
         ensures { IfOk result (λ parent. parent ≡ parent_of self.now) }
     {

@@ -29,7 +29,7 @@ pub fn spans_are_apart_or_nested_or_cross()
     ensures nested { ApartOrNested }
 {}
 
-/// The size counts the numbers, and a cover is larger than what it covers.
+/// The size counts the numbers, and a span is larger than any other that it covers.
 pub fn size_counts_numbers()
     ensures one { OneNumber }
     ensures add { SizesAdd }

@@ -37,6 +37,7 @@ pub returns-in-Err-clause-fails : goal.returns-in-Err-clause-fails
 returns-in-Err-clause-fails g c =
     let rests = c.migrated_registry.ensures.looks.rests in record {
       none = record {
+        autocommit = rests.autocommit;
         was_open = rests.opened;
         kept = rests.same;
         crash = survives_weaker _ _ _ _ (λ clean trees none. absurd none) rests.crash;

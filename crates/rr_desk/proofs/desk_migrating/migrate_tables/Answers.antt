@@ -35,6 +35,7 @@ pub returns-in-Err-clause-fails : goal.returns-in-Err-clause-fails
 returns-in-Err-clause-fails g c =
     let fails = c.in-Err.ensures.fails in record {
       none = record {
+        autocommit = fails.autocommit;
         was_open = fails.was_open;
         kept = fails.kept;
         crash = grown_commits g.S.Store c.args.settings.now c.args.registry c.args.conn

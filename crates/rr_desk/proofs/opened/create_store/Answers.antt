@@ -8,7 +8,7 @@ use Rattle.rr_desk.proofs.opened.create_store.Goals as goal
 
 pub returns-in-Err-clause-fails : goal.returns-in-Err-clause-fails
 returns-in-Err-clause-fails g c = record {
-  none = untouched_back _ _ _;
+  none = untouched_back _ _ _ c.note_idle.ensures;
   not_empty = λ is clean. absurd (cc);
   store = λ error is. absurd (cc);
   untabled = λ error is. absurd (cc);
@@ -47,6 +47,7 @@ pub returns-in-Ok-clause-fails : goal.returns-in-Ok-clause-fails
 returns-in-Ok-clause-fails g c =
     IfErr-weaker c.create.result _ _ (λ e fails. record {
       none = record {
+        autocommit = fails.autocommit;
         was_open = fails.was_open;
         kept = fails.kept;
         crash = left_as g.S.Store c.args.conn e.1 (λ db filled.

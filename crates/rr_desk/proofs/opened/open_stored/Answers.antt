@@ -41,11 +41,12 @@ pub returns-in-Err-from_objects-clause-fails : goal.returns-in-Err-from_objects-
 returns-in-Err-from_objects-clause-fails g c =
     let opens = c.in-Ok.ensures.opens in record {
       none = record {
-        was_open = rw c.close.ensures (λ clean on. opens.was_open clean);
-        kept = rw c.close.ensures (λ clean on. opens.same clean);
-        crash = rw c.close.ensures opens.crash;
+        autocommit = c.close.ensures.autocommit;
+        was_open = rw c.close.ensures.same (λ clean on. opens.was_open clean);
+        kept = rw c.close.ensures.same (λ clean on. opens.same clean);
+        crash = rw c.close.ensures.same opens.crash;
       };
-      why = rw (c.refused.ensures, c.close.ensures)
+      why = rw (c.refused.ensures, c.close.ensures.same)
           (λ clean.
           let stored = rw (opens.same clean) at opens.stored clean in record {
             wrong_version = λ number is. absurd (no_version c.in-Err-from_objects.fault number is);
@@ -63,6 +64,7 @@ pub returns-in-Err-clause-fails : goal.returns-in-Err-clause-fails
 returns-in-Err-clause-fails g c =
     let fails = c.in-Err.ensures.fails in record {
       none = record {
+        autocommit = fails.rests.autocommit;
         was_open = fails.rests.opened;
         kept =
             fails.rests.same;

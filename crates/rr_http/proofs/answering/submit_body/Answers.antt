@@ -7,10 +7,5 @@ returns-clause-submits g c =
     c.new-body.ensures.rest c.new-body.ensures.missing c.new-body.ensures.failed
     c.new-body.ensures.reads (c.submit.ensures.submits c.requires.running)
 
-pub returns-clause-keeps : goal.returns-clause-keeps
-returns-clause-keeps g c = record {
-  running = c.submit.ensures.running c.requires.running;
-  leaves = c.submit.ensures.leaves;
-  kept = c.submit.ensures.kept c.requires.running;
-  of_source = c.submit.ensures.of_source;
-}
+pub returns-clause-leaves : goal.returns-clause-leaves
+returns-clause-leaves g c = c.submit.ensures.leaves c.requires.running

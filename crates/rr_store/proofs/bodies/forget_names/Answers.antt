@@ -2,7 +2,7 @@ use Rattle.std.proofs.Common.{◌∙◌, arith, refl, sym, subst}
 use Rattle.std.specs.List.{AllByRecursion}
 use Rattle.sqlite.specs.Held.{state}
 use Rattle.sqlite.specs.State.{HasCleanDisk}
-use Rattle.rr_store.specs.Contents.{Alters, IsTidy, Removes, is_name_among}
+use Rattle.rr_store.specs.Contents.{Alters, IsTidy, RemovesRows, is_name_among}
 use Rattle.rr_store.specs.Maps.{AreNamesOf, AreOfObjects}
 use Rattle.rr_store.specs.StepParts.{IsOver}
 use Rattle.rr_store.proofs.BodyLemmas.{forgotten}
@@ -37,7 +37,7 @@ returns g c = record {
       c.in_ok-names.ensures.names in
       let gone = subst (λ names. Alters (state g.S.Store c.rows_of_key.new.tx.conn.now).now
       (state g.S.Store c.remove_names.new.tx.conn.now).now 4
-      (Removes (is_name_among c.args.class c.args.key.now names)))
+      (RemovesRows (is_name_among c.args.class c.args.key.now names)))
       c.deref-2.ensures.value second in
       forgotten c.args.class c.args.key.now c.in_ok-names.names.items c.in_ok-rows.rows.items
       (state g.S.Store c.args.tx.now.conn.now).now

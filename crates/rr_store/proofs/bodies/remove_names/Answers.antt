@@ -3,7 +3,7 @@ use Rattle.std.proofs.Common.{arith}
 use Rattle.std.proofs.Math.Seq.{take-length}
 use Rattle.std.proofs.lemmas.List.{take_more}
 use Rattle.sqlite.specs.Held.{state}
-use Rattle.rr_store.specs.Contents.{Alters, Removes, is_name_among}
+use Rattle.rr_store.specs.Contents.{Alters, RemovesRows, is_name_among}
 use Rattle.rr_store.proofs.AddingLemmas.{HasAltered, none_removed, removed_more}
 use Rattle.rr_store.proofs.bodies.remove_names.Goals as goal
 
@@ -22,7 +22,7 @@ loop-name-preserved g c =
     ∙ ap (λ n. take at names ++ n ∷ []) (sym c.name-item.is) in (
       c.in_ok-_count.ensures.same_reference ∙ c.loop-name.invariant.0,
       subst (λ ns. HasAltered g.S.Store c.args.tx.now.conn.now c.remove_name.new.tx.conn.now
-          (Removes (among ns))) (sym grown)
+          (RemovesRows (among ns))) (sym grown)
           (removed_more c.args.class c.args.key.now g.S.Store c.args.tx.now.conn.now
           c.loop-name.tx.conn.now c.remove_name.new.tx.conn.now (take at names) name
           c.loop-name.invariant.1
@@ -43,7 +43,7 @@ returns g c = record {
       record {
         made = λ over clean on. subst (λ ns. Alters (state g.S.Store c.args.tx.now.conn.now).now
             (state g.S.Store c.loop-name.tx.conn.now).now 4
-            (Removes (is_name_among c.args.class c.args.key.now ns))) all
+            (RemovesRows (is_name_among c.args.class c.args.key.now ns))) all
             (c.loop-name.invariant.1.done over clean on);
         goes_on = c.loop-name.invariant.1.step;
         kept = c.loop-name.invariant.1.kept;

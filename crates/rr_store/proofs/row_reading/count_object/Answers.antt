@@ -18,6 +18,7 @@ returns-in_err-rows g c =
     rw (exit.1, exit.2) (λ over. not_counted g.S.Store object_numbers [] object_numbers_told old
     c.query.follows.lender-at-none c.note_committed.ensures.committed
     (λ clean. plain_of old.schema object_numbers _ object_numbers_is (over clean))
+    (refused.mode (rw c.conn.view_is at c.conn.invariant))
     c.in_err-rows.field-0.0 refused.err refused.survives 2)
 
 pub count_numbered-requires : goal.count_numbered-requires
@@ -38,7 +39,7 @@ returns g c over =
     let all : Counts g.S.Store 2 old new c.count_numbered.result =
     counted g.S.Store object_numbers [] object_numbers_told old new
     c.note_committed.ensures.committed begun b
-    over c.count_numbered.result
+    (c.in_ok-rows.ensures.mode c.conn.invariant) over c.count_numbered.result
     c.count_numbered.ensures.streams.left _ _ object_numbers_is refl 2 numbers_object
     (λ tidy. tidy.object) c.count_numbered.ensures.numbered c.count_numbered.ensures.fails in
     search rules

@@ -17,6 +17,7 @@ returns-clause-looks g c plain =
     c.note_committed.ensures.committed in
     record {
       rests = record {
+        autocommit = c.query_all.ensures.mode c.conn.invariant;
         opened = λ clean on. of_both c.query_all.result _
             (on_each c.query_all.result _ _ (ok clean)
             (λ rows h. shown_open c.args.sql.now given old new rows.items h))

@@ -25,6 +25,7 @@ returns-in_err-rows g c =
     rw (exit.1, exit.2) (λ over. not_asked g.S.Store select_named [] select_named_told old
     c.query.follows.lender-at-none c.note_committed.ensures.committed
     (λ clean. plain_of old.schema select_named _ select_named_is (over clean))
+    (refused.mode (rw c.conn.view_is at c.conn.invariant))
     c.in_err-rows.field-0.0 refused.err refused.survives _ _)
 
 pub take_all_names-requires : goal.take_all_names-requires
@@ -49,7 +50,7 @@ returns g c over =
     (λ db are. IsTrue are → NamesAre c.args.version c.args.objects.now db) (HasBadRow (λ _. ⊥)) =
     inspected g.S.Store select_named [] select_named_told old new
     c.note_committed.ensures.committed begun b
-    c.take_all_names.result
+    (c.in_ok-rows.ensures.mode c.conn.invariant) c.take_all_names.result
     (λ db are. IsTrue are → NamesAre c.args.version c.args.objects.now db) (HasBadRow (λ _. ⊥))
     c.take_all_names.ensures.streams.left
     (λ clean. IfOk-weaker c.take_all_names.result _ _ (λ are h on.

@@ -29,6 +29,7 @@ returns-in_err-rows-clause-inspects g c =
     (select_naming_told c.args.name.now) old
     c.query.follows.lender-at-none c.note_committed.ensures.committed
     (λ clean. plain_of old.schema select_naming _ select_naming_is (over clean))
+    (refused.mode (rw c.conn.view_is at c.conn.invariant))
     c.in_err-rows.field-0.0 refused.err refused.survives _ _)
 
 pub take_objects-requires : goal.take_objects-requires
@@ -57,7 +58,7 @@ returns-clause-inspects g c over =
     inspected g.S.Store select_naming (Text c.args.name.now ∷ [])
     (select_naming_told c.args.name.now) old new
     c.note_committed.ensures.committed begun b
-    c.take_objects.result
+    (c.in_ok-rows.ensures.mode c.conn.invariant) c.take_objects.result
     (λ db objects. NamedPointsTo c.args.source.now c.args.name.now objects.items db)
     (HasBadRow (NamedPointsToNone c.args.source.now c.args.name.now))
     c.take_objects.ensures.streams.left

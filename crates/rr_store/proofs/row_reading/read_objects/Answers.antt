@@ -25,6 +25,7 @@ returns-in_err-rows-clause-inspects g c =
     rw (exit.1, exit.2) (λ over. not_asked g.S.Store select_object [] select_object_told old
     c.query.follows.lender-at-none c.note_committed.ensures.committed
     (λ clean. plain_of old.schema select_object _ select_object_is (over clean))
+    (refused.mode (rw c.conn.view_is at c.conn.invariant))
     c.in_err-rows.field-0.0 refused.err refused.survives _ _)
 
 pub take_objects-requires : goal.take_objects-requires
@@ -51,7 +52,7 @@ returns-clause-inspects g c over =
     (HasBadRow (TableHoldsNone c.args.version c.args.source.now)) =
     inspected g.S.Store select_object [] select_object_told old new
     c.note_committed.ensures.committed begun b
-    c.take_objects.result
+    (c.in_ok-rows.ensures.mode c.conn.invariant) c.take_objects.result
     (λ db objects. TableGives c.args.version c.args.source.now objects.items db)
     (HasBadRow (TableHoldsNone c.args.version c.args.source.now))
     c.take_objects.ensures.streams.left

@@ -12,6 +12,6 @@ returns g c =
     transacted g.S.Store c.args.conn.now c.transaction-tx.result.conn.now
     c.add_rows-work.new.tx.conn.now c.end.new.tx.0 c.add_rows-work.result c.end.result IsTidy
     (IsAdded (c.args.entry.now ∷ [])) (rw c.conn.view_is at c.transaction-tx.ensures.begun)
-    (λ clean on. (c.requires clean on).rows.tidy) c.add_rows-work.ensures.step c.end.ensures
+    (λ clean on. (c.requires.held clean on).rows.tidy) c.add_rows-work.ensures.step c.end.ensures
     c.note_committed.ensures.committed in
     search rules

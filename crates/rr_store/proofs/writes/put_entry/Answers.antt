@@ -8,7 +8,7 @@ use Rattle.rr_store.proofs.writes.put_entry.Goals as goal
 pub put_rows-work-requires : goal.put_rows-work-requires
 put_rows-work-requires g c =
     begun_over g.S.Store c.args.conn.now c.transaction-tx.result.conn.now AreOfObjects
-    (rw c.conn.view_is at c.transaction-tx.ensures.begun) c.requires
+    (rw c.conn.view_is at c.transaction-tx.ensures.begun) c.requires.held
 
 pub returns : goal.returns
 returns g c =
@@ -17,5 +17,5 @@ returns g c =
     transacted g.S.Store c.args.conn.now c.transaction-tx.result.conn.now
     c.put_rows-work.new.tx.conn.now c.end.new.tx.0 c.put_rows-work.result c.end.result AreOfObjects
     (IsPut c.args.entry.now) (rw c.conn.view_is at c.transaction-tx.ensures.begun)
-    c.requires c.put_rows-work.ensures.step c.end.ensures c.note_committed.ensures.committed in
+    c.requires.held c.put_rows-work.ensures.step c.end.ensures c.note_committed.ensures.committed in
     search rules

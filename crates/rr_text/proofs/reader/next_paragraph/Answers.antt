@@ -22,7 +22,13 @@ pub returns-in-None-clause-none : goal.returns-in-None-clause-none
 returns-in-None-clause-none c = λ _. entries_empty _ c.in-None.ensures.none
 
 pub returns-in_ok-paragraph-in-Some-clause-found : goal.returns-in_ok-paragraph-in-Some-clause-found
-returns-in_ok-paragraph-in-Some-clause-found c =
-    entries_more _ _ _ c.in-Some.ensures.found.3
-    ∙ ap (λ e. e ∷ entries (drop c.in-Some.place c.args.text.now))
-    c.in_ok-paragraph-in-Some.ensures.found.2
+returns-in_ok-paragraph-in-Some-clause-found c = record {
+  first = entries_more _ _ _ c.in-Some.ensures.found.3
+      ∙ ap (λ e. e ∷ entries (drop c.in-Some.place c.args.text.now))
+      c.in_ok-paragraph-in-Some.ensures.found.2;
+  place = c.in-Some.ensures.after;
+  later = c.in-Some.ensures.found.0;
+  within = c.in-Some.ensures.found.1;
+  filled = c.in_ok-paragraph-in-Some.ensures.found.0;
+  fields = c.in_ok-paragraph-in-Some.ensures.found.1;
+}

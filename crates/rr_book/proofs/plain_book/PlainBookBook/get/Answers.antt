@@ -6,7 +6,7 @@ use Rattle.rr_book.proofs.plain_book.PlainBookBook.get.Goals as goal
 
 pub returns : goal.returns
 returns c = record {
-  found = let found = rw c.deref.ensures.value at c.find_key.ensures in
+  found = let found = rw c.deref.ensures.value at c.find_by_key.ensures in
       found ∙ sym (get_of_book _ _ c.self.invariant.book.ordered)
       ∙ ap (λ r. get r c.args.key.now) c.self.view_is;
   sound = subst Sound c.self.view_is c.self.invariant.book.sound;

@@ -5,6 +5,6 @@ use Rattle.rr_book.proofs.plain_book.PlainBookBook.maintainer.Goals as goal
 
 pub returns : goal.returns
 returns c =
-    let found = rw c.deref.ensures.value at c.find_mntner_in_order.ensures in
+    let found = rw c.deref.ensures.value at c.find_mntner.ensures in
     found ∙ sym (maintainer_of_book _ _ c.self.invariant.book.ordered)
     ∙ ap (λ r. maintainer r c.args.name.now) c.self.view_is

@@ -5,4 +5,4 @@ pub returns : goal.returns
 returns c =
     let objects = told _ _ c.deref.result.now c.self.view_is c.self.invariant.book.ordered
     c.deref.ensures.value in
-    rw (← objects) c.some_names.ensures
+    rw (← objects) c.is_named_by_another.ensures

@@ -19,9 +19,9 @@ use Rattle.rr_book.proofs.plain_book.PlainBookKeeper.insert.Goals as goal
 
 pub enter-requires : goal.enter-requires
 enter-requires c =
-    let found = rw (c.deref.ensures.value, c.key.ensures.value) at c.find_key-standing.ensures in
+    let found = rw (c.deref.ensures.value, c.key.ensures.value) at c.find_by_key-standing.ensures in
     fresh c.self.inside.objects.items c.self.inside.referrers.keys c.self.invariant c.args.object
-    (λ n. option_map_or (names_set n) (option_copied c.find_key-standing.result) false)
+    (λ n. option_map_or (names_set n) (option_copied c.find_by_key-standing.result) false)
     (λ n. ap (λ x. option_map_or (names_set n) x false) found)
 
 pub invariant_of-self : goal.invariant_of-self
@@ -31,7 +31,7 @@ invariant_of-self c = indexed_same c.self.inside.objects.items c.self.inside.ref
 pub invariant_of-self-in-Ok-Some : goal.invariant_of-self-in-Ok-Some
 invariant_of-self-in-Ok-Some c =
     let o = c.args.object in
-    let found = rw (c.deref.ensures.value, c.key.ensures.value) at c.find_key-standing.ensures in
+    let found = rw (c.deref.ensures.value, c.key.ensures.value) at c.find_by_key-standing.ensures in
     let before : (n : List ℕ) → contains (slice_cmp nat_cmp) c.in_ok-sets.sets.before n
     ≡ option_map_or (names_set n) (find (λ x. eq_by_cmp key_cmp o.key x.key)
     c.self.inside.objects.items) false =
@@ -55,7 +55,7 @@ returns-in-Ok-Some-clause-ok c =
 pub invariant_of-self-in-Ok-None : goal.invariant_of-self-in-Ok-None
 invariant_of-self-in-Ok-None c =
     let o = c.args.object in
-    let found = rw (c.deref.ensures.value, c.key.ensures.value) at c.find_key-standing.ensures in
+    let found = rw (c.deref.ensures.value, c.key.ensures.value) at c.find_by_key-standing.ensures in
     let before : (n : List ℕ) → contains (slice_cmp nat_cmp) c.in_ok-sets.sets.before n
     ≡ option_map_or (names_set n) (find (λ x. eq_by_cmp key_cmp o.key x.key)
     c.self.inside.objects.items) false =
@@ -77,7 +77,7 @@ returns-in-Ok-None-clause-ok c =
 pub invariant_of-self-in-Err : goal.invariant_of-self-in-Err
 invariant_of-self-in-Err c =
     let o = c.args.object in
-    let found = rw (c.deref.ensures.value, c.key.ensures.value) at c.find_key-standing.ensures in
+    let found = rw (c.deref.ensures.value, c.key.ensures.value) at c.find_by_key-standing.ensures in
     let before : (n : List ℕ) → contains (slice_cmp nat_cmp) c.in_ok-sets.sets.before n
     ≡ option_map_or (names_set n) (find (λ x. eq_by_cmp key_cmp o.key x.key)
     c.self.inside.objects.items) false =

@@ -5,7 +5,7 @@ use Rattle.rr_desk.proofs.desk.Desk.create.Goals as goal
 
 pub returns-in_default-clause-fails : goal.returns-in_default-clause-fails
 returns-in_default-clause-fails g c = record {
-  none = untouched_back _ _ _;
+  none = untouched_back _ _ _ c.note_idle.ensures;
   not_empty = λ is clean. absurd (cc);
   store = λ error is. absurd (cc);
   untabled = λ error is. absurd (cc);

@@ -46,7 +46,7 @@ returns-in-Err-create_stored-clause-fails g c =
 
 pub returns-in-Err-clause-fails : goal.returns-in-Err-clause-fails
 returns-in-Err-clause-fails g c = record {
-  none = untouched_back _ _ _;
+  none = untouched_back _ _ _ c.note_idle.ensures;
   why = rw (← c.source.ensures.source) c.in-Err.ensures.why;
   not_empty = λ is. absurd (subst IsNotOfStore is c.in-Err.ensures.not_of_store);
   store = λ error is. absurd (subst IsNotOfStore is c.in-Err.ensures.not_of_store);

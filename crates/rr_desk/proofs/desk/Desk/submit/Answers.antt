@@ -16,15 +16,17 @@ pub returns-clause-submits : goal.returns-clause-submits
 returns-clause-submits g c = λ running. rw (← c.source-source.ensures.source)
     (c.submit.ensures.submits running)
 
-pub returns-clause-of_source : goal.returns-clause-of_source
-returns-clause-of_source g c =
-    submitted_of_source g.S.Store c.args.self.now.settings.source c.args.self.now.stored
-    c.submit.new.ledger _ _ _ _ _
-    (λ stopped. (c.submit.ensures.stopped stopped).1)
-    (λ running. rw c.source-source.ensures.source at (c.submit.ensures.submits running))
-
-pub returns-clause-lasts : goal.returns-clause-lasts
-returns-clause-lasts g c = c.submit.ensures.lasts
+pub returns-clause-leaves : goal.returns-clause-leaves
+returns-clause-leaves g c = record {
+  runs_on = c.submit.ensures.running;
+  rows = c.submit.ensures.kept;
+  of_source = submitted_of_source g.S.Store c.args.self.now.settings.source c.args.self.now.stored
+      c.submit.new.ledger _ _ _ _ _
+      (λ stopped. (c.submit.ensures.stopped stopped).1)
+      (λ running. rw c.source-source.ensures.source at (c.submit.ensures.submits running));
+  lasts = c.submit.ensures.lasts;
+  settings = refl;
+}
 
 pub returns-clause-event : goal.returns-clause-event
 returns-clause-event g c = submission _ _ _ _ _ _ _ (record {
@@ -37,9 +39,5 @@ returns-clause-event g c = submission _ _ _ _ _ _ _ (record {
             refused.3,
       );
   submits = returns-clause-submits g c;
-  runs_on = c.submit.ensures.running;
-  lasts = c.submit.ensures.lasts;
-  rows = c.submit.ensures.kept;
-  settings = refl;
-  of_source = returns-clause-of_source g c;
+  leaves = returns-clause-leaves g c;
 })

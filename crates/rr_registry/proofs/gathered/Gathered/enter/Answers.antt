@@ -4,7 +4,8 @@ use Rattle.std.proofs.lemmas.Result.{err_from_is_err_and}
 use Rattle.rr_registry.proofs.Gathering.{is_duplicate}
 use Rattle.rr_registry.proofs.Held.{faulty, stands}
 use Rattle.rr_registry.specs.declared.load.LoadFault.TheVariants.{Memory, Overlap}
-use Rattle.rr_registry.specs.Loading.{is_crossed_by_some, is_key_of_some}
+use Rattle.rr_auth.specs.Registries.{is_crossed_by_some}
+use Rattle.rr_registry.specs.Loading.{is_key_of_some}
 use Rattle.rr_registry.proofs.gathered.Gathered.enter.Goals as goal
 
 pub returns-then-contains_key-clause-err : goal.returns-then-contains_key-clause-err

@@ -5,7 +5,7 @@ use Rattle.rr_object.specs.declared.key.Key.TheVariants.{AsBlock, Inetnum}
 use Rattle.rr_cover.specs.SpanMaps.{SpanMap}
 use Rattle.rr_registry.proofs.Held.{block_entered, blocks_cross, both_good, crossed_fault}
 use Rattle.rr_registry.proofs.Held.{inetnum_entered, inetnums_cross, rest_entered}
-use Rattle.rr_registry.specs.Loading.{is_crossed_by_some}
+use Rattle.rr_auth.specs.Registries.{is_crossed_by_some}
 use Rattle.rr_registry.specs.Private.{HoldsSpans, IsEntered}
 use Rattle.rr_registry.proofs.gathered.Spans.enter.Goals as goal
 

@@ -4,10 +4,13 @@ use Rattle.rr_object.specs.Objects.{lent}
 use Rattle.rr_store.proofs.store.Store.create.Goals as goal
 
 pub invariant_of-result : goal.invariant_of-result
-invariant_of-result g c clean on =
-    let store = (c.in-Ok.ensures.makes.done clean).rows in
-    filled_held (lent c.args.objects.now) (state g.S.Store c.create_where_vacant-made.new.conn).now
-    store.read store.filled
+invariant_of-result g c = record {
+  autocommit = c.in-Ok.ensures.makes.autocommit;
+  held = λ clean on.
+      let store = (c.in-Ok.ensures.makes.done clean).rows in
+      filled_held (lent c.args.objects.now)
+      (state g.S.Store c.create_where_vacant-made.new.conn).now store.read store.filled;
+}
 
 pub returns-in-Ok-clause-makes : goal.returns-in-Ok-clause-makes
 returns-in-Ok-clause-makes g c =
@@ -24,6 +27,7 @@ returns-in-Ok-clause-makes g c =
 pub returns-in-Err-clause-fails : goal.returns-in-Err-clause-fails
 returns-in-Err-clause-fails g c =
     let made = c.in-Err.ensures.makes in record {
+      autocommit = made.autocommit;
       was_open = made.opened;
       kept = made.kept;
       settled = c.note_committed.ensures.settled;

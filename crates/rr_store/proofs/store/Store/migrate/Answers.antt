@@ -4,10 +4,13 @@ use Rattle.rr_store.proofs.ObjectRows.{stored_held}
 use Rattle.rr_store.proofs.store.Store.migrate.Goals as goal
 
 pub invariant_of-result : goal.invariant_of-result
-invariant_of-result g c clean on =
-    let migrated = c.in-Ok.ensures.migrates.done clean in
-    stored_held c.args.source.now (migrated.objects ++ migrated.upper ∷ [])
-    (state g.S.Store c.migrate_rows-migrated.new.conn).now migrated.after
+invariant_of-result g c = record {
+  autocommit = c.in-Ok.ensures.migrates.autocommit;
+  held = λ clean on.
+      let migrated = c.in-Ok.ensures.migrates.done clean in
+      stored_held c.args.source.now (migrated.objects ++ migrated.upper ∷ [])
+      (state g.S.Store c.migrate_rows-migrated.new.conn).now migrated.after;
+}
 
 pub returns-in-Ok-clause-migrates : goal.returns-in-Ok-clause-migrates
 returns-in-Ok-clause-migrates g c =
@@ -22,6 +25,7 @@ returns-in-Ok-clause-migrates g c =
 pub returns-in-Err-clause-fails : goal.returns-in-Err-clause-fails
 returns-in-Err-clause-fails g c =
     let migrated = c.in-Err.ensures.migrates in record {
+      autocommit = migrated.autocommit;
       was_open = migrated.opened;
       kept = migrated.kept;
       settled = c.note_committed.ensures.settled;

@@ -5,10 +5,13 @@ use Rattle.rr_store.proofs.ObjectRows.{stored_held}
 use Rattle.rr_store.proofs.store.Store.open_all.Goals as goal
 
 pub invariant_of-result : goal.invariant_of-result
-invariant_of-result g c clean on =
-    subst AreOfObjects (sym (c.in-Ok.ensures.inspects.looks.same clean).0.now_is)
-    (stored_held c.args.source.now c.in-Ok.objects.items (state g.S.Store c.args.conn).now
-    (c.in-Ok.ensures.inspects.read clean))
+invariant_of-result g c = record {
+  autocommit = c.in-Ok.ensures.inspects.looks.rests.autocommit;
+  held = λ clean on.
+      subst AreOfObjects (sym (c.in-Ok.ensures.inspects.looks.same clean).0.now_is)
+      (stored_held c.args.source.now c.in-Ok.objects.items (state g.S.Store c.args.conn).now
+      (c.in-Ok.ensures.inspects.read clean));
+}
 
 pub returns-in-Ok-clause-opens : goal.returns-in-Ok-clause-opens
 returns-in-Ok-clause-opens g c =

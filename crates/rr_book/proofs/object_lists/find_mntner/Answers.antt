@@ -3,7 +3,7 @@ use Rattle.std.proofs.lemmas.Bool.{ltb-false, ltb-true}
 use Rattle.std.proofs.lemmas.Option.{slice_get_past, slice_get_read}
 use Rattle.rr_object.specs.declared.key.Key.TheVariants.{Mntner}
 use Rattle.rr_book.proofs.Places.{mntner_nowhere, mntner_there}
-use Rattle.rr_book.proofs.object_lists.find_mntner_in_order.Goals as goal
+use Rattle.rr_book.proofs.object_lists.find_mntner.Goals as goal
 use Rattle.rr_book.specs.Private.{place_of}
 
 pub returns-in-None : goal.returns-in-None

@@ -1,8 +1,8 @@
 use Rattle.std.proofs.Common.{◌≡◌, ℕ, ◌≤◌, List, [], ◌∷◌, ◌++◌, refl, sym, subst, ap, ◌∙◌}
 use Rattle.rr_auth.specs.Elements.{IsIn}
 use Rattle.rr_registry.proofs.Open.{passed}
-use Rattle.rr_registry.specs.OpenSpanParts.{IsFalling, IsKept}
-use Rattle.rr_registry.proofs.open_spans.OpenSpans.pass.Goals as goal
+use Rattle.rr_registry.specs.OpenSpanParts.{NeverRises, IsKept}
+use Rattle.rr_registry.proofs.open_spans.OpenSpans.go_over.Goals as goal
 
 pub returns : goal.returns
 returns c = λ gone more held rises joined free.
@@ -13,7 +13,7 @@ returns c = λ gone more held rises joined free.
     (held.within span.first (λ t is. (rises t is).0)) in
     let on = subst (λ n. IsKept gone n now.outer.items now.level.items)
     (sym c.in_ok-move_on.ensures.first) (c.in_ok-move_on.ensures.kept gone up held.kept) in
-    let reached = subst (λ (xs : List ℕ). IsFalling xs → (x : ℕ) → IsIn x xs → span.last ≤ x)
+    let reached = subst (λ (xs : List ℕ). NeverRises xs → (x : ℕ) → IsIn x xs → span.last ≤ x)
     c.deref.ensures.value (rw c.last.ensures.value at c.if-not-reach.ensures refl) in
     let level = c.in_ok-push.ensures.items ∙ ap (λ n. now.level.items ++ n ∷ [])
     c.last-2.ensures.value in

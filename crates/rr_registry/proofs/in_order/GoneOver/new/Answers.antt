@@ -1,5 +1,5 @@
 use Rattle.std.proofs.Common.{refl}
-use Rattle.rr_registry.proofs.in_order.Passed.new.Goals as goal
+use Rattle.rr_registry.proofs.in_order.GoneOver.new.Goals as goal
 
 pub returns : goal.returns
 returns c = record {

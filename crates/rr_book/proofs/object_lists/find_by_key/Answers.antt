@@ -2,7 +2,7 @@ use Rattle.std.proofs.Common.{◌∙◌, length, refl, sym, true, false}
 use Rattle.std.proofs.lemmas.Bool.{ltb-false, ltb-true}
 use Rattle.std.proofs.lemmas.Option.{slice_get_past, slice_get_read}
 use Rattle.rr_book.proofs.Places.{found_nowhere, found_there}
-use Rattle.rr_book.proofs.object_lists.find_key.Goals as goal
+use Rattle.rr_book.proofs.object_lists.find_by_key.Goals as goal
 use Rattle.rr_book.specs.Private.{place_of}
 
 pub returns-in-None : goal.returns-in-None

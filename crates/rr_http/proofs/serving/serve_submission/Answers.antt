@@ -1,6 +1,6 @@
 use Rattle.std.proofs.Common.{inl, inr, refl, sym, ◌∙◌}
 use Rattle.rr_http.proofs.Asides.{replied, taken_in}
-use Rattle.rr_http.proofs.serving.take_in.Goals as goal
+use Rattle.rr_http.proofs.serving.serve_submission.Goals as goal
 
 pub returns-then-stopped : goal.returns-then-stopped
 returns-then-stopped g c =

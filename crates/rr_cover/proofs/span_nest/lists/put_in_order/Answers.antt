@@ -5,7 +5,7 @@ use Rattle.std.specs.List.Sorted.{IsStrictlySortedBy}
 use Rattle.rr_number.specs.Spans.{Ends, span_cmp}
 use Rattle.rr_number.proofs.SpanOrder.{span_cmp_total}
 use Rattle.rr_cover.proofs.Ordered.{span_eq, span_eq_ties, sorted_kept}
-use Rattle.rr_cover.proofs.in_order.put_in_order.Goals as goal
+use Rattle.rr_cover.proofs.span_nest.lists.put_in_order.Goals as goal
 
 pub returns-clause-rising : goal.returns-clause-rising
 returns-clause-rising c =

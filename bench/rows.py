@@ -19,6 +19,7 @@ DESK_LIBRARIES = [
     "rr_number",
     "rr_object",
     "rr_registry",
+    "rr_store",
     "rr_text",
     "sqlite",
     "sqlite_std_file",

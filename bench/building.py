@@ -4,21 +4,26 @@ Each is proved and built in a repository of its own. Where the environment names
 IRRDESK_BENCH, that repository stands there and is kept, so that only what changed is built
 again."""
 import os
+import re
 import shutil
 import subprocess
 import sys
 
 TOP = os.path.dirname(os.path.dirname(os.path.abspath(__file__)))
+BENCH = os.path.join(TOP, "bench")
 PARTS = ["src", "specs", "proofs"]
 
 
 def libraries(path):
-    """What a crates.txt says: each crate and the libraries that it uses, lowest first."""
+    """What a list such as crates.txt says: each crate and the libraries that it uses."""
     if not os.path.exists(path):
         return {}
     with open(path) as listed:
         lines = [line.split("#")[0].partition(":") for line in listed if line.split("#")[0].strip()]
     return {name.strip(): uses.split() for name, _, uses in lines}
+
+
+PROGRAMS = libraries(os.path.join(BENCH, "programs.txt"))
 
 
 def below(known, uses):
@@ -56,9 +61,8 @@ def bring(crate, folder):
         )
 
 
-def build_ours(folder, name, uses, source):
-    """The program of this source over this repository's crates."""
-    folder = os.environ.get("IRRDESK_BENCH") or folder
+def lay_out(folder, name, uses, sources):
+    """A crate of these files, over copies of the crates of this repository that it uses."""
     known = libraries(os.path.join(TOP, "crates.txt"))
     wanted = below(known, uses)
     for crate in wanted:
@@ -66,24 +70,41 @@ def build_ours(folder, name, uses, source):
     program = os.path.join(folder, "crates", name)
     for part in ["src", "specs"]:
         os.makedirs(os.path.join(program, part), exist_ok=True)
-    with open(os.path.join(program, "src", "main.rt"), "w") as out:
-        out.write(source)
+    for file, text in sources.items():
+        with open(os.path.join(program, "src", file), "w") as out:
+            out.write(text)
     listed = os.path.join(folder, "crates.txt")
     lines = libraries(listed) | {crate: known[crate] for crate in wanted} | {name: uses}
     with open(listed, "w") as out:
         out.writelines(f"{crate}: {' '.join(lines[crate])}\n" for crate in lines)
+    return program
+
+
+def crate_name(program):
+    return re.sub(r"\W", "_", program)
+
+
+def source_of(program):
+    return read(os.path.join(BENCH, f"{program}.rt.txt"))
+
+
+def build_ours(folder, program):
+    """The program of bench/PROGRAM.rt.txt over this repository's crates."""
+    folder = os.environ.get("IRRDESK_BENCH") or folder
+    name = crate_name(program)
+    crate = lay_out(folder, name, PROGRAMS[program], {"main.rt": source_of(program)})
     made = subprocess.run(
         ["rt", "run", "--jobs", "1"],
-        cwd=program,
+        cwd=crate,
         stdin=subprocess.DEVNULL,
         capture_output=True,
         text=True,
         check=False,
     )
-    built = os.path.join(program, "out", name)
+    built = os.path.join(crate, "out", name)
     if not os.path.exists(f"{built}.stamp"):
         sys.exit(
-            f"{(made.stdout + made.stderr)[-2000:]}\nthe program {name} over this repository's"
+            f"{(made.stdout + made.stderr)[-2000:]}\nthe program {program} over this repository's"
             " crates was not built"
         )
     return built

@@ -10,22 +10,6 @@ import building
 STORE = os.path.join(building.TOP, "bench", "store")
 DIGEST = "ba7816bf8f01cfea414140de5dae2223b00361a396177a9cb410ff61f20015ad"
 REST = "mnt-by:         ROOT-MNT\nsource:         TEST\n\n"
-PORT_LIBRARIES = ["anyhow", "sqlite", "sqlite_std_file", "sqlite_store"]
-DESK = os.path.join(building.TOP, "bench", "desk")
-DESK_LIBRARIES = [
-    "anyhow",
-    "rr_desk",
-    "rr_io",
-    "rr_number",
-    "rr_object",
-    "rr_registry",
-    "rr_store",
-    "rr_text",
-    "sqlite",
-    "sqlite_std_file",
-    "sqlite_store",
-    "sqlite_trees",
-]
 
 
 def opening():
@@ -54,17 +38,13 @@ def write(path, paragraphs):
 
 def build_desk(folder):
     """The program that times a desk: its loads, openings, submissions, dumps and answers."""
-    return building.build_ours(
-        folder, "desk_times", DESK_LIBRARIES, building.read(os.path.join(DESK, "main.rt.txt"))
-    )
+    return building.build_ours(folder, "desk/main")
 
 
 def build_plain(folder):
     """The programs that write rows by statements alone: over the port, and in C over SQLite's
     library."""
-    port = building.build_ours(
-        folder, "port_times", PORT_LIBRARIES, building.read(os.path.join(STORE, "port.rt.txt"))
-    )
+    port = building.build_ours(folder, "store/port")
     return {
         "the port alone": port,
         "C": building.build_c(folder, "rows", os.path.join(STORE, "rows.c"), "-lsqlite3"),

@@ -228,6 +228,12 @@ def test_eslint_finds_nothing() -> None:
     assert not judged(needed("eslint"), "web", "checks/web")
 
 
+def test_the_programs_of_the_benchmarks_compile() -> None:
+    """Over the crates as they are, without a proof."""
+    needed("rt")
+    assert not judged(TOP / "bench/try")
+
+
 # Versions and commits.
 
 

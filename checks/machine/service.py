@@ -239,6 +239,7 @@ class Service:
         expect(
             "not checked" in reported, False, f"whether there is what it could not see: {reported}"
         )
+        expect("backup-old" in reported, False, f"whether it ever lacked a backup: {reported}")
         again = guest.ended("irr setup --yes --source TRIAL")
         expect((again.status, "a registry is here" in again.reported), (4, True), "a second one")
         printed = guest.done("dpkg --purge irrdesk")

@@ -119,16 +119,17 @@ class Timers:
         return "over the same, a damaged one, and without settings; a reset"
 
     def moved(self) -> str:
-        """The lines of docs/BACKUP.md, on this machine and a second one, while a replica here
-        answers. Then this one is the registry's again."""
+        """The lines of docs/BACKUP.md, on this machine and a second one, which has a backup from
+        the start, while a replica here answers. Then this one is the registry's again."""
         service, guest = self.service, self.service.guest
         with open(os.path.join(TOP, "docs", "BACKUP.md"), encoding="utf-8") as opened:
             text = opened.read().partition("## Move to another machine\n")[2]
         lines = re.findall(r"^```sh\n(.*?)^```$", text, re.MULTILINE | re.DOTALL)[:2]
         wanted, settings = service.full_dump(), guest.done(f"cat {SETTINGS}")
         listed = "ls /etc/systemd/system/*.wants | grep ^irrdesk"
-        units = guest.done(listed)
+        units = guest.done(f"systemctl enable irrdesk-backup.timer; {listed}")
         guest.done(f"set -e; {lines[0]}", seconds=600)
+        guest.done("systemctl disable irrdesk-backup.timer")
         replica = "curl --silent --fail http://127.0.0.1:4345/query/ROOT-MNT"
         guest.done(replica)
         packed = guest.done("tar -C /root -c moved | base64").encode()
@@ -143,8 +144,9 @@ class Timers:
             guest.done(replica)
             expect(new.done(f"cat {SETTINGS}"), settings, "the settings")
             expect(new.done(listed), units, "which units are enabled")
-            new.done("systemctl start irrdesk-backup", seconds=600)
             new.until("systemctl start irrdesk-check", "that the check finds nothing wrong", AGAIN)
+            said = new.done("journalctl --quiet --output=cat --unit=irrdesk-check")
+            expect("backup-old" in said, False, f"whether it ever lacked a backup: {said}")
             stands = new.done("cat /var/lib/irrdesk-backup/2*/dump.rpsl").encode("latin-1")
             expect(stands == wanted, True, "whether the registry moved whole")
             expect(

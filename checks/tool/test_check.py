@@ -223,6 +223,13 @@ def no_backup(machine: Machine, stack: contextlib.ExitStack) -> list[str]:
     return []
 
 
+@case("backup-old")
+def no_folder_of_backups(machine: Machine, stack: contextlib.ExitStack) -> list[str]:
+    # As on a new machine: the unit makes the folder.
+    shutil.rmtree(machine.backups)
+    return []
+
+
 @case("history-old")
 def old_history(machine: Machine, stack: contextlib.ExitStack) -> list[str]:
     machine.looked(3_700)

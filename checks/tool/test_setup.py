@@ -39,16 +39,18 @@ if [ "$1" = "$(cat "$here/fails" 2>/dev/null)" ]; then
 fi
 exec {program} "$@"
 """
-UNITS = [
-    "irrdesk.service",
-    "irrdesk-check.timer",
-    "irrdesk-mirror.service",
-    "irrdesk-door.socket",
-    "irrdesk-door.service",
-    "irrdesk-backup.timer",
-    "irrdesk-history.timer",
+# What systemctl is asked: the check is told of no timer before what it starts has run.
+ASKED = [
+    "enable --now irrdesk.service",
+    "enable --now irrdesk-check.timer",
+    "enable --now irrdesk-mirror.service",
+    "enable --now irrdesk-door.socket",
+    "enable --now irrdesk-door.service",
+    "start irrdesk-backup.service",
+    "enable --now irrdesk-backup.timer",
+    "start irrdesk-history.service",
+    "enable --now irrdesk-history.timer",
 ]
-FIRST = ["start irrdesk-backup.service", "start irrdesk-history.service"]
 # What haproxy.cfg says with the file of those who may submit.
 HAPROXY = """defaults
     mode http
@@ -278,7 +280,7 @@ class Service:
 @AS_ROOT
 def test_a_service_is_made_of_the_files_of_the_package(trial: Trial, tool: Tool) -> None:
     """That the settings keep their comments, that the units are enabled in their order and what
-    timers start runs once, and that who may submit is said in the words of each proxy."""
+    timers start runs once before, and that who may submit is said in the words of each proxy."""
     service = Service(trial, tool, "service")
     before = service.settings.read_text(encoding="ascii").splitlines()
     words = ["--submit", "users", "--submit", "198.51.100.0/24", "--mirror", "192.0.2.10"]
@@ -286,9 +288,8 @@ def test_a_service_is_made_of_the_files_of_the_package(trial: Trial, tool: Tool)
     expect((ran.status, ran.reported), (0, b""), f"its end: {ran.printed!r}")
     for word in b"apache2-utils", b"MIRRORING.md":
         expect(word in ran.printed, True, f"what is next: {ran.printed!r}")
-    wanted = [f"enable --now {unit}" for unit in [*UNITS, "irrdesk-export.timer"]]
-    wanted += [*FIRST, "start irrdesk-export.service"]
-    expect(service.asked(), wanted, "the units")
+    more = ["start irrdesk-export.service", "enable --now irrdesk-export.timer"]
+    expect(service.asked(), [*ASKED, *more], "the units")
     service.made(trial)
     after = service.settings.read_text(encoding="ascii").splitlines()
     changed = [line.split()[0] for line, old in zip(after, before, strict=True) if line != old]
@@ -432,7 +433,7 @@ def test_a_run_that_was_stopped_is_gone_on_with(
     service.asked()
     ran = service.setup()
     expect(ran.status, 0, f"the run after it: {ran.reported!r}")
-    expect(service.asked(), [*(f"enable --now {unit}" for unit in UNITS), *FIRST], "the units")
+    expect(service.asked(), ASKED, "the units")
     service.made(trial)
 
 

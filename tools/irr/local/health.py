@@ -37,7 +37,8 @@ REMEDIES = {
     "door-in-part": "see http://127.0.0.1:4381/status",
     "unit-failed": "fix what its journal reports, and start it",
     "unit-stopped": "start it, or disable it",
-    "backup-old": "`journalctl --unit irrdesk-backup` says why; make a backup by hand",
+    "backup-old": "run `systemctl start irrdesk-backup`; if that fails, `journalctl --unit"
+    " irrdesk-backup` says why",
     "history-old": "`journalctl --unit irrdesk-history` says why",
     "mirror-behind": "tell its operator that it may need a new dump; if it no longer follows the"
     " registry, restart the door",
@@ -342,14 +343,15 @@ class Health:
     # What is kept.
 
     def look_at_backups(self) -> None:
-        """How old the newest backup is."""
+        """How old the newest backup is. The unit makes the folder with its first backup."""
         place = Path(self.places.backups)
         if "irrdesk-backup.timer" not in self.enabled and place == Path(Places.backups):
             return
         with self.seeing(place):
-            if not place.exists():
-                return
-            times = sorted(filter(None, map(backup_time, os.listdir(place))))
+            names: list[str] = []
+            with contextlib.suppress(FileNotFoundError):
+                names = os.listdir(place)
+            times = sorted(filter(None, map(backup_time, names)))
             self.dated += [(f"backup {place}", when) for when in times[-1:]]
             past = [when for when in times if when <= self.now + self.bounds.clock]
             if not past:

@@ -32,7 +32,7 @@ PACKAGED_DOOR: dict[str, Any] = {
 HEAD = "# Settings of a registry, made by irr setup. Each key has to be there; see irr.toml(5).\n"
 DOOR_HEAD = "# Settings of the door, made by irr setup. All of them are in irr-door(1).\n"
 USERS = "/etc/nginx/irrdesk.users"
-# What timers start, in the order in which it first runs: serials come of the history.
+# What timers start, and what first runs before they do: serials come of the history.
 FIRST = ["irrdesk-backup", "irrdesk-history", "irrdesk-export"]
 
 
@@ -308,15 +308,16 @@ class Made:
         return self.run("query", "object", "mntner", maintainer).stdout.startswith(b"mntner:")
 
     def enable(self) -> None:
-        """The units, now and at each start of the machine. What timers start runs once now: a
-        first backup, the first state of the history, and the first dump with serials."""
+        """The units, now and at each start of the machine. What a timer of FIRST starts runs once
+        before it: a first backup, the first state of the history, and the first dump with serials.
+        So the check never sees the timer of backups without a backup."""
         for unit in self.plan.units:
+            name, _, kind = unit.rpartition(".")
+            if kind == "timer" and name in FIRST:
+                self.systemctl("start", f"{name}.service")
+                self.done("run once", f"{name}.service")
             self.systemctl("enable", "--now", unit)
             self.done("enabled and started", unit)
-        for unit in FIRST:
-            if f"{unit}.timer" in self.plan.units:
-                self.systemctl("start", f"{unit}.service")
-                self.done("run once", f"{unit}.service")
 
     def systemctl(self, *words: str) -> None:
         done = services.systemctl(*words)

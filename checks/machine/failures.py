@@ -4,12 +4,16 @@ what is watched within a minute, and is over once its remedy was followed."""
 import json
 import re
 import shutil
+import subprocess
 import tempfile
 import time
 from pathlib import Path
 
 from checks.machine.guest import found
 from checks.machine.service import SETTINGS, Service
+from checks.machine.timers import Timers
+from checks.mirrors.client import Mirror
+from checks.mirrors.client4 import NOTIFICATION, Mirror4
 from checks.pages.test_alerts import ALERTS, promtool
 from checks.pages.text import text_of
 from checks.running import Skipped, expect
@@ -25,12 +29,23 @@ replica_age = 60
 behind = 20
 disk = 4
 """
-MINUTE, DAY = 60, 86_400
+MINUTE, HOUR, DAY = 60, 3_600, 86_400
+STATUS = "curl --silent --fail 'http://127.0.0.1:4381/status?json'"
+# Whether the oldest state of a replica, as the door tells of it, is above a minute, or below.
+AGE = (
+    f'{STATUS} | python3 -c \'import json, sys; told = json.load(sys.stdin)["upstreams"];'
+    ' sys.exit(not max(one["age"] or 0 for one in told) {} 60)\''
+)
 STARTED = (
     "systemctl reset-failed irrdesk-check.service; systemctl list-units --failed --plain"
     " --no-legend 'irrdesk-*.service' | cut -d ' ' -f 1 | xargs --no-run-if-empty systemctl start"
 )
 SOON = "/run/systemd/system/{}.timer.d"
+SOONER = {
+    "irrdesk-backup": "RandomizedDelaySec=0",
+    "certbot": "RandomizedDelaySec=0",
+    "irrdesk-nrtm4": "OnUnitInactiveSec=10s",
+}
 # The authority, as Debian has it: its settings, and those of what asks it.
 PEBBLE = {
     "listenAddress": "127.0.0.1:14000",
@@ -53,6 +68,10 @@ OWN = (
     " -subj /CN=localhost -addext subjectAltName=DNS:localhost -keyout own.key -out own.pem"
     f" 2> /dev/null; cp own.pem {TRUSTED}/pebble.crt; update-ca-certificates 2> /dev/null"
 )
+# What a web server hands out to mirrors, and the months of the year in which the next key is
+# announced, and signs.
+EXPORT = "/var/cache/irrdesk-export"
+KEYS = {5: "--new", 6: "--roll"}
 # How many minutes Prometheus has read the figures of before, and those of now.
 BEFORE, NOW = 30, 8
 FIGURE = re.compile(r"^(irrdesk_\w+(?:\{[^}]*\})?) (\S+)$", re.MULTILINE)
@@ -285,12 +304,7 @@ class Failures:
         before, since = self.figures(), self.cursor()
         guest.done("systemctl stop irrdesk")
         self.told(since, "replicas-not-renewed")
-        asked = "curl --silent --fail 'http://127.0.0.1:4381/status?json'"
-        age = (
-            f'{asked} | python3 -c \'import json, sys; told = json.load(sys.stdin)["upstreams"];'
-            ' sys.exit(not max(one["age"] or 0 for one in told) > 60)\''
-        )
-        guest.until(age, "that a replica is old", seconds=400)
+        guest.until(AGE.format(">"), "that a replica is old", seconds=400)
         told = self.watched("replica-old", since, before, ("UpstreamDown",))
         whois = guest.done("whois -h 127.0.0.1 -p 43 ROOT-MNT", seconds=120)
         expect("mntner:" in whois, True, f"whether the door answers of them: {whois}")
@@ -300,25 +314,28 @@ class Failures:
 
     def mirror(self) -> str:
         """A mirror that has not asked while more was changed than it may be behind."""
-        guest = self.service.guest
-        ask = "exec 3<>/dev/tcp/127.0.0.1/43; printf -- '%s\\n' '{}' >&3; cat <&3"
         self.changed("first", 1)
-        serial = found(
-            r"-(\d+)\n", guest.done(f"bash -c \"{ask.format('-q sources')}\""), "serials"
-        )
-        follow = f"bash -c \"{ask.format(f'-g TEST:3:{serial}-LAST')}\""
-        guest.done(follow)
+        follow = f"-g TEST:3:{self.serial()}-LAST"
+        self.asked(follow)
         before, since = self.figures(), self.cursor()
         self.changed("more", 30)
         told = self.watched("mirror-behind", since, before, ())
         expect(": 127.0.0.1: it is " in told, True, f"who is told of: {told}")
-        guest.done(follow)
-        again = found(r"-(\d+)\n", guest.done(f"bash -c \"{ask.format('-q sources')}\""), "serials")
-        guest.done(f"bash -c \"{ask.format(f'-g TEST:3:{again}-LAST')}\"")
+        self.asked(follow)
+        self.asked(f"-g TEST:3:{self.serial()}-LAST")
         self.well("the mirror has followed")
         # It never asks again, and the door that is started now knows of no mirror.
-        guest.done("systemctl restart irrdesk-door")
+        self.service.guest.done("systemctl restart irrdesk-door")
         return told
+
+    def asked(self, words: str) -> str:
+        """What the door answers to a line of a mirror."""
+        ask = f"exec 3<>/dev/tcp/127.0.0.1/43; printf -- '%s\\n' '{words}' >&3; cat <&3"
+        return self.service.guest.done(f'bash -c "{ask}"')
+
+    def serial(self) -> int:
+        """The last one that the door tells a mirror of."""
+        return int(found(r"^TEST:3:Y:\d+-(\d+)$", self.asked("-q sources"), "serials"))
 
     def changed(self, name: str, count: int) -> None:
         """So many sets more, of the root, and a state of the history with them."""
@@ -383,26 +400,35 @@ class Failures:
 
     def year(self) -> str:
         """A year in steps of four weeks by a clock that is set, each with a submission through the
-        door: timers make up for the time, the certificate is renewed, and what is kept for a while
-        goes."""
+        door: timers make up for the time, the certificate is renewed, what is kept for a while
+        goes, and mirrors follow. Of a container, which has no clock of its own, it is a month."""
         guest, place = self.service.guest, "/var/lib/irrdesk-backup"
-        if guest.ended("date --set=@$(date +%s)").status:
-            raise Skipped("a container has no clock of its own")
+        is_set = not guest.ended("date --set=@$(date +%s)").status
+        serials, files = self.mirrors()
         # What a timer missed it makes up for after its random delay, from the machine's start on.
-        for timer in ["irrdesk-backup", "certbot"]:
+        for timer, line in SOONER.items():
             guest.done(
                 f"mkdir -p {SOON.format(timer)}; cat > {SOON.format(timer)}/trial.conf;"
                 f" systemctl daemon-reload; systemctl restart {timer}.timer",
-                given=b"[Timer]\nRandomizedDelaySec=0\n",
+                given=f"[Timer]\n{line}\n".encode(),
             )
-        for month in range(13):
-            guest.done(f"date --set=@$(($(date +%s) + {28 * DAY})) > /dev/null")
+        first = serials.serial, files.version, files.key
+        for month in range(13 if is_set else 1):
+            if is_set:
+                guest.done(f"date --set=@$(($(date +%s) + {28 * DAY})) > /dev/null")
             guest.until(f"ls {place} | grep -q ^$(date --utc +%Y%m%dT)", "a backup by its timer")
+            self.signed(KEYS.get(month, ""))
             submit = "irr submit -s http://127.0.0.1:4380 -"
             told = guest.done(submit, given=sets(f"MONTH{month}X", 1))
             expect("added" in told, True, f"a submission in month {month}: {told}")
             guest.done("systemctl start irrdesk-history", seconds=600)
             self.well(f"month {month}")
+            self.mirrored(f"AS-MONTH{month}X0", serials, files, is_set)
+            far = serials.serial, files.version
+            expect(far, (first[0] + month + 1, first[1] + month + 1), "the serial and the version")
+        if not is_set:
+            raise Skipped("a container has no clock of its own: it was one month of the year")
+        expect(files.key != first[2], True, "whether the next key signs")
         kept = guest.done(f"ls -d {place}/2*").split()
         expect(len(kept), 14, "backups that are kept")
         left = f"openssl x509 -checkend {30 * DAY} -in /etc/letsencrypt/live/{HOST}/cert.pem"
@@ -414,14 +440,88 @@ class Failures:
         shown = guest.done("irr history show as-set AS-MONTH0X0", seconds=120)
         expect("AS-MONTH0X0" in shown, True, "what was registered a year ago")
         expect(guest.ended("systemctl --failed --plain --no-legend").printed, "", "what has failed")
-        return f"{len(kept)} backups, {len(lines)} lines of the log"
+        return f"{len(kept)} backups, {len(lines)} lines of the log, serial {serials.serial}"
+
+    def mirrors(self) -> tuple[Mirror, Mirror4]:
+        """What mirrors take, enabled by the lines of docs/MIRRORING.md, and two that begin with it:
+        one by serials, and one by NRTM 4, which is given the key."""
+        guest = self.service.guest
+        guest.done("systemctl start irrdesk-history", seconds=600)
+        Timers(self.service).mirrors()
+        page = text_of("docs/MIRRORING.md")
+        lines = found(r"^apt install openssl\n((?:.*\n)*?)```$", page, "the commands of the page")
+        shown = guest.done(f"set -e\n{lines}", seconds=600)
+        key = found(r"^(-----BEGIN(?:.*\n)*?-----END.*\n)", shown, "the key")
+        place = self.service.trial.place("exported")
+        self.exported(place)
+        serials, files = Mirror("TEST"), Mirror4("TEST", f"{place}/nrtmv4", key)
+        serials.begin(place)
+        files.follow()
+        return serials, files
+
+    def exported(self, place: str) -> None:
+        """Fetches what mirrors take into a folder here, in the place of what is in it."""
+        packed = self.service.guest.done(f"tar -C {EXPORT} -c .").encode("latin-1")
+        shutil.rmtree(place)
+        Path(place).mkdir()
+        subprocess.run(["tar", "-C", place, "--no-same-owner", "-x"], input=packed, check=True)
+
+    def signed(self, change: str) -> None:
+        """That the notification is signed anew though nothing has changed, by its timer; then a
+        change of the key."""
+        guest, path = self.service.guest, f"{EXPORT}/nrtmv4/{NOTIFICATION}"
+        young = f"test $(($(date +%s) - $(stat -c %Y {path}))) -lt {HOUR}"
+        guest.until(young, "a notification of the last hour")
+        if change:
+            keys = f"runuser -u irrdesk-public -- irr nrtm4 {change} /var/lib/irrdesk-nrtm4"
+            guest.until(keys, f"irr nrtm4 {change}")
+
+    def mirrored(self, name: str, serials: Mirror, files: Mirror4, is_later: bool) -> None:
+        """That the replicas, the dump and both mirrors have a set that is new, and nothing else
+        is; and that all that the door tells of them is of now."""
+        guest, timers = self.service.guest, Timers(self.service)
+        ports = timers.ports()
+        for port in ports:
+            replica = f"curl --silent http://127.0.0.1:{port}/query/{name}"
+            guest.until(f"{replica} | grep -q '^as-set: *{name}$'", f"{name} at the replica {port}")
+        guest.until(AGE.format("<"), "that the replicas are young")
+        # The hour of its timer is not waited for.
+        guest.done("systemctl start irrdesk-history irrdesk-export", seconds=600)
+        version = files.version + 1
+        delta = f"ls {EXPORT}/nrtmv4/nrtm-delta.{version}.*"
+        guest.until(delta, f"version {version}, by its timer", seconds=400)
+        timers.ran("irrdesk-nrtm4")
+        place, dump = str(files.folder.parent), Mirror("TEST")
+        self.exported(place)
+        dump.begin(place)
+        expect(("as-set", name) in dump.objects, True, f"whether the dump has {name}")
+        follow = [serials.take(self.asked(f"-g TEST:3:{serials.serial + 1}-LAST")) for _ in "12"]
+        expect((follow, serials.serial), ([1, 0], dump.serial), "changes by serials")
+        expect(serials.objects == dump.objects, True, "whether they give the objects of the dump")
+        state = json.loads(guest.done(STATUS))
+        told, one = state["serials"], state["serials"]["mirrors"]["127.0.0.1"]
+        seen = told["last"], one["serial"], one["age"] < MINUTE, self.serial()
+        expect(seen, (dump.serial, dump.serial, True, dump.serial), "what the door tells")
+        aged = [one["name"] for one in state["upstreams"] if one["age"] is not None]
+        expect(len(aged), len(ports), f"replicas whose age it tells: {aged}")
+        expect((files.follow(), files.version), (True, version), "changes by files")
+        age = int(guest.done("date +%s")) - files.made.timestamp()
+        expect(0 <= age < HOUR, True, f"whether the notification is young: {age:.0f} s")
+        # One that is new needs no change after a snapshot that was renewed.
+        new = Mirror4("TEST", str(files.folder), files.key)
+        new.follow()
+        expect((new.version, new.deltas), (version, 0 if is_later else 1), "a new mirror")
+        for mirror in files, new:
+            expect(mirror.objects == dump.objects, True, "whether the files give them too")
+        left = {int(path.name.split(".")[1]) for path in files.folder.glob("nrtm-*")}
+        named = [one["version"] for one in files.notification()["deltas"]]
+        expect((left, named), ({version - 1, version}, [version]), "the changes that are left")
 
     def over(self) -> str:
         """What was enabled for all this is as it was."""
         guest = self.service.guest
         guest.done(f"sed -i '/^\\[check\\]/,$d' {SETTINGS}; systemctl stop nginx certbot.timer")
-        guest.done("systemctl disable --now irrdesk-backup.timer")
-        soon = f"{SOON.format('irrdesk-backup')} {SOON.format('certbot')}"
-        guest.done(f"rm -rf {soon}; systemctl daemon-reload")
+        guest.done("systemctl disable --now irrdesk-backup.timer irrdesk-nrtm4.timer")
+        guest.done(f"rm -rf {' '.join(map(SOON.format, SOONER))}; systemctl daemon-reload")
         expect(guest.ended("systemctl --failed --plain --no-legend").printed, "", "what has failed")
         return "nothing has failed"

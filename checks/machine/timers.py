@@ -192,14 +192,18 @@ class Timers:
         expect((len(commits), "mntner:         ROOT-MNT" in shown), (1, True), "the history")
         return commits[0]
 
+    def ports(self) -> list[str]:
+        """Those of the replicas."""
+        return self.service.guest.done(
+            "systemctl cat irrdesk-mirror | grep -o -e '--port [0-9]*' | cut -d ' ' -f 2"
+        ).split()
+
     def mirror(self) -> str:
         """Replicas, which go on while the registry is stopped."""
         service, guest = self.service, self.service.guest
         wanted = service.dump()
         guest.done("systemctl enable --now irrdesk-mirror")
-        ports = guest.done(
-            "systemctl cat irrdesk-mirror | grep -o -e '--port [0-9]*' | cut -d ' ' -f 2"
-        ).split()
+        ports = self.ports()
         for port in ports:
             guest.until(
                 f"curl --silent --fail http://127.0.0.1:{port}/query/ROOT-MNT",

@@ -89,6 +89,16 @@ def test_loads_are_whole_or_reported(case: Commands) -> None:
             " full, or is `password` or `delete`, which no dump has: load a full one, or mend it"
         ),
     )
+    case.write("bad.rpsl", f"{ROOT}delete: x\n")
+    refuses(
+        case,
+        "a dump with a deletion",
+        ", line 1, mntner ROOT-MNT",
+        (
+            "1 is not an object: E05, an attribute has a bad value, as `auth` in a dump that is not"
+            " full, or is `password` or `delete`, which no dump has: load a full one, or mend it"
+        ),
+    )
     case.write("bad.rpsl", FULL * 2)
     refuses(
         case,

@@ -61,6 +61,39 @@ OLD_CHANGES = [
         added(3, "00010000", "ROOT-MNT", "aut-num:        AS65536"),
     ),
     (
+        "the greatest AS number",
+        bad_row(3, "ffffffff"),
+        4,
+        "1",
+        added(3, "ffffffff", "ROOT-MNT", "aut-num:        AS4294967295"),
+    ),
+    (
+        "a block with a 32-bit AS number",
+        bad_row(2, "0000ffff-00010000"),
+        4,
+        "1",
+        added(2, "0000ffff-00010000", "ROOT-MNT", "as-block:       AS65535 - AS65536"),
+    ),
+    (
+        "a route of a 32-bit AS number",
+        bad_row(5, "0a000000/08-00010000"),
+        4,
+        "1",
+        added(
+            5,
+            "0a000000/08-00010000",
+            "ROOT-MNT",
+            "route:          10.0.0.0/8\norigin:         AS65536",
+        ),
+    ),
+    (
+        "a set below a 32-bit AS number",
+        bad_row(6, "AS70000:AS-X"),
+        4,
+        "1",
+        added(6, "AS70000:AS-X", "ROOT-MNT", "as-set:         as70000:as-x"),
+    ),
+    (
         "a text with fewer blanks",
         bad_row(3, "0001"),
         4,
@@ -292,6 +325,10 @@ OLD_ROWS = [
     (4, "0a000000-0affffff", "ROOT-MNT", "inetnum:        10.0.0.0/8"),
     (5, "0a000000/08-0002", "B-MNT", "route:          10.0.0.0/8\norigin:         AS2"),
     (5, "0a010000/16-0001", "A-MNT", "route:          10.1.0.0/16\norigin:         AS1"),
+    (2, "000a-0014", "ROOT-MNT", "as-block:       AS10 - AS20"),
+    (4, "0a010003-0a010009", "A-MNT", "inetnum:        10.1.0.3-10.1.0.9"),
+    (6, "AS1:AS-X", "A-MNT", "as-set:         as01:as-x"),
+    (7, "RS-C", "A-MNT", "route-set:      RS-C"),
 ]
 NUMBERS = """password: bc
 password: c
@@ -307,29 +344,64 @@ source: TEST
 aut-num: AS4294967296
 mnt-by: A-MNT
 source: TEST
+
+aut-num: AS4294967295
+mnt-by: A-MNT
+source: TEST
+
+route: 10.1.0.0/16
+origin: AS65536
+mnt-by: A-MNT
+source: TEST
+
+as-set: as65536:as-x
+mnt-by: A-MNT
+source: TEST
 """
+NUMBERS_REPORT = """1 aut-num AS65536: added
+2 as-block AS4294967295 - AS4294967295: added
+3 -: refused E03
+4 aut-num AS4294967295: added
+5 route 10.1.0.0/16 AS65536: added
+6 as-set AS65536:AS-X: added
+% items 6"""
+NUMBERS_FOUND = [
+    "2|ffffffff-ffffffff",
+    "3|00010000",
+    "3|ffffffff",
+    "5|0a010000/16-00010000",
+    "6|AS65536:AS-X",
+]
 NEW_KEYS_FOUND = [
     "1|A-MNT",
     "1|B-MNT",
     "1|ROOT-MNT",
     "2|00000000-0000ffff",
+    "2|0000000a-00000014",
     "2|00010000-ffffffff",
     "3|00000001",
     "3|00000002",
     "4|00000000-ffffffff",
     "4|0a000000-0affffff",
+    "4|0a010003-0a010009",
     "5|0a000000/08-00000002",
     "5|0a010000/16-00000001",
+    "6|AS1:AS-X",
+    "7|RS-C",
 ]
 NEW_NAMES_FOUND = [
     "A-MNT|1|A-MNT",
     "A-MNT|3|00000001",
+    "A-MNT|4|0a010003-0a010009",
     "A-MNT|5|0a010000/16-00000001",
+    "A-MNT|6|AS1:AS-X",
+    "A-MNT|7|RS-C",
     "B-MNT|1|B-MNT",
     "B-MNT|3|00000002",
     "B-MNT|5|0a000000/08-00000002",
     "ROOT-MNT|1|ROOT-MNT",
     "ROOT-MNT|2|00000000-0000ffff",
+    "ROOT-MNT|2|0000000a-00000014",
     "ROOT-MNT|2|00010000-ffffffff",
     "ROOT-MNT|4|00000000-ffffffff",
     "ROOT-MNT|4|0a000000-0affffff",
@@ -355,11 +427,10 @@ def test_tables_of_version_1_are_migrated(case: Commands) -> None:
     case.check("who names which in version 2", found.split("\n") == NEW_NAMES_FOUND)
     case.check("a sound file of version 2", ask(case, "old.db", "PRAGMA integrity_check") == "ok")
     case.write("octets.rpsl", NUMBERS)
-    report = (
-        "1 aut-num AS65536: added\n2 as-block AS4294967295 - AS4294967295: added\n3 -: refused"
-        " E03\n% items 3"
-    )
-    case.run("submit", "s.toml", "octets.rpsl").gives("32-bit numbers in it", 1, "", report)
+    case.run("submit", "s.toml", "octets.rpsl").gives("32-bit numbers in it", 1, "", NUMBERS_REPORT)
+    found = ask(case, "old.db", "SELECT class, okey FROM object ORDER BY class, okey")
+    added_keys = [key for key in found.split("\n") if key not in NEW_KEYS_FOUND]
+    case.check("the keys of 32-bit numbers", added_keys == NUMBERS_FOUND)
     ask(case, "old.db", "INSERT INTO meta VALUES ('note', 'x')")
     migrated(case, "another setting beside version 2 is not migrated", other_rows("meta"), 4)
     ask(case, "old.db", "DELETE FROM meta WHERE name = 'note'")

@@ -35,6 +35,10 @@ IN_MEMORY, SECONDS = True, 20
 RANGE = f"inetnum:        10.0.0.0 - 10.255.255.255\n{OWNED}"
 WHOLE = f"{ROOT}\n{BLOCK}\n\n{OTHERS}\n\n{ADDRESSES}\n\n{RANGE}\n\n% end 5"
 WHOLE_AND_ONE = WHOLE.replace("% end 5", f"inetnum:        10.1.0.0/16\n{OWNED}\n\n% end 6")
+OF_32_BITS = (
+    f"{ROOT}\nas-block:       AS65535 - AS65536\n{OWNED}\n\n{ADDRESSES}\n\n{RANGE}\n\n"
+    f"as-set:         as70000:as-x\n{OWNED}\n\n% end 5"
+)
 # What is reported of a database; DATABASE stands for its name.
 CROSSING = (
     "irrdesk: DATABASE, class 4, okey 0a000000-0affffff: the object of the row has a range that"
@@ -150,6 +154,30 @@ CHANGES = [
             "UPDATE object SET body = CAST(replace(CAST(body AS TEXT), 'inetnum:        ',"
             " 'inetnum: ') AS BLOB) WHERE TEN"
         ),
+    ),
+    ("no text", bad_row(4, "0a000000-0affffff"), "UPDATE object SET body = x'' WHERE TEN"),
+    (
+        "a text without its last line end",
+        bad_row(4, "0a000000-0affffff"),
+        "UPDATE object SET body = substr(body, 1, length(body) - 1) WHERE TEN",
+    ),
+    (
+        "a text with an empty line behind",
+        bad_row(4, "0a000000-0affffff"),
+        "UPDATE object SET body = CAST(CAST(body AS TEXT) || char(10) AS BLOB) WHERE TEN",
+    ),
+    (
+        "a text with a line without a colon",
+        bad_row(4, "0a000000-0affffff"),
+        "UPDATE object SET body = CAST(CAST(body AS TEXT) || 'no colon' || char(10) AS BLOB)"
+        " WHERE TEN",
+    ),
+    (
+        "a block and a set of 32-bit AS numbers",
+        OF_32_BITS,
+        "DELETE FROM object WHERE class = 2; DELETE FROM named WHERE class = 2; "
+        + added(2, "0000ffff-00010000", "ROOT-MNT", "as-block:       AS65535 - AS65536")
+        + added(6, "AS70000:AS-X", "ROOT-MNT", "as-set:         as70000:as-x"),
     ),
     ("another key", bad_row(4, "0a000000-0afffffe"), rekeyed("'0a000000-0afffffe'")),
     (

@@ -349,6 +349,20 @@ def test_an_answer_or_dump_is_whole_or_its_fault_is_reported(
         )
 
 
+def test_a_dump_is_not_whole_without_its_last_byte(trial: Trial, failing: Failing) -> None:
+    """Of a writer that takes so many bytes, the program says that it failed."""
+    base = made_registry(trial, "cut", ASKED)
+    for words, full in (["dump", "s.toml", "--full"], True), (["dump", "s.toml"], False):
+        right = ASKED.registry.dump(full=full)
+        for taken in (1, len(right) - 1):
+            ran = failing.run(base, words, failing.environment("output", "take", taken))
+            expect(
+                (ran.printed, ran.status, is_fault(ran)),
+                (right[:taken], 5, True),
+                f"{' '.join(words)}, of which {taken} bytes are taken",
+            )
+
+
 # Messages.
 
 

@@ -31,6 +31,45 @@ FIRSTS = text(
     "route: 10.128.0.0/9 | origin: AS3 | mnt-by: ROOT-MNT",
     "route: 10.128.0.0/32 | origin: AS3 | mnt-by: ROOT-MNT",
 )
+# Four inetnums in no order, and routes of the same prefixes and of all addresses.
+FIVE = text(
+    "password: bc",
+    "aut-num: AS3 | mnt-by: ROOT-MNT",
+    "inetnum: 255.255.255.255/32 | mnt-by: ROOT-MNT",
+    "inetnum: 10.128.0.0/32 | mnt-by: ROOT-MNT",
+    "inetnum: 10.128.0.0/9 | mnt-by: ROOT-MNT",
+    "inetnum: 10.0.0.0/8 | mnt-by: ROOT-MNT",
+    "route: 255.255.255.255/32 | origin: AS3 | mnt-by: ROOT-MNT",
+    "route: 10.128.0.0/32 | origin: AS3 | mnt-by: ROOT-MNT",
+    "route: 0.0.0.0/0 | origin: AS3 | mnt-by: ROOT-MNT",
+    "route: 10.128.0.0/9 | origin: AS3 | mnt-by: ROOT-MNT",
+    "route: 10.0.0.0/8 | origin: AS3 | mnt-by: ROOT-MNT",
+)
+# The outermost of them go, and one of the others is changed.
+WITHOUT_OUTERMOST = text(
+    "password: bc",
+    "inetnum: 0.0.0.0/0 | delete: x",
+    "route: 0.0.0.0/0 | origin: AS3 | delete: x",
+    "inetnum: 10.128.0.0/9 | descr: again | mnt-by: ROOT-MNT",
+)
+CLOSE = (
+    ("closest 10.127.255.255", 1, "inetnum:        10.0.0.0/8\nroute:          10.0.0.0/8\n"),
+    ("closest 10.128.0.1", 1, "inetnum:        10.128.0.0/9\nroute:          10.128.0.0/9\n"),
+    ("closest 10.128.0.0/32", 1, "inetnum:        10.128.0.0/32\nroute:          10.128.0.0/32\n"),
+    (
+        "more 10.0.0.0/8",
+        1,
+        (
+            "inetnum:        10.0.0.0/8\n"
+            "inetnum:        10.128.0.0/32\n"
+            "inetnum:        10.128.0.0/9\n"
+            "route:          10.0.0.0/8\n"
+            "route:          10.128.0.0/9\n"
+            "route:          10.128.0.0/32\n"
+        ),
+    ),
+    ("exact 10.128.0.0/10", 1, "% no entries\n"),
+)
 # What names A-MNT for what lies below, for routes and for members; for B-MNT the attribute is text.
 NAMING = text(
     "password: bc | password: abc",
@@ -129,6 +168,7 @@ NEAR = (
         (
             ("closest 10.1.1.0/24", 1, "inetnum:        10.1.0.0 - 10.1.1.255\n"),
             ("closest 10.1.0.200", 1, "inetnum:        10.1.0.128 - 10.1.1.127\n"),
+            ("closest 9.0.0.0/7", 1, "inetnum:        0.0.0.0 - 255.255.255.255\n"),
             (
                 "less 10.1.1.5",
                 1,
@@ -174,6 +214,66 @@ NEAR = (
                     "inetnum:        10.128.0.0/9\n"
                     "route:          10.128.0.0/9\n"
                     "route:          10.128.0.0/32\n"
+                ),
+            ),
+        ),
+    ),
+    Asked(
+        "five places, the outermost among them",
+        (FIVE,),
+        (
+            *CLOSE,
+            (
+                "closest 255.255.255.254",
+                1,
+                "inetnum:        0.0.0.0 - 255.255.255.255\nroute:          0.0.0.0/0\n",
+            ),
+            (
+                "less 10.128.0.0/32",
+                1,
+                (
+                    "inetnum:        0.0.0.0 - 255.255.255.255\n"
+                    "inetnum:        10.0.0.0/8\n"
+                    "inetnum:        10.128.0.0/32\n"
+                    "inetnum:        10.128.0.0/9\n"
+                    "route:          0.0.0.0/0\n"
+                    "route:          10.0.0.0/8\n"
+                    "route:          10.128.0.0/9\n"
+                    "route:          10.128.0.0/32\n"
+                ),
+            ),
+        ),
+    ),
+    Asked(
+        "five places without the outermost",
+        (FIVE, WITHOUT_OUTERMOST),
+        (
+            *CLOSE,
+            ("closest 255.255.255.254", 1, "% no entries\n"),
+            (
+                "less 10.128.0.0/32",
+                1,
+                (
+                    "inetnum:        10.0.0.0/8\n"
+                    "inetnum:        10.128.0.0/32\n"
+                    "inetnum:        10.128.0.0/9\n"
+                    "route:          10.0.0.0/8\n"
+                    "route:          10.128.0.0/9\n"
+                    "route:          10.128.0.0/32\n"
+                ),
+            ),
+            (
+                "exact 10.128.0.0/9",
+                1,
+                (
+                    "inetnum:        10.128.0.0/9\n"
+                    "descr:          again\n"
+                    "mnt-by:         ROOT-MNT\n"
+                    "source:         TEST\n\n"
+                    "route:          10.128.0.0/9\n"
+                    "origin:         AS3\n"
+                    "mnt-by:         ROOT-MNT\n"
+                    "source:         TEST\n\n"
                 ),
             ),
         ),

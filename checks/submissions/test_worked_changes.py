@@ -1,8 +1,7 @@
-"""What is read of a submission, who may change and delete, and what strangers can do to what is
-held, by worked submissions."""
+"""Who may change and delete, and what strangers can do to what is held, by worked submissions."""
 import pytest
 
-from checks.running import DIGEST, Trial, run_in_pieces
+from checks.running import DIGEST, Trial
 from checks.submissions.cases import (
     HELD,
     HOLDERS,
@@ -21,108 +20,6 @@ from checks.submissions.cases import (
 )
 
 IN_MEMORY = True
-
-# What is read, before anything is decided.
-
-# The digest of the salt k3 and a password of three lines.
-FOLDED = "01b12ab913dbdc785fd846ee0f688d8d1867ed879943ae592a6f17e996be6c58"
-READING = (
-    Worked("nothing is no item", ("",), ()),
-    Worked("passwords alone are no items", (text("password: bc"),), ()),
-    Worked(
-        "each fault of reading has its code",
-        (
-            (
-                text("password: bc", "person: X | mnt-by: ROOT-MNT")
-                + "\naut-num: AS3\nmnt-by: ROOT-MNT\n\n"
-                + text(
-                    "aut-num: AS3 | mnt-by: any",
-                    "aut-num: AS3 | mnt-by: ROOT-MNT | source: OTHER",
-                    "nocolon",
-                    " aut-num: AS3",
-                    "aut-num: AS3 | mnt-by: ROOT-MNT",
-                )
-            ),
-        ),
-        (
-            "-: refused E02",
-            "aut-num AS3: refused E04",
-            "aut-num AS3: refused E05",
-            "aut-num AS3: refused E06",
-            "-: refused E01",
-            "-: refused E01",
-            "aut-num AS3: added",
-        ),
-    ),
-    Worked(
-        "a password counts for its paragraph and the later ones",
-        (
-            HOLDERS,
-            text(
-                "password: no secret of anybody",
-                "inetnum: 10.0.0.0/8 | mnt-by: ROOT-MNT",
-                "inetnum: 11.0.0.0/8 | mnt-by: ROOT-MNT | source: TEST | password: bc",
-                "password: c",
-                "inetnum: 12.0.0.0/8 | mnt-by: A-MNT",
-                "inetnum: 13.0.0.0/8 | mnt-by: B-MNT",
-                "password: abc",
-            ),
-        ),
-        (
-            "inetnum 10.0.0.0 - 10.255.255.255: refused E11",
-            "inetnum 11.0.0.0 - 11.255.255.255: added",
-            "inetnum 12.0.0.0 - 12.255.255.255: added",
-            "inetnum 13.0.0.0 - 13.255.255.255: refused E11",
-        ),
-    ),
-    Worked(
-        "an object that is refused gives its passwords, a faulty text gives none",
-        (
-            text(
-                "password: bc | nocolon",
-                "inetnum: 10.0.0.0/8 | mnt-by: ROOT-MNT",
-                "password: bc | person: X",
-                "inetnum: 10.0.0.0/8 | mnt-by: ROOT-MNT",
-            ),
-        ),
-        (
-            "-: refused E01",
-            "inetnum 10.0.0.0 - 10.255.255.255: refused E11",
-            "-: refused E02",
-            "inetnum 10.0.0.0 - 10.255.255.255: added",
-        ),
-    ),
-    Worked(
-        "a password is its lines with spaces between them",
-        (
-            text(
-                "password: one |  #1 | +secret",
-                f"mntner: C-MNT | auth: SHA256-PW k3:{FOLDED} | mnt-by: C-MNT",
-            ),
-        ),
-        ("mntner C-MNT: added",),
-    ),
-    Worked(
-        "a deletion needs a class and a key alone",
-        (
-            HOLDERS,
-            NESTED,
-            text(
-                "password: c",
-                "delete: x | inetnum: 10.1.0.0/16 | mnt-by: any | source: OTHER",
-                "route: 10.1.0.0/16 | delete: x",
-                "delete: x",
-                "password: c | delete: x",
-            ),
-        ),
-        (
-            "inetnum 10.1.0.0 - 10.1.255.255: deleted",
-            "-: refused E03",
-            "-: refused E02",
-            "-: refused E02",
-        ),
-    ),
-)
 
 # Changes and deletions.
 
@@ -445,9 +342,9 @@ KEPT = (
 )
 
 
-@pytest.mark.parametrize("case", [*READING, *CHANGES, *STRANGERS], ids=lambda case: case.name)
-def test_items_are_read_and_judged_by_what_stands(trial: Trial, case: Worked) -> None:
-    """The text alone decides what is read; the registered objects decide the rest."""
+@pytest.mark.parametrize("case", [*CHANGES, *STRANGERS], ids=lambda case: case.name)
+def test_items_are_judged_by_what_stands(trial: Trial, case: Worked) -> None:
+    """The registered objects decide, and what the items before changed."""
     assert submitted(trial, case.given)[1] == report_of(case.outcomes)
 
 
@@ -519,62 +416,3 @@ def test_route_sets_are_judged_by_their_place(
     load(trial, folder, HELD_SETS.encode(), "held.db")
     report = submit(trial, folder, f"password: {password}\n\n{given}")
     assert report == report_of((f"route-set {outcome}",))
-
-
-# The messages of the examples of FIPS 180-4 with their digests, of which the empty one is published
-# beside them, and the second one cut into salt and password.
-PUBLISHED = {
-    "the empty message": (
-        ":e3b0c44298fc1c149afbf4c8996fb92427ae41e4649b934ca495991b7852b855",
-        "",
-    ),
-    "the first message": (f":{DIGEST}", "abc"),
-    "the first message, salted": (f"ab:{DIGEST.upper()}", "c"),
-    "the second message": (
-        ":248d6a61d20638b8e5c026930c3e6039a33ce45964ff2167f6ecedd419db06c1",
-        "abcdbcdecdefdefgefghfghighijhijkijkljklmklmnlmnomnopnopq",
-    ),
-    "the third message": (
-        ":cf5b16a778af8380036ce59e7b0492370b249b11e8f07a51afac45037afee9d1",
-        "abcdefghbcdefghicdefghijdefghijkefghijklfghijklmghijklmnhijklmno"
-        "ijklmnopjklmnopqklmnopqrlmnopqrsmnopqrstnopqrstu",
-    ),
-}
-
-
-@pytest.mark.parametrize("line, message", PUBLISHED.values(), ids=PUBLISHED)
-def test_published_digests_fit_their_messages_alone(trial: Trial, line: str, message: str) -> None:
-    """By the password of a new maintainer."""
-    held = f"mntner: A-MNT | auth: SHA256-PW {line} | mnt-by: A-MNT"
-    given = text("password: bc", held, f"password: {message}", held)
-    ran = trial.run(trial.work, stdin=given.encode())
-    assert ran.printed == report_of(("mntner A-MNT: refused E11", "mntner A-MNT: added"))
-
-
-# The beginning of a paragraph, the size to which it is lengthened without its line end, the bytes a
-# read, and its outcome.
-LENGTHENED = text("inetnum: 10.0.0.0/8 | mnt-by: ROOT-MNT") + "descr: "
-SIZES = {
-    "an object of 65,536 bytes": (
-        LENGTHENED,
-        65_535,
-        4_096,
-        "inetnum 10.0.0.0 - 10.255.255.255: added",
-    ),
-    "an object of 65,537 bytes": (LENGTHENED, 65_536, 4_096, "-: refused E07"),
-    "a bad line of 65,536 bytes": (" ", 65_535, 4_096, "-: refused E01"),
-    "a bad line of 65,537 bytes": (" ", 65_536, 4_096, "-: refused E07"),
-    "a million bytes, one by one": ("x", 1_000_000, 1, "-: refused E07"),
-    "a million bytes": ("x", 1_000_000, 4_096, "-: refused E07"),
-}
-
-
-@pytest.mark.parametrize("front, size, step, outcome", SIZES.values(), ids=SIZES)
-def test_a_paragraph_has_at_most_65536_bytes(
-    trial: Trial, front: str, size: int, step: int, outcome: str
-) -> None:
-    """However it is cut; the paragraph behind it is read."""
-    behind = text("inetnum: 11.0.0.0/8 | mnt-by: ROOT-MNT")
-    given = f"password: bc\n\n{front:x<{size}}\n\n{behind}"
-    ran = run_in_pieces([trial.program], trial.work, given.encode(), [step])
-    assert ran.printed == report_of((outcome, "inetnum 11.0.0.0 - 11.255.255.255: added"))

@@ -3,7 +3,7 @@
 import pytest
 
 from checks.commands import ADDRESSES, BLOCK, OTHERS, ROOT
-from checks.running import Trial, write, write_settings
+from checks.running import DIGEST, Trial, write, write_settings
 from checks.submissions.cases import text
 
 IN_MEMORY = True
@@ -52,6 +52,33 @@ MEMBERS = (
     ("route-set: RS-A\nmembers: 30.0.0.0/8^24-28^+", "E05"),
     ("route-set: RS-A\nmembers: RS-B^-^+", "E05"),
     ("route-set: AS-A\nmembers: RS-B", "E03"),
+)
+# Lines beside those that an aut-num needs.
+VALUES = (
+    ("mnt-lower: B-MNT AS-X", "E05"),
+    ("mnt-lower:", "ok"),
+    ("mnt-routes: B-MNT {10.0.0.0/8^+, 10.0.0.0/16^8} C-MNT ANY D-MNT", "ok"),
+    ("mnt-routes: B-MNT\nmnt-routes: {10.0.0.0/8}", "ok"),
+    ("mnt-routes: B-MNT{}", "ok"),
+    ("mnt-routes: ANY", "E05"),
+    ("mnt-routes: {10.0.0.0/8}", "E05"),
+    ("mnt-routes: B-MNT {10.0.0.0/8", "E05"),
+    ("mnt-routes: B-MNT ANY ANY", "E05"),
+    ("member-of: AS-ANY, rs-any, AS1:AS-X", "ok"),
+    ("member-of: AS1", "E05"),
+    ("members: ?", "ok"),
+    ("auth:", "ok"),
+)
+# Values of `auth`.
+AUTHS = (
+    (f"sha256-pw a:{DIGEST}", "ok"),
+    ("SHA256-PW", "E05"),
+    ("SHA256-PW a", "E05"),
+    ("SHA256-PW a:00", "E05"),
+    ("SHA256-PW a_b:00 c", "E05"),
+    (f"SHA256-PW 1234567890123456:{DIGEST}", "ok"),
+    (f"SHA256-PW 12345678901234567:{DIGEST}", "E05"),
+    ("SHA256-PW:x", "ok"),
 )
 # Words that no maintainer is named by.
 RESERVED = (
@@ -229,6 +256,16 @@ def test_members_are_those_of_the_class(trial: Trial) -> None:
     expect_codes(trial, [(front + end, code) for front, code in MEMBERS])
 
 
+def test_values_are_read_in_their_classes(trial: Trial) -> None:
+    front = "aut-num: AS3\nmnt-by: A-MNT\nsource: TEST\n"
+    expect_codes(trial, [(f"{front}{line}\n", code) for line, code in VALUES])
+
+
+def test_a_digest_has_a_salt_and_64_digits(trial: Trial) -> None:
+    front, end = "mntner: A-MNT\nauth: ", "\nmnt-by: A-MNT\nsource: TEST\n"
+    expect_codes(trial, [(front + value + end, code) for value, code in AUTHS])
+
+
 def test_reserved_words_are_no_maintainers(trial: Trial) -> None:
     named = "aut-num: AS3\nmnt-by: A-MNT\nsource: TEST\nmnt-by: "
     needed = "\nauth: x\nmnt-by: A-MNT\nsource: TEST\n"
@@ -283,7 +320,9 @@ MISSING = "names a maintainer who is not in the dump: add its mntner, or take th
 LISTS = {
     "a block without its maintainer": ("", AS_BLOCK, f"1 {MISSING}"),
     "each object twice": (OPENING, OPENING, f"5 {DUPLICATE}"),
+    "a block again": (AS_BLOCK, OPENING, f"3 {DUPLICATE}"),
     "a block that crosses another": (OPENING, CROSSING_BLOCK, f"5 {OVERLAP}"),
+    "a block that crosses a later one": (CROSSING_BLOCK, OPENING, f"3 {OVERLAP}"),
     "inetnums that cross": (OPENING, CROSSING, f"6 {OVERLAP}"),
     "inetnums that cross before what they name": (CROSSING, OPENING, f"2 {OVERLAP}"),
     "inetnums that cross without what they name": (CROSSING, AS_BLOCK, f"2 {OVERLAP}"),

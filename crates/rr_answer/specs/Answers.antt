@@ -19,14 +19,16 @@ use Rattle.rr_answer.specs.Queries.{query_of}
 use Rattle.rr_answer.specs.Selections.{asked}
 use Rattle.rr_answer.specs.Texts.{objects_text}
 
--- The answer lists the AS numbers of an as-set in ascending order, one a line. It says so if there
--- is no such set, and is an error if the expansion is over the limit (profile).
+-- The answer lists the AS numbers of an as-set and then the missing names, both in ascending order,
+-- one a line. It says so if there is no such set, and is an error if the expansion is over the
+-- limit (profile).
 abbrev pub IsNumberAnswer : Reg → ℕ → List ℕ → Result (List ℕ) QueryFault → Type 0
 IsNumberAnswer r limit name answer =
     IsExpansion nat_cmp as_number_text (as_set_at r limit name) answer
 
--- The answer lists the ranges of a set of either kind in ascending order, one a line. It says so if
--- there is no such set, and is an error if the expansion is over the limit (profile).
+-- The answer lists the ranges of a set of either kind and then the missing names, both in ascending
+-- order, one a line. It says so if there is no such set, and is an error if the expansion is over
+-- the limit (profile).
 abbrev pub IsRangeAnswer : Reg → ℕ → List ℕ → Result (List ℕ) QueryFault → Type 0
 IsRangeAnswer r limit name answer =
     IsExpansion range_cmp range_text (route_set_at r limit name) answer
@@ -37,8 +39,8 @@ abbrev pub IsExpanded : SetKind → Reg → ℕ → List ℕ → Result (List �
 IsExpanded kinds.AsSet r limit name answer = IsNumberAnswer r limit name answer
 IsExpanded kinds.RouteSet r limit name answer = IsRangeAnswer r limit name answer
 
--- The answer is the text of the objects that a query asks for, or of an expansion, or the error of
--- one over the limit (profile).
+-- The answer is the text of the objects that a query asks for, or of an expansion. It says so if
+-- there is no such set, and is an error if the expansion is over the limit (profile).
 abbrev pub IsAnswer : Reg → ℕ → Query → Result (List ℕ) QueryFault → Type 0
 IsAnswer r limit (Expand name) answer = IsExpanded (kind_of name) r limit name answer
 IsAnswer r limit (Prefixes name) answer = IsRangeAnswer r limit name answer

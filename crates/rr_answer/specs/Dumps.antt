@@ -18,7 +18,7 @@ abbrev pub dumped : Bool → Obj → List ℕ
 dumped true o = ended (canonical o.paragraph)
 dumped false o = public_text o
 
--- The last line of a dump counts its objects (profile).
+-- The last line of a dump, `% end` with the number of its objects (profile).
 abbrev pub end_line : ℕ → List ℕ
 end_line count = ended (codes "% end " ++ decimal count)
 
@@ -35,8 +35,8 @@ pub record TakesPart (old new : Told) (bytes : List ℕ) : Type 0 where
   pub some_left : 0 < length rest
   pub takes : Takes old new prefix
 
--- A dump was cut short: its bytes were written in part before a write failed, or memory ran out
--- (profile).
+-- A dump was cut short: the beginning of its bytes was taken, and not all, before a write failed,
+-- or before memory ran out (profile).
 abbrev pub IsCut : List ℕ → Told → Told → DumpFault → Type 0
 IsCut bytes before after Write = TakesPrefix before after bytes
 IsCut bytes before after Memory = TakesPart before after bytes

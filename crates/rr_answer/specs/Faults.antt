@@ -6,7 +6,7 @@ use Rattle.rr_answer.specs.declared.query_fault.QueryFault.TheVariants.{Bad, Too
 use Rattle.rr_answer.specs.declared.query_fault.QueryFault.TheVariants.{Memory}
 use Rattle.rr_answer.specs.declared.query_fault.QueryFault.TheVariants.{Stopped}
 
--- The number of an error (profile).
+-- The number of an error; 5, which earlier versions gave, is none now (profile).
 abbrev pub error_number : QueryFault → ℕ
 error_number Bad = 1
 error_number TooLong = 2

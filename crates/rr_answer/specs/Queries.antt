@@ -41,12 +41,12 @@ prefix_spelled word =
     option_or (prefix_of word) (option_map (λ address. masked address 32) (address_of word))
 
 -- The words of a key, joined by one space, spell it as a text does; letter case is ignored in the
--- class too (profile).
+-- class too. There is none if no class has this name (profile).
 abbrev pub key_of_words : List ℕ → List (List ℕ) → Option Key
 key_of_words class others = option_and_then (λ found. key_of_text found (joined_by_space others))
     (class_named (lowered class))
 
--- The key of a set of either kind (RFC 2622, 5).
+-- The key of an as-set, or else of a route-set (RFC 2622, 5).
 abbrev pub set_key_of : List ℕ → Option Key
 set_key_of word = option_or (key_of_text class.AsSet word) (key_of_text class.RouteSet word)
 
@@ -59,7 +59,8 @@ query_of_word word =
     (option_or (option_map Object (set_key_of word))
     (option_map Object (key_of_text class.Mntner word))))
 
--- Two words say what is asked, and of which prefix or set (profile).
+-- Two words say what is asked, and of which prefix (`exact`, `closest`, `less`, `more`) or set
+-- (`expand`, `prefixes`); no others are a query (profile).
 abbrev pub query_of_two : List ℕ → List ℕ → Option Query
 query_of_two verb word =
     if is_keyword (codes "exact") verb then option_map Exact (prefix_spelled word)
@@ -78,8 +79,8 @@ inverse_of attribute word =
     else if is_keyword (codes "origin") attribute then option_map Originated (as_number_of word)
     else None
 
--- Three words and more ask for an object by its class and key, or for the objects that name a
--- maintainer, or for the routes of an origin (profile).
+-- Three words and more ask for an object by its class and key (`object`). Exactly three ask for the
+-- objects that name a maintainer, or for the routes of an origin (`inverse`) (profile).
 unfoldable pub query_of_more : List ℕ → List ℕ → List (List ℕ) → Option Query
 query_of_more verb second others =
     if is_keyword (codes "object") verb then option_map Object (key_of_words second others)

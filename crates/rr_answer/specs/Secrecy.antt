@@ -27,15 +27,17 @@ SourcesAreRead = (source : List ℕ) (r : Reg) → IsRegistryOf source r → IsR
 abbrev pub LookAlike : Reg → Reg → Type 0
 LookAlike r s = (k : Key) → option_map public_of (get r k) ≡ option_map public_of (get s k)
 
--- Registries that look alike answer each query alike, under the same limit (profile). With one
--- registry for both, this says that a query has one answer.
+-- Registries that look alike, and whose objects stand under their own keys and are what they are
+-- read as, answer each query alike, under the same limit (profile). With one registry for both,
+-- this says that a query has one answer.
 abbrev pub AnswersKeepSecrets : Type 0
 AnswersKeepSecrets =
     (r s : Reg) → IsRead r → IsRead s → LookAlike r s
     → (limit : ℕ) (text : List ℕ) (answer other : Result (List ℕ) QueryFault)
     → IsAnswerTo r limit text answer → IsAnswerTo s limit text other → answer ≡ other
 
--- Registries that look alike have the same public dump (profile).
+-- Registries that look alike, and whose objects stand under their own keys and are what they are
+-- read as, have the same public dump (profile).
 abbrev pub DumpsKeepSecrets : Type 0
 DumpsKeepSecrets =
     (r s : Reg) → IsRead r → IsRead s → LookAlike r s → dump false r ≡ dump false s

@@ -27,9 +27,10 @@ abbrev pub routes_closest : Reg → PrefixParts → List Obj
 routes_closest r p =
     option_map_or (λ closest. filter (is_route_of closest) (values r)) (closest_routes r p) []
 
--- The objects that a query asks for, by class and key: the object of a key; inetnums and routes of
--- exactly a prefix, the closest to it, all that cover it, or all inside it; the objects that name a
--- maintainer; the routes of an origin. An expansion asks for none (profile; closest: RFC 2725, 9).
+-- The objects that a query asks for, by class and key. They are the object of a key, those that
+-- name a maintainer, or the routes of an origin. Or they are the inetnums and routes of exactly a
+-- prefix, the closest to it, all that cover it, or all inside it. An expansion asks for none
+-- (profile; closest: RFC 2725, 9).
 abbrev pub asked : Query → Reg → List Obj
 asked (Object k) r = cons_option (get r k) []
 asked (Exact p) r = filter (is_at (span_of p)) (values r)

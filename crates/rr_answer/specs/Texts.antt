@@ -1,4 +1,4 @@
--- The texts of objects and of expansions.
+-- The texts of objects and of expansions, as answers have them.
 use Rattle.std.specs.Prelude.{ℕ, List, [], ◌∷◌, ◌++◌, codes}
 use Rattle.std.specs.List.{flat_map}
 use Rattle.rr_number.specs.Applied.{range_text}

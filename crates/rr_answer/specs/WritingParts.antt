@@ -4,7 +4,7 @@ use Rattle.std.specs.List.{flat_map}
 use Rattle.rr_io.specs.Told.{Told}
 use Rattle.rr_io.specs.Sending.{Takes, TakesPrefix}
 
--- the first parts were taken, some and so many
+-- the first parts were taken, so many and at least one
 pub record TakesParts {X : Type 0} (bytes : X → List ℕ) (parts : List X) (old new : Told)
     (count : ℕ) : Type 0 where
   pub some : 0 < count

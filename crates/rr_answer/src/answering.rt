@@ -1,4 +1,5 @@
-//! How a query is answered: what it finds in a registry. A desk answers by `find_for`.
+//! How a query is answered: what it finds in a registry. A desk answers by `find_for`, and tests
+//! ask by `answer_to`.
 
 ghost use Rattle.std.specs.Prelude.{◌≡◌, ◌≢◌, Err, IfErr, IfOk, Ok, true};
 ghost use Rattle.rr_answer.specs.declared.query_fault.QueryFault.TheVariants.{Memory, TooLong};
@@ -19,8 +20,9 @@ use rr_registry::Registry;
 use rr_sets::SetBook;
 use std::alloc::Global;
 
-/// What a query finds: the objects that it asks for, or the members of a set, `limit` bounding its
-/// expansion. The fault is `TooMany` for an expansion over the limit, or that memory ran out.
+/// What a query finds: the objects that it asks for, or the members of a set; no object if there is
+/// no such set. The fault is `TooMany` for an expansion over `limit`, counted as `expand_as_set`
+/// and `expand_route_set` of `rr_sets` count it, or that memory ran out.
 pub fn find<'a, B: Keeper>(
     alloc: Global,
     registry: &'a Registry<B>,

@@ -14,16 +14,13 @@ use rr_object::Object;
 use rr_registry::Registry;
 use std::alloc::{AllocError, Global};
 use std::io;
-use thiserror::Error;
 
 /// Why a dump was cut short.
-#[derive(Clone, Copy, Debug, PartialEq, Eq, Error)]
+#[derive(Clone, Copy, Debug, PartialEq, Eq)]
 pub enum DumpFault {
     /// A write failed.
-    #[error("write failed")]
     Write,
     /// Memory ran out.
-    #[error("out of memory")]
     Memory,
 }
 
@@ -51,8 +48,9 @@ impl From<AllocError> for DumpFault {
 
 /// Writes the objects by class and key, each with an empty line, and a last line that counts them.
 /// `full` says whether they are written with all their text, or as they are answered (profile). It
-/// gives their number. Each object is written by itself: after a fault the writer has taken the
-/// beginning of these bytes, and not all of them.
+/// gives their number. After a fault the writer has taken the beginning of these bytes, and not all
+/// of them. A call of it failed where the fault is `Write`, and none did where it is `Memory`. Each
+/// object is written by itself, which no clause says.
 #[tactic(auto, using(crate::proofs::Dumped::dump_has_bytes))]
 pub fn dump<B: Keeper, W: Sink>(
     alloc: Global,

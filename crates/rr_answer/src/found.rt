@@ -1,5 +1,5 @@
-//! What a query finds, and the text of it, which is the answer. It is written part by part, or made
-//! whole in memory.
+//! What a query finds, and the text of it, which is the answer. `answering` gives it; a desk writes
+//! the text part by part, or it is made whole in memory.
 
 ghost use Rattle.std.specs.Prelude.{◌≡◌, IfOk};
 ghost use Rattle.rr_io.specs.Sending.{Writes};
@@ -23,10 +23,10 @@ const NO_ENTRIES: &[u8] = b"% no entries\n";
 const EMPTY: &[u8] = b"% empty\n";
 
 /// What a query found: objects where they stand, or the members of a set. Its text is that of the
-/// answer (profile), which is never made whole to be written.
+/// answer (profile), which need not be made whole to be written.
 #[derive(Drop)]
 pub enum Found<'a> {
-    /// Objects, by class and key.
+    /// Objects, in the order of the answer.
     Objects(Vec<Place<'a>>),
     /// The AS numbers of an as-set.
     Numbers(Members<AsNumber>),
@@ -45,9 +45,9 @@ impl<'a> Found<'a> {
         Ok(Found::Objects(places(alloc, objects)?))
     }
 
-    /// Writes the text part by part. Memory is asked for to gather parts, and nothing fails where
-    /// there is none. After a fault the writer has taken the beginning of the text, and what would
-    /// have come is not made.
+    /// Writes the text. The error is that a write failed: the writer has then taken the beginning
+    /// of the text, and not all. Lack of memory is no error. Parts are gathered and written one
+    /// after the other, which no clause says.
     #[tactic(auto, unfolding(crate::specs::Texts::members_text))]
     pub fn write<W: Sink>(&self, alloc: Global, writer: &mut W) -> io::Result<()>
         ensures { Writes (W.told writer.old) (W.told writer.new)

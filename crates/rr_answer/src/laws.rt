@@ -9,13 +9,16 @@ pub fn registries_of_a_source_are_read()
     ensures { SourcesAreRead }
 {}
 
-/// Registries whose public objects are equal answer each query alike, under the same limit: what is
-/// hidden can't be asked for.
+/// Registries that have objects of the same keys, equal in public, answer each query alike, under
+/// the same limit. That is so if the objects stand under their own keys, and are what their
+/// paragraphs read as. So what is hidden can't be asked for. With one registry for both, this says
+/// that a query has one answer.
 pub fn answers_keep_secrets()
     ensures { AnswersKeepSecrets }
 {}
 
-/// Registries whose public objects are equal have the same public dump.
+/// Registries that have objects of the same keys, equal in public, have the same public dump. That
+/// is so if the objects stand under their own keys, and are what their paragraphs read as.
 pub fn public_dumps_keep_secrets()
     ensures { DumpsKeepSecrets }
 {}

@@ -1,4 +1,4 @@
-//! What a registry answers to queries, and its dumps.
+//! What a registry answers to queries, and its dumps. A desk answers and dumps by this.
 #![tactic(auto)]
 
 mod answering;

@@ -1,4 +1,5 @@
-//! The parts of answers: objects, lines of expansions, and names that are missing.
+//! The parts of answers: objects, lines of expansions, and names that are missing. `writing` writes
+//! and appends them.
 
 ghost use Rattle.std.specs.Prelude.{◌<◌, length, ℕ, List};
 ghost use Rattle.rr_io.specs.Sending.{Writes};
@@ -15,11 +16,13 @@ pub(crate) trait Part {
     // Its bytes.
     ghost bytes: { Self → List ℕ };
 
-    /// Appends its bytes. The error is that memory ran out: then some may have been appended.
+    /// Appends its bytes. The error is that memory ran out: then bytes may have been appended, and
+    /// what stood there before still comes first.
     fn push_onto(&self, out: &mut Vec<u8>) -> Result<(), AllocError>
         ensures { MayAdd (bytes self.now) out.old.items out.new.items result };
 
-    /// Writes its bytes, for which no memory is asked.
+    /// Writes its bytes. The error is that a write failed: the writer has then taken the beginning
+    /// of them, and not all. Lack of memory is no error.
     fn write<W: Sink>(&self, writer: &mut W) -> io::Result<()>
         ensures { Writes (W.told writer.old) (W.told writer.new) (bytes self.now) result };
 

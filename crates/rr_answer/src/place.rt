@@ -1,5 +1,5 @@
 //! The objects of an answer, each where it stands: in the registry, or in a public form made for
-//! the answer.
+//! the answer. `found` keeps them.
 
 ghost use Rattle.std.specs.Prelude.{◌≡◌, IfOk};
 ghost use Rattle.std.specs.List.{flat_map};
@@ -26,7 +26,7 @@ pub enum Place<'a> {
 }
 
 impl<'a> Place<'a> {
-    /// The place of an object. The error is that memory ran out.
+    /// The place of an object, where its public form is answered. The error is that memory ran out.
     #[tactic(auto, using(crate::proofs::Places::nothing_hidden))]
     pub(crate) fn of(alloc: Global, object: &'a Object) -> Result<Place<'a>, AllocError>
         ensures { IfOk result (λ place. founds.shown place ≡ public_of object.now) }
@@ -70,7 +70,8 @@ impl Part for Place<'_> {
     }
 }
 
-/// The places of the objects, in their order. The error is that memory ran out.
+/// The places of the objects, in their order; the clause says which text they have together. The
+/// error is that memory ran out.
 #[tactic(auto, using(crate::proofs::Lists::texts_lent))]
 pub(crate) fn places<'a>(
     alloc: Global,

@@ -1,33 +1,27 @@
-//! Why a query is not answered.
+//! Why a query is not answered: the faults of `query_reading`, of `answering`, and of a desk.
 
 ghost use Rattle.std.specs.Prelude.{◌≡◌};
 ghost use Rattle.rr_answer.specs.Faults.{error_line, error_number};
 
 use std::alloc::{AllocError, AllocFailed};
-use thiserror::Error;
 
 /// An error of a query, which is answered as the one line `% error n` (profile).
-#[derive(Clone, Copy, Debug, PartialEq, Eq, Error)]
+#[derive(Clone, Copy, Debug, PartialEq, Eq)]
 pub enum QueryFault {
     /// 1: the text is not a query.
-    #[error("bad query")]
     Bad,
     /// 2: the text has more than 1,024 bytes.
-    #[error("query too long")]
     TooLong,
     /// 3: the expansion would go over the limit.
-    #[error("too many members")]
     TooMany,
     /// 4: memory ran out.
-    #[error("out of memory")]
     Memory,
     /// 6: the desk is stopped.
-    #[error("stopped")]
     Stopped,
 }
 
 impl QueryFault {
-    /// The number of the error: 1 to 4, or 6.
+    /// The number of the error: 1 to 4, or 6. Earlier versions gave 5 for a fault of the database.
     pub fn number(self) -> u8
         ensures { result ≡ error_number self }
     {

@@ -1,4 +1,5 @@
-//! Queries read from the texts that clients send.
+//! Queries read from the texts that clients send, for `answering`. A desk also asks whether a text
+//! is too long.
 
 ghost use Rattle.std.specs.Prelude.{◌≡◌, ◌≢◌, Err, IfErr, IfOk, Ok, map, true};
 ghost use Rattle.std.specs.List.{list_any};
@@ -54,6 +55,7 @@ fn has_unreadable(text: &[u8]) -> bool
     text.iter().any(|b| is_unreadable(*b))
 }
 
+/// Whether a byte stands in no query: an LF, or one that stands in no line of an object.
 fn is_unreadable(b: u8) -> bool
     ensures { result ≡ queries.is_unreadable b }
 {

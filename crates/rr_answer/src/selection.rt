@@ -20,7 +20,8 @@ use rr_object::{Key, Object};
 use rr_registry::Registry;
 use std::alloc::{AllocError, Global};
 
-/// The objects that the query asks for, by class and key; of an expansion none.
+/// The objects that the query asks for, by class and key; of an expansion none. The error is that
+/// memory ran out, here and below.
 pub(crate) fn asked<'a, B: Keeper>(
     alloc: Global,
     registry: &'a Registry<B>,
@@ -140,7 +141,7 @@ fn routes_closest<B: Book>(
     }
 }
 
-/// The routes of the prefix.
+/// The routes of the prefix, in a book that is sound.
 #[tactic(auto, using(crate::proofs::Routes::routes_of_origins))]
 fn routes_of<B: Book>(alloc: Global, book: &B, prefix: Prefix) -> Result<Vec<&Object>, AllocError>
     ensures routes { IfOk result (λ found. lent found.items

@@ -1,5 +1,5 @@
-//! The texts of objects and of lines, appended to bytes in memory. If memory runs out, some bytes
-//! of a text may have been appended. Answers and dumps are made of these.
+//! The texts of objects and of lines, appended to bytes in memory. If memory runs out, bytes may
+//! have been appended, and what stood there still comes first. Answers and dumps are made of these.
 
 ghost use Rattle.rr_text.specs.CanonicalText.{canonical, ended};
 ghost use Rattle.rr_text.specs.Outputs.{MayAdd};

@@ -1,4 +1,5 @@
-//! Answers written part by part, so that they need not be whole in memory, or made whole there.
+//! Answers written part by part, so that they need not be whole in memory, or made whole there, as
+//! `found` asks for.
 
 ghost use Rattle.std.specs.Prelude.{◌≡◌, ◌+◌, ◌≤◌, ◌<◌, ◌++◌, []};
 ghost use Rattle.std.specs.Prelude.{IfOk, OnOk, length, take, true, false};
@@ -96,7 +97,8 @@ fn are_none<T>(found: &[T], missing: &[SetName]) -> bool
     found.is_empty() && missing.is_empty()
 }
 
-/// Writes what was found and the names that are missing, or the line that there is nothing.
+/// Writes what was found and the names that are missing, or the line that there is nothing. The
+/// error is that a write failed: the writer has then taken the beginning of that, and not all.
 pub(crate) fn write_members<T: Part, W: Sink>(
     alloc: Global,
     writer: &mut W,
@@ -127,6 +129,7 @@ fn push_parts<T: Part>(out: &mut Vec<u8>, parts: &[T]) -> Result<(), AllocError>
 }
 
 /// The text of what was found and of the names that are missing, or the line that there is nothing.
+/// The error is that memory ran out.
 pub(crate) fn members_text<T: Part>(
     alloc: Global,
     found: &[T],

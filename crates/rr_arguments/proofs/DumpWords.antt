@@ -1,4 +1,8 @@
 -- Whether the words of a dump have its flag.
+-- An induction over the words keeps that the rows have the flag where it was seen. Its step splits
+-- by how the parser reads a word: `--`, a long name, a bundle or a value. Inner tests are split by
+-- hand, and that only `--full` names the flag is shown so. `Flags` needs it, for
+-- `command_reading::parse`.
 use Rattle.std.proofs.Common.{eqb-true, ◌+◌, ◌≡◌, ◌∙◌, ◌++◌, ◌&&◌, ◌||◌, ◌⊎◌, ◌==◌, ℕ, Bool, cond}
 use Rattle.std.proofs.Common.{true, false, true≢false, not, zero, suc, refl, sym, ap, subst, arith}
 use Rattle.std.proofs.Common.{codes, List, [], ◌∷◌, length, take, drop, Option, Some, None, inl}

@@ -20,9 +20,9 @@ use Rattle.rr_arguments.specs.declared.command.Command.TheVariants as command
 use Rattle.rr_arguments.specs.declared.arguments_fault.ArgumentsFault.{ArgumentsFault}
 use Rattle.rr_arguments.specs.declared.arguments_fault.ArgumentsFault.TheVariants as fault
 
--- what a command line asks for: a command, with its arguments as text; or it names what is no port
--- or no count; or it is answered with help, the version or a refusal, of one of these kinds; or it
--- asks for nothing (profile)
+-- what a command line asks for: a command, with its arguments as text, or nothing (profile). Or it
+-- names what is no port or no count. Or it is answered with help, the version or a refusal, of one
+-- of these kinds
 pub data Invocation : Type 0 where
   plain : Invocation
   init : Text → Invocation
@@ -38,25 +38,28 @@ pub data Invocation : Type 0 where
   told : Kinds → Invocation
   nothing : Invocation
 
--- words with one blank between each two (profile)
+-- words with one space between each two (profile)
 abbrev pub joined : List Text → Text
 joined words = join_by (λ word. word) (codes " ") words
 
 -- ---- the arguments that a command got
 
--- what is made of the argument of this place (profile)
+-- what is made of the argument of this place; nothing if there is none (profile)
 abbrev pub given : Text → (Text → Invocation) → List Row → Invocation
 given place made rows = option_map_or made (first_of place rows) nothing
 
--- what is made of the number that an argument spells, from 1 to the greatest (profile)
+-- what is made of the number that an argument spells, from 1 to the greatest, or of an argument
+-- that spells none (profile)
 abbrev pub spelled : ℕ → (Text → Invocation) → (ℕ → Invocation) → Text → Invocation
 spelled greatest bad made text = option_map_or made (number_within text greatest) (bad text)
 
--- what is made of the port among the arguments, a number from 1 to 65,535 (profile)
+-- what is made of the port among the arguments, a number from 1 to 65,535; a bad port if it is none
+-- (profile)
 abbrev pub invoked_port : (ℕ → Invocation) → List Row → Invocation
 invoked_port made rows = given (codes "PORT") (spelled 65535 bad_port made) rows
 
--- what is made of the count among the arguments, a number from 1 to 1,000,000 (profile)
+-- what is made of the count among the arguments, a number from 1 to 1,000,000; a bad count if it is
+-- none (profile)
 abbrev pub invoked_count : (ℕ → Invocation) → List Row → Invocation
 invoked_count made rows = given (codes "N") (spelled 1000000 bad_count made) rows
 
@@ -69,7 +72,8 @@ abbrev pub IsFlag : Option Text → Type 0
 IsFlag text =
     (text ≡ None) ⊎ ((text ≡ Some (codes "true")) ⊎ (text ≡ Some (codes "false")))
 
--- what the command of this name asks for over these settings (profile)
+-- what the command of this name asks for over these settings: nothing, if there is no such command,
+-- or it lacks a file, a port or a count. A bad port is told before a bad count (profile)
 abbrev pub invoked_over : Text → List Row → Text → Invocation
 invoked_over name rows settings =
     if bytes_eq name (codes "init") then init settings
@@ -83,7 +87,7 @@ invoked_over name rows settings =
     then invoked_port (λ port. invoked_count (serve settings port) rows) rows
     else (if bytes_eq name (codes "probe") then probe settings else nothing)))))))
 
--- what the command of this name asks for, by its arguments (profile)
+-- what the command of this name asks for, by its arguments; nothing without settings (profile)
 abbrev pub invoked_by : Text → List Row → Invocation
 invoked_by name rows = given (codes "SETTINGS") (invoked_over name rows) rows
 
@@ -108,7 +112,7 @@ abbrev pub TellsKind : (ErrorKind → Bool) → Invocation → Type 0
 TellsKind is_so invocation =
     (kinds : Kinds) × (invocation ≡ told kinds) × IsTrue (list_any is_so kinds)
 
--- the command that is asked for; help and the version are text (profile)
+-- the command is what is asked for; help and the version are some text (profile)
 abbrev pub IsInvoked : Command → Invocation → Type 0
 IsInvoked command.Plain invocation = invocation ≡ plain
 IsInvoked (command.Init settings) invocation = invocation ≡ init settings.now
@@ -123,7 +127,8 @@ IsInvoked (command.Serve settings port count) invocation =
 IsInvoked (command.Probe settings) invocation = invocation ≡ probe settings.now
 IsInvoked (command.Print text) invocation = TellsKind is_shown invocation
 
--- why a command line asks for no command; memory may always run out (profile)
+-- why a command line asks for no command: a parse refuses it, or gives nothing, or it names what is
+-- no port or no count; memory may always run out (profile)
 abbrev pub FailsToInvoke : ArgumentsFault → Invocation → Type 0
 FailsToInvoke (fault.Refused line) invocation = TellsKind is_refusal invocation
 FailsToInvoke fault.Unexplained invocation = invocation ≡ nothing
@@ -145,7 +150,8 @@ GivesPart {T} invocation result = (made : T → Invocation)
     → MatchResult result (λ part. invocation made ≡ made part)
     (λ fault. FailsToInvoke fault (invocation made))
 
--- what a request for help or the version, and a refusal, is read as (profile)
+-- what a parse that ends in help, the version or a refusal is read as: some text, or some line;
+-- memory may always run out (profile)
 abbrev pub IsToldAs : ErrorKind → Result Command ArgumentsFault → Type 0
 IsToldAs kind (Ok (command.Print text)) = IsTrue (is_shown kind)
 IsToldAs kind (Err (fault.Refused line)) = IsTrue (is_refusal kind)
@@ -182,11 +188,13 @@ line_stop words = stop_after (built program_app).top.rules (names_of (built prog
 abbrev pub parsed : List Text → Invocation
 parsed words = invoked_unless (line_kinds words) (line_command words)
 
--- the help on a command (profile)
+-- what a request for the help on a command asks for: what a parse of the command with `--help`
+-- gives of help, the version or refusals, and else nothing (profile)
 abbrev pub helped : Text → Text → Invocation
 helped first name = invoked_unless (line_kinds (first ∷ name ∷ codes "--help" ∷ [])) None
 
--- the words `help` and the name of a command ask for the help on it (profile)
+-- the word `help` and a word after it, other than `help`, ask for the help on a command of that
+-- name (profile)
 abbrev pub asks_help : Text → Text → Bool
 asks_help word name = bytes_eq word (codes "help") && not (bytes_eq name (codes "help"))
 
@@ -206,8 +214,9 @@ begins_with_dash (byte ∷ bytes) = byte == 45
 abbrev pub asks_query : Text → Text → Bool
 asks_query name settings = bytes_eq name (codes "query") && not (begins_with_dash settings)
 
--- what a command line asks for, of which the first word is the program's name: nothing after it is
--- the plain command; after the settings of a query all are its words (profile)
+-- what a command line asks for, of which the first word is the program's name. Nothing after it is
+-- the plain command. If words follow the settings of a query, all of them are its words; the rest
+-- is left to help and a parse (profile)
 abbrev pub invoked : List Text → Invocation
 invoked [] = plain
 invoked (first ∷ []) = plain

@@ -1,11 +1,11 @@
--- What follows from what command lines ask for (profile).
+-- A law of command lines: which dumps are asked for in full (profile).
 use Rattle.std.specs.Prelude.{◌≡◌, Bool, List, ◌∷◌}
 use Rattle.clap.specs.Walk.{Text}
 use Rattle.rr_arguments.specs.CommandLine.{invoked, dump}
 use Rattle.rr_arguments.specs.Flags.{names_full}
 
--- what is asked for in full are the dumps whose words after the command have `--full` among them,
--- before any word `--` (profile)
+-- where words ask for a dump, they ask for it in full exactly if `--full` is among the words after
+-- the command, before any word `--` (profile)
 abbrev pub FullIsNamed : Type 0
 FullIsNamed = (words : List Text) (settings : Text) (full : Bool)
     → invoked words ≡ dump settings full

@@ -1,4 +1,5 @@
-//! Why the arguments of the command line ask for nothing.
+//! Why the arguments of the command line ask for nothing, as `command_reading` finds and `rr_cli`
+//! reports.
 
 ghost use Rattle.std.specs.Prelude.{◌≡◌};
 ghost use Rattle.rr_arguments.specs.declared.arguments_fault.ArgumentsFault.TheVariants.{Memory};
@@ -8,9 +9,9 @@ use std::alloc::AllocError;
 /// Why the arguments ask for nothing that the program does.
 #[derive(Drop)]
 pub enum ArgumentsFault<'a> {
-    /// They are not those of a command, and this line says why.
+    /// A parse refuses them, and this line is to say why.
     Refused(String),
-    /// They are not those of a command.
+    /// A parse gives neither a whole command nor help, the version or a refusal.
     Unexplained,
     /// This argument is not a port, which is a number from 1 to 65,535.
     Port(&'a str),

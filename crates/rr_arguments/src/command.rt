@@ -1,4 +1,5 @@
-//! The commands of the program, with their arguments.
+//! The commands of the program, with their arguments, as `command_reading` gives them and `rr_cli`
+//! carries them out.
 
 /// What the program is asked to do. `settings` is the path of a settings file.
 #[derive(Drop)]
@@ -21,7 +22,7 @@ pub enum Command<'a> {
     Query {
         /// The settings.
         settings: &'a str,
-        /// The words of the query, with a blank between each two.
+        /// The words of the query, with one space between each two.
         query: String,
     },
     /// Print all objects of a registry.

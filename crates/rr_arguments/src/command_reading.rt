@@ -1,5 +1,5 @@
 //! Reading the arguments of the command line: the command that they ask for, or why they ask for
-//! none.
+//! none. `rr_cli` calls `read_command`.
 
 ghost use Rattle.std.specs.Prelude.{◌≡◌, ◌&&◌, codes, map, string_bytes, IfOk, MatchResult};
 ghost use Rattle.std.specs.Prelude.{length, nat_lt, true};
@@ -32,7 +32,8 @@ const GREATEST_COUNT: usize = 1_000_000;
 const USAGE: &str = "usage: ";
 
 /// The command that the arguments ask for, of which the first is the program's own name. The fault
-/// is that they ask for none, or that memory ran out.
+/// is why they ask for none, or that memory ran out, which it may at any time. What the text of the
+/// help or the line of a refusal is, no clause says.
 pub fn read_command<'a>(
     alloc: Global,
     arguments: &'a [String],
@@ -50,15 +51,15 @@ pub fn read_command<'a>(
     }
 }
 
-/// Whether these are the arguments of a query after its settings: each of them is a word of the
-/// query, also one that begins with a dash and would be an option elsewhere (profile).
+/// Whether these are the arguments of a query after its settings. Then each of them is a word of
+/// the query, also one that begins with a dash and would be an option elsewhere (profile).
 fn is_query(name: &str, settings: &str, query: &[String]) -> bool
     ensures { result ≡ (asks_query name.now settings.now && nat_lt 0 (length query.now)) }
 {
     name == "query" && !settings.starts_with('-') && !query.is_empty()
 }
 
-/// The query of these words, with one blank between each two.
+/// The query of these words, with one space between each two. The fault is that memory ran out.
 fn read_query<'a, S: AsStr>(
     alloc: Global,
     settings: &'a str,
@@ -117,6 +118,7 @@ fn read_help<'a>(alloc: Global, first: &str, name: &str) -> Result<Command<'a>, 
     }
 }
 
+/// Copies of the texts, in their order. The error is that memory ran out.
 fn words_of(alloc: Global, texts: &[&str]) -> Result<Vec<String>, AllocError>
     ensures { IfOk result
         (λ words. map string_bytes words.items ≡ map (λ text. text.now) texts.now) }
@@ -128,7 +130,8 @@ fn words_of(alloc: Global, texts: &[&str]) -> Result<Vec<String>, AllocError>
     Ok(words)
 }
 
-/// The command of this name, with what was found after it.
+/// The command of this name, with what was found after it, where `--full` of a dump was read as a
+/// flag. The fault is why there is none.
 fn read_found<'a>(
     alloc: Global,
     name: &'a str,
@@ -165,7 +168,7 @@ fn read_found<'a>(
     }
 }
 
-/// The argument of a command that has this place.
+/// The argument of a command that has this place. The fault is `Unexplained`, if there is none.
 fn read_argument<'a>(found: &ArgMatches<'a>, place: &str) -> Result<&'a str, ArgumentsFault<'a>>
     ensures { (made : Text → Invocation) → MatchResult result
         (λ text. given place.now made (rows_of (found_of found.now)) ≡ made text.now)
@@ -177,7 +180,7 @@ fn read_argument<'a>(found: &ArgMatches<'a>, place: &str) -> Result<&'a str, Arg
     }
 }
 
-/// The port that the arguments name.
+/// The port that the arguments name. The fault is that they name none, or what is no port.
 fn read_port<'a>(found: &ArgMatches<'a>) -> Result<u16, ArgumentsFault<'a>>
     ensures { GivesPart (λ made. invoked_port made (rows_of (found_of found.now))) result }
 {
@@ -188,7 +191,8 @@ fn read_port<'a>(found: &ArgMatches<'a>) -> Result<u16, ArgumentsFault<'a>>
     }
 }
 
-/// The number of connections that the arguments name.
+/// The number of connections that the arguments name. The fault is that they name none, or what is
+/// no count.
 fn read_count<'a>(found: &ArgMatches<'a>) -> Result<u64, ArgumentsFault<'a>>
     ensures { GivesPart (λ made. invoked_count made (rows_of (found_of found.now))) result }
 {
@@ -199,7 +203,8 @@ fn read_count<'a>(found: &ArgMatches<'a>) -> Result<u64, ArgumentsFault<'a>>
     }
 }
 
-/// What is to be done where the arguments are refused: the help and the version are refusals too.
+/// What is to be done where a parse ended so: the help or the version is printed, or the arguments
+/// are refused. `Memory` may be the fault at any time.
 fn read_refusal<'a>(
     alloc: Global,
     arguments: &[String],

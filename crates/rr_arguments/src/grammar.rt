@@ -1,5 +1,5 @@
-//! What the arguments of the command line may be, as clap parses them. A new command or option is
-//! added here, in `command` and in `command_reading`.
+//! What the arguments of the command line may be, as clap parses them for `command_reading`. A new
+//! command or option is added here, in `command` and in `command_reading`.
 
 ghost use Rattle.std.specs.Prelude.{IfOk, codes};
 ghost use Rattle.clap.specs.Simple.{App, with_subcommand};
@@ -13,9 +13,10 @@ use clap::{Arg, ArgAction};
 use std::alloc::{AllocError, Global};
 
 /// The version of the program, and that of the tables that it reads.
-const VERSION: &str = "2.7.1 (tables 2)";
+const VERSION: &str = "2.7.2 (tables 2)";
 
-/// What the arguments may be. The commands stand in the order in which a registry meets them.
+/// What the arguments may be. The commands stand in the order in which a registry meets them. The
+/// error is that memory ran out, here and below.
 pub(crate) fn program<'a>(alloc: Global) -> Result<clap::Command<'a>, AllocError>
     ensures { IfOk result (ParsesAs program_app) }
 {

@@ -1,5 +1,5 @@
-//! What `--help` says of the program and of each command, each with an example. No line has more
-//! than 79 columns.
+//! What `--help` says of the program and of each command, each with an example: `grammar` gives it
+//! to clap. No line has more than 79 columns.
 
 /// What the program is.
 pub const PROGRAM: &str = "An Internet routing registry for IPv4 (RFC 2622, RFC 2725).

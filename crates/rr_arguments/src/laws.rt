@@ -2,8 +2,8 @@
 
 ghost use Rattle.rr_arguments.specs.Named.{FullIsNamed};
 
-/// A dump is asked for with all of its text exactly where `--full` is among the words after the
-/// command, before any word `--`.
+/// Where words ask for a dump, they ask for all of its text exactly if `--full` is among the words
+/// after the command, before any word `--`.
 pub fn full_is_named()
     ensures { FullIsNamed }
 {}

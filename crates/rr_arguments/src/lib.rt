@@ -1,5 +1,5 @@
 //! The command line of the program: what its arguments may be, what they ask for, and the help
-//! that is shown.
+//! that is shown. `rr_cli` reads its arguments by this.
 #![tactic(auto)]
 
 mod arguments_fault;

@@ -1,11 +1,12 @@
-//! Numbers among the arguments.
+//! Numbers among the arguments: `command_reading` reads ports and counts by this.
 
 ghost use Rattle.std.specs.Prelude.{◌≡◌, ◌<◌, ◌≤◌, ◌^◌, IfSome};
 ghost use Rattle.rr_arguments.specs.Numbers.{number_within};
 
 use rr_bytes::{are_digits, capped_value};
 
-/// The number that an argument spells in decimal digits alone, if it is 1 to `greatest`.
+/// The number that an argument spells in decimal digits alone, if it is 1 to `greatest`, which is
+/// below 2^32.
 pub(crate) fn read_number(argument: &str, greatest: usize) -> Option<usize>
     requires { greatest < 2 ^ 32 }
     ensures value { result ≡ number_within argument.now greatest }

@@ -11,11 +11,12 @@ use Rattle.rr_object.specs.Objects.{Obj}
 use Rattle.rr_auth.specs.Passing.{names_pass}
 use Rattle.rr_auth.specs.Registries.{Reg}
 
--- Who decides below an object: its mnt-lower where it has one, otherwise its mnt-by (RFC 2725, 9).
+-- Who decides below an object: its mnt-lower where that has a name, otherwise its mnt-by
+-- (RFC 2725, 9).
 abbrev pub lower_of : Obj → List (List ℕ)
 lower_of o = if length o.lower == 0 then o.maintainers else o.lower
 
--- An entry of mnt-routes grants a prefix where it is for any, or has a range that admits it
+-- An entry of mnt-routes grants a prefix where it is for any prefix, or has a range that admits it
 -- (RFC 2725, 9).
 abbrev pub grants : PrefixParts → GrantParts → Bool
 grants p g = g.any || list_any (λ range. admits range p) g.ranges
@@ -26,8 +27,8 @@ is_aut_num (AutNum n) = true
 is_aut_num _ = false
 
 -- Who decides about a route of the prefix below an object: the maintainers of the entries of its
--- mnt-routes that grant the prefix, where it has mnt-routes (RFC 2725, 9); otherwise its mnt-by if
--- it is an aut-num, and else who decides below it (profile).
+-- mnt-routes that grant the prefix, where it has entries (RFC 2725, 9); otherwise its mnt-by if it
+-- is an aut-num, and else who decides below it (profile).
 abbrev pub routes_of : Obj → PrefixParts → List (List ℕ)
 routes_of o p =
     if length o.routes == 0 then (if is_aut_num o.key then o.maintainers else lower_of o)

@@ -1,4 +1,5 @@
--- The closest objects of a class to a span (RFC 2725, 9).
+-- The closest objects of a class to a span (RFC 2725, 9). A class is given here by a function that
+-- has the span of each of its keys, and none of another key.
 use Rattle.std.specs.Prelude.{ℕ, Bool, true, false, not, ◌==◌, ◌&&◌, ◌||◌, List}
 use Rattle.std.specs.Prelude.{Option, None}
 use Rattle.std.specs.Prelude.{Some, nat_le, if◌then◌else◌}
@@ -32,13 +33,13 @@ abbrev pub is_no_closer : (Key → Option Ends) → Ends → Ends → Obj → Bo
 is_no_closer class s t x =
     option_map_or (λ u. not (covers u s) || nat_le (size t) (size u)) (class x.key) true
 
--- An object of a list is closest to a span where it covers the span, and no other of its class that
--- covers the span has a smaller one. An equal span counts (RFC 2725, 9).
+-- An object is closest to a span where it is of the class and covers the span, and no object of the
+-- class in the list that covers the span has a smaller one. An equal span counts (RFC 2725, 9).
 abbrev pub is_closest : (Key → Option Ends) → List Obj → Ends → Obj → Bool
 is_closest class all s o =
     option_map_or (λ t. covers t s && list_all (is_no_closer class s t) all) (class o.key) false
 
--- An object of the class covers s.
+-- The object is of the class and covers s.
 abbrev pub is_cover : (Key → Option Ends) → Ends → Obj → Bool
 is_cover class s o = option_map_or (λ t. covers t s) (class o.key) false
 
@@ -60,13 +61,14 @@ abbrev pub route_prefix : Key → Option PrefixParts
 route_prefix (Route p n) = Some p
 route_prefix _ = None
 
--- The prefix of the closest routes to a prefix: there can be several routes, of one prefix and
--- several origins (RFC 2725, 9).
+-- The prefix of the first closest route to a prefix in a list; none where there is no such route.
+-- There can be several, of one prefix and several origins (RFC 2725, 9).
 abbrev pub prefix_of_closest : List Obj → PrefixParts → Option PrefixParts
 prefix_of_closest all p =
     option_and_then (λ o. route_prefix o.key) (closest_of route_span all (span_of p))
 
--- The prefix of the closest routes of a registry to a prefix (RFC 2725, 9).
+-- The prefix of the closest routes of a registry to a prefix (RFC 2725, 9). In a sound registry
+-- all of them have it; in another this is that of the first by key.
 abbrev pub closest_routes : Reg → PrefixParts → Option PrefixParts
 closest_routes r p = prefix_of_closest (values r) p
 
@@ -79,10 +81,10 @@ abbrev pub origin_at : PrefixParts → Key → Option ℕ
 origin_at q (Route p n) = if same_prefix p q then Some n else None
 origin_at q _ = None
 
--- The origins of the routes of a prefix, in order.
+-- The origins of the routes of a prefix in a list, in the order of the list.
 abbrev pub origins_among : List Obj → PrefixParts → List ℕ
 origins_among all p = filter_map (λ o. origin_at p o.key) all
 
--- The origins of a registry's routes of a prefix, in order.
+-- The origins of a registry's routes of a prefix, in the order of the registry's keys.
 abbrev pub origins : Reg → PrefixParts → List ℕ
 origins r p = origins_among (values r) p

@@ -45,8 +45,8 @@ abbrev pub IsSameBut : Key → Reg → Reg → Type 0
 IsSameBut k before after =
     (l : Key) → eq_by_cmp key_cmp l k ≡ false → get after l ≡ get before l
 
--- What was known of a registry is, after this, true of each registry that differs from it under the
--- key alone.
+-- If what was known is true of a registry, what is known after this is true of each that differs
+-- from it at most under the key.
 abbrev pub Forgets : Key → Known → Known → Type 0
 Forgets key old new =
     (before after : Reg) → IsSameBut key before after → IsKnown before old → IsKnown after new

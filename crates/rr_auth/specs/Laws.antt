@@ -1,4 +1,4 @@
--- What every verdict keeps.
+-- What every verdict keeps, and what is closest in a registry.
 use Rattle.std.specs.Prelude.{◌≡◌, ◌&&◌, ℕ, true, false, not, List, Some}
 use Rattle.std.specs.Prelude.{if◌then◌else◌, is_none}
 use Rattle.std.specs.List.{list_any}
@@ -25,7 +25,7 @@ use Rattle.rr_auth.specs.Registries.{Reg, Sound}
 use Rattle.rr_auth.specs.Sources.{IsReadIn, IsRegistryOf}
 use Rattle.rr_auth.specs.Verdicts.{fits_item, verdict, step}
 
--- The key of an object that is submitted is well formed.
+-- The key of an object that is submitted is well formed; of a key to be deleted nothing is said.
 abbrev pub IsItem : Item → Type 0
 IsItem (Submit o) = IsKeyValue o.key
 IsItem (Delete k) = Unit {0}
@@ -44,7 +44,7 @@ StaysSound =
     (r : Reg) (secrets : List (List ℕ)) (i : Item) → Sound r → IsItem i
     → Sound (step r secrets i)
 
--- A registry of a source stays one, whatever is submitted that is read in that source.
+-- A registry of a source stays one, whatever item comes that is read in that source.
 abbrev pub StaysOfSource : Type 0
 StaysOfSource =
     (source : List ℕ) (r : Reg) (secrets : List (List ℕ)) (i : Item)
@@ -52,7 +52,7 @@ StaysOfSource =
     → IsRegistryOf source (step r secrets i)
 
 -- The verdict on an item is one of those that are given on such an item: no submission is answered
--- as a deletion, nor a deletion as an addition or a change.
+-- as a deletion, nor a deletion as an addition, a change or no change.
 abbrev pub VerdictsFitItems : Type 0
 VerdictsFitItems =
     (r : Reg) (secrets : List (List ℕ)) (i : Item) → fits_item i (verdict r secrets i) ≡ true
@@ -67,8 +67,8 @@ abbrev pub key_about : Item → Key
 key_about (Submit o) = o.key
 key_about (Delete k) = k
 
--- Whether what stands under a key may be touched is decided by its own mnt-by, whatever an item
--- names in its place (RFC 2725, 9).
+-- An item about a registered key is refused where the mnt-by of what stands there does not pass,
+-- whatever the item names in its place (RFC 2725, 9).
 abbrev pub StoredNamesDecide : Type 0
 StoredNamesDecide =
     (r : Reg) (secrets : List (List ℕ)) (i : Item) (stored : Obj)
@@ -86,21 +86,21 @@ SecretsAreASet =
     (r : Reg) (secrets others : List (List ℕ)) (i : Item) → SameSecrets secrets others
     → verdict r secrets i ≡ verdict r others i
 
--- In a sound registry there is one closest inetnum to a span at most: each one that is closest is
--- the one that is given.
+-- In a sound registry there is one closest inetnum to a span at most: each registered one that is
+-- closest is that of `closest_inetnum`.
 abbrev pub OneClosestInetnum : Type 0
 OneClosestInetnum =
     (r : Reg) (s : Ends) (k : Key) (o : Obj) → Sound r → IsSpan s → get r k ≡ Some o
     → is_closest inetnum_span (values r) s o ≡ true → closest_inetnum r s ≡ Some o
 
--- In a sound registry there is one closest as-block to a span at most: each one that is closest is
--- the one that is given.
+-- In a sound registry there is one closest as-block to a span at most: each registered one that is
+-- closest is that of `closest_block`.
 abbrev pub OneClosestBlock : Type 0
 OneClosestBlock =
     (r : Reg) (s : Ends) (k : Key) (o : Obj) → Sound r → IsSpan s → get r k ≡ Some o
     → is_closest block_span (values r) s o ≡ true → closest_block r s ≡ Some o
 
--- In a sound registry all closest routes to a prefix have one prefix, the one that is given.
+-- In a sound registry all closest routes to a prefix have one prefix, that of `closest_routes`.
 abbrev pub ClosestRoutesAgree : Type 0
 ClosestRoutesAgree =
     (r : Reg) (p : PrefixParts) (k : Key) (o : Obj) → Sound r → get r k ≡ Some o
@@ -123,8 +123,9 @@ pub record IsClosestWhereCovered (r : Reg) : Type 0 where
 abbrev pub NothingClosestIsUncovered : Type 0
 NothingClosestIsUncovered = (r : Reg) → IsClosestWhereCovered r
 
--- E13 of a route in a sound registry: the names that decide about it pass for no closest route, or,
--- where no route covers it, not for the closest inetnum, or there is none.
+-- In a sound registry E13 holds of a route exactly in two cases. Some route covers it, and the
+-- names that decide about it pass for no closest route. Or no route covers it, and they do not pass
+-- for the closest inetnum, or there is none.
 abbrev pub RoutesAskTheClosest : Type 0
 RoutesAskTheClosest =
     (r : Reg) (secrets : List (List ℕ)) (p : PrefixParts) (n : ℕ) → Sound r

@@ -10,7 +10,7 @@ use Rattle.rr_object.specs.Parts.{AuthParts}
 use Rattle.rr_object.specs.Objects.{Obj}
 use Rattle.rr_auth.specs.Registries.{Reg, maintainer}
 
--- A secret fits a line where the digest is that of the salt and then the secret (profile;
+-- A secret fits a line where the line's digest is SHA-256 of its salt and then the secret (profile;
 -- FIPS 180-4).
 abbrev pub fits_line : AuthParts → List ℕ → Bool
 fits_line line secret = bytes_eq (sha256 (line.salt ++ secret)) line.digest

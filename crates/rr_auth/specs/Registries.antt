@@ -28,7 +28,8 @@ abbrev pub with_mntner : Reg → Key → Obj → Reg
 with_mntner r (Mntner name) o = insert r (Mntner name) o
 with_mntner r _ o = r
 
--- The registry that an object is judged in: with itself, where it is a mntner that is added.
+-- The registry that an object is judged in: with itself, where it is a mntner that is added, and
+-- else as it is.
 abbrev pub seen_by : Option Obj → Reg → Reg
 seen_by None r = r
 seen_by (Some o) r = with_mntner r o.key o

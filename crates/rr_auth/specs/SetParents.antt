@@ -24,13 +24,12 @@ parent_key kind Bare = None
 abbrev pub parent_object : Reg → SetKind → Parent → Option Obj
 parent_object r kind parent = option_and_then (get r) (parent_key kind parent)
 
--- A set's name has several components, and nothing is registered under all but the last
--- (RFC 2725, 9).
+-- A set's name has several components, and no parent of it is registered (RFC 2725, 9).
 abbrev pub lacks_parent : Reg → SetKind → List ℕ → Bool
 lacks_parent r kind name =
     option_map_or (λ parent. is_none (parent_object r kind parent)) (parent_of name) false
 
--- A set's name has several components, and the parent does not authorise it (RFC 2725, 9).
+-- A set's name has several components, and no registered parent authorises it (RFC 2725, 9).
 abbrev pub parent_refuses : Reg → List (List ℕ) → SetKind → List ℕ → Bool
 parent_refuses r secrets kind name = option_map_or
     (λ parent. not (option_map_or (lower_passes r secrets) (parent_object r kind parent) false))

@@ -39,17 +39,18 @@ place r secrets k = first_of (
     record { holds = is_uncovered r k; code = E12 } ∷ (
     record { holds = cover_refuses r secrets k; code = E13 } ∷ []))))) Add
 
--- An object whose key is new is added. Its names are looked up in the registry with itself, where
--- it is a mntner: so a new mntner may name itself, and its own secret counts (RFC 2725, 9;
--- profile).
+-- The verdict on an object whose key is new: the first of E10 and E11 that holds, and otherwise
+-- that by its place. E10 and E11 ask the registry with the object in it, where that is a mntner: so
+-- a new mntner may name itself, and its own secret counts (RFC 2725, 9; profile).
 abbrev pub addition : Reg → List (List ℕ) → Obj → Verdict
 addition r secrets o = first_of (
     record { holds = names_unknown (seen_by (Some o) r) o; code = E10 } ∷ (
     record { holds = unauthorised (seen_by (Some o) r) secrets o; code = E11 } ∷ []))
     (place r secrets o.key)
 
--- An object whose key is registered is a change, which the stored mnt-by decides; the same text
--- changes nothing (RFC 2725, 9; profile).
+-- The verdict on an object whose key is registered: the first of E10 and E11 that holds, both in
+-- the registry as it is. The new object's names decide E10, the stored mnt-by E11. Otherwise it is
+-- a change, or no change where the paragraphs are equal (RFC 2725, 9; profile).
 abbrev pub change : Reg → List (List ℕ) → Obj → Obj → Verdict
 change r secrets stored o = first_of (
     record { holds = names_unknown r o; code = E10 } ∷ (
@@ -62,8 +63,9 @@ abbrev pub submission : Option Obj → Reg → List (List ℕ) → Obj → Verdi
 submission None r secrets o = addition r secrets o
 submission (Some stored) r secrets o = change r secrets stored o
 
--- A deletion needs that the object is stored, that its mnt-by passes, and that no other object
--- names it, if it is a mntner (RFC 2725, 9; profile).
+-- A deletion needs that the object is stored (E18), that its mnt-by passes (E11), and that no other
+-- object names it, if it is a mntner (E17). The first that is lacking is told (RFC 2725, 9;
+-- profile).
 abbrev pub deletion : Option Obj → Reg → List (List ℕ) → Key → Verdict
 deletion stored r secrets k = first_of (
     record { holds = is_unregistered stored; code = E18 } ∷ (
@@ -85,17 +87,20 @@ fits_item (DeleteItem k) Delete = true
 fits_item (DeleteItem k) (Refuse code) = true
 fits_item (DeleteItem k) _ = false
 
--- The registry with an item's object under its key, in place of one that stood there.
+-- The registry with the object that an item submits under its key, in place of one that stood
+-- there; as it is where the item is a deletion.
 abbrev pub added : Reg → Item → Reg
 added r (Submit o) = insert r o.key o
 added r (DeleteItem k) = r
 
--- The registry without the object of the key that an item deletes.
+-- The registry without the object of the key that an item deletes; as it is where the item is a
+-- submission.
 abbrev pub removed : Reg → Item → Reg
 removed r (Submit o) = r
 removed r (DeleteItem k) = remove r k
 
--- The registry after a verdict: a refusal and an equal text leave it as it was (profile).
+-- The registry after a verdict: with the object after an addition or a change, without it after a
+-- deletion. A refusal and an equal paragraph leave it as it was (profile).
 abbrev pub after : Verdict → Reg → Item → Reg
 after Add r i = added r i
 after Change r i = added r i

@@ -16,8 +16,8 @@ use rr_number::{Name, Prefix, Range};
 use rr_object::{Grant, Key, Object};
 use std::alloc::{AllocError, Global};
 
-/// The names that decide below the object: its mnt-lower where it has one, otherwise its mnt-by
-/// (RFC 2725, 9).
+/// The names that decide below the object: its mnt-lower where that has a name, otherwise its
+/// mnt-by (RFC 2725, 9).
 pub fn lower_names(object: &Object) -> &[Name]
     ensures { result.now ≡ lower_of object.now }
 {
@@ -28,9 +28,10 @@ pub fn lower_names(object: &Object) -> &[Name]
     }
 }
 
-/// The names that decide about a route of the prefix below the object: those of its mnt-routes that
-/// grant the prefix, where it has mnt-routes; otherwise the mnt-by of an aut-num, and of another
-/// object `lower_names` (RFC 2725, 9; profile). The error is out of memory.
+/// The names that decide about a route of the prefix below the object. Where its mnt-routes has
+/// entries, they are those of the entries that grant the prefix, in the order of the entries.
+/// Otherwise they are the mnt-by of an aut-num, and of another object `lower_names` (RFC 2725, 9;
+/// profile). The error is out of memory.
 pub fn route_names(alloc: Global, object: &Object, prefix: Prefix) -> Result<Vec<Name>, AllocError>
     ensures { IfOk result (λ names. names.items ≡ routes_of object.now prefix) }
 {
@@ -48,8 +49,8 @@ enum RouteNames<'a> {
     Named(&'a [Name]),
 }
 
-/// Who decides about routes below the object: its mnt-routes where it has any; otherwise the mnt-by
-/// of an aut-num, and of another object `lower_names` (RFC 2725, 9; profile).
+/// Who decides about routes below the object: the entries of its mnt-routes where it has any;
+/// otherwise the mnt-by of an aut-num, and of another object `lower_names` (RFC 2725, 9; profile).
 fn names_for_routes(object: &Object) -> RouteNames<'_>
     ensures { (p : PrefixParts) → names_among p result ≡ routes_of object.now p }
 {
@@ -62,7 +63,7 @@ fn names_for_routes(object: &Object) -> RouteNames<'_>
     }
 }
 
-/// The names of the entries that grant the prefix.
+/// The names of the entries that grant the prefix; the error is out of memory.
 fn granted_names(alloc: Global, entries: &[Grant], prefix: Prefix) -> Result<Vec<Name>, AllocError>
     ensures { IfOk result (λ names.
         names.items ≡ map (λ g. g.name) (filter (grants prefix) entries.now)) }
@@ -77,7 +78,7 @@ fn granted_names(alloc: Global, entries: &[Grant], prefix: Prefix) -> Result<Vec
     Ok(names)
 }
 
-/// Equal names.
+/// Copies of the names; the error is out of memory.
 fn copy_names(alloc: Global, names: &[Name]) -> Result<Vec<Name>, AllocError>
     ensures { IfOk result (λ copies. copies.items ≡ names.now) }
 {
@@ -146,6 +147,7 @@ fn some_grant_passes<B: Book>(
     some_entry_passes(book, secrets, entries, prefix)
 }
 
+/// The same, entry by entry.
 fn some_entry_passes<B: Book>(
     book: &B,
     secrets: &mut Secrets,

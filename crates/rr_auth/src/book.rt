@@ -1,4 +1,5 @@
-//! Registries, as verdicts ask about them: each book implements this trait.
+//! Registries, as verdicts ask about them: each book implements this trait. `rr_sets` and
+//! `rr_answer` ask by it too.
 
 ghost use Rattle.std.specs.Prelude.{◌≡◌, IfOk};
 ghost use Rattle.std.specs.Option.{option_copied};
@@ -27,20 +28,21 @@ pub trait Book {
     fn maintainer(&self, name: &Name) -> Option<&Object>
         ensures { option_copied result ≡ maintainer (contents self.now) name.now };
 
-    /// The smallest inetnum that covers the span; an equal one counts (RFC 2725, 9).
+    /// The smallest inetnum that covers the span, if any does; an equal one counts (RFC 2725, 9).
     fn closest_inetnum(&self, span: Span) -> Option<&Object>
         ensures { option_copied result ≡ closest_inetnum (contents self.now) span };
 
-    /// The smallest as-block that covers the span; an equal one counts (RFC 2725, 9).
+    /// The smallest as-block that covers the span, if any does; an equal one counts (RFC 2725, 9).
     fn closest_block(&self, span: Span) -> Option<&Object>
         ensures { option_copied result ≡ closest_block (contents self.now) span };
 
-    /// The prefix of the closest routes that cover the prefix; an equal one counts (RFC 2725, 9).
+    /// The prefix of the closest routes that cover the prefix, if any do; an equal one counts
+    /// (RFC 2725, 9).
     fn closest_routes(&self, prefix: Prefix) -> Option<Prefix>
         ensures { result ≡ closest_routes (contents self.now) prefix };
 
-    /// The origins of the routes of exactly this prefix, ascending; the error is out of memory. The
-    /// registry is sound.
+    /// The origins of the routes of exactly this prefix, each once, ascending; the error is out of
+    /// memory. With or without it, the registry is sound.
     fn origins(&self, alloc: Global, prefix: Prefix) -> Result<Vec<AsNumber>, AllocError>
         ensures value { IfOk result (λ v. v.items ≡ origins (contents self.now) prefix) }
         ensures ascending { IfOk result (λ v. IsStrictlySortedBy nat_cmp v.items) }
@@ -51,7 +53,8 @@ pub trait Book {
     fn crosses(&self, key: &Key) -> bool
         ensures { result ≡ crosses_registered (contents self.now) key.now };
 
-    /// Whether an object other than the maintainer of this name names that maintainer (profile).
+    /// Whether a registered object other than the maintainer of this name names that maintainer
+    /// (profile).
     fn names_maintainer(&self, name: &Name) -> bool
         ensures { result ≡ is_named (contents self.now) name.now };
 }

@@ -1,4 +1,4 @@
-//! Items: what a submission asks for.
+//! Items: what a submission asks for, `judge` judges, and `rr_registry` carries out.
 
 use rr_object::{Key, Object};
 

@@ -1,4 +1,5 @@
-//! The verdict on an item, over any book: whether it is carried out, or why it is refused.
+//! The verdict on an item, over any book: whether it is carried out, or why it is refused. A
+//! registry of `rr_registry` asks for it.
 
 ghost use Rattle.std.specs.Prelude.{◌≡◌, Some};
 ghost use Rattle.std.specs.List.{list_any};
@@ -28,8 +29,8 @@ use rr_object::{Code, Key, Object};
 use std::alloc::{AllocError, Global};
 
 /// The verdict on an item over the book's registry (RFC 2725, 9; profile); the error is out of
-/// memory. The secrets stay as they were, and the key of an object that is submitted is well
-/// formed. What is known of the registry is true of it, is used, and is added to.
+/// memory. In either case the secrets stay as they were, and the key of an object that is submitted
+/// is well formed. What is known has to be true of the registry, and what is known then still is.
 pub fn judge<B: Book>(
     alloc: Global,
     book: &B,
@@ -48,7 +49,8 @@ pub fn judge<B: Book>(
     }
 }
 
-/// The verdict on an object: an addition where its key is new, otherwise a change.
+/// The verdict on an object: on an addition where its key is new, otherwise on a change. Its key is
+/// well formed. The error is out of memory.
 fn judge_object<B: Book>(
     alloc: Global,
     book: &B,
@@ -68,6 +70,7 @@ fn judge_object<B: Book>(
     }
 }
 
+/// The verdict on an object whose key is new; the error is out of memory.
 fn judge_addition<B: Book>(
     alloc: Global,
     book: &B,
@@ -86,6 +89,7 @@ fn judge_addition<B: Book>(
     }
 }
 
+/// The verdict on an object in whose place another stands.
 fn judge_change<B: Book>(
     book: &B,
     secrets: &mut Secrets,
@@ -110,6 +114,7 @@ fn judge_change<B: Book>(
     }
 }
 
+/// The verdict on the deletion of the object of the key.
 fn judge_deletion<B: Book>(book: &B, secrets: &mut Secrets, known: &mut Known, key: &Key) -> Verdict
     requires { IsKnown (B.contents book.now) known.old }
     ensures { TriesKnown (B.contents book.now) known.new
@@ -130,6 +135,7 @@ fn judge_deletion<B: Book>(book: &B, secrets: &mut Secrets, known: &mut Known, k
     }
 }
 
+/// Whether the key is that of a mntner that another object names.
 fn is_in_use<B: Book>(book: &B, key: &Key) -> bool
     ensures { result ≡ is_in_use (B.contents book.now) key.now }
 {
@@ -139,7 +145,7 @@ fn is_in_use<B: Book>(book: &B, key: &Key) -> bool
     }
 }
 
-/// What the place of a new object in the hierarchy says of it.
+/// The verdict on a new object by its place in the hierarchy; the error is out of memory.
 fn judge_place<B: Book>(
     alloc: Global,
     book: &B,
@@ -191,7 +197,8 @@ fn judge_below<B: Book>(book: &B, secrets: &mut Secrets, cover: Option<&Object>)
     }
 }
 
-/// The verdict on a set of the kind: its parent decides, where it has one.
+/// The verdict on a set of the kind: its parent decides, where it has one. The error is out of
+/// memory.
 fn judge_set<B: Book>(
     alloc: Global,
     book: &B,
@@ -230,7 +237,8 @@ fn judge_below_parent<B: Book>(book: &B, secrets: &mut Secrets, parent: Option<K
     }
 }
 
-/// The verdict on a route: its origin's aut-num decides first, then the space that it lies in.
+/// The verdict on a route: its origin's aut-num decides first, then the space that it lies in. The
+/// error is out of memory.
 fn judge_route<B: Book>(
     alloc: Global,
     book: &B,
@@ -253,7 +261,7 @@ fn judge_route<B: Book>(
     }
 }
 
-/// The verdict of the routes or the inetnum that a route lies below.
+/// The verdict of the routes or the inetnum that a route lies below; the error is out of memory.
 fn judge_space<B: Book>(
     alloc: Global,
     book: &B,
@@ -312,6 +320,8 @@ fn some_route_passes<B: Book>(
     false
 }
 
+/// Whether the route of the closest prefix and the origin is registered and authorises a route of
+/// the prefix.
 fn route_passes<B: Book>(
     book: &B,
     secrets: &mut Secrets,

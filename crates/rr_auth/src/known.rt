@@ -1,4 +1,5 @@
-//! What the objects of a registry are known to answer, as long as the secrets stay.
+//! What the objects of a registry are known to answer, as long as the secrets stay: `rr_registry`
+//! keeps it from item to item, and `judging` asks it.
 //!
 //! An object may name 15,000 maintainers, and each of the 3,000 items of a short submission may
 //! ask them. So it is remembered whether the mnt-by of an object passes, with a copy of the
@@ -31,7 +32,7 @@ pub struct Known {
 }
 
 impl Known {
-    /// Nothing is known, of whatever registry.
+    /// Nothing is known yet. The clause says only that all that is known is true of any registry.
     #[tactic(auto, using(crate::proofs::Knowing::nothing_known))]
     pub fn new(alloc: Global) -> Known
         ensures { (r : Reg) → IsKnown r result }
@@ -43,8 +44,9 @@ impl Known {
         }
     }
 
-    /// Forgets what may be otherwise once the object of this key has changed: all of it where that
-    /// is a maintainer, and otherwise what the object answered.
+    /// Forgets what may be otherwise once the object of this key was added, changed or deleted. If
+    /// what was known is true of a registry, what is known then is true of each that differs from
+    /// it at most under the key. No clause says what is kept.
     pub fn forget(&mut self, key: &Key)
         ensures { Forgets key.now self.old self.new }
     {
@@ -56,7 +58,8 @@ impl Known {
         }
     }
 
-    /// Whether the mnt-by of the object, which stands under this key, passes.
+    /// Whether the mnt-by of the object, which stands under this key, passes. The secrets stay as
+    /// they were. What is known has to be true of the registry, and what is known then still is.
     #[tactic(auto, using(crate::proofs::Knowing::seen_of))]
     pub(crate) fn passes<B: Book>(
         &mut self,
@@ -86,7 +89,7 @@ impl Known {
         }
     }
 
-    /// What the mnt-by of the object of the key answered these secrets.
+    /// What the mnt-by of the object of the key answered these secrets, if that is remembered.
     fn answer(&self, secrets: &Secrets, key: &Key) -> Option<bool>
         ensures { (r : Reg) → IsKnown r self.now → IfSome result (IsSeen r secrets.now key.now) }
     {

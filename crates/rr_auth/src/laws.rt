@@ -1,4 +1,5 @@
-//! Laws of verdicts, for readers and for the proofs of other crates. Nothing calls these functions.
+//! Laws of verdicts and of what is closest, for readers and for the proofs of other crates. Nothing
+//! calls these functions.
 
 ghost use Rattle.rr_auth.specs.Laws.{ClosestRoutesAgree, NothingClosestIsUncovered};
 ghost use Rattle.rr_auth.specs.Laws.{OneClosestBlock, OneClosestInetnum, RefusalLeaves};
@@ -11,13 +12,14 @@ pub fn refused_items_change_nothing()
     ensures { RefusalLeaves }
 {}
 
-/// A sound registry stays sound, whatever item comes whose key is well formed.
+/// A sound registry stays sound, whatever item comes whose object, if it submits one, has a key
+/// that is well formed.
 #[tactic(auto, using(crate::proofs::Steps::stays_sound))]
 pub fn registries_stay_sound()
     ensures { StaysSound }
 {}
 
-/// A registry of a source stays one, whatever is submitted that is read in that source.
+/// A registry of a source stays one, whatever item comes that is read in that source.
 pub fn registries_stay_of_their_source()
     ensures { StaysOfSource }
 {}
@@ -28,8 +30,8 @@ pub fn verdicts_fit_their_items()
     ensures { VerdictsFitItems }
 {}
 
-/// What stands in a registry is changed and deleted by its own maintainers alone, whatever an item
-/// names in its place.
+/// An item about a registered key is refused where the mnt-by of what stands there does not pass,
+/// whatever the item names in its place (RFC 2725, 9).
 pub fn what_stands_is_touched_by_its_own_maintainers()
     ensures { StoredNamesDecide }
 {}
@@ -40,29 +42,29 @@ pub fn only_which_secrets_are_given_matters()
     ensures { SecretsAreASet }
 {}
 
-/// In a sound registry a span has one closest inetnum at most.
+/// In a sound registry a span has one closest inetnum at most, that of `closest_inetnum`.
 pub fn closest_inetnums_are_one()
     ensures { OneClosestInetnum }
 {}
 
-/// In a sound registry a span has one closest as-block at most.
+/// In a sound registry a span has one closest as-block at most, that of `closest_block`.
 pub fn closest_blocks_are_one()
     ensures { OneClosestBlock }
 {}
 
-/// In a sound registry the closest routes to a prefix have one prefix.
+/// In a sound registry all closest routes to a prefix have one prefix, that of `closest_routes`.
 pub fn closest_routes_have_one_prefix()
     ensures { ClosestRoutesAgree }
 {}
 
-/// Nothing is closest exactly where nothing covers: no inetnum or as-block to a span, and no route
-/// to a prefix.
+/// In every registry nothing is closest exactly where nothing covers: no inetnum or as-block to a
+/// span, and no route to a prefix.
 pub fn nothing_closest_is_uncovered()
     ensures { NothingClosestIsUncovered }
 {}
 
-/// E13 of a route in a sound registry means that no closest route authorises it, or, where no route
-/// covers it, that the closest inetnum doesn't or there is none.
+/// In a sound registry E13 holds of a route exactly in two cases. Some route covers it, and no
+/// closest route authorises it; or none covers it, and no closest inetnum authorises it.
 pub fn routes_ask_the_closest_routes_or_inetnum()
     ensures { RoutesAskTheClosest }
 {}

@@ -1,5 +1,6 @@
 //! Who may change a registry: secrets, the authority of maintainers, and the verdict on an item
-//! (RFC 2725, 9 and 10).
+//! (RFC 2725, 9 and 10). `rr_registry` asks for verdicts; `rr_book` and `rr_index` implement
+//! `Book`.
 #![tactic(auto)]
 
 mod auth_line;

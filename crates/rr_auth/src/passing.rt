@@ -1,4 +1,4 @@
-//! Which maintainers pass with which secrets.
+//! Which maintainers pass with which secrets, for `authority`, `judging` and `known`.
 
 ghost use Rattle.std.specs.Prelude.{◌≡◌};
 ghost use Rattle.std.specs.Option.{option_copied};
@@ -13,8 +13,8 @@ use rr_object::Object;
 
 /// Whether the maintainer passes: some secret fits one of its lines, so that SHA-256 of the salt
 /// and then the secret is the line's digest (profile; FIPS 180-4). The secrets stay as they were.
-/// The answer is remembered: no secret is hashed again for these lines until memory runs out, or
-/// other lines come under the maintainer's name.
+/// No clause says that the answer is remembered: no secret is hashed again for these lines until
+/// memory runs out, or other lines come under the maintainer's name.
 pub fn passes(maintainer: &Object, secrets: &mut Secrets) -> bool
     ensures { Tries (passes secrets.old maintainer.now) secrets.old secrets.new result }
 {

@@ -1,6 +1,6 @@
-//! The digests of secrets with the salts of a maintainer's lines.
+//! The digests of secrets with the salts of a maintainer's lines, for `tried`.
 //!
-//! A maintainer has up to 786 lines, and a submission up to 40,000 secrets. So a secret is hashed
+//! A maintainer can have 786 lines, and a submission 40,000 secrets. So a secret is hashed
 //! once with each salt, and not once with each line: its digest is then looked up for all lines of
 //! that salt.
 

@@ -1,4 +1,5 @@
-//! One secret, which is a password, and whether it fits a line of `auth`.
+//! One secret, which is a password, and whether it fits a line of `auth`. `secrets` and `known`
+//! keep secrets, and `salted` tries them.
 
 ghost use Rattle.std.specs.Prelude.{◌≡◌, ◌↔◌, ◌++◌, IfOk, IsTrue};
 ghost use Rattle.std.specs.List.{list_any};

@@ -1,4 +1,5 @@
-//! Secrets, by which a submission shows who sent it.
+//! Secrets, by which a submission shows who sent it. `rr_submission` adds them as it reads, and
+//! verdicts try them.
 
 ghost use Rattle.std.specs.Prelude.{◌≡◌, [], ◌∷◌};
 ghost use Rattle.rr_auth.specs.Passing.{AddsAllOrNone, Tries, passes};
@@ -10,7 +11,7 @@ use std::alloc::{AllocError, Global};
 use std::marker::Model;
 
 /// The secrets given with an item; contracts see the list of them, in the order in which they were
-/// added. Only which secrets are there matters.
+/// added. Only which secrets are there matters to a verdict.
 #[derive(Drop)]
 pub struct Secrets {
     list: Vec<Secret>,

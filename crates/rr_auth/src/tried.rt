@@ -1,6 +1,6 @@
-//! Which maintainers pass, as far as it was tried.
+//! Which maintainers pass, as far as it was tried: `secrets` keeps it.
 //!
-//! A submission has up to 50,000 items, and each may name maintainers with hundreds of lines of
+//! A submission can have 50,000 items, and each may name maintainers with hundreds of lines of
 //! `auth`. So a maintainer has one answer for all its lines. The answer is kept with a copy of the
 //! lines, because another text may stand under the same name by the next item: equal lines alone
 //! prove that the answer still holds.
@@ -102,7 +102,7 @@ impl Tried {
         }
     }
 
-    /// Puts what was tried with the lines under the name.
+    /// Puts what was tried with the lines under the name; the error is out of memory.
     fn put(&mut self, name: &Name, lines: &[Auth], trial: Trial) -> Result<(), AllocError>
         ensures { Records self.old.answers lines.now trial self.new.answers }
     {

@@ -1,4 +1,4 @@
-//! Verdicts on items: what `judge` answers.
+//! Verdicts on items: what `judge` answers, and `rr_registry` carries out.
 
 use rr_object::Code;
 

@@ -1,4 +1,8 @@
 -- The keys under the names of sets, and the objects that they lead to.
+-- The index is told as one Boolean for each name and key: whether the key stands there. It is long
+-- because adding and taking back are loops over names, and each way to put or remove has its own
+-- Boolean table. Ties of keys and the order of objects are given by hand. `SetIndex`,
+-- `PlainBookKeeper` and rr_index's `Indexes` need it.
 use Rattle.std.proofs.Common.{◌≡◌, ◌<◌, ◌+◌, ◌&&◌, ◌||◌, length, map, take, T, ℕ, zero, suc, Bool}
 use Rattle.std.proofs.Common.{true, false, cond, not, List, [], ◌∷◌, get_or, IsTrue, Option, None}
 use Rattle.std.proofs.Common.{Some, refl, sym, ap, subst, ◌∙◌}

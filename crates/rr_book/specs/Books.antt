@@ -12,7 +12,7 @@ use Rattle.rr_auth.specs.Registries.{Reg, Sound}
 abbrev pub entry : Obj → Key × Obj
 entry o = (o.key, o)
 
--- The keys of the objects strictly rise (profile).
+-- The keys of the objects strictly rise, by class and then by key (profile).
 abbrev pub is_in_order : List Obj → Bool
 is_in_order os = is_sorted key_cmp (map entry os)
 
@@ -33,7 +33,8 @@ pub record IsBook (os : List Obj) : Type 0 where
   pub ordered : is_in_order os ≡ true
   pub sound : Sound (book_of os)
 
--- The objects with one put into its place, instead of one of its key that stood there.
+-- Objects in the order of their keys with one put into its place, instead of one of its key that
+-- stood there.
 abbrev pub put_in : Obj → List Obj → List Obj
 put_in o [] = o ∷ []
 put_in o (x ∷ xs) =

@@ -1,4 +1,4 @@
--- The inetnums and routes of a registry, by the addresses that they are about.
+-- Which inetnums and routes of a registry cover a span, and which lie inside it.
 use Rattle.std.specs.Prelude.{Bool, false, List, filter, Option, None, Some}
 use Rattle.std.specs.Option.{option_map_or}
 use Rattle.std.specs.FinMap.{values}

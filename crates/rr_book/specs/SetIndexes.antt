@@ -58,8 +58,8 @@ abbrev pub HasReferrers : Reg → BTreeMap (List ℕ) (BTreeSet Key) → Type 0
 HasReferrers r sets = (name : List ℕ) (key : Key)
     → stands_under sets name key ≡ option_map_or (names_set name) (get r key) false
 
--- Objects in order whose registry is sound, and under each set the keys of those that name it
--- (profile).
+-- Objects in order whose registry is sound, and under each set the keys of exactly those that name
+-- it (profile).
 pub record IsIndexed (os : List Obj) (sets : BTreeMap (List ℕ) (BTreeSet Key)) : Type 0 where
   pub book : IsBook os
   pub referrers : HasReferrers (book_of os) sets

@@ -10,8 +10,8 @@ ghost use Rattle.rr_book.specs.Private.{span_in};
 use rr_number::{Prefix, Span};
 use rr_object::{Class, Key, Object};
 
-/// The closest object of the class to the span. Only objects that cover the span are compared with
-/// the others.
+/// The first closest object of the class to the span; none if the class has no spans. Only objects
+/// that cover the span are compared with the others.
 pub(crate) fn closest<'a>(objects: &'a [Object], class: Class, span: Span) -> Option<&'a Object>
     ensures { option_copied result ≡ closest_of (span_in class) objects.now span }
 {
@@ -20,6 +20,7 @@ pub(crate) fn closest<'a>(objects: &'a [Object], class: Class, span: Span) -> Op
         .find(|object| is_closest(objects, class, span, object))
 }
 
+/// Whether the object is closest to the span, among these objects of the class.
 fn is_closest(objects: &[Object], class: Class, span: Span, object: &Object) -> bool
     ensures { result ≡ is_closest (span_in class) objects.now span object.now }
 {
@@ -29,6 +30,7 @@ fn is_closest(objects: &[Object], class: Class, span: Span, object: &Object) -> 
     }
 }
 
+/// Whether no object of the class covers the span and is smaller than `own`.
 fn none_is_closer(objects: &[Object], class: Class, span: Span, own: Span) -> bool
     ensures { result ≡ list_all (is_no_closer (span_in class) span own) objects.now }
 {
@@ -37,6 +39,7 @@ fn none_is_closer(objects: &[Object], class: Class, span: Span, own: Span) -> bo
         .all(|object| is_no_closer(class, span, own, object))
 }
 
+/// Whether the object is not of the class, does not cover the span, or is not smaller than `own`.
 fn is_no_closer(class: Class, span: Span, own: Span, object: &Object) -> bool
     ensures { result ≡ is_no_closer (span_in class) span own object.now }
 {
@@ -85,7 +88,7 @@ fn route_span(key: &Key) -> Option<Span>
     }
 }
 
-/// The prefix of the closest routes to the prefix.
+/// The prefix of the first closest route to the prefix.
 pub(crate) fn closest_routes(objects: &[Object], prefix: Prefix) -> Option<Prefix>
     ensures { result ≡ prefix_of_closest objects.now prefix }
 {

@@ -1,5 +1,5 @@
-//! What every book does: it is made, changed by one object, and listed. A registry is kept in any
-//! book that does this.
+//! What every book does: it is made, changed by one object, and listed. `Registry` of
+//! `rr_registry` is kept in any book that does this, and `rr_answer` asks it for lists.
 
 ghost use Rattle.std.specs.Prelude.{◌≡◌, IfOk, OnOk, OnErr};
 ghost use Rattle.std.specs.FinMap.{empty, insert, remove, values};
@@ -20,8 +20,8 @@ pub trait Keeper: SetBook {
     fn new(alloc: Global) -> Self
         ensures { Self.contents result ≡ empty };
 
-    /// The book of these objects, which stand in the order of class and key, and whose registry is
-    /// sound.
+    /// The book of these objects. They must stand in the order of class and key, no two of them
+    /// under one key, and their registry must be sound.
     fn of(alloc: Global, objects: Vec<Object>) -> Result<Self, AllocError>
         requires { IsBook objects.items }
         ensures { IfOk result (λ book. Self.contents book ≡ book_of objects.items) };

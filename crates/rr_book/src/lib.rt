@@ -1,5 +1,5 @@
-//! The book of a registry in memory: objects in the order of their keys, what an item is judged by,
-//! and the lists that expansions of sets ask for.
+//! Books, which keep the objects of a registry in memory: what each does (`Keeper`), and one that
+//! is a list. `rr_registry` keeps a registry in a book, and `rr_index` has the other one.
 #![tactic(auto)]
 
 mod closest;

@@ -47,7 +47,7 @@ pub(crate) fn inside(
 }
 
 /// Whether the object is an inetnum or a route whose addresses cover the span, or are the span.
-pub fn covers_span(object: &Object, span: Span) -> bool
+fn covers_span(object: &Object, span: Span) -> bool
     ensures { result ≡ covers_span span object.now }
 {
     match addresses(object.key()) {

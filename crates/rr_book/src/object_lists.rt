@@ -200,7 +200,8 @@ fn stands_at(objects: &[Object], key: &Key, at: usize) -> bool
     }
 }
 
-/// Takes the object of the key out, among objects in the order of their keys.
+/// Takes the object of the key out, among objects in the order of their keys, and gives it back;
+/// none if there is none.
 pub(crate) fn remove(objects: &mut Vec<Object>, key: &Key) -> Option<Object>
     requires { is_in_order objects.old.items ≡ true }
     ensures rest { objects.new.items ≡ left_without key.now objects.old.items }

@@ -43,8 +43,9 @@ impl Model for PlainBook {
 }
 
 impl PlainBook {
-    /// The objects whose `member-of` names the set, in the order of class and key; the error is
-    /// that memory ran out. It takes O(k log n) steps for k of n objects.
+    /// The objects whose `member-of` names the set, each once; the error is that memory ran out.
+    /// The registry is sound. No clause says that they are in the order of class and key, nor that
+    /// k of n objects take O(k log n) steps.
     pub(crate) fn objects_that_name(
         &self,
         alloc: Global,
@@ -59,7 +60,7 @@ impl PlainBook {
         }
     }
 
-    /// The objects in the order of class and key.
+    /// The objects in the order of class and key. The registry is sound.
     #[tactic(auto, using(crate::proofs::Order::values_of_book))]
     pub(crate) fn as_slice(&self) -> &[Object]
         ensures objects { result.now ≡ values self.now }

@@ -36,7 +36,7 @@ impl SetBook for PlainBook {
     }
 }
 
-/// The objects of the class.
+/// The objects of the class, in their order; the error is that memory ran out.
 fn objects_of_class<'a>(
     alloc: Global,
     objects: &'a [Object],
@@ -51,13 +51,13 @@ fn objects_of_class<'a>(
 }
 
 /// Whether the object is of the class, as its key says.
-pub fn is_of_class(object: &Object, class: Class) -> bool
+fn is_of_class(object: &Object, class: Class) -> bool
     ensures { result ≡ is_of_class class object.now }
 {
     object.key().class() == class
 }
 
-/// The routes of the origin.
+/// The routes of the origin, in their order; the error is that memory ran out.
 fn objects_originated(
     alloc: Global,
     objects: &[Object],
@@ -82,7 +82,8 @@ fn is_originated(object: &Object, origin: AsNumber) -> bool
     }
 }
 
-/// The prefixes of the routes of the origin.
+/// The prefixes of the routes of the origin, in the order of the objects; the error is that memory
+/// ran out.
 fn prefixes_from(
     alloc: Global,
     objects: &[Object],

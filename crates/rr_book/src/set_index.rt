@@ -50,8 +50,8 @@ impl SetIndex {
         }
     }
 
-    /// The keys of the objects, under the sets that these name in their `member-of`. The error is
-    /// that memory ran out.
+    /// Under each set the keys of exactly the objects that name it in their `member-of`. The error
+    /// is that memory ran out.
     pub fn of(alloc: Global, objects: &[Object]) -> Result<SetIndex, AllocError>
         ensures { IfOk result (λ referrers. (name : List ℕ) (key : Key)
             → stands_under referrers.keys name key ≡
@@ -73,8 +73,9 @@ impl SetIndex {
     }
 
     /// Puts the key of an object that comes in place of another, if there is one, under each set
-    /// that it names and the other does not, where it stands under none of them. It gives the sets
-    /// that each names; the error is that memory ran out, and nothing changes.
+    /// that it names and the other does not. Under none of these may it stand before. It gives the
+    /// sets that each names; the error is that memory ran out, and then the same keys stand under
+    /// each set as before.
     pub(crate) fn enter(
         &mut self,
         alloc: Global,
@@ -99,9 +100,9 @@ impl SetIndex {
         Ok(NamedSets { before, after })
     }
 
-    /// Puts the object's key under each set that it names in its `member-of`, save the others.
-    /// Under none of those sets may it stand before. The error is that memory ran out, and then the
-    /// same keys stand under each set as before.
+    /// Puts the object's key under each set that it names in its `member-of`, save those in
+    /// `others`. Under none of the sets where it is put may it stand before. The error is that
+    /// memory ran out, and then the same keys stand under each set as before.
     pub fn add(
         &mut self,
         alloc: Global,
@@ -123,8 +124,8 @@ impl SetIndex {
         }
     }
 
-    /// Puts the object's key under each set that it names, save the others. If memory runs out it
-    /// may stand under some of them.
+    /// Puts the object's key under each set that it names, save the others. The error is that
+    /// memory ran out: it may then stand under some of these sets, and all that stood still does.
     fn add_each(
         &mut self,
         alloc: Global,
@@ -148,7 +149,8 @@ impl SetIndex {
         Ok(())
     }
 
-    /// Puts the key under the set. If memory runs out, nothing changes.
+    /// Puts the key under the set. If memory runs out, the same keys stand under each set as
+    /// before.
     fn add_under(&mut self, alloc: Global, name: &SetName, key: &Key) -> Result<(), AllocError>
         ensures { MayChange (HasAddedKey name.now key.now) self.old.keys self.new.keys result }
     {
@@ -166,8 +168,8 @@ impl SetIndex {
         Ok(())
     }
 
-    /// Takes the object's key from under each set that it names in its `member-of`, save the
-    /// others.
+    /// Takes the object's key from under each set that it names in its `member-of`, save those in
+    /// `others`.
     pub fn take(&mut self, object: &Object, others: &BTreeSet<SetName>)
         ensures { HasTaken object.now (contains (slice_cmp nat_cmp) others.now)
             self.old.keys self.new.keys }
@@ -213,7 +215,7 @@ impl SetIndex {
         }
     }
 
-    /// Takes the key from among those of the set, and says whether none is left.
+    /// Takes the key from among those of the set; `true` says that none is left.
     fn take_key(&mut self, name: &SetName, key: &Key) -> bool
         ensures taken { HasTakenKey name.now key.now self.old.keys self.new.keys }
         ensures empty { IsTrue result → (k : Key)
@@ -241,7 +243,7 @@ pub fn sets_named(alloc: Global, object: Option<&Object>) -> Result<BTreeSet<Set
     }
 }
 
-/// The sets of these names.
+/// The sets of these names; the error is that memory ran out.
 fn sets_among(alloc: Global, names: &[SetName]) -> Result<BTreeSet<SetName>, AllocError>
     ensures { IfOk result (λ sets. (name : List ℕ) → contains (slice_cmp nat_cmp) sets name ≡
         list_any (λ own. bytes_eq own name) names.now) }

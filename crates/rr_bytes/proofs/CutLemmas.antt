@@ -1,4 +1,4 @@
--- Lemmas on texts cut at a separator.
+-- Lemmas on texts cut at a separator: for the texts of numbers and names of `rr_number`.
 use Rattle.std.proofs.Common.{◌≡◌, ℕ, ◌+◌, ◌<◌, ◌==◌, true, false, List, [], ◌∷◌, ◌++◌, length}
 use Rattle.std.proofs.Common.{take, drop, Some, nat_lt, get_or, refl, ap, sym, arith, length-append}
 use Rattle.std.proofs.Common.{None, ◌⊎◌, inl, inr}

@@ -1,4 +1,4 @@
--- Lemmas on numbers in digits.
+-- Lemmas on numbers in digits: for `capped_value`.
 use Rattle.std.proofs.Common.{◌≡◌, ℕ, ◌+◌, ◌-◌, ◌*◌, ◌<◌, Bool, true, false, List, length, take}
 use Rattle.std.proofs.Common.{get_or, arith, refl}
 use Rattle.std.specs.Prelude.{min}

@@ -1,4 +1,4 @@
--- Texts that are joined.
+-- Texts that are joined: for `joined_by_space`.
 use Rattle.std.proofs.Common.{◌≡◌, ℕ, Bor, List, [], ◌∷◌, ◌++◌, ap, sym}
 use Rattle.std.specs.Prelude.{map}
 use Rattle.std.specs.List.{flat_map}

@@ -1,4 +1,4 @@
--- Texts that are one but for the case of letters.
+-- Texts that are one but for the case of letters: for `is_keyword`.
 use Rattle.std.proofs.Common.{◌≡◌, ℕ, Bool, List, [], ◌∷◌, refl, ap, sym, ◌∙◌, arith}
 use Rattle.std.proofs.lemmas.Bool.Decides.{nat_tests, same_from_decides}
 use Rattle.std.specs.Char.{to_ascii_lowercase, to_ascii_uppercase}

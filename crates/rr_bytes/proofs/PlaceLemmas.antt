@@ -1,4 +1,4 @@
--- A text is cut at the first byte that separates its parts.
+-- A text is cut at the first byte that separates its parts: for `place_of` and `parts_between`.
 use Rattle.std.proofs.Common.{◌≡◌, ◌<◌, ◌+◌, ◌≤◌, ℕ, Bool, true, false, List, [], ◌∷◌, length, take}
 use Rattle.std.proofs.Common.{drop, nat_lt, Option, Some, None, refl, arith, ap, ◌∙◌, sym, cond}
 use Rattle.std.proofs.Common.{not, unwrap_or, get_or}

@@ -1,4 +1,5 @@
--- Lemmas on texts less the bytes before and after them that pass a test.
+-- Lemmas on texts less the bytes that they begin and end with and that pass a test: for `trims`,
+-- and for canonical text.
 use Rattle.std.proofs.Common.{◌≡◌, ℕ, Bool, true, false, List, [], ◌∷◌, ◌++◌, length, arith, refl}
 use Rattle.std.proofs.Common.{ap, ◌∙◌}
 use Rattle.rr_bytes.specs.Trims.{trim_start, trim_end, before_trimmed}

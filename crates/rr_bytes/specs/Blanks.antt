@@ -1,4 +1,4 @@
--- Blanks, and the line feed, which is one round a line alone.
+-- Blanks, and the line feed, which is a blank round a line alone: for all that reads text.
 use Rattle.std.specs.Prelude.{ℕ, Bool, ◌==◌, ◌||◌}
 
 -- The LF that ends a line (RFC 2622, 2).

@@ -1,4 +1,4 @@
--- Sets of bytes, as code names them.
+-- Sets of bytes, as code names them: for `ByteSet`.
 use Rattle.std.specs.Prelude.{ℕ, Bool}
 use Rattle.rr_bytes.specs.declared.byte_set.ByteSet.{ByteSet}
 use Rattle.rr_bytes.specs.declared.byte_set.ByteSet.TheVariants.{Blanks, BlanksAndLineFeeds}

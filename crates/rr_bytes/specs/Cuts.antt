@@ -1,4 +1,4 @@
--- Texts cut at a byte.
+-- Texts cut at a byte: for `src/cuts.rt`, and for what is read in parts.
 use Rattle.std.specs.Prelude.{ℕ, ◌==◌, List, length, Option, Some, None, nat_lt}
 use Rattle.std.specs.Prelude.{if◌then◌else◌, drop}
 use Rattle.std.specs.List.{before_first, after_first, position_or_len}

@@ -1,4 +1,4 @@
--- Numbers that digits spell, up to a bound (profile).
+-- Numbers that digits spell, up to a bound (profile): for `capped_value`.
 use Rattle.std.specs.Prelude.{ℕ, ◌+◌, min, List}
 use Rattle.std.specs.Str.Parse.{digits_value}
 

@@ -1,4 +1,5 @@
--- What names are made of.
+-- What names are made of, with letters and digits of ASCII: for names of attributes, maintainers,
+-- sources and sets.
 use Rattle.std.specs.Prelude.{ℕ, Bool, false, ◌-◌, ◌==◌, ◌&&◌, ◌||◌, List, []}
 use Rattle.std.specs.Prelude.{◌∷◌, length, nat_le, slice_get}
 use Rattle.std.specs.Char.{is_ascii_alphabetic, is_ascii_alphanumeric}

@@ -1,4 +1,4 @@
--- Texts in parts, and parts as one text.
+-- Texts in parts, and parts as one text: for `src/parts.rt`, and for lists and values.
 use Rattle.std.specs.Prelude.{ℕ, Bool, not, ◌==◌, length, List, filter}
 use Rattle.std.specs.List.{join_with_byte, slice_split}
 use Rattle.rr_bytes.specs.Blanks.{is_blank}
@@ -7,11 +7,11 @@ use Rattle.rr_bytes.specs.Blanks.{is_blank}
 abbrev pub is_filled : {X : Type 0} → List X → Bool
 is_filled xs = not (length xs == 0)
 
--- The parts of a text between bytes that pass a test; empty parts are ignored (profile).
+-- The parts into which bytes that pass a test cut a text, without the empty ones (profile).
 abbrev pub parts_at : (ℕ → Bool) → List ℕ → List (List ℕ)
 parts_at test text = filter is_filled (slice_split test text)
 
--- The words of a text, which blanks separate (profile).
+-- The words of a text, which spaces, tabs and CRs separate (profile).
 unfoldable pub words : List ℕ → List (List ℕ)
 words text = parts_at is_blank text
 

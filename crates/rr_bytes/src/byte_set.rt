@@ -1,4 +1,5 @@
-//! Sets of bytes that stand between or round what counts of a text.
+//! Sets of bytes that stand between or round what counts of a text: `trims` and `parts` leave them
+//! out.
 
 ghost use Rattle.std.specs.Prelude.{◌≡◌};
 ghost use Rattle.rr_bytes.specs.ByteSets.{is_in};

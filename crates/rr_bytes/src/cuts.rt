@@ -1,4 +1,4 @@
-//! Texts cut at a byte.
+//! Texts cut at a byte, as lines, keys, prefixes, names of sets and heads of requests are read.
 
 ghost use Rattle.std.specs.Prelude.{◌≡◌, ◌==◌, ◌≤◌, length, position};
 ghost use Rattle.std.specs.List.{after_first, before_first, position_or_len};
@@ -7,7 +7,7 @@ ghost use Rattle.rr_bytes.specs.Cuts.{cut_at, from_first};
 
 use memchr::memchr;
 
-/// The place of the first such byte of the text, if it has one.
+/// The place, from 0, of the first such byte of the text, if it has one.
 #[inline]
 #[tactic(auto, using(crate::proofs::PlaceLemmas::place_found))]
 pub fn place_of(text: &[u8], byte: u8) -> Option<usize>
@@ -54,7 +54,7 @@ pub fn cut_around(text: &[u8], byte: u8) -> (&[u8], &[u8])
     (before, after)
 }
 
-/// The place of the first such byte of the text, or the text's length where it has none.
+/// The place, from 0, of the first such byte of the text, or the text's length where it has none.
 #[inline]
 #[tactic(auto, using(crate::proofs::PlaceLemmas::placed))]
 fn end_of_before(text: &[u8], byte: u8) -> usize

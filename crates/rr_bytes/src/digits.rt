@@ -1,4 +1,4 @@
-//! Numbers in decimal digits.
+//! Numbers in decimal digits, as command lines and heads of requests have them.
 
 ghost use Rattle.std.specs.Prelude.{◌≡◌, ◌<◌, ◌^◌, true};
 ghost use Rattle.std.specs.Char.{is_ascii_digit};
@@ -12,8 +12,8 @@ pub fn are_digits(text: &[u8]) -> bool
     text.iter().all(|byte| byte.is_ascii_digit())
 }
 
-/// The number that the digits spell, or one more than `greatest` where that is less. `greatest` is
-/// below 2^32.
+/// The number that the digits spell, 0 where there are none; or one more than `greatest` where
+/// that is less. Each byte must be a digit, and `greatest` below 2^32.
 pub fn capped_value(digits: &[u8], greatest: usize) -> usize
     requires digits { list_all is_ascii_digit digits.now ≡ true }
     requires fits { greatest < 2 ^ 32 }

@@ -1,4 +1,5 @@
-//! Letter case, which keywords and names ignore (RFC 2622, 2).
+//! Letter case of ASCII, which keywords and names ignore (RFC 2622, 2): for `rr_number`,
+//! `rr_object`, `rr_answer` and `rr_http`.
 
 ghost use Rattle.std.specs.Prelude.{◌≡◌, IfOk};
 ghost use Rattle.std.specs.Str.{bytes_eq};

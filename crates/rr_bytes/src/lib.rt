@@ -1,6 +1,6 @@
-//! Bytes, and texts as their bytes: blanks and the line feed, texts less the blanks round them,
-//! texts cut at a byte, into parts and joined from them, letter case, decimal digits, and what
-//! names are made of. Each notion has one definition and one body for all crates.
+//! Bytes, and texts as their bytes, for all crates that read or print text: each notion has one
+//! definition and one body. They are blanks and the line feed, texts trimmed, cut and joined,
+//! letter case, decimal digits, and what names are made of.
 #![tactic(auto)]
 
 mod byte_set;

@@ -1,4 +1,5 @@
-//! What names are made of: those of attributes, and those of maintainers and sources.
+//! What names are made of, with letters and digits of ASCII: those of attributes, for `rr_text`,
+//! and those of maintainers, sources and sets, for `rr_number`.
 
 ghost use Rattle.std.specs.Prelude.{◌≡◌};
 ghost use Rattle.std.specs.List.{list_all};

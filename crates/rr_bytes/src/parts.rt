@@ -1,4 +1,4 @@
-//! Texts in parts, and parts as one text.
+//! Texts in parts, and parts as one text: for lists, words of queries, and values of several lines.
 
 ghost use Rattle.std.specs.Prelude.{◌≡◌, ◌<◌, ◌∷◌, [], IfNone, IfOk, IfSome};
 ghost use Rattle.std.specs.Prelude.{length, map, position};
@@ -9,8 +9,8 @@ ghost use Rattle.rr_bytes.specs.Parts.{joined_by_space, parts_at, words};
 use crate::byte_set::ByteSet;
 use std::alloc::{AllocError, Global};
 
-/// The parts of the text between bytes of the set, but for the empty ones; the error is that memory
-/// ran out.
+/// The parts into which bytes of the set cut the text, in order and without the empty ones
+/// (profile); the error is that memory ran out.
 pub fn parts_between(
     alloc: Global,
     text: &[u8],
@@ -33,7 +33,8 @@ pub fn parts_between(
     Ok(found)
 }
 
-/// The words of the text, which blanks separate; the error is that memory ran out.
+/// The words of the text, which spaces, tabs and CRs separate (profile); the error is that memory
+/// ran out.
 #[tactic(auto, unfolding(crate::specs::Parts::words))]
 pub fn words(alloc: Global, text: &[u8]) -> Result<Vec<&[u8]>, AllocError>
     ensures { IfOk result (λ found. map (λ word. word.now) found.items ≡ words text.now) }
@@ -41,7 +42,7 @@ pub fn words(alloc: Global, text: &[u8]) -> Result<Vec<&[u8]>, AllocError>
     parts_between(alloc, text, ByteSet::Blanks)
 }
 
-/// The texts as one, with a space between each two; the error is that memory ran out.
+/// The texts as one, with a space between each two (profile); the error is that memory ran out.
 pub fn joined_by_space(alloc: Global, texts: &[&[u8]]) -> Result<Vec<u8>, AllocError>
     ensures { IfOk result
         (λ joined. joined.items ≡ joined_by_space (map (λ text. text.now) texts.now)) }
@@ -66,7 +67,8 @@ fn join_further(alloc: Global, first: &[u8], further: &[&[u8]]) -> Result<Vec<u8
     Ok(joined)
 }
 
-/// The first part of the text and what stands after the byte that ends it, if one does.
+/// The first part of the text and what stands after the byte of the set that ends it, if one does.
+/// What stands after it is shorter than the text.
 #[tactic(auto, using(crate::proofs::PlaceLemmas::cut_none, crate::proofs::PlaceLemmas::cut_some))]
 fn first_part(text: &[u8], separators: ByteSet) -> Option<(&[u8], &[u8])>
     ensures none { IfNone result (slice_split (is_in separators) text.now ≡ text.now ∷ []) }

@@ -1,4 +1,4 @@
-//! Texts less the blanks round them.
+//! Texts less the blanks round them, as lines, names, values and ends of spans are read.
 
 ghost use Rattle.std.specs.Prelude.{◌≡◌};
 ghost use Rattle.rr_bytes.specs.ByteSets.{is_in};
@@ -6,7 +6,7 @@ ghost use Rattle.rr_bytes.specs.Trims as trims;
 
 use crate::byte_set::ByteSet;
 
-/// The text less the bytes of the set before it.
+/// The text less the bytes of the set that it begins with.
 #[inline(never)]
 #[tactic(auto, using(crate::proofs::TrimLemmas::start_trimmed))]
 pub fn trim_start(text: &[u8], blanks: ByteSet) -> &[u8]
@@ -22,7 +22,7 @@ pub fn trim_start(text: &[u8], blanks: ByteSet) -> &[u8]
     rest
 }
 
-/// The text less the bytes of the set after it.
+/// The text less the bytes of the set that it ends with.
 #[inline(never)]
 #[tactic(auto, using(crate::proofs::TrimLemmas::end_trimmed))]
 pub fn trim_end(text: &[u8], blanks: ByteSet) -> &[u8]
@@ -38,7 +38,7 @@ pub fn trim_end(text: &[u8], blanks: ByteSet) -> &[u8]
     rest
 }
 
-/// The text less the bytes of the set round it.
+/// The text less the bytes of the set that it begins and ends with.
 pub fn trim(text: &[u8], blanks: ByteSet) -> &[u8]
     ensures { result.now ≡ trims.trim (is_in blanks) text.now }
 {

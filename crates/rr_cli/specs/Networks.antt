@@ -4,9 +4,9 @@ use Rattle.std.specs.declared.io.Error.{Error}
 use Rattle.rr_desk.specs.Turns.{Serving, Tally}
 use Rattle.rr_commands.specs.declared.cause.Cause.{Cause}
 
--- a port is listened on, by what tells this, or is refused for a cause; a peer that asks this is to
--- be given these bytes, if it tells them, or nobody could ask it, by an error; and the connection
--- of a peer is closed after so many reads that failed (profile)
+-- a port is listened on, by what counts and tells this, or is refused for a cause; a peer that asks
+-- this is to be given these bytes, if it tells them, or nobody could ask this, by an error; and the
+-- connection of a peer is closed after so many reads that failed (profile)
 pub record NetworkCalls : Type 1 where
   pub listens : ℕ → Result Tally Cause → Type 0
   pub asks : List ℕ → Result (Option (List ℕ)) Error → Type 0

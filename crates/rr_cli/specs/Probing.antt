@@ -104,7 +104,7 @@ HearsNothing network given error =
     BreaksPeer network
     ⊎ (IfSome given (λ bytes. bytes ≡ []) ⊎ (error_kind error ≡ OutOfMemory))
 
--- one turn was taken, and it failed (profile)
+-- one turn was taken, and it failed, which is the trouble, with some cause (profile)
 pub record FailsTurn {S : Type 0} (g : Ghosts S) (serves : Serving) (tally : Tally)
     (before after : Desk S) (trouble : Trouble) : Type 0 where
   pub failed : ℕ

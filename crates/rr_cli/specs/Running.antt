@@ -15,7 +15,7 @@ use Rattle.rr_commands.specs.Submitted.{EndsPlain, SubmitsBy}
 use Rattle.rr_commands.specs.Worlds.{Deed, Ports, within}
 use Rattle.rr_cli.specs.Networks.{Means}
 use Rattle.rr_cli.specs.Probing.{ProbesBy}
-use Rattle.rr_cli.specs.Serving.{ServesBy, listening}
+use Rattle.rr_cli.specs.Serving.{ServesBy, listening, serve_words}
 
 -- what a program has: what keeps databases, and what its standard input told (profile)
 pub record Resources (D : Type 0) : Type 0 where
@@ -55,7 +55,7 @@ CarriesOut by means (command.Load settings file) done =
     LeavesInput (LoadsBy by settings.now file.now) done
 CarriesOut by means (command.Migrate settings) done = LeavesInput (MigratesBy by settings.now) done
 CarriesOut by means (command.Serve settings port count) done =
-    LeavesInput (ServesBy by means settings.now (listening port count)) done
+    LeavesInput (ServesBy by means (serve_words settings.now (listening port count))) done
 CarriesOut by means (command.Probe settings) done =
     LeavesInput (ProbesBy by means settings.now) done
 CarriesOut by means (command.Print text) done =

@@ -33,8 +33,8 @@ EndsUnaccepted turns = (earlier : List Turn) × (turns ≡ earlier ++ unaccepted
 abbrev pub EndsAccepted : List Turn → Type 0
 EndsAccepted turns = EndsUnaccepted turns → ⊥
 
--- no turn was served, and the fault is why no connection could be accepted in the last one, where
--- turns are told (profile)
+-- no turn was served, and the fault is that no connection could be accepted, for some cause; where
+-- turns are told, none was in the last one (profile)
 pub record HasServedNone (tally : Tally) (served : ℕ) (ended : CommandEnd) : Type 0 where
   pub cause : Cause
   pub told : ended ≡ Err (Unaccepted cause)
@@ -146,9 +146,18 @@ abbrev pub IsAboutServing : ℕ → List ℕ → List ℕ → List ℕ → Progr
 IsAboutServing port file path found fault =
     IsAbout file path found fault ⊎ IsAboutPort port fault
 
+-- what `irrdesk serve` is given: its settings file, the port, and how many turns (profile)
+pub record ServeWords : Type 0 where
+  pub file : List ℕ
+  pub asked : Listening
+
+-- these are the words of `irrdesk serve` (profile)
+abbrev pub serve_words : List ℕ → Listening → ServeWords
+serve_words file asked = record { file = file; asked = asked }
+
 -- what `irrdesk serve` does, by its settings file (profile)
-abbrev pub ServesBy : {D S : Type 0} → Ports D S → Means → List ℕ → Listening
-    → Deed D ProgramEnd → Type 0
-ServesBy by means file asked =
-    ActsBySettings by.files file (IsAboutServing asked.port file)
-    (AtDesk by.stores (ServesDesk by.stores.store means asked))
+abbrev pub ServesBy : {D S : Type 0} → Ports D S → Means → ServeWords → Deed D ProgramEnd
+    → Type 0
+ServesBy by means words =
+    ActsBySettings by.files words.file (IsAboutServing words.asked.port words.file)
+    (AtDesk by.stores (ServesDesk by.stores.store means words.asked))

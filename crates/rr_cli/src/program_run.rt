@@ -1,5 +1,5 @@
 //! A run of the program, over its arguments and its three streams: the command is read, carried
-//! out, and its end told.
+//! out, and its end told. `main` makes one.
 
 ghost use Rattle.rr_http.specs.DeskRegistrars.{serves_desk};
 ghost use Rattle.std.specs.Prelude.{◌≡◌, IfErr, IsOk, OnOk, map, string_bytes};
@@ -38,11 +38,14 @@ pub struct Streams<R, E> {
 }
 
 /// Does what the arguments ask for, the first of which is the program's own name, and gives the
-/// status: 0 if it is done, and 1 if an item was refused or an answer was an error. A fault has its
-/// line on `streams.errors`, less its end if a write fails; without a fault nothing is written
-/// there. The status of a fault is 2 at wrong arguments, and 3 at wrong settings. It is 4 at
-/// trouble with the database, also if SQLite lacks memory once it is open, or if the desk is
-/// stopped. It is else 5, also if other memory ran out (profile).
+/// status. It is 0 if that is done, and 1 if an item was refused or an answer was an error.
+/// Arguments that ask for no command, or for which memory runs out, are a fault: then no database,
+/// standard input or standard output is used.
+///
+/// A fault has its line on `streams.errors`, less its end if a write fails; without a fault nothing
+/// is written there. The status of a fault is 2 at wrong arguments, and 3 at wrong settings. Of a
+/// command with settings it is 4 at trouble with the database, also if SQLite lacks memory once it
+/// is open, or if the desk is stopped. It is else 5, also if other memory ran out (profile).
 pub fn run<D: Databases, F: Files, N: Network, R: Input, W: Output, E: Sink>(
     host: &mut Host<'_, D, W>,
     files: &F,

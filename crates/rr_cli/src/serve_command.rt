@@ -9,7 +9,7 @@ ghost use Rattle.rr_commands.specs.Worlds.{at, deed, done_by, named, ports};
 ghost use Rattle.rr_cli.specs.Networks.{means};
 ghost use Rattle.rr_cli.specs.Serving.{HasServed, IsAboutServing, IsServedEnd, ServesBy};
 ghost use Rattle.rr_cli.specs.Serving.{ServesDesk, ShowsPort, address, listening_head};
-ghost use Rattle.rr_cli.specs.Serving.{listening, listening_line, served_line};
+ghost use Rattle.rr_cli.specs.Serving.{listening, listening_line, serve_words, served_line};
 
 use crate::network::Network;
 use crate::peers_with_cause::PeersWithCause;
@@ -38,7 +38,9 @@ pub struct Listening {
 /// and HTTP, from the registry that the settings name. Prints where it listens, and at the end how
 /// many turns were served and how many failed. The status is 0. The fault is why there are no
 /// settings, no desk or no listener, or that a line was not printed whole. If no turn was served
-/// and no connection could be accepted in the last one, that is the fault. If the database fails
+/// and no connection could be accepted in the last one, that is the fault; clauses say so where
+/// turns are told. Trouble with the listener shows its address. The settings stay, and until a
+/// fault of the store stops the desk, its rows are those of its registry. If the database fails
 /// meanwhile, that is said once on standard error, of which no clause speaks.
 pub fn serve<'a, D: Databases, F: Files, N: Network, W: Output>(
     host: &mut Host<'_, D, W>,
@@ -48,7 +50,7 @@ pub fn serve<'a, D: Databases, F: Files, N: Network, W: Output>(
     listening: Listening,
 ) -> Result<u8, ProgramFault<'a>>
     ensures { ServesBy (ports D.Disk.Store D.calls (F.calls files.now))
-        (means (N.calls network.now) serves_desk) file.now listening
+        (means (N.calls network.now) serves_desk) (serve_words file.now listening)
         (done_by W.told host.old host.new result) }
 {
     let (settings, mut store) = read_settings_file(host.tools.alloc, files, file)?;

@@ -1,4 +1,4 @@
-//! The standard streams, of which some may be closed as the program starts.
+//! The standard streams, of which some may be closed as the program starts: `main` fills these.
 
 ghost use Rattle.std.specs.Fd.{file_raw_fd};
 ghost use Rattle.std.specs.Prelude.{◌≡◌, IfSome};
@@ -14,15 +14,16 @@ const EBADF: i32 = 9;
 /// Fills the place of each standard stream that is closed, in order, because what is opened gets
 /// the lowest free number. While these are kept, no file and no socket gets the number of a stream.
 /// So nothing that is meant for the stream goes into it, as a line of standard error into a reply.
-/// No clause says which streams were closed.
+/// No clause says any of this.
 pub fn fill_closed(rt: &HostRuntime) -> [Option<File>; 3] {
     [fill(rt, 0), fill(rt, 1), fill(rt, 2)]
 }
 
-/// Fills the place of the stream of this number; `None` if the stream is open, or if it cannot be
-/// filled, and then the program goes on without. It is filled by the root folder: a write to that
-/// fails with error 9, as one to a closed stream does, and neither it nor what opens the stream by
-/// name, as `/dev/stdin`, can be read, so no text is taken for an empty one.
+/// Fills the place of the stream of this number: what is returned has that number. `None` if the
+/// stream is open, or if it cannot be filled, and then the program goes on without. It is filled by
+/// the root folder: a write to that fails with error 9, as one to a closed stream does, and neither
+/// it nor what opens the stream by name, as `/dev/stdin`, can be read, so no text is taken for an
+/// empty one.
 fn fill(rt: &HostRuntime, number: RawFd) -> Option<File>
     ensures { IfSome result (λ file. file_raw_fd file ≡ number) }
 {
@@ -41,7 +42,8 @@ pub struct StandardInput {
 }
 
 impl StandardInput {
-    /// Standard input, which is closed if its place was filled.
+    /// Standard input. Its reads fail if `is_closed`, which is that its place was filled. No clause
+    /// says so.
     pub fn new(rt: &HostRuntime, is_closed: bool) -> StandardInput {
         StandardInput {
             stdin: rt.stdin(),

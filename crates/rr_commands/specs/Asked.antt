@@ -22,9 +22,10 @@ abbrev pub answer_status : Result (List ℕ) QueryFault → ℕ
 answer_status (Ok text) = 0
 answer_status (Err fault) = 1
 
--- a desk was asked: its answer was printed, and the status says whether it is an error; or it could
--- not be written whole. Nothing of the desk changes, and it keeps the rows of its registry
--- (profile)
+-- a desk was asked: its answer was printed, and the status says whether it is an error; or only its
+-- beginning was, and a write failed. Nothing of the desk changes. Where the disk gives back what
+-- was written, a stop of the process leaves the rows of its registry, and while its database is
+-- open these are its rows (profile)
 pub record HasAsked {S : Type 0} (g : Ghosts S) (text : List ℕ) (done : Deed (Desk S) CommandEnd)
     : Type 0 where
   pub answer : Result (List ℕ) QueryFault

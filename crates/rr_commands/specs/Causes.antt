@@ -39,7 +39,8 @@ abbrev pub input_cause : Option ℤ → Cause
 input_cause None = cause.BadName
 input_cause (Some number) = numbered (Some number)
 
--- the cause of an error of the system, by its kind, and else by its number (profile)
+-- the cause of an error of the system, by its kind, and by its number where the kind tells none, or
+-- only that input does not fit (profile)
 abbrev pub system_cause : ErrorKind → Option ℤ → Cause
 system_cause kind.NotFound code = cause.Missing
 system_cause kind.PermissionDenied code = cause.Denied

@@ -1,5 +1,5 @@
 -- What commands do that read settings from a file and use the database that these name, by how they
--- end (profile).
+-- end. What is said of rows holds where the disk gives back what was written (profile).
 use Rattle.std.specs.Prelude.{◌≡◌, ◌≤◌, ◌+◌, ◌<◌, ◌⊎◌, ℕ, false, List, [], length, take, IfErr}
 use Rattle.std.specs.Prelude.{Bool, IfSome, IsTrue, Option, Result, Ok, Err}
 use Rattle.std.specs.IoError.{error_kind, raw_os_error}
@@ -160,7 +160,7 @@ pub record Finds {S X : Type 0} (g : Ghosts S) (is_kind : X → Bool) (before af
   pub kind : IfSome found (λ it. IsTrue (is_kind it))
 
 -- the tables of a database were not opened for this fault; what is told is that, or what a look at
--- the database found (profile)
+-- the database may find, which commits nothing (profile)
 pub record FailsToOpenDesk {S : Type 0} (g : Ghosts S) (source : List ℕ) (conn after : Held S)
     (trouble : Trouble) : Type 0 where
   pub left : Held S

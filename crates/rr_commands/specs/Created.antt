@@ -1,4 +1,5 @@
--- What `irrdesk init` does, by how it ends, for the contracts of `init` and `create_to` (profile).
+-- What `irrdesk init` does, by how it ends, for the contracts of `init` and `create_to`. What is
+-- said of rows holds where the disk gives back what was written (profile).
 use Rattle.std.specs.Prelude.{◌≡◌, ℕ, ◌⊎◌, List, Err, codes}
 use Rattle.sqlite_trees.specs.declared.store.Store.{Ghosts}
 use Rattle.sqlite.specs.Held.{Held}
@@ -20,7 +21,8 @@ abbrev pub created_line : List ℕ
 created_line = codes "created 4 objects\n"
 
 module _ {S : Type 0} (g : Ghosts S) (settings : SettingsParts) where
-  -- no registry was made, and nothing was printed (profile)
+  -- no registry was made, and the fault says why: what there was stands, and a stop of the process
+  -- may still leave the tables that were to be made. Nothing was printed (profile)
   pub record IsUncreated (done : Deed (Held S) CommandEnd) : Type 0 where
     pub fault : CreateFault
     pub told : done.ended ≡ Err (Creating fault)

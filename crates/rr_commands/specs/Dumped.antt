@@ -10,7 +10,8 @@ use Rattle.rr_commands.specs.Faults.{IsAbout}
 use Rattle.rr_commands.specs.Worlds.{Deed, Ports}
 use Rattle.rr_commands.specs.declared.trouble.Trouble.TheVariants.{Dumping}
 
--- the bytes of a dump were written, and the status is 0; or it was cut short (profile)
+-- the bytes of a dump were written, and the status is 0. Or it was cut short: a write failed or
+-- memory ran out, and what was written is the beginning and not all (profile)
 abbrev pub HasDumped : List ℕ → Told → Told → CommandEnd → Type 0
 HasDumped bytes old new (Ok status) = (status ≡ 0) × Takes old new bytes
 HasDumped bytes old new (Err (Dumping fault)) = IsCutShort bytes old new fault

@@ -59,8 +59,8 @@ pub record IsFaultOf (told : Trouble) (holds : ProgramFault → Type 0) (fault :
   pub trouble : fault.trouble ≡ told
   pub shows : holds fault
 
--- what a fault is about is legible: as it was, but a word as a line shows it or, without memory, as
--- it was given (profile)
+-- what a fault is about is legible: as it was, but a word as a line shows it or as it was given
+-- (profile)
 abbrev pub IsLegible : About → About → Type 0
 IsLegible Nothing after = after ≡ Nothing
 IsLegible (Named name) after = after ≡ Named name
@@ -98,7 +98,8 @@ abbrev pub number_text : Option ℕ → List ℕ
 number_text None = []
 number_text (Some number) = decimal number
 
--- what went wrong, to the end of the line: `stream` is why reading or printing failed (profile)
+-- what went wrong, to the end of the line: words, the cause and its number, words, the number of
+-- the trouble, words, and an LF. `stream` is why reading or printing failed (profile)
 unfoldable pub trouble_text : Trouble → Cause → List ℕ
 trouble_text trouble stream =
     before_cause trouble ++ (cause_words trouble (trouble_cause trouble stream)

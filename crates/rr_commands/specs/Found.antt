@@ -76,17 +76,18 @@ abbrev pub is_of_version : ℕ → Trouble → Bool
 is_of_version version trouble.OtherRows = version == VERSION
 is_of_version _ _ = false
 
--- what may be found of tables that are not opened, which are to be of the version that is read:
--- where the database was refused, where its rows were, and where its version was (profile)
+-- what may be found of tables that are not opened, which are to be of the version that is read. It
+-- is by what was refused: the database, its rows or its version. Where memory ran out, it is
+-- nothing (profile)
 abbrev pub is_found_unopened : OpenFault → Trouble → Bool
 is_found_unopened (opening.Store error) found = is_of_unopened found
 is_found_unopened opening.BadRow found = is_of_rows Current found
 is_found_unopened (opening.WrongVersion version) found = is_of_old version found
 is_found_unopened opening.Memory found = false
 
--- what may be found of tables that are not migrated, which are to be of the version before: where
--- the database was refused, where its rows were, where its version was, and where the root was
--- missing: that there are no objects (profile)
+-- what may be found of tables that are not migrated, which are to be of the version before. It is
+-- by what was refused: the database, its rows or its version. Where the root was missing, it is
+-- that there are no objects; where memory ran out, nothing (profile)
 abbrev pub is_found : MigrateFault → Trouble → Bool
 is_found (migrating.Store error) found = is_of_unmigrated found
 is_found migrating.BadRow found = is_of_rows Old found
@@ -95,7 +96,7 @@ is_found migrating.NoRoot trouble.Empty = true
 is_found _ found = false
 
 -- what is told of tables that were not opened for this fault: the fault, or what a look at the
--- database found (profile)
+-- database may find (profile)
 abbrev pub IsToldUnopened : OpenFault → Trouble → Type 0
 IsToldUnopened fault told =
     (told ≡ trouble.Opening fault) ⊎ IsTrue (is_found_unopened fault told)

@@ -1,4 +1,5 @@
--- What `irrdesk load` does, by how it ends, for the contracts of `load` and `load_to` (profile).
+-- What `irrdesk load` does, by how it ends, for the contracts of `load` and `load_to`. What is said
+-- of rows holds where the disk gives back what was written (profile).
 use Rattle.std.specs.Prelude.{◌≡◌, ℕ, ◌⊎◌, List, ◌++◌, length, Ok, Err, codes}
 use Rattle.std.specs.Prelude.{decimal}
 use Rattle.std.specs.FinMap.{values}
@@ -23,11 +24,12 @@ use Rattle.rr_commands.specs.declared.trouble.Trouble.TheVariants.{Loading}
 abbrev pub loaded_line : ℕ → List ℕ
 loaded_line count = codes "loaded " ++ (decimal count ++ codes " objects\n")
 
--- the line without their number, if memory ran out as they were counted (profile)
+-- the line without their number, for want of memory to count them (profile)
 abbrev pub uncounted_line : List ℕ
 uncounted_line = codes "loaded the dump\n"
 
--- one of the two lines was written, or could not be written whole (profile)
+-- one of the two lines was written, or could not be written whole: which of the two, this does not
+-- say (profile)
 abbrev pub TellsLoaded : ℕ → Told → Told → CommandEnd → Type 0
 TellsLoaded count old new ended =
     Tells (loaded_line count) old new ended ⊎ Tells uncounted_line old new ended

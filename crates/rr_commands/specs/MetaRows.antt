@@ -1,4 +1,5 @@
--- What rows of `meta` say, for what is told of a database that is refused (profile).
+-- What rows of `meta` say, for `version_in` and what `diagnosis` tells of a database that is
+-- refused (profile).
 use Rattle.std.specs.Prelude.{◌≡◌, ℕ, List, Contains, codes, decimal}
 use Rattle.sqlite_value.specs.Order.{Row, column}
 use Rattle.sqlite_value.specs.declared.value.Value.TheVariants.{Text}

@@ -1,5 +1,5 @@
--- What `irrdesk migrate` does, by how it ends, for the contracts of `migrate` and `migrate_to`
--- (profile).
+-- What `irrdesk migrate` does, by how it ends, for the contracts of `migrate` and `migrate_to`.
+-- What is said of rows holds where the disk gives back what was written (profile).
 use Rattle.std.specs.Prelude.{◌≡◌, ◌⊎◌, ℕ, Bool, true, false, List, Err, IsTrue, codes}
 use Rattle.sqlite_trees.specs.declared.store.Store.{Ghosts}
 use Rattle.sqlite.specs.Held.{Held}
@@ -45,7 +45,8 @@ module _ {S : Type 0} (g : Ghosts S) (settings : SettingsParts) where
 abbrev pub MigratesIn : {S : Type 0} → Ghosts S → SettingsParts → Act (Held S)
 MigratesIn g settings done = IsUnmigrated g settings done ⊎ HasMigrated g settings done
 
--- the database was refused, and what a further look at it found is told (profile)
+-- the database was refused, and what is told is of a kind that a further look at it may find
+-- (profile)
 pub record IsFoundOut (first ended : CommandEnd) : Type 0 where
   pub fault : MigrateFault
   pub told_first : first ≡ Err (Migrating fault)
@@ -53,7 +54,8 @@ pub record IsFoundOut (first ended : CommandEnd) : Type 0 where
   pub found : IsTrue (is_found fault trouble)
   pub told : ended ≡ Err trouble
 
--- what is told of a migration: how it ended, or what a further look at the database found (profile)
+-- what is told of a migration: how it ended, or what a further look at the database may find
+-- (profile)
 abbrev pub IsDiagnosis : CommandEnd → CommandEnd → Type 0
 IsDiagnosis first ended = (ended ≡ first) ⊎ IsFoundOut first ended
 
@@ -78,7 +80,7 @@ LooksAtRefused g first left after =
     (after ≡ left) ⊎ (IsLookedAt first × LooksAt g left after)
 
 -- the command did this, left this connection and ended as `first`; what is told is that, or what a
--- look at a database that was refused found (profile)
+-- look at a database that was refused may find. The look commits nothing (profile)
 pub record IsDiagnosed {S : Type 0} (g : Ghosts S) (does : Act (Held S))
     (done : Deed (Held S) CommandEnd) : Type 0 where
   pub first : CommandEnd

@@ -88,7 +88,8 @@ abbrev pub settings_of_text : List ℕ → Result (SettingsParts × List ℕ) Se
 settings_of_text text = settings_in (parse_document text)
 
 -- why the bytes of a file are no settings: they are too many, no text, no TOML, or a key is missing
--- or bad; or memory ran out (profile)
+-- or bad; or memory ran out. Which line is told of a text that is no TOML, this does not say
+-- (profile)
 abbrev pub AreNoSettings : List ℕ → Trouble → Type 0
 AreNoSettings bytes trouble.SettingsTooLong = MOST_BYTES < length bytes
 AreNoSettings bytes trouble.SettingsNotText = ¬ (IsUtf8 bytes)
@@ -97,7 +98,8 @@ AreNoSettings bytes (trouble.SettingBad key) = settings_of_text bytes ≡ Err (B
 AreNoSettings bytes trouble.Memory = Unit {0}
 AreNoSettings bytes _ = ⊥
 
--- what is told of a text that is no settings, by its fault: of one that is no TOML a line (profile)
+-- what is told of a text that is no settings, by its fault: of one that is no TOML some line
+-- (profile)
 abbrev pub IsToldOf : SettingsFault → Trouble → Type 0
 IsToldOf BadToml (trouble.SettingsNotToml line) = Unit {0}
 IsToldOf (BadKey key) (trouble.SettingBad told) = told ≡ key

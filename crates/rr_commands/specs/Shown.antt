@@ -4,7 +4,7 @@ use Rattle.std.specs.Prelude.{if◌then◌else◌}
 use Rattle.std.specs.List.{list_all}
 use Rattle.rr_commands.specs.declared.shown.TheConstants.{MOST_OF_NAME}
 
--- a byte of a blank, or of a character of ASCII that is seen, save the backslash (profile)
+-- a space, or a byte of a character of ASCII that is seen, save the backslash (profile)
 abbrev pub stands_for_itself : ℕ → Bool
 stands_for_itself b = not (nat_lt b 32) && (nat_lt b 127 && not (b == 92))
 

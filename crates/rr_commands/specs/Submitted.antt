@@ -1,4 +1,5 @@
--- What `irrdesk submit` does, and `irrdesk` without arguments, by how it ends (profile).
+-- What `irrdesk submit` does, and `irrdesk` without arguments, by how it ends. What is said of rows
+-- holds where the disk gives back what was written (profile).
 use Rattle.std.specs.Prelude.{◌≡◌, ℕ, ◌==◌, ◌⊎◌, false, List, [], Result, Ok, Err, IfErr}
 use Rattle.std.specs.Prelude.{codes, if◌then◌else◌}
 use Rattle.sqlite_trees.specs.declared.store.Store.{Ghosts}
@@ -31,8 +32,8 @@ abbrev pub submission_end : Result Done DeskFault → DatabaseCause → CommandE
 submission_end (Ok done) cause = Ok (done_status done)
 submission_end (Err fault) cause = Err (Submission fault cause)
 
--- a submission was made to a desk, its result is told, and the desk is left as a submission leaves
--- it; only a fault of the store stopped it (profile)
+-- a submission was made to a desk, and its result is told, with why the database failed if it did.
+-- The desk is left as a submission leaves it, and only a fault of the store stopped it (profile)
 pub record HasSubmitted {S : Type 0} (g : Ghosts S) (reader_old reader_new : Told)
     (done : Deed (Desk S) CommandEnd) : Type 0 where
   pub result : Result Done DeskFault

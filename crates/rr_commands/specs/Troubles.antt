@@ -23,8 +23,9 @@ abbrev pub ends_with : ℕ → Place → Ending
 ends_with status place = record { status = status; place = place }
 
 -- how the program ends by each trouble: what its line is about, and its status. The status is 2 at
--- wrong arguments, 3 at wrong settings, and 4 at trouble with the database or a stopped desk. It is
--- else 5, also if memory ran out (profile).
+-- wrong arguments, and 3 at wrong settings. It is 4 at trouble with the database, also if SQLite
+-- lacks memory once it is open, or at a stopped desk. It is else 5, also if other memory ran out
+-- (profile).
 abbrev pub trouble_end : Trouble → Ending
 trouble_end trouble.BadArguments = ends_with 2 place.Nothing
 trouble_end trouble.BadPort = ends_with 2 place.Nothing

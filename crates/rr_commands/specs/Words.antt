@@ -198,8 +198,8 @@ before_number (trouble.Submission (desk.StoreFault items) cause) =
     codes "; items decided before that: "
 before_number _ = []
 
--- what to do with tables of another version than 2: those of version 1 are migrated, and a later
--- irrdesk reads those of a later one (profile)
+-- what to do with tables of another version than 2: those of version 1 are migrated. A later
+-- irrdesk reads those of a later one, and no irrdesk wrote others (profile)
 abbrev pub after_opened : ℕ → List ℕ
 after_opened version =
     if version == OLD_VERSION
@@ -209,7 +209,7 @@ after_opened version =
     else codes ", and this program reads version 2: no irrdesk wrote them, so correct `store`"
 
 -- what to do with tables of another version than 1 that are to be migrated: nothing if they are of
--- version 2 (profile)
+-- version 2. A later irrdesk wrote those of a later one, and no irrdesk wrote others (profile)
 abbrev pub after_migrated : ℕ → List ℕ
 after_migrated version =
     if version == VERSION

@@ -1,4 +1,5 @@
-//! Why a file, a socket or a database could not be used, in words of the program's own.
+//! Why a file, a socket or a database could not be used, in words of the program's own: for
+//! `trouble`, whose line `command_fault` writes, and for `rr_cli`.
 
 ghost use Rattle.std.specs.Prelude.{◌≡◌, Option};
 ghost use Rattle.std.specs.IoError.{error_kind, raw_os_error};
@@ -96,7 +97,8 @@ pub enum Cause {
 }
 
 impl Cause {
-    /// The cause of an error of the system, by its kind, and else by its number (profile).
+    /// The cause of an error of the system, by its kind, and by its number where the kind tells
+    /// none, or only that input does not fit (profile).
     pub fn of(error: &io::Error) -> Cause
         ensures { result ≡ system_cause (error_kind error.now) (raw_os_error error.now) }
     {
@@ -303,6 +305,7 @@ impl DatabaseCause {
         }
     }
 
+    /// The cause of a failure of the database, by its code.
     fn of_code(code: ErrorCode) -> DatabaseCause
         ensures { result ≡ code_cause code }
     {

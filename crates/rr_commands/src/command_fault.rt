@@ -1,4 +1,5 @@
-//! Why the program fails, and the line on standard error that says so.
+//! Why the program fails, and the line on standard error that says so. Commands end by such a
+//! fault; `rr_cli` makes those of arguments and of serving, and tells all of them.
 
 ghost use Rattle.std.specs.Prelude.{◌≡◌, ◌++◌, [], IfSome, codes, map, string_bytes};
 ghost use Rattle.rr_io.specs.Sending.{TakesSome, Writes};
@@ -32,7 +33,7 @@ pub enum About<'a> {
 }
 
 /// Why the program fails: what it is about, what went wrong with it, and why reading or printing
-/// failed, if it is that.
+/// failed, if it is that, and else `Unnumbered`.
 #[derive(Drop)]
 pub struct ProgramFault<'a> {
     about: About<'a>,
@@ -41,7 +42,8 @@ pub struct ProgramFault<'a> {
 }
 
 impl<'a> ProgramFault<'a> {
-    /// A fault that is about nothing that has a name.
+    /// A fault with this trouble that is about nothing that has a name. It has `Unnumbered` for why
+    /// reading or printing failed.
     pub fn unnamed(trouble: Trouble) -> ProgramFault<'a>
         ensures { result ≡ fault_about abouts.Nothing trouble Cause.Unnumbered }
     {
@@ -52,7 +54,8 @@ impl<'a> ProgramFault<'a> {
         }
     }
 
-    /// A fault that is about a word, or about a file that it names.
+    /// A fault that is about a word, or about a file that it names, with `Unnumbered` for why
+    /// reading failed.
     pub fn of(word: &'a str, trouble: Trouble) -> ProgramFault<'a>
         ensures { result ≡ fault_about (abouts.Word word.entry) trouble Cause.Unnumbered }
     {
@@ -75,7 +78,8 @@ impl<'a> ProgramFault<'a> {
         }
     }
 
-    /// A fault that is about what has this name.
+    /// A fault that is about what has this name, with `Unnumbered` for why reading failed. The name
+    /// is to be as a line shows it: `legible` leaves it as it is.
     pub fn named(name: String, trouble: Trouble) -> ProgramFault<'a>
         ensures { result ≡ fault_about (abouts.Named name) trouble Cause.Unnumbered }
     {
@@ -98,9 +102,10 @@ impl<'a> ProgramFault<'a> {
         }
     }
 
-    /// The fault of a command that reads this file and uses this database, by what its trouble is
-    /// about. `stream` is why reading or printing failed, for a message: no clause says what of it
-    /// is kept.
+    /// A fault with this trouble, of a command that reads this file and uses this database. Its
+    /// line names what the trouble is about: one of these two, standard output, or nothing.
+    /// `stream` is why reading or printing failed, for a message: no clause says what of it is
+    /// kept.
     pub fn placed(
         trouble: Trouble,
         file: &'a str,
@@ -118,8 +123,9 @@ impl<'a> ProgramFault<'a> {
         }
     }
 
-    /// The same fault, about the same as a line shows it. Without memory a word stays as it was
-    /// given, and its control characters alone are not written.
+    /// The same fault, about the same. A word that it is about becomes what [`shown_name`] gives of
+    /// it, or stays as it was given: without memory it stays, but no clause says which. In either
+    /// case the fault's line has `?` for a control character of ASCII.
     pub fn legible(self, alloc: Global) -> ProgramFault<'a>
         ensures about { IsLegible self.entry.about result.about }
         ensures trouble { result.trouble ≡ self.entry.trouble }
@@ -145,8 +151,8 @@ impl<'a> ProgramFault<'a> {
         }
     }
 
-    /// Says the fault in one line on standard error, less its end if a write fails, and gives the
-    /// program's status, which a failed write does not change.
+    /// Says the fault in one line on standard error, less its end if a write fails. Gives the
+    /// status of its trouble, which a failed write does not change.
     pub fn tell<E: Sink>(self, errors: &mut E) -> u8
         ensures says { TakesSome (E.told errors.old) (E.told errors.new)
             (fault_line self.entry.about self.entry.trouble self.entry.stream) }

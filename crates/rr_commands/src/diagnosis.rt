@@ -1,8 +1,8 @@
-//! What is the matter with a database whose registry is not opened or not migrated, for messages
-//! alone: contracts say of which kind it is, and not that it is so. The store says only that there
-//! is something; the rows are looked at once more, because a person needs to know where, and that
-//! commits nothing. If memory runs out meanwhile, what the store said is told, or what else was
-//! found.
+//! What is the matter with a database whose registry is not opened, for `open_desk`, or not
+//! migrated, for `migrate`. It is for messages alone: contracts say of which kind it is, and not
+//! that it is so. The store says only that there is something; the rows are looked at once more,
+//! because a person needs to know where, and that commits nothing. If memory runs out meanwhile,
+//! what the store said is told, or what else was found.
 
 ghost use Rattle.std.specs.Prelude.{◌≡◌, IfSome, IsTrue, Some, false, nat_lt};
 ghost use Rattle.rr_commands.specs.Commands.{Finds, LooksAt};

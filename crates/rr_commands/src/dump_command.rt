@@ -21,7 +21,8 @@ use std::alloc::Global;
 
 /// Prints the dump of the registry that the settings name, with all of each object if it is to be
 /// full, and else with their public forms. The status is 0. The fault is why there are no settings
-/// or no desk, and then nothing is printed, or how the dump was cut short.
+/// or no desk, and then nothing is printed. Or it is that a write failed or memory ran out, and the
+/// beginning of the dump is printed, not all.
 pub fn dump<'a, D: Databases, F: Files, W: Output>(
     host: &mut Host<'_, D, W>,
     files: &F,
@@ -57,8 +58,8 @@ fn dump_at<D: Databases, W: Output>(
     end
 }
 
-/// Writes the dump of a desk that runs, full if that is asked for, and gives the status 0; the
-/// fault is how it was cut short.
+/// Writes the dump of a desk that runs, full if that is asked for, and gives the status 0. The
+/// trouble is that a write failed or memory ran out: the beginning of it is written, not all.
 pub fn dump_to<S: Alter, W: Sink>(
     alloc: Global,
     desk: &Desk<S>,

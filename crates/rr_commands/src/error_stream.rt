@@ -1,5 +1,5 @@
 //! Standard error, for what is not a result: how far a command is, a hint, and why a database
-//! failed.
+//! failed. `rr_cli` makes it, and `meter` and `progress` draw on it.
 
 use rr_io::Counted;
 use std::io::{IsTerminal, Stderr, Write};
@@ -39,7 +39,8 @@ impl<'a> ErrorStream<'a> {
         let _ = self.rt.stderr().write_all(bytes);
     }
 
-    /// What counts its failed writes.
+    /// A writer to standard error that counts its own failed writes, none so far. No clause says
+    /// so.
     pub fn counted(self) -> Counted<Stderr> {
         Counted::new(self.rt.stderr())
     }

@@ -1,4 +1,5 @@
-//! Where the files are that commands read.
+//! Where the files are that commands read: commands are given `Files`, and `rr_cli` gives those of
+//! the machine.
 
 ghost use Rattle.std.specs.Prelude.{◌≡◌, Err, IfErr, IfOk, Ok};
 ghost use Rattle.rr_io.specs.Counted.{counted_failed_reads};
@@ -21,7 +22,7 @@ pub trait Files {
     ghost calls: { Self → FileCalls };
 
     /// Opens the file at a path to read it. The error is that it cannot be opened, or that memory
-    /// ran out.
+    /// ran out. `calls` says what is to be read then, or what the error is.
     fn open(&self, path: &str) -> io::Result<Self::File>
         ensures opened { IfOk result (λ file.
             (calls self.now).opens path.now (Ok (Self.File.remaining file))) }
@@ -92,6 +93,7 @@ pub(crate) fn open_file<F: Files>(files: &F, path: &str) -> Result<F::File, Trou
     }
 }
 
+/// What is told of a file that cannot be opened for this cause.
 fn unopened_trouble(cause: Cause) -> Trouble
     ensures { result ≡ unopened_trouble cause }
 {

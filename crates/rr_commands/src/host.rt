@@ -1,4 +1,4 @@
-//! What commands use of the machine.
+//! What commands use of the machine: `rr_cli` makes a host, and commands are given it.
 
 use crate::error_stream::ErrorStream;
 use std::alloc::Global;

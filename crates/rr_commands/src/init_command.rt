@@ -19,7 +19,8 @@ use std::alloc::Global;
 
 /// Makes the registry that opens with the settings of a file, in the database that they name, and
 /// says so; a missing database is made. The status is 0. The fault is why there are no settings, no
-/// database or no registry, and then nothing is printed; or that the line was not printed whole.
+/// database or no registry, and then nothing is printed. Or it is that the line was not printed
+/// whole, and then the registry is made.
 pub fn init<'a, D: Databases, F: Files, W: Output>(
     host: &mut Host<'_, D, W>,
     files: &F,
@@ -55,7 +56,8 @@ fn init_at<D: Databases, W: Output>(
 
 /// Makes the registry that opens with these settings in a database, writes that it did, and gives
 /// the status 0. The trouble is why none was made, and nothing is written then; or that the line
-/// could not be written whole, and then it is made. The connection is given back (profile).
+/// could not be written whole, and then it is made. The connection is given back, and its database
+/// is as [`Desk::create`] leaves it (profile).
 pub fn create_to<S: Alter, W: Sink>(
     alloc: Global,
     conn: IdleConnection<S>,

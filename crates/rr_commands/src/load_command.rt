@@ -26,10 +26,11 @@ use rr_store::IdleConnection;
 use sqlite::Alter;
 use std::alloc::{AllocError, Global};
 
-/// Makes the registry of a dump in the database that the settings name, which is to be new or
-/// without rows. Says how many objects it has, if there is memory to count them. The status is 0.
-/// The fault is why there are no settings, no database, no file or no registry, and then nothing is
-/// printed; or that the line was not printed whole.
+/// Makes the registry of a dump in the database that the settings name, which is made if it is
+/// missing, and else is to be without rows. Says how many objects it has or, without memory to
+/// count them, that it was loaded: no clause says which. The status is 0. The fault is why there
+/// are no settings, no database, no file or no registry, and then nothing is printed. Or it is that
+/// the line was not printed whole, and then the registry is made.
 pub fn load<'a, D: Databases, F: Files, W: Output>(
     host: &mut Host<'_, D, W>,
     files: &F,
@@ -115,9 +116,10 @@ fn load_file<S: Alter, F: Files, W: Output>(
 }
 
 /// Makes the registry of the dump that a reader gives in a database, and gives the status 0. Writes
-/// how many objects it has, if there is memory to count them, and else that it was loaded. The
-/// trouble is why none was made, and nothing is written then; or that the line could not be written
-/// whole, and then it is made. The connection is given back (profile).
+/// how many objects it has or, without memory to count them, that it was loaded: no clause says
+/// which. The trouble is why none was made, and nothing is written then; or that the line could not
+/// be written whole, and then it is made. The connection is given back, and its database is as
+/// [`Desk::load`] leaves it (profile).
 pub fn load_to<S: Alter, R: Source, W: Sink>(
     alloc: Global,
     conn: IdleConnection<S>,
@@ -137,7 +139,8 @@ pub fn load_to<S: Alter, R: Source, W: Sink>(
     }
 }
 
-/// Writes how many objects were loaded; if memory runs out as they are counted, that they were.
+/// Writes how many objects were loaded; if memory runs out as they are counted, that they were. No
+/// clause says which.
 fn tell_loaded<W: Sink>(
     alloc: Global,
     registry: &Registry<IndexedBook>,

@@ -1,4 +1,4 @@
-//! The version that rows of `meta` say, for messages alone.
+//! The version that rows of `meta` say, for messages of `diagnosis` alone.
 
 ghost use Rattle.std.specs.Prelude.{◌≡◌, IfSome, IsTrue, codes, decimal};
 ghost use Rattle.sqlite_value.specs.Order.{column};
@@ -9,7 +9,7 @@ use crate::obstacle::text_at;
 use rr_store::read_decimal;
 use sqlite::Row;
 
-/// The version among rows of `meta`.
+/// The version among rows of `meta`: a row says what is given. No clause speaks of none.
 pub(crate) fn version_in(rows: &[Row]) -> Option<u32>
     ensures { IfSome result (SaysVersion rows.now) }
 {
@@ -21,7 +21,7 @@ pub(crate) fn version_in(rows: &[Row]) -> Option<u32>
     None
 }
 
-/// Whether a row of `meta` is that of the version.
+/// Whether a row of `meta` is that of the version. Of `false` no clause speaks.
 fn is_of_version(row: &Row) -> bool
     ensures { IsTrue result → column row.now 0 ≡ Text (codes "version") }
 {

@@ -1,4 +1,5 @@
-//! A count on the last line of a terminal, of the items, objects or bytes that pass.
+//! A count on the last line of a terminal, of the items, objects or bytes that pass: for
+//! `progress`.
 
 use crate::error_stream::ErrorStream;
 use itoa::Buffer;

@@ -19,9 +19,11 @@ use sqlite::Alter;
 use std::alloc::Global;
 
 /// Turns the tables of version 1, in the database that the settings name, into those of version 2,
-/// and says so. The status is 0. The fault is why there are no settings or no database, or why the
-/// tables were not migrated, maybe by a further look at them; nothing is printed then. Or it is
-/// that the line was not printed whole.
+/// and says so. The block of the AS numbers above 65535 is added. A missing database is not made.
+/// The status is 0. The fault is why there are no settings or no database, or why the tables were
+/// not migrated, and nothing is printed then. In place of the last it may be what a further look
+/// may find, which commits nothing; no clause says that it is so. Or it is that the line was not
+/// printed whole, and then they are migrated.
 pub fn migrate<'a, D: Databases, F: Files, W: Output>(
     host: &mut Host<'_, D, W>,
     files: &F,
@@ -76,8 +78,10 @@ fn migrate_told<S: Alter, W: Sink>(
 }
 
 /// Migrates the tables of version 1 of a database, writes that it did, and gives the status 0. The
-/// trouble is why the tables were not migrated, and nothing is written then; or that the line could
-/// not be written whole, and then they are migrated. The connection is given back (profile).
+/// block of the AS numbers above 65535 is added. The trouble is why the tables were not migrated,
+/// and nothing is written then; or that the line could not be written whole, and then they are
+/// migrated. The connection is given back, and its database is as [`Desk::migrate`] leaves it
+/// (profile).
 pub fn migrate_to<S: Alter, W: Sink>(
     alloc: Global,
     conn: IdleConnection<S>,

@@ -1,4 +1,5 @@
-//! The rows of objects, and why one has no object of the registry, for messages alone.
+//! The rows of objects, and why one has no object of the registry, for messages of `diagnosis`
+//! alone.
 
 ghost use Rattle.std.specs.Prelude.{◌≡◌, IfErr, IsTrue};
 ghost use Rattle.std.specs.Option.{option_copied};
@@ -50,7 +51,7 @@ fn row_at(rows: &[Row], number: u64) -> Option<&Row>
     }
 }
 
-/// Whether more than half of the rows have objects of another source.
+/// Whether more than half of the rows have objects of another source. Of `false` no clause speaks.
 pub(crate) fn are_mostly_others(
     alloc: Global,
     rows: &[Row],
@@ -68,7 +69,7 @@ pub(crate) fn are_mostly_others(
     others > rows.len() / 2
 }
 
-/// Whether a row has an object of another source.
+/// Whether a row has an object of another source. Of `false` no clause speaks.
 fn is_of_other(alloc: Global, row: &Row, source: &Name, version: Version) -> bool
     ensures { IsTrue result → IsOfOther source.now row.now }
 {

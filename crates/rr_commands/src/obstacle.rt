@@ -1,5 +1,5 @@
-//! How the tables of a registry were made otherwise than irrdesk makes them, for messages alone: in
-//! another order, or with what keeps them from being read.
+//! How the tables of a registry were made otherwise than irrdesk makes them, for messages of
+//! `diagnosis` alone: in another order, or with what keeps them from being read.
 
 ghost use Rattle.std.specs.Prelude.{◌≡◌, ◌≢◌, []};
 ghost use Rattle.sqlite_value.specs.Order.{column};
@@ -55,6 +55,7 @@ fn has_columns(table: &Table) -> bool {
     }
 }
 
+/// Adds what was found: its kind, its name and its table. The error is that memory ran out.
 fn push_found(found: &mut String, obstacle: &Obstacle<'_>) -> Result<(), AllocError> {
     let kind = obstacle.kind;
     write!(found, ", {kind} ")?;
@@ -101,6 +102,7 @@ fn is_bound_by(schema: &Schema, row: &Row) -> bool {
             && view.name.as_slice() == text_at(row, 0))
 }
 
+/// What a row lists: a trigger, or else an index.
 fn obstacle_of(row: &Row) -> Option<Obstacle<'_>> {
     let kind = if text_at(row, 1) == b"trigger".as_slice() {
         "trigger"
@@ -164,6 +166,7 @@ fn has_column(columns: &[Column], name: &str) -> bool {
         .any(|column| column.name.as_slice() == name.as_bytes())
 }
 
+/// Whether a column is none of those that are wanted.
 fn is_further(column: &Column, wanted: &[&str]) -> bool {
     !wanted
         .iter()
@@ -232,6 +235,7 @@ fn key_of_table(table: &Table) -> Option<Obstacle<'_>> {
     })
 }
 
+/// Whether a foreign key is to one of the three tables.
 fn is_to_ours(key: &Reference) -> bool {
     columns_of(key.parent.as_slice()).is_some()
 }

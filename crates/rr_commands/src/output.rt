@@ -1,4 +1,5 @@
-//! Standard output: what commands print to it, and how a command ends that prints or reads.
+//! Standard output: what commands print to it, and how a command ends that prints or reads; for all
+//! commands and `rr_cli`.
 
 ghost use Rattle.std.specs.Prelude.{◌≡◌, ◌++◌, ℕ, IfErr, IfOk, List, string_bytes};
 ghost use Rattle.rr_commands.specs.Commands.{EndsAs};
@@ -60,8 +61,8 @@ pub(crate) fn cause_of<R: Input, W: Output>(
     }
 }
 
-/// Prints a text, and gives the status 0; the fault is that it could not be written whole (status
-/// 5).
+/// Prints a text, and gives the status 0. The fault (status 5) is that a write failed: the
+/// beginning of the text was then printed, and not all.
 pub fn print<'a, W: Output>(output: &mut W, text: &[u8]) -> Result<u8, ProgramFault<'a>>
     ensures { Prints text.now (W.told output.old) (W.told output.new) result }
 {
@@ -81,9 +82,10 @@ pub(crate) fn tell<W: Sink>(writer: &mut W, text: &[u8]) -> Result<u8, Trouble>
     }
 }
 
-/// How a command ended that read this file and used the database at this path, with what its
-/// trouble is about. Of the database that is its path, as a line shows it, and then what was found
-/// in it, which is text that a line shows. Without memory it is the path as it is.
+/// How a command ended that read this file and used the database at this path: with the same
+/// status, or a fault with the same trouble. The fault shows what that is about. Of the database
+/// that is its path, as a line shows it, and then what was found in it, which is to be text that a
+/// line shows. Or it is the path as it is: so it is without memory, but no clause says when.
 pub fn ended<'a, D, W: Output>(
     host: &Host<'_, D, W>,
     end: Result<u8, Trouble>,

@@ -1,4 +1,5 @@
-//! Where a paragraph stands in a file: its line and its key, for messages.
+//! Where a paragraph stands in a file: its line and its key, for messages of `load`. No clause says
+//! which line and key that is.
 
 ghost use Rattle.std.specs.Prelude.{◌≤◌, ℕ, IfSome, List, length, string_bytes};
 ghost use Rattle.rr_commands.specs.Faults.{IsFaultOf, NamesPath, ShowsFile};

@@ -1,6 +1,6 @@
 //! How far a command is, as standard error shows it on a terminal. What a command reads from and
-//! writes to counts what passes, and keeps why its last call that failed did so. A line says that a
-//! large database is being opened.
+//! writes to counts what passes, and keeps why its last call that failed did so: `load`, `submit`
+//! and `rr_cli` make such. A line of `open_desk` says that a large database is being opened.
 
 ghost use Rattle.std.specs.Prelude.{◌≡◌, ◌<◌, IsNone};
 

@@ -22,7 +22,7 @@ const ERROR: u8 = 1;
 
 /// Asks the registry that the settings name, and prints the answer: the status is 0, or 1 if the
 /// answer is an error. The fault is why there are no settings or no desk, and then nothing is
-/// printed, or that the answer could not be printed whole.
+/// printed. Or it is that a write failed, and the beginning of the answer is printed, not all.
 pub fn query<'a, D: Databases, F: Files, W: Output>(
     host: &mut Host<'_, D, W>,
     files: &F,
@@ -57,7 +57,9 @@ fn query_at<D: Databases, W: Output>(
 }
 
 /// Asks a desk that runs, and writes the answer: the status is 0, or 1 if the answer is an error.
-/// The trouble is that the answer could not be written whole. The desk keeps its rows.
+/// The trouble is that a write failed, and the beginning of the answer is written, not all. The
+/// desk keeps its rows, which a stop of the process leaves, where the disk gives back what was
+/// written.
 pub fn answer_to<S: Alter, W: Sink>(
     alloc: Global,
     desk: &Desk<S>,

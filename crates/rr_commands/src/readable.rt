@@ -1,4 +1,5 @@
-//! Counted readers, for calls of std that read to an end.
+//! Counted readers, for calls of std that read to an end: `settings_reading` and `rr_cli` make
+//! them.
 
 ghost use Rattle.std.specs.Prelude.{◌≡◌};
 ghost use Rattle.rr_io.specs.Counted.{counted_inner};

@@ -1,5 +1,5 @@
-//! Where the databases of registries are, by their paths, and the desks that commands open over
-//! them.
+//! Where the databases of registries are, by their paths, and the desks that commands, and `rr_cli`
+//! to serve, open over them.
 
 ghost use Rattle.std.specs.Prelude.{◌≡◌, IfErr, IfOk, Ok, false};
 ghost use Rattle.sqlite.specs.Held.{Held};
@@ -59,7 +59,7 @@ pub trait Databases {
     ghost calls: { DatabaseCalls Self Self.Disk };
 
     /// Opens the database at a path; `absent` says what is done if there is none. The error is why
-    /// it cannot be opened or made.
+    /// it cannot be opened or made. `calls` says what becomes of databases in either case.
     fn open(
         &mut self,
         path: &str,
@@ -80,7 +80,7 @@ pub trait Databases {
 }
 
 /// The databases in files. A file that is made is readable by its owner alone, and so is the log
-/// beside it.
+/// beside it, though no clause says so.
 #[derive(Clone, Copy)]
 pub struct DatabaseFiles<'a> {
     rt: &'a HostRuntime,
@@ -206,6 +206,7 @@ fn target_of(rt: &HostRuntime, path: &str) -> io::Result<PathBuf> {
     Ok(target)
 }
 
+/// The path with this ending; the error is that memory ran out.
 fn joined(rt: &HostRuntime, path: &str, ending: &str) -> Result<String, DatabaseCause> {
     match format!(in rt.alloc(); "{path}{ending}") {
         Ok(joined) => Ok(joined),
@@ -342,9 +343,9 @@ fn make_file(rt: &HostRuntime, path: &str) -> Result<(), DatabaseCause> {
 
 /// Opens the desk of the registry in the database at a path; if there is none, none is made. The
 /// trouble is why there is no desk: no database was given, or the registry of these settings was
-/// not opened in it. A look at the database may then say why, which commits nothing, and it is
-/// closed. `found` is for the message, as a line on a terminal is while a large one is opened, and
-/// no clause speaks of these.
+/// not opened in it, and it is closed. The trouble may then be one that a look at the database may
+/// find, which commits nothing; no clause says that it is so. `found` is for the message, as a line
+/// on a terminal is while a large one is opened, and no clause speaks of these.
 pub fn open_desk<D: Databases>(
     tools: Tools<'_>,
     databases: &mut D,

@@ -1,4 +1,5 @@
-//! Settings as TOML: what a registry opens with, and where its database stands.
+//! Settings as TOML: what a registry opens with, and where its database stands. `settings_reading`
+//! reads them from a file.
 
 ghost use Rattle.std.specs.Prelude.{◌≡◌, ◌≢◌, Err, IfErr, IfOk, None, Ok, Some};
 ghost use Rattle.std.specs.Prelude.{string_bytes};
@@ -24,7 +25,8 @@ pub enum SettingKey {
     Root,
     /// The `auth` of the root maintainer.
     Auth,
-    /// The most names that an expansion may reach.
+    /// The most names, or sets and ASes, or pairs of one of these and a range, that an expansion
+    /// may reach.
     Limit,
     /// The path of the database.
     Store,

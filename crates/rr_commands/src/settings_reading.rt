@@ -1,4 +1,5 @@
-//! Settings files: read within a bound, and told why one gives no settings.
+//! Settings files: read within a bound, and told why one gives no settings. Each command that has
+//! settings, and `rr_cli` for `serve` and `probe`, reads them so.
 
 ghost use Rattle.std.specs.Prelude.{◌≡◌, ◌≤◌, [], IfErr, IfOk};
 ghost use Rattle.std.specs.Prelude.{Ok, OnOk, length, string_bytes};
@@ -25,8 +26,9 @@ use std::io::{ErrorKind, Read};
 /// The most bytes of a settings file (profile).
 const MOST_BYTES: u64 = 1_048_576;
 
-/// The settings in a file, and the path of the database, in which nothing is found yet. The fault
-/// names the file: it gives no settings (status 3), or memory ran out (status 5).
+/// The settings in a file of at most 1,048,576 bytes, and the path of the database, in which
+/// nothing is found yet. The fault names the file. It is that the file cannot be read, or why its
+/// bytes are no settings (status 3), or that memory ran out (status 5).
 pub fn read_settings_file<'a, F: Files>(
     alloc: Global,
     files: &F,
@@ -82,6 +84,7 @@ fn read_bytes<F: Files>(alloc: Global, files: &F, file: &str) -> io::Result<Vec<
     }
 }
 
+/// What is told of settings that cannot be read for this cause.
 fn unread_trouble(cause: Cause) -> Trouble
     ensures { result ≡ unread_trouble cause }
 {

@@ -1,5 +1,6 @@
-//! What strangers wrote, as lines for a terminal show it: keys, names in a database, names of files
-//! and arguments.
+//! What strangers wrote, as lines for a terminal show it. Keys and names in a database are for
+//! `places`, `object_rows` and `obstacle`; names of files and arguments for `output`,
+//! `command_fault` and `rr_cli`.
 
 ghost use Rattle.std.specs.Prelude.{◌≡◌, IfOk, string_bytes};
 ghost use Rattle.std.specs.List.{list_all};
@@ -24,8 +25,9 @@ fn push_name(line: &mut String, text: &[u8]) -> Result<(), AllocError> {
     push_shown(line, text, MOST_OF_NAME)
 }
 
-/// The name of a file, or an argument, as a line shows it: as it is, if it needs no escape. Of
-/// others no clause speaks. The error is that memory ran out.
+/// The name of a file, or an argument, as a line shows it. If it has at most 4,096 bytes, each of
+/// ASCII from a space to `~` and no backslash, it is shown as it is. Of others no clause speaks.
+/// The error is that memory ran out.
 pub fn shown_name(alloc: Global, text: &str) -> Result<String, AllocError>
     ensures { IfOk result (λ line. IsShownAs text.now (string_bytes line)) }
 {
@@ -54,7 +56,7 @@ fn stand_for_themselves(text: &[u8]) -> bool
     text.iter().all(|byte| stands_for_itself(*byte))
 }
 
-/// Whether a byte is that of a blank, or of a character of ASCII that is seen, save the backslash.
+/// Whether a byte is a space, or that of a character of ASCII that is seen, save the backslash.
 fn stands_for_itself(byte: u8) -> bool
     ensures { result ≡ stands_for_itself byte }
 {

@@ -132,8 +132,9 @@ fn submit_file<S: Alter, F: Files, W: Output>(
 }
 
 /// Submits `input` to a new desk with the built-in settings over a database in memory, and prints
-/// the report. The status is 0, or 1 if an item was refused. The fault is why there is no desk, and
-/// then nothing is read or printed, or how the submission was cut short.
+/// the report. The status is 0, or 1 if an item was refused. The trouble is that there is no desk,
+/// which stands for lack of memory, and then nothing is read or printed. Or it is how the
+/// submission was cut short.
 pub fn submit_plain<R: Source, W: Sink>(
     alloc: Global,
     input: &mut R,
@@ -180,7 +181,8 @@ fn plain_desk<S: Alter + Drop>(alloc: Global, conn: IdleConnection<S>) -> Result
 }
 
 /// Submits what the reader gives to a desk that runs, and writes the report. The status is 0, or 1
-/// if an item was refused. The fault is how the submission was cut short.
+/// if an item was refused. The trouble is how the submission was cut short, with why the database
+/// failed if it did. Only a fault of the store stops the desk.
 pub fn submit_to<S: Alter, R: Source, W: Sink>(
     alloc: Global,
     desk: &mut Desk<S>,

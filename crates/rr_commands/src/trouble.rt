@@ -1,4 +1,5 @@
-//! What went wrong: the status that it ends the program with, and what it is about.
+//! What went wrong: the status that it ends the program with, and what it is about. Commands and
+//! `rr_cli` end by one, `words` has the words of each, and `command_fault` writes its line.
 
 ghost use Rattle.std.specs.Prelude.{◌≡◌};
 ghost use Rattle.rr_commands.specs.Troubles.{cause_words, paragraph_in, paragraph_of};
@@ -11,14 +12,15 @@ use rr_desk::{CreateFault, DeskDumpFault, DeskFault, DeskLoadFault, MigrateFault
 /// The status at wrong arguments.
 const WRONG_ARGUMENTS: u8 = 2;
 
-/// The status at wrong settings.
+/// The status at wrong settings, also if their file cannot be read.
 const WRONG_SETTINGS: u8 = 3;
 
 /// The status at trouble with the database, or if the desk is stopped.
 const DATABASE_TROUBLE: u8 = 4;
 
-/// The status at a fault of a file, a socket, or standard output, at a dump that is not a registry,
-/// or if memory ran out.
+/// The status at a fault of a file other than the settings, of a socket or of standard output. It
+/// is also that at a dump that is not a registry, or if memory ran out, save SQLite's in a database
+/// that is open.
 const FAILED: u8 = 5;
 
 /// What went wrong.
@@ -115,10 +117,11 @@ pub enum Place {
 /// How the program ends by trouble.
 #[derive(Clone, Copy)]
 pub struct Ending {
-    /// The status: 2 at wrong arguments, 3 at wrong settings, 4 at trouble with the database or if
-    /// the desk is stopped, and else 5, also if memory ran out (profile).
+    /// The status: 2 at wrong arguments, 3 at wrong settings. It is 4 at trouble with the database,
+    /// also if SQLite lacks memory once it is open, or if the desk is stopped. It is else 5, also
+    /// if other memory ran out (profile).
     pub status: u8,
-    /// What the line is about.
+    /// What the line on standard error is about.
     pub place: Place,
 }
 
@@ -211,7 +214,8 @@ impl Trouble {
         }
     }
 
-    /// The cause that the system gave, if it gave one: `stream` is that of reading or printing.
+    /// The cause that the system gave, if it gave one: that in the trouble or, if reading or
+    /// printing failed, `stream`.
     pub fn cause(self, stream: Cause) -> Option<Cause>
         ensures { result ≡ trouble_cause self stream }
     {
@@ -247,7 +251,7 @@ impl Trouble {
         }
     }
 
-    /// The number: a line, a version, a paragraph, or how many items were decided.
+    /// The number, if there is one: a line, a version, a paragraph, or how many items were decided.
     pub fn number(self) -> Option<u64>
         ensures { result ≡ trouble_number self }
     {
@@ -266,7 +270,7 @@ impl Trouble {
         }
     }
 
-    /// The paragraph of a dump, from 1, that is the matter.
+    /// The paragraph of a dump, from 1, that is the matter, if one is.
     pub fn paragraph(self) -> Option<u64>
         ensures { result ≡ paragraph_in self }
     {
@@ -293,7 +297,7 @@ fn database_end(cause: DatabaseCause) -> Ending
     }
 }
 
-/// The paragraph of a dump, from 1, that is the matter.
+/// The paragraph of a dump, from 1, that is the matter, if one is.
 fn paragraph_of(fault: DeskLoadFault) -> Option<u64>
     ensures { result ≡ paragraph_of fault }
 {

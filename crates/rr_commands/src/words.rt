@@ -1,4 +1,5 @@
-//! What went wrong in words: those before the cause and the number, and those after.
+//! What went wrong in words, for the line that `command_fault` writes: those before the cause and
+//! the number, and those after. docs/MESSAGES.md has each line for users.
 
 ghost use Rattle.std.specs.Prelude.{◌≡◌};
 ghost use Rattle.rr_commands.specs.Words.{after_migrated, after_number, after_opened};
@@ -276,8 +277,8 @@ fn after_paragraph(fault: DeskLoadFault) -> &'static str
     }
 }
 
-/// Why a paragraph of a dump is not an object: the code of its refusal, with what an object alone
-/// can have.
+/// Why a paragraph of a dump is not an object, by the code of its refusal, and what to do; nothing
+/// for other codes than E02 to E06.
 fn reason(code: Code) -> &'static str
     ensures { result.now ≡ reason code }
 {

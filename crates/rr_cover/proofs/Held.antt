@@ -16,9 +16,8 @@ use Rattle.std.proofs.Math.Dec as B
 use Rattle.rr_number.specs.Spans.{Ends, IsSpan, covers, crosses, size, span_cmp}
 use Rattle.rr_number.proofs.SpanOrder.{span_cmp_total}
 use Rattle.rr_cover.specs.SpanMaps.{SpanMap}
-use Rattle.rr_cover.specs.SpanMapLaws.{ClosestIsOne, CoveringIsWhole, InsideIsWhole, ListsRise}
-use Rattle.rr_cover.proofs.Among.{tied_same}
-use Rattle.rr_cover.proofs.Places.{is_less, and_first, and_second}
+use Rattle.rr_cover.specs.SpanMapLaws.{ClosestIsOne, CoveringIsWhole, ListsRise}
+use Rattle.rr_cover.proofs.Ties.{tied_same, is_less, and_first, and_second}
 
 -- two covers of a span that do not cross and are equally large are equal
 same_cover : (s t u : Ends) → IsSpan s → covers t s ≡ true → covers u s ≡ true → crosses t u
@@ -92,9 +91,6 @@ module _ {T : Type 0} (m : SpanMap T) (p : Ends → Bool) (t : Ends) where
 pub covering_is_whole : {T : Type 0} → CoveringIsWhole T
 covering_is_whole m s t = (listed_passes m (λ u. covers u s) t, passes_listed m (λ u. covers u s) t)
 
-pub inside_is_whole : {T : Type 0} → InsideIsWhole T
-inside_is_whole m s t = (listed_passes m (λ u. covers s u) t, passes_listed m (λ u. covers s u) t)
-
 module _ {T : Type 0} where
   below_rise : (x : Ends) (es : List (Ends × T)) → B.T (below_all span_cmp x es) →
       AllByRecursion (λ y. span_cmp x y ≡ Less) (map (λ e. e.0) es)
@@ -119,8 +115,4 @@ module _ {T : Type 0} where
       (entries_rise (entries m) (entries_sorted m))
 
 pub lists_rise : {T : Type 0} → ListsRise T
-lists_rise = record {
-  covering_rise = λ m s. keys_rise m (λ u. covers u s);
-  inside_rise = λ m s.
-      keys_rise m (λ u. covers s u);
-}
+lists_rise m s = keys_rise m (λ u. covers u s)

@@ -1,15 +1,11 @@
-pub mod Among
 pub mod Held
-pub mod Listed
-pub mod Nearest
 pub mod NestHeld
-pub mod NestLists
 pub mod NestModel
 pub mod NestOrder
 pub mod NestPut
 pub mod NestTurns
 pub mod Ordered
-pub mod Places
+pub mod Ties
 pub mod TreeAdded
 pub mod TreeChanged
 pub mod TreeHalves

@@ -7,8 +7,7 @@ use Rattle.rr_number.specs.Spans.{Ends, span_cmp}
 use Rattle.rr_cover.specs.SpanNests.{is_ahead, at_span, standing, Only, Fits}
 use Rattle.rr_cover.specs.NestParts.{IsLastReaching}
 use Rattle.rr_cover.specs.declared.span_nest.Nest.{Nest}
-use Rattle.rr_cover.proofs.Among.{tied_same, same_tied}
-use Rattle.rr_cover.proofs.Nearest.{contradicted}
+use Rattle.rr_cover.proofs.Ties.{tied_same, same_tied, contradicted}
 use Rattle.rr_cover.proofs.NestOrder.{ahead_itself, ahead_back, ahead_chain}
 
 module _ {T : Type 0} where

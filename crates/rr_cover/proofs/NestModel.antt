@@ -13,11 +13,9 @@ use Rattle.rr_cover.specs.SpanNests.{IsNest, IsSound}
 use Rattle.rr_cover.specs.NestParts.{IsLastReaching, NoneReaches, SomeCrosses, NoneCrosses}
 use Rattle.rr_cover.specs.declared.span_nest.Nest.{Nest}
 use Rattle.rr_cover.specs.declared.span_nest.Nest.TheVariants.{Empty, Fork'}
-use Rattle.rr_cover.proofs.Among.{tied_same}
-use Rattle.rr_cover.proofs.Listed.{crosses_none, crosses_itself, crosses_swapped}
-use Rattle.rr_cover.proofs.Nearest.{contradicted}
+use Rattle.rr_cover.proofs.Ties.{tied_same, contradicted}
 use Rattle.rr_cover.proofs.Ordered.{Answers, map_inserted, map_removed, crosses_found}
-use Rattle.rr_cover.proofs.Ordered.{crosses_missed}
+use Rattle.rr_cover.proofs.Ordered.{crosses_missed, crosses_none, crosses_itself, crosses_swapped}
 
 smaller : (s t u : Ends) → IsSpan s → t.first < s.first + 1 → s.last ≤ t.last → covers u s ≡ true →
     crosses t u ≡ false → is_ahead t u ≡ false → size t ≤ size u

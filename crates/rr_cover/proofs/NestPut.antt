@@ -1,5 +1,5 @@
 -- A search tree with a span put in on one side of its root.
-use Rattle.std.proofs.Common.{◌≡◌, ℕ, ◌+◌, min, max, nat_le, true, cond, Some, refl, arith}
+use Rattle.std.proofs.Common.{◌≡◌, ℕ, ◌+◌, max, nat_le, true, cond, Some, refl, arith}
 use Rattle.std.proofs.lemmas.Bool.Decides.{nat_tests}
 use Rattle.std.specs.Option.{option_or}
 use Rattle.std.specs.Ordering.{eq_by_cmp}
@@ -12,12 +12,6 @@ use Rattle.rr_cover.proofs.NestHeld.{Made}
 use Rattle.rr_cover.proofs.NestTurns.{Changed, IsNode, only_changed, low_case, high_case}
 
 -- bounds that let a number in
-least_lets : (l n : ℕ) → nat_le (min l n) n ≡ true
-least_lets l n = grind (arith, nat_tests)
-
-least_kept : (l n x : ℕ) → nat_le l x ≡ true → nat_le (min l n) x ≡ true
-least_kept l n x above = grind (arith, nat_tests)
-
 greatest_lets : (g n : ℕ) → nat_le n (max g n) ≡ true
 greatest_lets g n = grind (arith, nat_tests)
 
@@ -25,10 +19,6 @@ greatest_kept : (g n x : ℕ) → nat_le x g ≡ true → nat_le x (max g n) ≡
 greatest_kept g n x below = grind (arith, nat_tests)
 
 module _ {T : Type 0} where
-  least_of : (nest : Nest T) (l n : ℕ) → Only (λ s. nat_le l s.last) nest →
-      Only (λ s. nat_le (min l n) s.last) nest
-  least_of nest l n only = record { each = λ s held. least_kept l n s.last (only.each s held) }
-
   greatest_of : (nest : Nest T) (g n : ℕ) → Only (λ s. nat_le s.last g) nest →
       Only (λ s. nat_le s.last (max g n)) nest
   greatest_of nest g n only = record {
@@ -40,7 +30,6 @@ module _ {T : Type 0} where
       IsNode span bounds before after → is_ahead k span ≡ true → Changed before new k (Some v) →
       IsNest new → IsNode span (with_before bounds k.last) new after
   node_low span bounds before after new k v is ahead changed order =
-      let least_own = is.0.1.least_own in
       let before_own = is.0.1.before_own in (
         (
           record {
@@ -50,11 +39,6 @@ module _ {T : Type 0} where
             after = is.0.0.after;
           },
           record {
-            least_own = omega arith;
-            least_low = only_changed (λ s. nat_le (min bounds.least k.last) s.last) before new k
-                (Some v) changed (least_lets bounds.least k.last)
-                (least_of before bounds.least k.last is.0.1.least_low);
-            least_high = least_of after bounds.least k.last is.0.1.least_high;
             before_own = omega arith;
             before_low = only_changed (λ s. nat_le s.last (max bounds.before k.last)) before new k
                 (Some v) changed (greatest_lets bounds.before k.last)
@@ -68,30 +52,24 @@ module _ {T : Type 0} where
   pub node_high : (span : Ends) (bounds : Bounds) (before after new : Nest T) (k : Ends) (v : T) →
       IsNode span bounds before after → is_ahead span k ≡ true → Changed after new k (Some v) →
       IsNest new → IsNode span (with_after bounds k.last) before new
-  node_high span bounds before after new k v is later changed order =
-      let least_own = is.0.1.least_own in (
-        (
-          record {
-            ordered = is.0.0.ordered;
-            ahead = is.0.0.ahead;
-            after =
-                only_changed (λ s. is_ahead span s) after new k (Some v) changed later is.0.0.after;
-          },
-          record {
-            least_own = omega arith;
-            least_low = least_of before bounds.least k.last is.0.1.least_low;
-            least_high = only_changed (λ s. nat_le (min bounds.least k.last) s.last) after new k
-                (Some v) changed (least_lets bounds.least k.last)
-                (least_of after bounds.least k.last is.0.1.least_high);
-            before_own = is.0.1.before_own;
-            before_low = is.0.1.before_low;
-            after_high = only_changed (λ s. nat_le s.last (max bounds.after k.last)) after new k
-                (Some v) changed (greatest_lets bounds.after k.last)
-                (greatest_of after bounds.after k.last is.0.1.after_high);
-          },
-        ),
-        (is.1.0, order),
-      )
+  node_high span bounds before after new k v is later changed order = (
+    (
+      record {
+        ordered = is.0.0.ordered;
+        ahead = is.0.0.ahead;
+        after =
+            only_changed (λ s. is_ahead span s) after new k (Some v) changed later is.0.0.after;
+      },
+      record {
+        before_own = is.0.1.before_own;
+        before_low = is.0.1.before_low;
+        after_high = only_changed (λ s. nat_le s.last (max bounds.after k.last)) after new k
+            (Some v) changed (greatest_lets bounds.after k.last)
+            (greatest_of after bounds.after k.last is.0.1.after_high);
+      },
+    ),
+    (is.1.0, order),
+  )
 
   -- a tree seen at its root
   pub opened_of : (nest : Nest T) (span : Ends) (value : T) (bounds : Bounds)

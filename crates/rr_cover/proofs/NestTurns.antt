@@ -1,5 +1,8 @@
 -- A search tree turned, with a side changed, or with a node taken out: what it holds then, and that
 -- it stays in order.
+-- A span stands in the side before, at the root or in the side after, so a turn regroups options.
+-- It is long because single and double turns go both ways, and both sides have their lemmas. Each
+-- regrouping is given by hand. `span_nest::changes` and `NestPut` need it.
 use Rattle.std.proofs.Common.{◌≡◌, nat_le, Bool, true, false, cond, ◌⊎◌, Option, Some, None}
 use Rattle.std.proofs.Common.{is_some, refl, sym, ap, ◌∙◌, inl, inr}
 use Rattle.std.specs.Option.{option_or}
@@ -9,8 +12,7 @@ use Rattle.rr_cover.specs.SpanNests.{is_ahead, at_span, standing, Only, Fits, Is
 use Rattle.rr_cover.specs.NestParts.{IsTakenApart}
 use Rattle.rr_cover.specs.declared.span_nest.bounds.Bounds.{Bounds}
 use Rattle.rr_cover.specs.declared.span_nest.Nest.{Nest}
-use Rattle.rr_cover.proofs.Among.{tied_same, same_tied}
-use Rattle.rr_cover.proofs.Nearest.{contradicted}
+use Rattle.rr_cover.proofs.Ties.{tied_same, same_tied, contradicted}
 use Rattle.rr_cover.proofs.NestOrder.{ahead_itself, ahead_back, ahead_chain}
 use Rattle.rr_cover.proofs.NestHeld.{Made, held_where, stands_low, stands_own, stands_high}
 use Rattle.rr_cover.proofs.NestHeld.{none_low, none_high, at_other, at_own}
@@ -361,9 +363,6 @@ module _ {T : Type 0} where
         after = is.0.0.after;
       },
       record {
-        least_own = is.0.1.least_own;
-        least_low = only_kept (λ s. nat_le bounds.least s.last) before new kept is.0.1.least_low;
-        least_high = is.0.1.least_high;
         before_own = is.0.1.before_own;
         before_low = only_kept (λ s. nat_le s.last bounds.before) before new kept is.0.1.before_low;
         after_high = is.0.1.after_high;
@@ -383,9 +382,6 @@ module _ {T : Type 0} where
             only_kept (λ s. is_ahead span s) after new kept is.0.0.after;
       },
       record {
-        least_own = is.0.1.least_own;
-        least_low = is.0.1.least_low;
-        least_high = only_kept (λ s. nat_le bounds.least s.last) after new kept is.0.1.least_high;
         before_own = is.0.1.before_own;
         before_low = is.0.1.before_low;
         after_high = only_kept (λ s. nat_le s.last bounds.after) after new kept is.0.1.after_high;

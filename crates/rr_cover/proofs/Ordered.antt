@@ -19,10 +19,37 @@ use Rattle.rr_number.specs.Spans.{Ends, crosses, span_cmp}
 use Rattle.rr_number.proofs.SpanOrder.{span_cmp_total, span_cmp-IsAntisymmetric}
 use Rattle.rr_number.specs.contracts.span.SpanPartialEq.TheImpl as derived
 use Rattle.rr_cover.specs.SpanMaps.{SpanMap, crosses_some}
-use Rattle.rr_cover.proofs.Among.{tied_same, same_tied}
+use Rattle.rr_cover.proofs.Ties.{tied_same, same_tied, contradicted}
 use Rattle.rr_cover.proofs.Held.{any_filter, keys_rise}
-use Rattle.rr_cover.proofs.Listed.{any_passes}
-use Rattle.rr_cover.proofs.Nearest.{contradicted}
+
+first_none : (a b : Bool) → (a || b) ≡ false → a ≡ false
+first_none true b e = e
+first_none false b e = refl
+
+second_none : (a b : Bool) → (a || b) ≡ false → b ≡ false
+second_none true b e = absurd (contradicted true e refl)
+second_none false b e = e
+
+pub crosses_itself : (s : Ends) → crosses s s ≡ false
+crosses_itself s = grind (arith, nat_tests)
+
+pub crosses_swapped : (s t : Ends) → crosses s t ≡ crosses t s
+crosses_swapped s t = grind (arith, nat_tests)
+
+tied_passes : (p : Ends → Bool) (t k : Ends) (ks : List Ends) (b : Bool) → eq_by_cmp span_cmp t k
+    ≡ b → (list_any (eq_by_cmp span_cmp t) ks ≡ true → p t ≡ false) →
+    (b || list_any (eq_by_cmp span_cmp t) ks) ≡ true → p k ≡ false → p t ≡ false
+tied_passes p t k ks true is rest any none = ap p (tied_same t k is) ∙ none
+tied_passes p t k ks false is rest any none = rest any
+
+-- what no span of a list passes, a span that ties with one of them does not pass
+any_passes : (p : Ends → Bool) (ks : List Ends) (t : Ends) → list_any (eq_by_cmp span_cmp t) ks
+    ≡ true → list_any p ks ≡ false → p t ≡ false
+any_passes p [] t tied none = absurd (contradicted false refl tied)
+any_passes p (k ∷ ks) t tied none =
+    tied_passes p t k ks (eq_by_cmp span_cmp t k) refl
+    (λ any. any_passes p ks t any (second_none (p k) (list_any p ks) none)) tied
+    (first_none (p k) (list_any p ks) none)
 
 any_none : (p : Ends → Bool) (ks : List Ends) →
     ((t : Ends) → list_any (eq_by_cmp span_cmp t) ks ≡ true → p t ≡ false) → list_any p ks ≡ false
@@ -62,6 +89,12 @@ module _ {T : Type 0} where
       contains_key m s ≡ is_some (looked s)
   held_in m looked is s = ap is_some (is.all s)
 
+  -- a span that crosses no span of the map crosses none that is held
+  pub crosses_none : (m : SpanMap T) (s t : Ends) → crosses_some m s ≡ false → contains_key m t
+      ≡ true → crosses t s ≡ false
+  crosses_none m s t none held = any_passes (λ u. crosses u s) (keys m) t
+      (sym (contains_key-keys m t) ∙ held) none
+
   pub crosses_found : (m : SpanMap T) (s t : Ends) → contains_key m t ≡ true → crosses t s ≡ true →
       crosses_some m s ≡ true
   crosses_found m s t held crossing = case (crosses_some m s) refl
@@ -69,9 +102,7 @@ module _ {T : Type 0} where
       case : (b : Bool) → crosses_some m s ≡ b → b ≡ true
       case true is = refl
       case false is =
-          absurd
-          (contradicted _ (any_passes (λ u. crosses u s) (keys m) t (sym (contains_key-keys m t)
-          ∙ held) is) crossing)
+          absurd (contradicted _ (crosses_none m s t is held) crossing)
 
   pub crosses_missed : (m : SpanMap T) (s : Ends) → ((t : Ends) → contains_key m t ≡ true →
       crosses t s ≡ false) → crosses_some m s ≡ false

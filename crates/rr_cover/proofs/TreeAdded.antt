@@ -9,8 +9,7 @@ use Rattle.rr_cover.specs.PrefixTrees.{lies_on, IsRootedOn, IsTree}
 use Rattle.rr_cover.specs.TreeParts.{own, standing, is_above, root_of, IsParting}
 use Rattle.rr_cover.specs.declared.prefix_tree.Tree.{Tree}
 use Rattle.rr_cover.specs.declared.prefix_tree.Tree.TheVariants.{Empty, Fork'}
-use Rattle.rr_cover.proofs.Among.{tied_same, same_tied}
-use Rattle.rr_cover.proofs.Nearest.{contradicted}
+use Rattle.rr_cover.proofs.Ties.{tied_same, same_tied, contradicted}
 use Rattle.rr_cover.proofs.TreeHalves.{ends_ordered, halves_apart, covers_itself}
 use Rattle.rr_cover.proofs.TreeHeld.{none_of, or_none, root_covers}
 use Rattle.rr_cover.proofs.TreeChanged.{same_either}

@@ -9,8 +9,7 @@ use Rattle.rr_cover.specs.PrefixTrees.{in_upper, lies_on, IsRootedOn, IsFork, Is
 use Rattle.rr_cover.specs.TreeParts.{own, standing, is_idle, only_side}
 use Rattle.rr_cover.specs.declared.prefix_tree.Tree.{Tree}
 use Rattle.rr_cover.specs.declared.prefix_tree.Tree.TheVariants.{Empty, Fork'}
-use Rattle.rr_cover.proofs.Among.{tied_same}
-use Rattle.rr_cover.proofs.Nearest.{contradicted}
+use Rattle.rr_cover.proofs.Ties.{tied_same, contradicted}
 use Rattle.rr_cover.proofs.TreeHeld.{MadeOf, own_other, none_of, or_none, in_low, in_high, not_root}
 use Rattle.rr_cover.proofs.TreeHeld.{none_lower, none_upper}
 

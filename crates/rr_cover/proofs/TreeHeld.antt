@@ -10,8 +10,7 @@ use Rattle.rr_cover.specs.PrefixTrees.{in_upper, lies_on, IsRootedOn, IsFork, Is
 use Rattle.rr_cover.specs.TreeParts.{own, standing, side_of, IsSmallestCover, NoCover}
 use Rattle.rr_cover.specs.declared.prefix_tree.Tree.{Tree}
 use Rattle.rr_cover.specs.declared.prefix_tree.Tree.TheVariants.{Empty, Fork'}
-use Rattle.rr_cover.proofs.Among.{tied_same, same_tied}
-use Rattle.rr_cover.proofs.Nearest.{contradicted}
+use Rattle.rr_cover.proofs.Ties.{tied_same, same_tied, contradicted}
 use Rattle.rr_cover.proofs.TreeHalves.{lies_further, covers_half, larger_than_half, not_in_itself}
 use Rattle.rr_cover.proofs.TreeHalves.{low_over, high_over, halves_apart, covers_itself}
 use Rattle.rr_cover.proofs.TreeHalves.{covers_further}
@@ -22,7 +21,7 @@ pub record Placed (s : Ends) : Type 0 where
   pub masked : IsMasked prefix
   pub is : s ≡ span_of prefix
 
-pub placed_ordered : (s : Ends) → Placed s → s.first ≤ s.last
+placed_ordered : (s : Ends) → Placed s → s.first ≤ s.last
 placed_ordered s placed = subst (λ (t : Ends). t.first ≤ t.last) (sym placed.is)
     (IsSpan-prefix placed.prefix placed.masked).ordered
 

@@ -1,22 +1,20 @@
 -- What a walk of a tree of prefixes lists, and the list put in order.
-use Rattle.std.proofs.Common.{◌≡◌, ◌+◌, ◌≤◌, ◌<◌, Bool, true, false, cond, ◌&&◌, ◌||◌, List, []}
+use Rattle.std.proofs.Common.{◌≡◌, ◌+◌, ◌<◌, Bool, true, false, cond, ◌&&◌, ◌||◌, List, []}
 use Rattle.std.proofs.Common.{◌∷◌, map, length, get_or, Option, Some, None, is_some, refl, sym, ap}
 use Rattle.std.proofs.Common.{◌∙◌, arith}
-use Rattle.std.proofs.lemmas.Bool.Decides.{nat_tests}
 use Rattle.std.proofs.lemmas.List.{get_or-map, length-map}
 use Rattle.std.specs.List.{list_any, dedup, dedup_from}
 use Rattle.std.specs.List.Sorted.{IsSorted, IsSortedByKey}
 use Rattle.std.specs.Option.{option_or}
 use Rattle.std.specs.Ordering.{eq_by_cmp, is_lt}
 use Rattle.rr_number.specs.Prefixes.{PrefixParts, span_of}
-use Rattle.rr_number.specs.Spans.{Ends, covers, meets, span_cmp}
+use Rattle.rr_number.specs.Spans.{Ends, covers, span_cmp}
 use Rattle.rr_cover.specs.PrefixTrees.{IsFork, IsTree}
 use Rattle.rr_cover.specs.TreeParts.{own, standing, is_listed}
 use Rattle.rr_cover.specs.declared.prefix_tree.Tree.{Tree}
-use Rattle.rr_cover.proofs.Among.{tied_same}
+use Rattle.rr_cover.proofs.Ties.{tied_same}
 use Rattle.rr_cover.proofs.Ordered.{span_eq}
-use Rattle.rr_cover.proofs.TreeHeld.{MadeOf, held_placed, placed_ordered, root_covers}
-use Rattle.rr_cover.proofs.TreeHeld.{no_cover_root}
+use Rattle.rr_cover.proofs.TreeHeld.{MadeOf, no_cover_root}
 
 -- a span is among the spans of prefixes where it is that of one
 pub listed_spans : (ps : List PrefixParts) (u : Ends) → list_any (eq_by_cmp span_cmp u)
@@ -96,14 +94,6 @@ and_none : (a b : Bool) → (a ≡ true → b ≡ false) → (a && b) ≡ false
 and_none true b none = none refl
 and_none false b none = refl
 
-not_true : (b : Bool) → (b ≡ true → ⊥) → b ≡ false
-not_true true never = absurd (never refl)
-not_true false never = refl
-
-outside : (r s u : Ends) → meets r s ≡ false → covers r u ≡ true → u.first ≤ u.last → covers s u
-    ≡ true → ⊥
-outside r s u apart over some inside = grind (arith, nat_tests)
-
 module _ {T : Type 0} where
   some_in : (a b c : Option T) → is_some (option_or a (option_or b c))
       ≡ (is_some a || (is_some b || is_some c))
@@ -138,22 +128,11 @@ module _ {T : Type 0} where
         (λ tied. is (tied_same u (span_of prefix) tied))
         ∙ ap (λ b. old || (b && test)) (sym (held_parts u))
 
-    module _ (is : IsFork prefix lower upper × (IsTree lower × IsTree upper))
-        (order : IsTree tree) where
-      -- nothing covers what the root does not cover
-      pub none_covering : (s u : Ends) (old : Bool) → covers (span_of prefix) s ≡ false →
-          old ≡ (old || (is_some (standing tree u) && covers u s))
-      none_covering s u old apart =
-          let none = no_cover_root tree prefix value lower upper made is s apart in
-          or_false old ∙ ap (λ b. old || b)
-          (sym (and_none (is_some (standing tree u)) (covers u s) (λ held. none.none u held)))
-
-      -- nothing lies inside what the root does not meet
-      pub none_inside : (s u : Ends) (old : Bool) → meets (span_of prefix) s ≡ false →
-          old ≡ (old || (is_some (standing tree u) && covers s u))
-      none_inside s u old apart =
-          or_false old ∙ ap (λ b. old || b)
-          (sym (and_none (is_some (standing tree u)) (covers s u) (λ held.
-          not_true (covers s u) (λ over. outside (span_of prefix) s u apart
-          (root_covers tree prefix value lower upper made is u held)
-          (placed_ordered u (held_placed tree order u held)) over))))
+    -- nothing covers what the root does not cover
+    pub none_covering : IsFork prefix lower upper × (IsTree lower × IsTree upper) → (s u : Ends)
+        (old : Bool) → covers (span_of prefix) s ≡ false →
+        old ≡ (old || (is_some (standing tree u) && covers u s))
+    none_covering is s u old apart =
+        let none = no_cover_root tree prefix value lower upper made is s apart in
+        or_false old ∙ ap (λ b. old || b)
+        (sym (and_none (is_some (standing tree u)) (covers u s) (λ held. none.none u held)))

@@ -12,7 +12,7 @@ use Rattle.rr_number.proofs.PrefixSpans.{count_of-positive, IsMasked-masked, las
 use Rattle.rr_number.proofs.PrefixSpans.{covers_longer}
 use Rattle.rr_cover.specs.PrefixTrees.{lies_on}
 use Rattle.rr_cover.specs.TreeParts.{IsParting}
-use Rattle.rr_cover.proofs.Nearest.{contradicted}
+use Rattle.rr_cover.proofs.Ties.{contradicted}
 use Rattle.rr_cover.proofs.TreeHalves.{ends_ordered, covers_half, halves_apart, covers_further}
 
 count_halves : (l : ℕ) → l < 32 → count_of l ≡ count_of (l + 1) * 2

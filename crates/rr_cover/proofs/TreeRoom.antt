@@ -5,7 +5,7 @@ use Rattle.rr_cover.specs.PrefixTrees.{lies_on, IsRootedOn, IsTree}
 use Rattle.rr_cover.specs.TreeParts.{room}
 use Rattle.rr_cover.specs.declared.prefix_tree.Tree.{Tree}
 use Rattle.rr_cover.specs.declared.prefix_tree.Tree.TheVariants.{Empty, Fork'}
-use Rattle.rr_cover.proofs.Nearest.{contradicted}
+use Rattle.rr_cover.proofs.Ties.{contradicted}
 use Rattle.rr_cover.proofs.TreeHalves.{covers_half, not_in_itself}
 use Rattle.rr_cover.proofs.TreeParting.{strictly}
 

@@ -1,8 +1,6 @@
 pub mod InsertFaults
-pub mod ListParts
 pub mod NestParts
 pub mod PrefixTrees
-pub mod SpanLists
 pub mod SpanMapLaws
 pub mod SpanMaps
 pub mod SpanNests

@@ -1,5 +1,5 @@
 -- What the private functions of a nest answer and leave. No public contract cites these.
-use Rattle.std.specs.Prelude.{◌≡◌, ℕ, ◌+◌, ◌<◌, ◌≤◌, min, max, Bool, true}
+use Rattle.std.specs.Prelude.{◌≡◌, ℕ, ◌+◌, ◌<◌, ◌≤◌, max, Bool, true}
 use Rattle.std.specs.Prelude.{false, ◌&&◌, nat_lt, nat_le, List, Some, None, Result, is_some}
 use Rattle.std.specs.Prelude.{IfErr, OnOk, OnErr}
 use Rattle.std.specs.List.{list_any}
@@ -23,13 +23,11 @@ count (Fork' p span value height bounds before after) = count before + count aft
 
 -- The bounds of a node, widened so that its side before may have a last number.
 abbrev pub with_before : Bounds → ℕ → Bounds
-with_before bounds last =
-    record bounds { least = min bounds.least last; before = max bounds.before last }
+with_before bounds last = record bounds { before = max bounds.before last }
 
 -- The bounds of a node, widened so that its side after may have a last number.
 abbrev pub with_after : Bounds → ℕ → Bounds
-with_after bounds last =
-    record bounds { least = min bounds.least last; after = max bounds.after last }
+with_after bounds last = record bounds { after = max bounds.after last }
 
 -- The last span in a tree's order of those that begin below a number and reach another one, with
 -- its value.

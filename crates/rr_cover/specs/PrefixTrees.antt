@@ -1,4 +1,4 @@
--- A tree of prefixes with their values, as the map of spans that it holds.
+-- A tree of prefixes with their values, as the map of spans that it holds: for `PrefixTree`.
 use Rattle.std.specs.Prelude.{◌≡◌, ℕ, Bool, true, false, ◌&&◌, ◌+◌, ◌-◌}
 use Rattle.std.specs.Prelude.{◌/◌, nat_lt, nat_le, List, [], ◌∷◌, ◌++◌, Option, Some}
 use Rattle.std.specs.Prelude.{None}

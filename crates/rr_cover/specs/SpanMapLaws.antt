@@ -1,9 +1,9 @@
--- What follows from the definitions of maps of spans.
+-- What follows from the definitions of maps of spans: laws of `src/laws.rt`.
 use Rattle.std.specs.Prelude.{◌≡◌, true, ◌↔◌, Contains}
 use Rattle.std.specs.FinMap.{contains_key}
 use Rattle.std.specs.List.Sorted.{IsStrictlySortedBy}
 use Rattle.rr_number.specs.Spans.{Ends, IsSpan, covers, span_cmp}
-use Rattle.rr_cover.specs.SpanMaps.{SpanMap, NoneCross, IsClosest, covering, inside}
+use Rattle.rr_cover.specs.SpanMaps.{SpanMap, NoneCross, IsClosest, covering}
 
 -- If no two spans of a map cross, at most one of them is closest to a span.
 abbrev pub ClosestIsOne : Type 0 → Type 0
@@ -18,15 +18,6 @@ CoveringIsWhole T =
     (m : SpanMap T) (s t : Ends)
     → Contains (covering m s) t ↔ ((contains_key m t ≡ true) × (covers t s ≡ true))
 
--- The list of the spans of a map inside s has a span exactly if the map has it and it lies inside
--- s.
-abbrev pub InsideIsWhole : Type 0 → Type 0
-InsideIsWhole T =
-    (m : SpanMap T) (s t : Ends)
-    → Contains (inside m s) t ↔ ((contains_key m t ≡ true) × (covers s t ≡ true))
-
--- The spans of a map that cover a span, and those inside it, are listed in ascending order, each
--- once.
-pub record ListsRise (T : Type 0) : Type 0 where
-  pub covering_rise : (m : SpanMap T) (s : Ends) → IsStrictlySortedBy span_cmp (covering m s)
-  pub inside_rise : (m : SpanMap T) (s : Ends) → IsStrictlySortedBy span_cmp (inside m s)
+-- The spans of a map that cover a span are listed in ascending order, each once.
+abbrev pub ListsRise : Type 0 → Type 0
+ListsRise T = (m : SpanMap T) (s : Ends) → IsStrictlySortedBy span_cmp (covering m s)

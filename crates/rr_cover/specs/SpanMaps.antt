@@ -1,5 +1,5 @@
--- Maps from spans to values: which spans of a map cross, cover or lie inside a span, which is
--- closest to it, and what putting a value in and taking one out leave.
+-- Maps from spans to values: which spans of a map cross or cover a span, which is closest to it,
+-- and what putting a value in and taking one out leave.
 use Rattle.std.specs.Prelude.{◌≡◌, ◌↔◌, Bool, true, false, ◌≤◌, List, filter, Option, Some}
 use Rattle.std.specs.Prelude.{Result, Err, IfOk, IfErr, OnOk, OnErr}
 use Rattle.std.specs.List.{list_any}
@@ -34,13 +34,10 @@ pub record IsClosest {T : Type 0} (m : SpanMap T) (s t : Ends) (value : T) : Typ
 pub record NoneCovers {T : Type 0} (m : SpanMap T) (s : Ends) : Type 0 where
   pub none : (t : Ends) → contains_key m t ≡ true → covers t s ≡ false
 
--- The spans of a map that cover s, in order of first, then last number (profile).
+-- The spans of a map that cover s, in order of first, then last number. An equal one counts
+-- (profile).
 abbrev pub covering : {T : Type 0} → SpanMap T → Ends → List Ends
 covering m s = filter (λ t. covers t s) (keys m)
-
--- The spans of a map that lie inside s, in order of first, then last number (profile).
-abbrev pub inside : {T : Type 0} → SpanMap T → Ends → List Ends
-inside m s = filter (λ t. covers s t) (keys m)
 
 -- The value is put at the span, and what stood there comes back; or nothing changes (profile).
 pub record Inserts {T E : Type 0} (old : SpanMap T) (s : Ends) (value : T) (new : SpanMap T)
@@ -49,8 +46,9 @@ pub record Inserts {T E : Type 0} (old : SpanMap T) (s : Ends) (value : T) (new 
   pub ok : OnOk result (new ≡ insert old s value)
   pub err : OnErr result (new ≡ old)
 
--- The value is put at the span; or the fault is that the span crosses one that is held, exactly
--- where it does (profile). With any fault the value comes back.
+-- The value is put at the span, and what stood there comes back; or nothing changes, and the value
+-- comes back with the fault. This is `Overlap` exactly where the span crosses one that is held, and
+-- else `Memory` (profile).
 pub record InsertsApart {T : Type 0} (old : SpanMap T) (s : Ends) (value : T) (new : SpanMap T)
     (result : Result (Option T) (InsertFault T)) : Type 0 where
   pub inserts : Inserts old s value new result

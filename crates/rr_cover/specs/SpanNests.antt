@@ -1,4 +1,4 @@
--- A search tree of spans with their values, as the map that it holds.
+-- A search tree of spans with their values, as the map that it holds: for `SpanNest`.
 use Rattle.std.specs.Prelude.{◌≡◌, ◌≤◌, Bool, true, false, ◌&&◌, ◌||◌, nat_lt}
 use Rattle.std.specs.Prelude.{nat_le, nat_eq, if◌then◌else◌, List, [], ◌∷◌, ◌++◌}
 use Rattle.std.specs.Prelude.{Option, Some, None, is_some}
@@ -64,13 +64,10 @@ pub record Fits {T : Type 0} (span : Ends) (low high : Nest T) : Type 0 where
   pub ahead : Only (λ s. is_ahead s span) low
   pub after : Only (λ s. is_ahead span s) high
 
--- Bounds on the last numbers of a node's span and two sides: none is below the least one, none of
--- the span and the side before is above a second, and none of the side after above a third.
+-- Bounds on the last numbers of a node's span and two sides: none of the span and the side before
+-- is above one, and none of the side after above another.
 pub record IsBound {T : Type 0} (bounds : Bounds) (span : Ends)
     (before after : Nest T) : Type 0 where
-  pub least_own : bounds.least ≤ span.last
-  pub least_low : Only (λ s. nat_le bounds.least s.last) before
-  pub least_high : Only (λ s. nat_le bounds.least s.last) after
   pub before_own : span.last ≤ bounds.before
   pub before_low : Only (λ s. nat_le s.last bounds.before) before
   pub after_high : Only (λ s. nat_le s.last bounds.after) after

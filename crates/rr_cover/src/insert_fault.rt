@@ -1,19 +1,14 @@
-//! Why the list, the nest or the tree did not insert a value.
+//! Why the nest or the tree did not insert a value: a load of `rr_registry` reports it,
+//! and `rr_index`, whose prefixes never cross, that memory ran out.
 
 ghost use Rattle.std.specs.Prelude.{◌≡◌};
 
-use std::fmt::Debug;
-use thiserror::Error;
-
 /// Why a value was not inserted at a span. The value comes back with the fault.
-#[derive(Debug, Drop, PartialEq, Eq, Error)]
-#[error_bound(T: Debug)]
+#[derive(Debug, Drop, PartialEq, Eq)]
 pub enum InsertFault<T> {
     /// The span crosses one that is held.
-    #[error("the span crosses one that is held")]
     Overlap(T),
     /// Memory ran out.
-    #[error("out of memory")]
     Memory(T),
 }
 

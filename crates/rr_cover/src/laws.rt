@@ -1,18 +1,16 @@
 //! Laws of maps of spans, for readers and for the proofs of other crates. Nothing calls these
 //! functions.
 
-ghost use Rattle.rr_cover.specs.SpanMapLaws.{ClosestIsOne, CoveringIsWhole, InsideIsWhole};
-ghost use Rattle.rr_cover.specs.SpanMapLaws.{ListsRise};
+ghost use Rattle.rr_cover.specs.SpanMapLaws.{ClosestIsOne, CoveringIsWhole, ListsRise};
 
 /// Where no two spans held cross, at most one is closest to a span (RFC 2725, 9).
 pub fn closest_is_one<T>()
     ensures { ClosestIsOne T }
 {}
 
-/// The lists of covering and of inner spans are whole, in order of first, then last number, and
+/// The list of the spans that cover a span has exactly these, in order of first, then last number,
 /// without repeats (profile).
 pub fn lists_are_whole<T>()
     ensures covering { CoveringIsWhole T }
-    ensures inside { InsideIsWhole T }
     ensures rise { ListsRise T }
 {}

@@ -1,10 +1,10 @@
-//! Prefixes in a binary tree: those of routes.
+//! Prefixes in a binary tree: those of routes, which `rr_index` keeps.
 
 ghost use Rattle.std.specs.Prelude.{◌≡◌, ◌≤◌, map, IfOk, IfErr, MatchOption};
 ghost use Rattle.std.specs.Option.{option_copied};
 ghost use Rattle.std.specs.FinMap as span_map;
 ghost use Rattle.rr_number.specs.Prefixes.{span_of};
-ghost use Rattle.rr_cover.specs.SpanMaps.{covering, inside, IsClosest, NoneCovers};
+ghost use Rattle.rr_cover.specs.SpanMaps.{covering, IsClosest, NoneCovers};
 ghost use Rattle.rr_cover.specs.SpanMaps.{Inserts, Removes};
 ghost use Rattle.rr_cover.specs.declared.insert_fault.InsertFault.TheVariants.{Memory};
 
@@ -17,7 +17,7 @@ mod reading;
 use crate::insert_fault::InsertFault;
 use adding::set;
 use changes::take;
-use lists::{push_covering, push_inside, put_in_order};
+use lists::{push_covering, put_in_order};
 use reading::{find, levels, smallest_cover};
 use rr_number::{Prefix, Span};
 use std::alloc::{AllocError, Global};
@@ -96,7 +96,7 @@ impl<T> PrefixTree<T> {
     }
 
     /// The prefixes held that cover the span, in order of first, then last address (profile),
-    /// unless memory runs out.
+    /// unless memory runs out. An equal one counts.
     pub fn covering(&self, alloc: Global, span: Span) -> Result<Vec<Prefix>, AllocError>
         ensures { IfOk result (λ prefixes. map span_of prefixes.items ≡ covering self.now span) }
     {
@@ -106,18 +106,8 @@ impl<T> PrefixTree<T> {
         Ok(prefixes)
     }
 
-    /// The prefixes held that lie inside the span, in order of first, then last address (profile),
-    /// unless memory runs out.
-    pub fn inside(&self, alloc: Global, span: Span) -> Result<Vec<Prefix>, AllocError>
-        ensures { IfOk result (λ prefixes. map span_of prefixes.items ≡ inside self.now span) }
-    {
-        let mut prefixes = Vec::new(alloc);
-        push_inside(&self.root, span, &mut prefixes)?;
-        put_in_order(&mut prefixes);
-        Ok(prefixes)
-    }
-
-    /// How many levels the tree has, at most 33: prefixes have so many lengths.
+    /// How many levels the tree has, for tests. The number is at most 33, because prefixes have so
+    /// many lengths; no clause says that it is that of the levels.
     pub fn levels(&self) -> u32
         ensures { result ≤ 33 }
     {
@@ -127,7 +117,7 @@ impl<T> PrefixTree<T> {
 
 impl<T: Drop> PrefixTree<T> {
     /// Puts the value at the prefix, and gives back the value that stood there (profile). If memory
-    /// runs out, nothing changes, and the value comes back with the fault.
+    /// runs out, nothing changes, and the value comes back with the fault, which is `Memory`.
     pub fn insert(&mut self, prefix: Prefix, value: T) -> Result<Option<T>, InsertFault<T>>
         ensures inserts { Inserts self.old (span_of prefix) value self.new result }
         ensures back { IfErr result (λ fault. fault ≡ Memory value) }

@@ -1,10 +1,11 @@
-//! Spans that nest or lie apart, in a balanced search tree: inetnums and as-blocks.
+//! Spans that nest or lie apart, in a balanced search tree: inetnums and as-blocks, which
+//! `rr_index` keeps, and `rr_registry` while it loads.
 
 ghost use Rattle.std.specs.Prelude.{◌≡◌, false, IfOk, IfErr, MatchOption};
 ghost use Rattle.std.specs.Option.{option_copied};
 ghost use Rattle.std.specs.FinMap as span_map;
 ghost use Rattle.rr_number.specs.Spans.{IsSpan};
-ghost use Rattle.rr_cover.specs.SpanMaps.{crosses_some, covering, inside, IsClosest};
+ghost use Rattle.rr_cover.specs.SpanMaps.{crosses_some, covering, IsClosest};
 ghost use Rattle.rr_cover.specs.SpanMaps.{NoneCovers, Inserts, InsertsApart, Removes};
 
 mod bounds;
@@ -15,17 +16,18 @@ mod reading;
 use crate::insert_fault::InsertFault;
 use bounds::Bounds;
 use changes::{set, take};
-use lists::{push_covering, push_inside, put_in_order};
+use lists::{push_covering, put_in_order};
 use reading::{crosses_any, find, levels, smallest_cover};
 use rr_number::Span;
 use std::alloc::{AllocError, AllocFailed, Global};
 use std::marker::Model;
 
 /// Values kept by span, no two spans crossing: a height-balanced search tree (AVL) of all spans, in
-/// order of first number ascending, then last number descending. Each node knows the least last
-/// number below it and the greatest of each side, so that a search passes by the sides in which no
-/// span reaches far enough. A tree with each span below those that cover it would be a chain where
-/// they lie side by side. This one has at most 28 levels for a million spans, however they nest.
+/// order of first number ascending, then last number descending. Each node keeps, for each side, a
+/// number that no last number there is above. So a search passes by the sides in which no span
+/// reaches far enough. A tree with each span below those that cover it would be a chain where they
+/// lie side by side. This one has at most 28 levels for a million spans, however they nest; no
+/// contract says it.
 #[derive(Drop)]
 pub struct SpanNest<T> {
     root: Nest<T>,
@@ -95,7 +97,7 @@ impl<T> SpanNest<T> {
     }
 
     /// The smallest span held that covers the span, with its value, if any covers it. An equal one
-    /// counts (RFC 2725, 9). The last number of the span is not below its first.
+    /// counts (RFC 2725, 9). The last number of the span is not below its first, and below 2^32.
     pub fn closest(&self, span: Span) -> Option<(Span, &T)>
         ensures closest { MatchOption result (NoneCovers self.now span)
             (λ p. IsClosest self.now span p.0 p.1.now) }
@@ -105,7 +107,7 @@ impl<T> SpanNest<T> {
     }
 
     /// The spans held that cover the span, in order of first, then last number (profile), unless
-    /// memory runs out.
+    /// memory runs out. An equal one counts.
     pub fn covering(&self, alloc: Global, span: Span) -> Result<Vec<Span>, AllocError>
         ensures { IfOk result (λ spans. spans.items ≡ covering self.now span) }
     {
@@ -115,28 +117,17 @@ impl<T> SpanNest<T> {
         Ok(spans)
     }
 
-    /// The spans held that lie inside the span, in order of first, then last number (profile),
-    /// unless memory runs out.
-    pub fn inside(&self, alloc: Global, span: Span) -> Result<Vec<Span>, AllocError>
-        ensures { IfOk result (λ spans. spans.items ≡ inside self.now span) }
-    {
-        let mut spans = Vec::new(alloc);
-        push_inside(&self.root, span, &mut spans)?;
-        put_in_order(&mut spans);
-        Ok(spans)
-    }
-
     /// How many levels the tree has, at most 28 for a million spans: the sides of each node differ
-    /// by one level at most. Tests check this for up to 1,000 spans; no contract says it.
+    /// by one level at most. Tests check this for up to 1,000 spans; no clause says any of it.
     pub fn levels(&self) -> u32 {
         levels(&self.root)
     }
 }
 
 impl<T: Drop> SpanNest<T> {
-    /// Puts the value at the span, and gives back the value that stood there (profile). The span
-    /// is refused if it crosses one that is held, or if memory runs out. Then nothing changes, and
-    /// the value comes back with the fault.
+    /// Puts the value at the span, and gives back the value that stood there (profile). The span is
+    /// refused with `Overlap` exactly if it crosses one that is held; any other fault is `Memory`,
+    /// that memory ran out. Then nothing changes, and the value comes back with the fault.
     pub fn insert(&mut self, span: Span, value: T) -> Result<Option<T>, InsertFault<T>>
         ensures { InsertsApart self.old span value self.new result }
     {

@@ -1,4 +1,8 @@
 -- Histories of a database are runs of its registry by itself.
+-- An induction over the events keeps that the database stands in the mode of the run. The length
+-- is in its step: eleven kinds of event, each in its modes, some with stores that stop. That the
+-- disk was clean before each event is led back from the end by hand. The laws
+-- `histories_are_runs`, `desks_stand` and `blanks_stand` need it.
 use Rattle.std.proofs.Common.{◌≡◌, ◌⊎◌, inl, inr, ℕ, Bool, true, false, List, [], ◌∷◌, Result, Ok}
 use Rattle.std.proofs.Common.{Err, IsTrue, refl, sym, subst, ◌∙◌, arith}
 use Rattle.sqlite_trees.specs.declared.store.Store.{Ghosts}

@@ -1,4 +1,8 @@
 -- The paragraphs of the opening objects are read as objects.
+-- Each object goes through every check of reading: key, counts, texts, authority, memberships and
+-- source. The two blocks share theirs. Literal texts compute, but names come from the settings, so
+-- what they mean is rewritten by hand in each check. The functions of `opening`,
+-- `OpeningRegistry`, `Grown` and `Sources` need it.
 use Rattle.std.proofs.Common.{◌≡◌, ℕ, true, false, not, List, [], ◌∷◌, ◌++◌, Some, Result, Ok, Err}
 use Rattle.std.proofs.Common.{refl, codes, arith, IfOk}
 use Rattle.std.specs.List.{list_any}

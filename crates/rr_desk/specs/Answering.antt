@@ -43,8 +43,8 @@ abbrev pub IsAnswered : Reg → ℕ → List ℕ → Bool → Result (List ℕ) 
 IsAnswered registry limit text stopped answer =
     IsAnswerWhere (is_too_long text) stopped registry limit text answer
 
--- the answer of a desk to the text of a query was written, or a part of it where a write failed,
--- and the number of its error is told (profile)
+-- the answer of a desk to the text of a query was written, and the number of its error is told; or
+-- a write failed, and its beginning was written and not all (profile)
 pub record Answers (registry : Reg) (limit : ℕ) (text : List ℕ) (stopped : Bool)
     (old new : Told) (result : Result Answered WriteFault) : Type 0 where
   pub answer : Result (List ℕ) QueryFault

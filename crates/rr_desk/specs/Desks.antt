@@ -49,7 +49,8 @@ abbrev pub GivesAnswer : {S : Type 0} → Desk S → List ℕ → Result (List �
 GivesAnswer desk text answer =
     IsAnswered desk.stored.registry desk.settings.limit text desk.stored.stopped answer
 
--- the answer of a desk to the text of a query is written, or a part of it where a write failed
+-- the answer of a desk to the text of a query is written, or where a write failed its beginning and
+-- not all (`Answers`)
 abbrev pub WritesAnswer : {S : Type 0} → Desk S → List ℕ → Told → Told
     → Result Answered WriteFault → Type 0
 WritesAnswer desk text old new result =

@@ -45,7 +45,8 @@ pub data Event : Type 0 where
   -- the process or the machine stopped, and the database was found again
   stopped : Event
 
--- how many items the answer to a submission counts: those whose lines were written, or begun
+-- how many items the answer to a submission counts; none where memory ran out before the first, or
+-- where the desk had stopped
 abbrev pub counted : Result Done DeskFault → ℕ
 counted (Ok done) = done.items
 counted (Err (fault.ReadFault items)) = items

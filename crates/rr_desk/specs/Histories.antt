@@ -92,8 +92,9 @@ module _ {S : Type 0} (g : Ghosts S) where
         → SubmitsTo g old new reader_old reader_new writer_old writer_new result
     pub leaves : LeavesDesk g old new result
 
-  -- a connection was opened anew after a stop, over a disk that had given back what was written: it
-  -- found trees that the stop may have left, and the schema that they list
+  -- a connection was opened anew after a stop, over a disk that had given back what was written.
+  -- Where the disk still does, it found trees that the stop may have left, and the schema that they
+  -- list, and a further stop leaves only such trees
   pub record IsFoundAfter (old new : Held S) : Type 0 where
     pub clean : HasCleanDisk (state g old)
     pub found : OnCleanDisk g new ((state g old).may_leave (database g new).trees)
@@ -101,7 +102,9 @@ module _ {S : Type 0} (g : Ghosts S) where
     pub leaves : OnCleanDisk g new
         ((trees : Trees) → (state g new).may_leave trees → (state g old).may_leave trees)
 
-  -- an event of a database, as the call promises it
+  -- an event of a database, as the call promises it. At a desk these are a submission, which alone
+  -- changes the desk; a query; a dump, while the desk runs; and its closing. At a connection they
+  -- are the opening, making or migration of a registry, or that it failed. A stop comes at either
   pub data Happens : Place S → Event → Place S → Type 0 where
     submission : (old new : Desk S) (reader_old reader_new writer_old writer_new : Told)
         (result : Result Done DeskFault) →
@@ -142,14 +145,17 @@ module _ {S : Type 0} (g : Ghosts S) where
   History first (event ∷ later) last =
       (between : Place S) × Happens first event between × History between later last
 
-  -- a connection has rows in which one of these may be found, also after a stop
+  -- a connection that is open has rows in which one of these may be found, and a schema that lists
+  -- their tables; a stop leaves only such rows. This holds where the disk gives back what was
+  -- written
   pub record HasOne (found : List Found) (conn : Held S) : Type 0 where
     pub rows : WhileOpen g conn (AreOfOne found (database g conn).trees)
     pub lists : WhileOpen g conn (ListsTables (database g conn))
     pub leaves : OnCleanDisk g conn
         ((trees : Trees) → (state g conn).may_leave trees → AreOfOne found trees)
 
-  -- a desk runs with this registry: its tables hold the rows of it, and a stop leaves these
+  -- a desk runs by these settings with this registry, which is of their source: its tables hold the
+  -- rows of it, and a stop leaves these
   pub record RunsWith (by : SettingsParts) (desk : Desk S) (r : Reg) : Type 0 where
     pub running : desk.stored.stopped ≡ false
     pub settings : desk.settings ≡ by
@@ -157,13 +163,14 @@ module _ {S : Type 0} (g : Ghosts S) where
     pub of_source : IsRegistryOf by.source r
     pub keeps : KeepsRows r (desk_state g desk)
 
-  -- a desk stopped, and its tables have rows in which one of these may be found
+  -- a desk by these settings stopped, and its tables have rows in which one of these may be found
   pub record StopsWith (by : SettingsParts) (desk : Desk S) (found : List Found) : Type 0 where
     pub stopped : desk.stored.stopped ≡ true
     pub settings : desk.settings ≡ by
     pub has : HasOne found desk.stored.store
 
-  -- the database stands as this registry by itself does
+  -- the database stands as this registry by itself does: at a desk that runs or stopped as it, or
+  -- at rest
   abbrev pub Stands : Place S → Mode → Type 0
   Stands (at_desk desk) (running by r) = RunsWith by desk r
   Stands (at_desk desk) (halted by found) = StopsWith by desk found
@@ -192,8 +199,8 @@ module _ {S : Type 0} (g : Ghosts S) where
       (by : SettingsParts) (desk : Desk S) → IsRunning g by desk
       → Stands (at_desk desk) (running by desk.stored.registry)
 
-  -- a connection to a database whose first table has no row, as to a new one, has no registry, and
-  -- nor has what a stop leaves of it
+  -- where the disk gives back what was written, the first table of the database has no row, as that
+  -- of a new one has none: while the connection is open, and in what a stop leaves
   pub record IsBlank (conn : Held S) : Type 0 where
     pub rows : WhileOpen g conn ((database g conn).trees meta_tree ≡ [])
     pub leaves : OnCleanDisk g conn
@@ -216,13 +223,6 @@ module _ {S : Type 0} (g : Ghosts S) where
   OpensEvent by conn (Err refused) =
       Happens (at_rest conn) (unopened by refused.0) (at_rest refused.1)
 
-  -- a desk was closed, and then its tables were opened
-  abbrev pub ReopensEvents : SettingsParts → Desk S → Result (Desk S) (OpenFault × Held S)
-      → Type 0
-  ReopensEvents by desk result =
-      Happens (at_desk desk) closed (at_rest desk.stored.store)
-      × OpensEvent by desk.stored.store result
-
   -- what migrating tables did, by its answer
   abbrev pub MigratesEvent : SettingsParts → Held S → Result (Desk S) (MigrateFault × Held S)
       → Type 0
@@ -230,7 +230,8 @@ module _ {S : Type 0} (g : Ghosts S) where
   MigratesEvent by conn (Err refused) =
       Happens (at_rest conn) (unmigrated by refused.0) (at_rest refused.1)
 
-  -- a query was answered, which is the event, and the bytes of its answer were written
+  -- a query was answered, which is the event with the whole answer; its bytes were written, or
+  -- where a write failed the beginning of them and not all
   pub record AsksEvent {X E : Type 0} (desk : Desk S) (text : List ℕ)
       (writer_old writer_new : Told) (result : Result X E) : Type 0 where
     pub bytes : List ℕ

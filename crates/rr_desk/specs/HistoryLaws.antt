@@ -33,8 +33,8 @@ abbrev pub RowsTellTheRegistry : Type 0
 RowsTellTheRegistry =
     (r s : Reg) (db : Database) → HasRows r db → HasRows s db → r ≡ s
 
--- where the trees are those of the rows of a registry, as a stop may leave them, it is the one that
--- is opened
+-- let the trees of a database be those of the rows of a registry, as a stop may leave them. A
+-- registry whose rows the database then holds, as it is opened, is that one
 abbrev pub TreesTellTheRegistry : Type 0
 TreesTellTheRegistry =
     (r opening : Reg) (db : Database) → TreesOf (HasRows r) db.trees → HasRows opening db
@@ -44,8 +44,8 @@ TreesTellTheRegistry =
 abbrev pub BareTreesAreOfNone : Type 0
 BareTreesAreOfNone = (trees : Trees) → trees meta_tree ≡ [] → AreOfNone trees
 
--- these are the first items of what a reader gave, as they are read in a source: all that an answer
--- counts, and one more at most
+-- these are the first items of a beginning of what a reader has, where that is told, as they are
+-- read in a source: all that an answer counts, and one more at most
 pub record AreFirstItems (source : List ℕ) (start : Told) (count : ℕ) (items : List ItemRequest)
     : Type 0 where
   pub text : List ℕ
@@ -95,8 +95,9 @@ AreSubmittedIn (migrated by ∷ later) all = AreSubmittedIn later all
 AreSubmittedIn (unmigrated by fault ∷ later) all = AreSubmittedIn later all
 AreSubmittedIn (stopped ∷ later) all = AreSubmittedIn later all
 
--- all that was submitted in a history is one run from its first registry to its last, which answers
--- the holders of a prefix as if nobody else had submitted anything
+-- all that was submitted in a history (`AreSubmittedIn`) is one run from its first registry to its
+-- last. Where a prefix is held, and each of this is foreign to its holders or their own, the run
+-- answers them as if nobody else had submitted anything
 pub record IsOneRun (r : Reg) (events : List Event) (s : Reg) : Type 0 where
   pub all : List Submitted
   pub outcomes : List Outcome
@@ -125,8 +126,9 @@ pub data AreSameQuestions : List Event → List Event → Type 0 where
       AreSameQuestions events others →
       AreSameQuestions (dumped false bytes ∷ events) (dumped false other_bytes ∷ others)
 
--- registries that look alike, of objects that are what their paragraphs read as, tell the same of
--- the same questions, under the same limit
+-- registries that run and look alike tell the same of the same questions, under the same limit. It
+-- is said of registries whose objects stand under their own keys and are what their paragraphs read
+-- as
 abbrev pub HistoriesKeepSecrets : Type 0
 HistoriesKeepSecrets =
     (by other : SettingsParts) (r s : Reg) → by.limit ≡ other.limit

@@ -65,7 +65,7 @@ RowsAreDumpable =
 
 -- desks that are both stopped or both not, whose registries look alike, answer each query alike
 -- under the same limit, unless memory runs out for either answer. It is said of registries whose
--- objects are what their paragraphs read as (profile)
+-- objects stand under their own keys and are what their paragraphs read as (profile)
 abbrev pub DesksKeepSecrets : Type 0
 DesksKeepSecrets =
     (r s : Reg) → IsRead r → IsRead s → LookAlike r s
@@ -73,8 +73,8 @@ DesksKeepSecrets =
     → IsAnswered r limit text stopped answer → IsAnswered s limit text stopped other
     → answer ≢ Err query_fault.Memory → other ≢ Err query_fault.Memory → answer ≡ other
 
--- where the bytes of connections to come are told, the first turn is of the first of them, the
--- second of the second, and so on (profile)
+-- connections whose bytes are told are to come, and are accepted in their order: the first turn is
+-- of the first of them, the second of the second, and so on, as far as there are turns (profile)
 abbrev pub TurnsAreInOrder : Type 0
 TurnsAreInOrder =
     (visits : List (Option Visit)) (waiting : List (List ℕ)) (after : Option (List (List ℕ)))

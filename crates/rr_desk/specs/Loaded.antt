@@ -67,9 +67,10 @@ FailsToLoad source start now (Unnamed n) = IsUntaken source start now (list.Unna
 FailsToLoad source start now (Store error) = HasReadDump source start now
 FailsToLoad source start now Memory = FailsToRead source start now dump.Memory
 
--- no tables were made of a dump, and the fault says why; that there is a row is told where one of
--- the three tables has one, and where one has, an error of the database has a cause outside the
--- rows; where other tables stand in place of the three, the error says that (profile)
+-- no tables were made of a dump, and the fault says why. That there is a row is told where one of
+-- the three tables has one; and where one has, an error of the database has a cause outside the
+-- rows. This holds where the disk gives back what was written. Where other tables stand in place of
+-- the three, the error says that (profile)
 pub record FailsToLoadTables {S : Type 0} (g : Ghosts S) (source : List ℕ) (start now : Told)
     (conn left : Held S) (fault : DeskLoadFault) : Type 0 where
   pub none : MakesNone g (HasLoadedRows source start now) conn left

@@ -100,7 +100,8 @@ CommitsMigrated g settings conn =
     WhereOpen g conn (TreesOf (IsMigratedTo settings (database g conn)))
 
 -- tables of version 1 were migrated to those of this registry, over a connection that was open, and
--- a stop of the process leaves the old ones or the new ones (profile)
+-- a stop of the process leaves the old ones or the new ones. This holds where the disk gives back
+-- what was written (profile)
 pub record MigratesTables {S : Type 0} (g : Ghosts S) (settings : SettingsParts) (conn : Held S)
     (stored : Stock S) : Type 0 where
   pub was_open : OnCleanDisk g stored.store (IsTrue (state g conn).is_open)
@@ -118,7 +119,8 @@ FailsMigrating g settings conn left fault =
     (error : Error) → fault ≡ Store error → IsTidy (database g conn) → OnCleanDisk g left
     (IsCaused (state g conn) (state g left) error ⊎ CanGrow settings (database g conn))
 
--- the tables were not migrated, and the fault says why (profile)
+-- the tables were not migrated, and the fault says why: what there was stands, and a stop of the
+-- process leaves that or, where they could be migrated, the new ones (profile)
 pub record FailsToMigrateTables {S : Type 0} (g : Ghosts S) (settings : SettingsParts)
     (conn left : Held S) (fault : MigrateFault) : Type 0 where
   pub none : GivesBack g (CommitsMigrated g settings conn) conn left

@@ -62,9 +62,11 @@ pub record RefusesRegistry (source : List ℕ) (db : Database) (fault : OpenFaul
   pub tables : IsOfRows fault → HasTables db.schema
   pub untabled : ¬ HasTables db.schema → fault ≡ opened.Store no_tables
 
+-- What these say of rows, of tables that were opened or made, and that a connection was open, holds
+-- where the disk gives back what was written.
 module _ {S : Type 0} (g : Ghosts S) where
   -- tables were opened, over a connection that was open: their rows are those of the registry, and
-  -- nothing was changed (profile)
+  -- nothing was changed or committed (profile)
   pub record OpensTables (conn : Held S) (opened : Stock S) : Type 0 where
     pub was_open : OnCleanDisk g opened.store (IsTrue (state g conn).is_open)
     pub rows : OnCleanDisk g opened.store (HasRows opened.registry (database g conn))

@@ -10,8 +10,8 @@ use Rattle.rr_registry.specs.Loading.{IsTaken}
 use Rattle.rr_store.specs.Migrating.{upper_block}
 use Rattle.rr_desk.specs.Settings.{SettingsParts}
 
--- the value of `auth` for a salt and digest: the scheme, a blank, the salt, a colon, and the digest
--- in lower case (profile)
+-- the value of `auth` for a salt and digest: the scheme, a space, the salt, a colon, and the digest
+-- in hexadecimal digits of lower case (profile)
 abbrev pub auth_line : AuthParts → List ℕ
 auth_line auth = codes "SHA256-PW " ++ (auth.salt ++ (58 ∷ encode_lower auth.digest))
 

@@ -51,9 +51,10 @@ abbrev pub StoresUntilStopped : {S : Type 0} → store.Ghosts S → Stock S → 
 StoresUntilStopped g s = s.stopped ≡ false → StoresRows g s
 
 -- what lasts of a connection, whatever is committed in between: a disk that is clean was clean, and
--- the count of its faults did not fall; the limit of steps stays; nothing but a fault of the disk
--- shuts the connection, and one that is open was open, and has all as it was beside the rows of the
--- three tables (profile)
+-- the count of its faults did not fall; where each later read is tested against a digest, it still
+-- is; the limit of steps stays. Where the disk is clean, nothing but a fault of it shuts the
+-- connection. One that is open then was open, and has all as it was beside the rows of the three
+-- tables (profile)
 pub record DatabaseLasts (old now : State) : Type 0 where
   pub survives : Survives old now (λ trees. Unit {0})
   pub was_open : HasCleanDisk now → IsTrue now.is_open → IsTrue old.is_open

@@ -25,8 +25,10 @@ changes (Refused code) = false
 -- the store failed at an item that changes the registry, so the desk is stopped: the rows are those
 -- of the registry before the item, and a stop of the process or machine leaves these or those with
 -- the item whole, and beside the rows of the three tables all as it was; no fault of the disk is
--- forgotten, and nothing but such a fault shuts the connection, which was open. What the holders of
--- a prefix hold stays as it was where none of the secrets is theirs (profile)
+-- forgotten, and nothing but such a fault shuts the connection, which was open. What is said of
+-- rows, of a stop, and that the connection was open, holds where the disk gives back what was
+-- written; of the rows that stand, while the connection is open. Where a prefix is held, and none
+-- of the secrets is its holders', what is held stays as it was, and the prefix held (profile)
 pub record LeavesStopped (before : Reg) (secrets : List (List ℕ)) (item : Item) (after : Reg)
     (stopped : Bool) (old now : State) : Type 0 where
   pub outcome : Outcome

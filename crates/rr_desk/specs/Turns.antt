@@ -27,7 +27,8 @@ pub record Tally : Type 0 where
   pub told : Option (List Turn)
   pub waiting : Option (List (List ℕ))
 
--- a connection that was accepted: no call of it has failed, and nothing was written to it
+-- a connection that was accepted: no call of it has failed, and nothing was written to it, where
+-- what is written is told
 pub record IsFresh (reader writer : Told) : Type 0 where
   pub no_failed_read : reader.faults ≡ 0
   pub no_failed_write : writer.faults ≡ 0
@@ -49,7 +50,8 @@ IsNext None (Some (bytes ∷ rest)) after = ⊥
 IsNext (Some told) (Some []) after = ⊥
 IsNext (Some told) (Some (bytes ∷ rest)) after = (told ≡ Some bytes) × (after ≡ Some rest)
 
--- a connection was accepted: it is fresh, the next one, and a turn once it is closed
+-- a connection was accepted: it is fresh, the next one, and its reader tells the bytes that are
+-- noted as given. It is no turn yet: those that are counted and told stay
 pub record IsAccepted (before after : Tally) (given : Option (List ℕ)) (reader writer : Told)
     : Type 0 where
   pub fresh : IsFresh reader writer
@@ -68,7 +70,8 @@ pub record IsUnaccepted (before after : Tally) : Type 0 where
   pub counts : CountsTurn unaccepted before after
   pub is_next : IsNext None before.waiting after.waiting
 
--- a connection was closed, which is a turn; those that are to come stay
+-- a connection was closed, which is a turn, told with the bytes that it gave and those that it was
+-- answered; the connections that are to come stay
 pub record IsClosed (given answered : Option (List ℕ)) (before after : Tally) : Type 0 where
   pub counts : CountsTurn (closed given answered) before after
   pub waiting : after.waiting ≡ before.waiting
@@ -86,8 +89,9 @@ pub record Visit : Type 0 where
   pub writer_after : Told
   pub ended : ConnEnd
 
--- a connection while it was served, by what it told as a reader and as a writer, before and after;
--- beside each side stands what stood there when it was last read, or when it was first written
+-- a connection while it was served, by what it told as a reader and as a writer, before and after.
+-- Beside the reader stands, also after, what stood there at first; beside the writer, also before,
+-- what stood there at last
 abbrev pub conn_visit : {C : Type 0} → source.Ghosts C → sink.Ghosts C → C → C → ConnEnd
     → Visit
 conn_visit reader writer old new ended = record {

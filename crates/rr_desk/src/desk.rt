@@ -5,7 +5,7 @@ ghost use Rattle.std.specs.Prelude.{◌≡◌, false, true, IfErr, IfOk, is_some
 ghost use Rattle.rr_submission.specs.Submissions.{RefusesSubmission};
 ghost use Rattle.rr_desk.specs.Desks.{LeavesDesk, SubmitsTo};
 ghost use Rattle.rr_desk.specs.Events as events;
-ghost use Rattle.rr_desk.specs.Histories.{Happens, MakesEvent, OpensEvent, ReopensEvents};
+ghost use Rattle.rr_desk.specs.Histories.{Happens, MakesEvent, OpensEvent};
 ghost use Rattle.rr_desk.specs.Histories as histories;
 ghost use Rattle.rr_desk.specs.Opened.{FailsToMakeTables, FailsToOpenTables, HasOpeningRows};
 ghost use Rattle.rr_desk.specs.Opened.{IsRunning, MakesTables, OpensTables};
@@ -25,8 +25,11 @@ use sqlite::{Alter, Error};
 use std::alloc::Global;
 
 /// A registry by its settings, kept in tables. A fault of the store stops it until it is opened
-/// again. What its functions say of rows holds where the disk gives back what was written. That a
-/// fault leaves the rows as they were holds while also the connection is open.
+/// again. What its functions say of rows, and of the rest of the file, holds where the disk gives
+/// back what was written. Where they say that its rows are those of its registry, a stop of the
+/// process leaves these rows too. That a fault leaves the rows as they were holds while also the
+/// connection is open. What a call did, or why it did nothing, is also an event of the history of
+/// its database, as its clause `event` says.
 #[derive(Drop)]
 pub struct Desk<S: Alter> {
     pub(crate) settings: Settings,
@@ -35,11 +38,11 @@ pub struct Desk<S: Alter> {
 
 impl<S: Alter> Desk<S> {
     /// The desk of the registry that opens with these settings, in a database with nothing in it or
-    /// with the three tables and no row: all of the rows are written in one transaction. After a
-    /// fault the connection is given back, with the rows as they were; a stop of the process leaves
-    /// these or, where there was room for them, the new ones whole. `NotEmpty` says that one of the
-    /// tables has a row. Where other tables stand in place of the three, the error of the database
-    /// says that.
+    /// with the three tables and no row. Its rows are written whole or not at all. After a fault
+    /// the connection is given back, with the rows as they were; a stop of the process leaves these
+    /// or, where there was room for them, the new ones whole. `NotEmpty` says that one of the three
+    /// tables has a row. Where other tables stand in their place, the error of the database says
+    /// that. Where one of the three has a row, that error has a cause outside the rows.
     pub fn create(
         alloc: Global,
         conn: IdleConnection<S>,
@@ -64,10 +67,11 @@ impl<S: Alter> Desk<S> {
     }
 
     /// The desk of the registry of the settings' source whose rows the tables hold; no row is
-    /// changed. After a fault the connection is given back. The fault is that the tables are of
-    /// another version, which comes first, or that their rows are those of no registry of the
-    /// source. Or the database refused, or memory ran out. Of a database without the three tables,
-    /// that and nothing else is told.
+    /// changed. After a fault the connection is given back, with the rows as they were, and nothing
+    /// was committed. The fault is that the tables are of another version, which comes first, or
+    /// that their rows are those of no registry of the source. Or the database refused, for a cause
+    /// outside the rows if each row has its own number; or memory ran out. Of a database without
+    /// the three tables, that and nothing else is told.
     pub fn open(
         alloc: Global,
         conn: IdleConnection<S>,
@@ -85,36 +89,32 @@ impl<S: Alter> Desk<S> {
         }
     }
 
-    /// Closes the desk, also one that is stopped, and opens its tables again by its settings, as
-    /// [`Desk::open`] does. No row is changed, and after a fault the connection is given back.
-    pub fn reopen(self, alloc: Global) -> Result<Desk<S>, (OpenFault, IdleConnection<S>)>
-        ensures runs { IfOk result (IsRunning S.Store self.settings) }
-        ensures opens { IfOk result (λ desk. OpensTables S.Store self.stored.store desk.stored) }
-        ensures fails { IfErr result (λ e.
-            FailsToOpenTables S.Store self.settings.source self.stored.store e.1 e.0) }
-        ensures events { ReopensEvents S.Store self.settings self result }
-    {
-        let Desk { settings, stored } = self;
-        Desk::open(alloc, stored.close(), settings)
-    }
-
     /// Submits what the reader gives, and writes the report. The items are decided one by one, in
-    /// order, each with its rows in one transaction before its line is written. A stopped desk
-    /// answers `Stopped`, and reads and writes nothing.
+    /// order, each before its line is written, and its rows are written whole or not at all. A
+    /// stopped desk answers `Stopped`, stays as it is, and reads and writes nothing.
     ///
     /// If a read fails, or the text has no end within 16,777,216 reads, the items that came whole
     /// are decided. A last line says so, or is cut short. If the line of an item cannot be written,
     /// that item and those before it stand, and those after it are not decided. Up to 4,096 bytes
     /// after it may have been read. If the last line cannot be written, all items stand. If memory
-    /// runs out before the first item, nothing is read; later it refuses the item, or counts as a
-    /// fault of the store.
+    /// runs out before the first item, nothing is read, and a last line says so or is cut short.
+    /// Later it refuses the item, or counts as a fault of the store; no clause says when.
     ///
-    /// Only a fault of the store stops the desk: the items before it stand, and a stop of the
-    /// process or machine leaves their rows, or these with that item whole. Until then the rows are
-    /// those of the registry, which stays one of its source. What the holders of a prefix hold is
-    /// changed by nobody else. However it ends, no fault of the disk is forgotten, and nothing but
-    /// such a fault shuts the connection. The settings stay and, beside the rows of the three
-    /// tables, the file stays as it was.
+    /// Only a fault of the store stops the desk, at an item that was to add, change or delete an
+    /// object. The items before it stand. A stop of the process or machine leaves their rows, or
+    /// these with that item whole, and the rest of the file as it was. At that item a line with E91
+    /// and a last line are written as far as they can be. The items after it are not decided,
+    /// though up to 4,096 bytes after it may have been read. Until the desk is stopped, its rows
+    /// are those of the registry, which stays one of its source.
+    ///
+    /// Where a prefix is held, and each item is foreign to its holders or their own, those not
+    /// foreign are answered as if nobody else had submitted anything. What the holders hold ends as
+    /// it then would, and the prefix stays held. Where a fault of the store stops the desk, this is
+    /// said of the items before that one. That one, if foreign, leaves what they hold as it was.
+    ///
+    /// However the submission ends, no fault of the disk is forgotten, and nothing but such a fault
+    /// shuts the connection. The settings stay. While the connection is open, all of the file
+    /// beside the rows of the three tables is as it was.
     pub fn submit<R: Source, W: Sink>(
         &mut self,
         alloc: Global,

@@ -1,4 +1,5 @@
-//! What a desk answers to queries, for `rr_http`, which serves it by whois and HTTP.
+//! What a desk answers to queries: for `irrdesk query`, and for `rr_http`, which serves it by whois
+//! and HTTP.
 
 ghost use Rattle.std.specs.Prelude.{◌≡◌, ◌≢◌, Err, IfErr, IfOk, Ok, false, true};
 ghost use Rattle.rr_io.specs.Sending.{Writes};
@@ -17,7 +18,6 @@ use rr_answer::{Found, QueryFault, find_for, is_too_long};
 use rr_io::{Sink, write_all};
 use sqlite::Alter;
 use std::alloc::Global;
-use thiserror::Error;
 
 /// What was answered to a query.
 #[derive(Clone, Copy, Debug, PartialEq, Eq)]
@@ -27,18 +27,17 @@ pub struct Answered {
 }
 
 /// A write of an answer failed.
-#[derive(Clone, Copy, Debug, PartialEq, Eq, Error)]
-#[error("write failed")]
+#[derive(Clone, Copy, Debug, PartialEq, Eq)]
 pub struct WriteFault;
 
 impl<S: Alter> Desk<S> {
-    /// Answers the text of a query, without the LF that ended it. What the registry has is found
-    /// first, under the limit of the settings, and then written part by part; or one line
-    /// `% error n` is. Its number is 2 if the text has more than 1,024 bytes, and otherwise 6 if
-    /// the desk is stopped. Of a desk that runs it is 1 if the text is not a query, 3 for an
-    /// expansion over the limit, or 4 if memory ran out (profile). The store is not asked. After a
-    /// write fault the writer has taken the beginning of the answer, and not all of it. Until the
-    /// desk is stopped, its rows are those of its registry.
+    /// Answers the text of a query, without the LF that ended it. What the registry has is written,
+    /// found under the limit of the settings; or one line `% error n` is. Its number is 2 if the
+    /// text has more than 1,024 bytes, and otherwise 6 if the desk is stopped. Of a desk that runs
+    /// it is 1 if the text is not a query, 3 for an expansion over the limit, or 4 if memory ran
+    /// out (profile). The number is returned, or 0 where there is no error. After a write fault the
+    /// writer has taken the beginning of the answer, and not all of it. The event has the whole
+    /// answer all the same. Until the desk is stopped, its rows are those of its registry.
     #[tactic(auto, using(crate::proofs::AnswerLemmas::written))]
     pub fn answer<W: Sink>(
         &self,

@@ -1,4 +1,5 @@
-//! What a desk writes as the dump of its registry: full for `irrdesk dump`, public for `rr_http`.
+//! What a desk writes as the dump of its registry: full or public for `irrdesk dump`, public for
+//! `rr_http`.
 
 ghost use Rattle.std.specs.Prelude.{◌≡◌, false, true, length, IfOk};
 ghost use Rattle.std.specs.FinMap.{values};
@@ -12,19 +13,15 @@ use crate::desk::Desk;
 use rr_io::Sink;
 use sqlite::Alter;
 use std::alloc::Global;
-use thiserror::Error;
 
 /// Why there is no dump, or not all of one.
-#[derive(Clone, Copy, Debug, PartialEq, Eq, Error)]
+#[derive(Clone, Copy, Debug, PartialEq, Eq)]
 pub enum DeskDumpFault {
     /// A write failed.
-    #[error("write failed")]
     Write,
     /// Memory ran out.
-    #[error("out of memory")]
     Memory,
     /// The desk is stopped.
-    #[error("stopped")]
     Stopped,
 }
 
@@ -47,7 +44,7 @@ impl<S: Alter> Desk<S> {
     /// last line that counts them. `full` prints all their text, otherwise their public forms
     /// (profile). It answers how many there are. After `Write` or `Memory` the writer has taken the
     /// beginning of the dump, and not all of it. A stopped desk answers `Stopped` and writes
-    /// nothing.
+    /// nothing. The event of a desk that runs has the whole dump, also where not all was written.
     pub fn dump<W: Sink>(
         &self,
         alloc: Global,

@@ -5,26 +5,20 @@ ghost use Rattle.rr_desk.specs.declared.dump_read_fault.DumpReadFault.TheVariant
 
 use rr_object::Code;
 use std::alloc::{AllocError, AllocFailed};
-use thiserror::Error;
 
 /// Why a dump was not read. Entries are counted from 1; those before the one that is told are
 /// objects of the source.
-#[derive(Clone, Copy, Debug, PartialEq, Eq, Error)]
+#[derive(Clone, Copy, Debug, PartialEq, Eq)]
 pub enum DumpReadFault {
     /// A read failed.
-    #[error("a read failed")]
     Read,
     /// The dump had no end within 16,777,216 reads.
-    #[error("the dump has no end")]
     Endless,
     /// The text of this entry has a fault.
-    #[error("entry {0} is no paragraph")]
     Text(u64),
     /// This entry is not an object of the source; a submission of it is refused with this code.
-    #[error("entry {0} is no object: {1}")]
     Object(u64, Code),
     /// Memory ran out.
-    #[error("out of memory")]
     Memory,
 }
 

@@ -106,7 +106,7 @@ fn with_entry(
     Ok(objects)
 }
 
-/// The object that the n-th entry of a dump is.
+/// The object that the n-th entry of a dump is, or its fault, unless memory ran out.
 fn entry_object(
     alloc: Global,
     n: u64,

@@ -23,13 +23,13 @@ pub fn rows_are_dumpable()
 
 /// Two desks, both stopped or both not and under the same limit, whose registries look alike,
 /// answer each query alike, unless memory runs out: hidden text cannot be asked for. It is said of
-/// registries whose objects are what their paragraphs read as.
+/// registries whose objects stand under their own keys and are what their paragraphs read as.
 pub fn answers_of_desks_keep_secrets()
     ensures { DesksKeepSecrets }
 {}
 
-/// Where the bytes of connections to come are told, as over memory, the i-th turn is that of the
-/// i-th.
+/// Where the bytes of connections to come are told, as over memory, and these are accepted in their
+/// order, the i-th turn is that of the i-th.
 pub fn turns_are_in_order()
     ensures { TurnsAreInOrder }
 {}
@@ -47,8 +47,8 @@ pub fn desks_stand<S: Alter>()
     ensures { DesksStand S.Store }
 {}
 
-/// A connection to a database whose first table has no row, as to a new one, stands as no registry,
-/// so that a history can begin with it.
+/// A connection to a database whose first table has no row, as to a new one, and which a stop
+/// leaves so, stands as no registry. So a history can begin with it.
 pub fn blanks_stand<S: Alter>()
     ensures { BlanksStand S.Store }
 {}
@@ -60,16 +60,18 @@ pub fn reported_is_kept()
 {}
 
 /// All that is submitted in a history that begins with a sound registry that runs is one run,
-/// whatever stops it in between. It answers the holders of a prefix as if nobody else had submitted
-/// anything, and leaves what they hold to them.
+/// whatever stops it in between: of each submission the first items, all that its answer counts and
+/// one more at most. Where a prefix is held, and each of these is foreign to its holders or their
+/// own, the run answers them as if nobody else had submitted anything. It leaves what they hold to
+/// them.
 pub fn histories_are_confined()
     ensures { HistoriesAreConfined }
 {}
 
-/// Registries that look alike tell the same of the same questions under the same limit, unless
-/// memory runs out: hidden text cannot be asked for in any number of questions. A question is a
-/// query or the public dump. It is said of registries whose objects are what their paragraphs read
-/// as.
+/// Registries that run and look alike tell the same of the same questions under the same limit,
+/// unless memory runs out. So hidden text cannot be asked for in any number of questions. A
+/// question is a query or the public dump. It is said of registries whose objects stand under their
+/// own keys and are what their paragraphs read as.
 pub fn histories_keep_secrets()
     ensures { HistoriesKeepSecrets }
 {}
@@ -79,8 +81,8 @@ pub fn rows_tell_the_registry()
     ensures { RowsTellTheRegistry }
 {}
 
-/// Where the trees are those of the rows of a registry, as a stop may leave them, it is the one
-/// that is opened.
+/// Let the trees of a database be those of the rows of a registry, as a stop may leave them. A
+/// registry whose rows the database then holds, as it is opened, is that one.
 pub fn trees_tell_the_registry()
     ensures { TreesTellTheRegistry }
 {}

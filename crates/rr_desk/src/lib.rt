@@ -2,7 +2,7 @@
 //! dumped and loaded.
 //!
 //! The commands of the program make, open and close a [`Desk`], and [`serve_all`] serves its
-//! connections. [`Desk::reopen`] and [`MemoryPeers`] are there for tests.
+//! connections. [`MemoryPeers`] is there for tests.
 #![tactic(auto)]
 
 mod desk;

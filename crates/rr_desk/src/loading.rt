@@ -21,45 +21,34 @@ use rr_registry::{LoadFault, Registry};
 use rr_store::{CreateFault, IdleConnection};
 use sqlite::{Alter, Error as DatabaseError};
 use std::alloc::Global;
-use thiserror::Error;
 
 /// Why no desk was made from a dump: while the connection is open, its rows are as they were.
 /// Entries and objects are counted from 1. A failed read, or no end within 16,777,216 reads, comes
 /// first. Then comes the first entry that is not an object of the source, then the first key that
 /// stands twice or span that crosses. Then comes the first name of a maintainer who is not there.
 /// The store is asked last.
-#[derive(Clone, Copy, Debug, PartialEq, Eq, Error)]
+#[derive(Clone, Copy, Debug, PartialEq, Eq)]
 pub enum DeskLoadFault {
     /// One of the three tables has a row.
-    #[error("the store is not empty")]
     NotEmpty,
     /// A read failed.
-    #[error("a read failed")]
     Read,
     /// The dump had no end within 16,777,216 reads.
-    #[error("the dump has no end")]
     Endless,
     /// The text of this entry has a fault, and those before it are objects of the source.
-    #[error("entry {0} is no paragraph")]
     Text(u64),
     /// This entry is not an object of the source, with the code of a submission of it, and those
     /// before it are.
-    #[error("entry {0} is no object: {1}")]
     Object(u64, Code),
     /// The key of this object is that of one before it.
-    #[error("object {0} has the key of one before it")]
     Duplicate(u64),
-    /// The span of this object crosses that of one of its class before it.
-    #[error("object {0} crosses one before it")]
+    /// The span of this object crosses that of one of its class before it, and its key is new.
     Overlap(u64),
     /// This object names a maintainer who is not in the dump.
-    #[error("object {0} names a maintainer who is not in the dump")]
     Unnamed(u64),
     /// The database refused with this error, or has other tables in place of the three.
-    #[error("the store failed")]
     Store(DatabaseError),
     /// Memory ran out; the dump was read to its end, or nothing of it was.
-    #[error("out of memory")]
     Memory,
 }
 
@@ -113,12 +102,12 @@ impl From<CreateFault> for DeskLoadFault {
 
 impl<S: Alter> Desk<S> {
     /// The desk of the registry whose dump this reader gives, in a database with nothing in it or
-    /// with the three tables and no row. Once the dump is read to its end, all of the rows are
-    /// written in one transaction, or none. The dump is any RPSL text whose entries are the objects
-    /// of a sound registry of the settings' source. After a fault the connection is given back,
-    /// with the rows as they were; a stop of the process leaves these or, where there was room for
-    /// them, the new ones whole. Where other tables stand in place of the three, the error of the
-    /// database says that.
+    /// with the three tables and no row. The dump is read to its end, and its rows are written
+    /// whole or not at all. It is any RPSL text whose entries are the objects of a sound registry
+    /// of the settings' source. After a fault the connection is given back, with the rows as they
+    /// were; a stop of the process leaves these or, where there was room for them, the new ones
+    /// whole. Where other tables stand in place of the three, the error of the database says that.
+    /// Where one of the three has a row, that error has a cause outside the rows.
     pub fn load<R: Source>(
         alloc: Global,
         conn: IdleConnection<S>,

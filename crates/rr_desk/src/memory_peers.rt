@@ -26,7 +26,8 @@ pub struct MemoryInput<'a> {
 impl<'a> MemoryInput<'a> {
     ghost use Rattle.rr_desk.specs.MemoryTurns.{IsOfInput};
 
-    /// A connection that gives these bytes, and of which no call is made to fail.
+    /// A connection that gives these bytes. In a call as many bytes may pass as `usize` counts, and
+    /// calls fail only after as many.
     pub fn whole(bytes: &'a [u8]) -> MemoryInput<'a>
         ensures bytes { result.bytes.now ≡ bytes.now }
         ensures step { result.step ≡ usize.MAX }

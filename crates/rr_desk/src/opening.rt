@@ -1,4 +1,5 @@
-//! The objects that a new registry opens with, as `irrdesk init` makes one.
+//! The objects that a new registry opens with, for `Desk::create`. `desk_migrating` adds one of
+//! them, the block of 32-bit AS numbers, too.
 
 ghost use Rattle.std.specs.Prelude.{◌≡◌, [], ◌∷◌, ◌++◌, IfOk, OnOk};
 ghost use Rattle.rr_text.specs.Fields.{AreFields, IsField, one_line};

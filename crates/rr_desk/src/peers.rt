@@ -53,7 +53,7 @@ pub trait Peers {
         ensures { IsClosed (given self.old) (Self.Conn.Sink.told conn).bytes
             (tally self.old) (tally self.new) };
 
-    /// How many turns there were.
+    /// How many turns there were, told or not.
     fn turns(&self) -> u64
         ensures { result ≡ (tally self.now).turns };
 

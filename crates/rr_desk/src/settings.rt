@@ -1,5 +1,5 @@
 //! Settings: what a registry opens with, and how far expansions of sets go (profile). `rr_commands`
-//! reads them from a file for each desk.
+//! reads them from a file for each desk, and the plain command has those that are built in.
 
 ghost use Rattle.std.specs.Prelude.{◌≡◌, ◌≢◌, IfErr, IfOk, None, Ok, Some};
 ghost use Rattle.std.specs.Option.{option_copied};
@@ -14,7 +14,6 @@ use rr_number::Name;
 use rr_object::{Auth, ObjectFault};
 use std::alloc::{AllocError, Global};
 use std::marker::Model;
-use thiserror::Error;
 
 /// The greatest limit of an expansion (profile).
 pub const GREATEST_LIMIT: u64 = 1_000_000;
@@ -34,13 +33,11 @@ pub enum Setting {
 }
 
 /// Why values are not settings.
-#[derive(Clone, Copy, Debug, PartialEq, Eq, Error)]
+#[derive(Clone, Copy, Debug, PartialEq, Eq)]
 pub enum ValueFault {
     /// This setting, the first in the order of `Setting`, is missing or bad.
-    #[error("a setting is missing or bad")]
     Bad(Setting),
     /// Memory ran out.
-    #[error("out of memory")]
     Memory,
 }
 
@@ -54,7 +51,8 @@ impl From<AllocError> for ValueFault {
 
 /// What a registry opens with: its source, and its root maintainer with the salt and digest of its
 /// secret. And the limit of expansions, 1 to [`GREATEST_LIMIT`]: the most names that one may reach,
-/// and for a route-set the most pairs of a set and a range (profile).
+/// and for a route-set the most pairs of a set and a range (profile). All settings are good
+/// (`IsSettings`), and the clauses `good` say it where a proof needs it.
 #[derive(Debug, Drop)]
 pub struct Settings {
     source: Name,
@@ -132,7 +130,7 @@ impl Settings {
         Ok(settings.unwrap())
     }
 
-    /// The source of the registry.
+    /// The source of the registry; the settings are good.
     pub fn source(&self) -> &Name
         ensures source { result.now ≡ self.now.source }
         ensures good { IsSettings self.now }
@@ -140,7 +138,7 @@ impl Settings {
         &self.source
     }
 
-    /// The name of the root maintainer.
+    /// The name of the root maintainer; the settings are good.
     pub fn root(&self) -> &Name
         ensures root { result.now ≡ self.now.root }
         ensures good { IsSettings self.now }
@@ -156,7 +154,7 @@ impl Settings {
     }
 
     /// The most names that an expansion may reach, and for a route-set the most pairs of a set and
-    /// a range, 1 to [`GREATEST_LIMIT`].
+    /// a range, 1 to [`GREATEST_LIMIT`]; the settings are good.
     pub fn limit(&self) -> u64
         ensures limit { result ≡ self.now.limit }
         ensures good { IsSettings self.now }
@@ -170,7 +168,7 @@ impl Settings {
 const BUILT_IN_AUTH: &str =
     "SHA256-PW a:ba7816bf8f01cfea414140de5dae2223b00361a396177a9cb410ff61f20015ad";
 
-/// The name of a source.
+/// The name of a source; `Bad` says that it is missing or is no name.
 fn read_source(alloc: Global, given: Option<&str>) -> Result<Name, ValueFault>
     ensures ok { IfOk result (λ name.
         needed settings.Source name_of (option_copied given.entry) ≡ Ok name) }
@@ -186,7 +184,7 @@ fn read_source(alloc: Global, given: Option<&str>) -> Result<Name, ValueFault>
     }
 }
 
-/// The name of a maintainer.
+/// The name of a maintainer; `Bad` says that it is missing or is no such name.
 fn read_root(alloc: Global, given: Option<&str>) -> Result<Name, ValueFault>
     ensures ok { IfOk result (λ name.
         needed settings.Root maintainer_name_of (option_copied given.entry) ≡ Ok name) }
@@ -202,7 +200,7 @@ fn read_root(alloc: Global, given: Option<&str>) -> Result<Name, ValueFault>
     }
 }
 
-/// The salt and digest of a secret.
+/// The salt and digest of a secret; `Bad` says that the value is missing or stands for none.
 fn read_auth(alloc: Global, given: Option<&str>) -> Result<Auth, ValueFault>
     ensures ok { IfOk result (λ auth.
         needed settings.Auth auth_of (option_copied given.entry) ≡ Ok auth) }
@@ -219,7 +217,7 @@ fn read_auth(alloc: Global, given: Option<&str>) -> Result<Auth, ValueFault>
     }
 }
 
-/// A limit within its bounds.
+/// A limit within its bounds; `Bad` says that it is missing or is not.
 fn read_limit(given: Option<u64>) -> Result<u64, ValueFault>
     ensures { result ≡ needed settings.Limit limit_of given }
 {

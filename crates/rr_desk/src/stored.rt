@@ -60,7 +60,8 @@ impl<S: Alter> Stored<S> {
     }
 
     /// Whether a fault of the store stopped it; until then the store holds the rows of the
-    /// registry.
+    /// registry, where the disk gives back what was written, and a stop of the process leaves
+    /// these.
     pub fn stopped(&self) -> bool
         ensures told { result ≡ self.now.stopped }
         ensures held { StoresUntilStopped S.Store self.now }
@@ -169,7 +170,9 @@ fn error_of(fault: StoreFault) -> Error
     }
 }
 
-/// Makes the rows those of the registry after the item about this key that had this outcome.
+/// Makes the rows those of the registry after the item about this key that had this outcome. A
+/// fault comes only of an item that changes the registry, and leaves the rows as they were while
+/// the connection is open.
 #[tactic(auto, using(crate::proofs::Following::rest_itself))]
 fn follow<S: Alter>(
     alloc: Global,

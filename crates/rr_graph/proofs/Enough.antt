@@ -1,4 +1,8 @@
 -- Which of some edges are enough for a value.
+-- An edge may go where a kept one makes the same pair; what is enough for one value is so for its
+-- kind. It is long because edges are dropped, repeated or kept, and labels keep values or change
+-- them. Which edge makes a pair is given by hand. `effects`, `pairs` and `settling::pass_run` need
+-- it.
 use Rattle.std.proofs.Common.{◌≡◌, ◌⊎◌, ◌↔◌, true, false, cond, List, [], ◌∷◌, ◌++◌, Contains, Bool}
 use Rattle.std.proofs.Common.{IsTrue, Option, None, Some, Ordering, refl, sym, ap, ◌∙◌, subst, inl}
 use Rattle.std.proofs.Common.{inr}

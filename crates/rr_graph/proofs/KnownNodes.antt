@@ -1,5 +1,8 @@
 -- Nodes whose values are known, as one more is entered, and what is found at a node whose edges all
 -- lead to such ones.
+-- A new node's pairs go after all others; a chain from a node splits at its first edge. It is long
+-- because many claims are equivalences, with each way and each witness given by hand.
+-- `gathering::found_at`, `Settled::enter` and `settling` need it.
 use Rattle.std.proofs.Common.{All, ◌≡◌, ℕ, ◌+◌, ◌<◌, ◌≤◌, ◌⊎◌, ◌↔◌, true, false, cond, List, []}
 use Rattle.std.proofs.Common.{◌∷◌, ◌++◌, length, get_or, map, take, Contains, Option, None, Some}
 use Rattle.std.proofs.Common.{Ordering, refl, sym, ap, ◌∙◌, subst, inl, inr, append_assoc, arith}

@@ -6,8 +6,9 @@ use Rattle.std.proofs.lemmas.Map.Lookups.{CmpEqualImpliesEq}
 use Rattle.rr_graph.specs.declared.ReachFault.{ReachFault}
 use Rattle.rr_graph.specs.declared.ReachFault.TheVariants.{TooMany}
 
--- A search gives a whole result, which has all that was looked for, or the fault `TooMany` exactly
--- where it goes over its limit, unless memory runs out (profile).
+-- A search gives a whole result, which is all that was looked for, or the fault `TooMany` exactly
+-- where it goes over its limit, unless memory runs out. The fault `Memory` is that memory ran out:
+-- when it does, and what holds then, is not said here (profile).
 pub record FindsWithin {X : Type 0} (IsWhole : X → Type 0) (GoesOver : Type 0)
     (result : Result X ReachFault) : Type 0 where
   pub found : IfOk result IsWhole

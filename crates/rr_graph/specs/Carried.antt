@@ -9,8 +9,8 @@ use Rattle.rr_graph.specs.declared.gathering.Gathered.{Gathered}
 use Rattle.rr_graph.specs.declared.labels.Edge.{Edge}
 
 module _ {N L : Type 0} (edge : N → N → L → Type 0) where
-  -- Labelled edges lead from `a` through the node of each in turn, the last of which is `b`.
-  -- (profile)
+  -- Labelled edges lead from `a` through the node of each in turn, the last of which is `b`. The
+  -- empty chain leads from a node to itself. (profile)
   abbrev pub IsLabelledChain : N → List (Edge N L) → N → Type 0
   IsLabelledChain a [] b = a ≡ b
   IsLabelledChain a (e ∷ es) b = edge a e.to e.label × IsLabelledChain e.to es b
@@ -23,18 +23,18 @@ module _ {N L : Type 0} (edge : N → N → L → Type 0) where
   abbrev pub IsReachedFrom : N → N → Type 0
   IsReachedFrom start node = IsReached Leads (start ∷ []) node
 
-  -- The nodes are those to which edges lead from the start, whatever their labels; a node may be
-  -- listed more than once.
+  -- The nodes are those to which chains of edges lead from the start, itself among them, whatever
+  -- the labels; a node may be listed more than once.
   abbrev pub AreReachedFrom : N → List N → Type 0
   AreReachedFrom start nodes = (node : N) → Contains nodes node ↔ IsReachedFrom start node
 
-  -- The nodes are those to which edges lead from the start, whatever their labels, each listed
-  -- once, as a walk lists a node when it meets it first. (profile)
+  -- The nodes are those to which chains of edges lead from the start, itself among them, whatever
+  -- the labels, each listed once. (profile)
   abbrev pub AreMetFrom : N → List N → Type 0
   AreMetFrom start nodes = AreReached Leads (start ∷ []) nodes
 
--- What becomes of a value that is put through the labels of a chain, the last first, unless a label
--- drops it. (profile)
+-- What becomes of a value that is put through the labels of a chain, the last first; nothing if a
+-- label drops it. (profile)
 abbrev pub put_through : {N L V : Type 0} → (L → V → Option V) → List (Edge N L) → V
     → Option V
 put_through passed [] value = Some value
@@ -62,8 +62,8 @@ module _ {N L V : Type 0} (edge : N → N → L → Type 0) (own : N → V → T
   abbrev pub IsTooMany : ℕ → N → Type 0
   IsTooMany limit start = MoreThan limit (IsReachedFrom edge start) ⊎ HasManyPairs limit start
 
-  -- What is gathered at the start: the nodes to which edges lead from it, each listed once, and the
-  -- values that are found at it, in ascending order. (profile)
+  -- What is gathered at the start: the nodes to which chains of edges lead from it, each listed
+  -- once, and the values that are found at it, in ascending order. (profile)
   pub record IsGathered (cmp : V → V → Ordering) (start : N) (gathered : Gathered N V)
       : Type 0 where
     pub nodes : AreMetFrom edge start gathered.nodes.items

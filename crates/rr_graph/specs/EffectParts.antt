@@ -53,7 +53,7 @@ module _ {N L V : Type 0} (keeps : L → Bool) (passed : L → V → Option V) w
       → IsTrue (marked ((node, kind_of value), group_of value))
       → (p : N × V) → Makes (changed keeps passed) value (all node) p.0 p.1 → There p
 
--- New has at most one mark more.
+-- New has no mark that old lacks, but perhaps this one.
 abbrev pub AddsAtMost : {M : Type 0} → (M → Bool) → (M → Bool) → M → Type 0
 AddsAtMost {M} old new mark = (m : M) → IsTrue (new m) → IsTrue (old m) ⊎ (mark ≡ m)
 

@@ -23,7 +23,8 @@ pub record Lists {N : Type 0} (old nodes new : List N) : Type 0 where
   pub all : (node : N) → Contains nodes node → Contains new node
   pub only : (node : N) → Contains new node → Contains old node ⊎ Contains nodes node
 
--- A walk that keeps a listing adds the nodes to it, unless they and its own are too many.
+-- A walk that keeps a listing adds the nodes to it, unless memory runs out, or they and its own are
+-- too many.
 pub record AddsListed {N X : Type 0} (cmp : N → N → Ordering) (limit : ℕ) (nodes : List N)
     (old new : Found N) (result : Result X ReachFault) : Type 0 where
   pub listing : OnOk result (IsListing cmp limit new.list.items new.index)

@@ -1,4 +1,5 @@
-//! The edges of a labelled graph by the node to which they lead.
+//! The edges of a labelled graph by the node to which they lead: `gathering` makes them, and
+//! `pairs` goes over them.
 
 ghost use Rattle.std.specs.Prelude.{◌≡◌, [], ◌∷◌, ◌++◌, OnOk, IfOk};
 ghost use Rattle.std.specs.Prelude.{if◌then◌else◌};

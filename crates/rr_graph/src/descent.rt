@@ -1,5 +1,5 @@
-//! In which order the nodes of a numbered graph are looked at. Only the time that this takes
-//! depends on it.
+//! In which order `gathering` has the nodes of a numbered graph looked at. Only the time that this
+//! takes depends on it.
 
 ghost use Rattle.std.specs.Prelude.{◌<◌, IfSome, length};
 
@@ -26,7 +26,7 @@ struct Descent {
 }
 
 /// The places that are reached from the start, each after those to which its edges lead, unless
-/// these lead back to it.
+/// these lead back to it. No clause says so. The error is that memory ran out.
 pub(crate) fn ends_first<G: Labelled>(
     alloc: Global,
     graph: &Numbered<'_, G>,

@@ -1,4 +1,4 @@
-//! What edges make of values, where many edges do the same.
+//! What edges make of values, where many edges do the same: for `settling` and `pairs`.
 
 ghost use Rattle.std.specs.Prelude.{◌≡◌, [], ◌∷◌, ◌++◌, List, None};
 ghost use Rattle.std.specs.Prelude.{IfOk, IfSome, IsTrue, OnOk, false, filter, not};
@@ -256,7 +256,8 @@ fn keeping<G: Labelled>(
     Ok(kept)
 }
 
-/// Of the edges that change values, lead to one node and make the same of the value, the first.
+/// Of the edges that change values, lead to one node and make the same of the value, one: the
+/// first, if edges come a node at a time, which no clause says.
 fn distinct<G: Labelled>(
     alloc: Global,
     graph: &G,
@@ -318,8 +319,8 @@ impl<G: Labelled> Kept<G> {
         }
     }
 
-    /// Adds the edge, unless it keeps or drops the value or the one before it at its node makes the
-    /// same of it.
+    /// Adds the edge, unless it keeps or drops the value, or another that was added makes the same
+    /// pair of its node and a value.
     fn add(
         &mut self,
         alloc: Global,

@@ -1,4 +1,4 @@
-//! Which values are found at a node of a labelled graph.
+//! Which values are found at a node of a labelled graph: `rr_sets` expands route-sets by it.
 
 ghost use Rattle.std.specs.Prelude.{◌≡◌, ◌↔◌, Contains, IfOk, map};
 ghost use Rattle.rr_graph.specs.Answered.{FindsWithin, ListsInOrder};
@@ -47,7 +47,7 @@ fn ends<N: Drop, L: Drop>(alloc: Global, edges: Vec<Edge<N, L>>) -> Result<Vec<N
     edges.into_iter().map(|edge| edge.to).collect(alloc)
 }
 
-/// The nodes that are reached from the start.
+/// The nodes that are reached from the start. `TooMany` says that they are more than `limit`.
 fn reached_from<G: Labelled>(
     alloc: Global,
     graph: &G,
@@ -71,18 +71,18 @@ pub struct Gathered<N, V> {
     pub values: Vec<V>,
 }
 
-/// Lists what is found at `start`: the nodes that chains of edges lead to from it, itself included,
-/// and each value that a node at the end of such a chain has by itself and that the labels of the
-/// chain, from the last to the first, make into this value, none dropping it.
+/// Lists exactly what is found at `start`. The nodes are those to which chains of edges lead from
+/// it, itself included. The values are what the labels of such a chain, from the last to the first,
+/// make of one that the node at its end has by itself, unless a label drops it.
 ///
-/// The edges of each node are listed twice. The steps are O((KE + F) log F): E counts the edges
-/// that are listed, K the kinds of values that are found at one node, and F the pairs of a node and
-/// a value that edges make: those that keep values, of each value found at the node to which they
-/// lead, and the others, each pair once, however many edges make it, of each kind and group of
-/// these values.
+/// The edges of each node are listed twice. The steps are O((KE + F) log F), of which no clause
+/// speaks. E counts the edges that are listed, K the kinds of values that are found at one node.
+/// F counts the pairs of a node and a value that edges make. Edges that keep values make one of
+/// each value found at the node to which they lead. The others make one of each kind and group of
+/// these values, and a pair is counted once, however many of them make it.
 ///
-/// The fault is `TooMany` exactly if more than `limit` nodes are reached, or more than `limit` such
-/// pairs, unless memory runs out.
+/// Unless memory runs out, the fault is `TooMany` exactly if more than `limit` nodes are reached,
+/// or there are more than `limit` pairs of one and a value found at it.
 pub fn gather<G: Labelled>(
     alloc: Global,
     graph: &G,
@@ -99,7 +99,8 @@ pub fn gather<G: Labelled>(
 }
 
 /// The values that are found at the start, in ascending order, by the places of the nodes that are
-/// reached from it.
+/// reached from it. `TooMany` says that there are more than `limit` pairs of such a node and a
+/// value found at it.
 fn found_among<G: Labelled>(
     alloc: Global,
     graph: &G,
@@ -128,7 +129,7 @@ fn found_among<G: Labelled>(
 }
 
 /// The values that are found at the start, in ascending order, where the nodes are those that are
-/// reached from it.
+/// reached from it. `TooMany` is as for `found_among`.
 fn found_at<G: Labelled>(
     alloc: Global,
     graph: &G,
@@ -149,7 +150,7 @@ fn found_at<G: Labelled>(
 }
 
 /// The values that are carried back to the start from one of the nodes over edges between them, in
-/// ascending order, whatever rings these form.
+/// ascending order, whatever rings these form. `TooMany` is that of `found_pairs`.
 fn walked<G: Labelled>(
     alloc: Global,
     graph: &G,
@@ -168,7 +169,7 @@ fn walked<G: Labelled>(
 }
 
 /// The pairs of one of the nodes and a value that is carried back to it from one of them over edges
-/// between them.
+/// between them. `TooMany` says that they are more than `limit`.
 fn found_pairs<G: Labelled>(
     alloc: Global,
     graph: &G,

@@ -5,7 +5,8 @@ ghost use Rattle.std.proofs.lemmas.Map.Lookups.{CmpEqualImpliesEq};
 
 use std::alloc::{AllocError, Global};
 
-/// An edge, as the node that it leaves sees it.
+/// An edge, as the node that it leaves sees it. Edges are ordered by node, then by label: so
+/// `rr_sets` sorts references.
 #[derive(PartialEq, Eq, PartialOrd, Ord, Drop)]
 pub struct Edge<N, L> {
     /// The node to which the edge leads.
@@ -43,7 +44,8 @@ pub trait Labelled {
     /// What the label makes of the value; nothing where it drops it.
     ghost passed: { Self.Label → Self.Value → Option Self.Value };
 
-    /// The label leaves values as they are. What follows is said of the others.
+    /// The label counts as one that leaves values as they are: only the time of a search depends on
+    /// whether it does. What is said below of labels that change values is said of all others.
     ghost keeps: { Self.Label → Bool };
 
     /// What labels that change values look at in the value.
@@ -72,7 +74,7 @@ pub trait Labelled {
     fn pass(&self, label: Self::Label, value: Self::Value) -> Option<Self::Value>
         ensures { result ≡ passed label value };
 
-    /// Whether the label leaves values as they are.
+    /// Whether the label counts as one that leaves values as they are.
     fn keeps(&self, label: Self::Label) -> bool
         ensures { result ≡ keeps label };
 
@@ -100,15 +102,16 @@ pub trait Labelled {
     /// The order tells groups apart.
     ghost exact_groups: { CmpEqualImpliesEq Self.Group.cmp };
 
-    /// Labels that make the same of a value make the same of each value of its kind.
+    /// Labels that change values, and make the same of one, make the same of each value of its
+    /// kind.
     ghost alike: { (l m : Self.Label) (v w : Self.Value) → keeps l ≡ false → keeps m ≡ false
         → kind_of v ≡ kind_of w → passed l v ≡ passed m v → passed l w ≡ passed m w };
 
-    /// A label that drops a value drops each value of its kind.
+    /// A label that changes values, and drops one, drops each value of its kind.
     ghost dropped: { (l : Self.Label) (v w : Self.Value) → keeps l ≡ false
         → kind_of v ≡ kind_of w → passed l v ≡ None → passed l w ≡ None };
 
-    /// A label makes the same of all values of one kind and group.
+    /// A label that changes values makes the same of all values of one kind and group.
     ghost same: { (l : Self.Label) (v w : Self.Value) → keeps l ≡ false → kind_of v ≡ kind_of w
         → group_of v ≡ group_of w → passed l v ≡ passed l w };
 }

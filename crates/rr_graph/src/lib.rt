@@ -1,5 +1,5 @@
 //! Which nodes of a directed graph are reached from given nodes, and which values are found at
-//! them, over any graph whose edges can be listed: for the expansion of sets.
+//! them, over any graph whose edges can be listed: for the expansion of sets in `rr_sets`.
 #![tactic(auto)]
 
 ghost use Rattle.std.specs.Prelude.{◌≡◌, ◌↔◌, Contains, IfOk};
@@ -23,7 +23,6 @@ pub use gathering::{Gathered, gather};
 pub use labels::{Edge, Labelled};
 pub use order::{ascending, put_in_order};
 use std::alloc::{AllocError, AllocFailed, Global};
-use thiserror::Error;
 use walk::Found;
 
 /// A directed graph whose successors can be listed.
@@ -49,13 +48,11 @@ pub trait Graph {
 }
 
 /// Why what is reached is not listed.
-#[derive(Clone, Copy, Debug, PartialEq, Eq, Error)]
+#[derive(Clone, Copy, Debug, PartialEq, Eq)]
 pub enum ReachFault {
     /// More nodes are reached than the limit, or more pairs of a node and a value at it.
-    #[error("too many nodes are reached")]
     TooMany,
     /// Memory ran out.
-    #[error("out of memory")]
     Memory,
 }
 
@@ -82,8 +79,8 @@ impl<T: Drop> From<AllocFailed<T>> for ReachFault {
 }
 
 /// Lists each node that a chain of edges leads to from one of `starts`, the starts themselves
-/// included, once and in no promised order. It takes O((V + E) log V) steps for V nodes reached and
-/// E edges between them.
+/// included, once and in no promised order. No other node is listed. It takes O((V + E) log V)
+/// steps for V nodes reached and E edges between them; no clause says so.
 ///
 /// The fault is `TooMany` exactly where more than `limit` nodes are reached, unless memory runs
 /// out.

@@ -1,4 +1,4 @@
-//! A labelled graph whose nodes are numbers.
+//! A labelled graph whose nodes are numbers, as `gathering` makes it of any other.
 
 ghost use Rattle.std.specs.Prelude.{◌≡◌, ◌<◌, ◌↔◌, ℕ, Contains, IfOk, length};
 ghost use Rattle.std.specs.BTreeMap.{get};
@@ -158,8 +158,8 @@ impl<'a, G: Labelled> Numbered<'a, G> {
     }
 }
 
-/// The place in four bytes, by which an edge takes half the memory. As many nodes as that is too
-/// few for don't fit into any.
+/// The place in four bytes, by which an edge takes half the memory. A place that needs more is told
+/// as a lack of memory: so many nodes don't fit into any.
 fn narrow(place: usize) -> Result<u32, AllocError>
     ensures { IfOk result (λ narrow. narrow ≡ place) }
 {

@@ -1,4 +1,4 @@
-//! Sets as sorted lists, of which all expansions and searches give some.
+//! Sets as sorted lists: for the searches here, and for `rr_sets`.
 
 ghost use Rattle.std.specs.Prelude.{◌≡◌, IfOk};
 ghost use Rattle.std.specs.List.Sorted.{IsStrictlySortedBy};

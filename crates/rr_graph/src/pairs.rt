@@ -1,4 +1,5 @@
-//! Pairs of a node and a value that is found at it.
+//! Pairs of a node and a value that is found at it, where rings keep `settling` from finding all:
+//! for `gathering`.
 
 ghost use Rattle.std.specs.Prelude.{◌≡◌, ◌↔◌, ◌++◌, Contains, IfOk, OnOk, map};
 ghost use Rattle.rr_graph.specs.Answered.{FindsWithin};
@@ -86,8 +87,8 @@ fn carried_back<G: Labelled>(
     Ok(made)
 }
 
-/// Lists what `reach` does: each pair to which values are carried back from one of `starts`, each
-/// effect once.
+/// Lists what `reach` does: each pair to which values are carried back from one of `starts`. The
+/// fault is that of `reach`. That each effect is used once, no clause says.
 pub(crate) fn reach_back<G: Labelled>(
     alloc: Global,
     pairs: &Pairs<'_, G>,

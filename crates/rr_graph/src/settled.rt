@@ -1,4 +1,5 @@
-//! Nodes at which all that is found is known.
+//! Nodes at which all that is found is known: `settling` enters them, and `gathering` takes the
+//! values of its start.
 
 ghost use Rattle.std.specs.Prelude.{◌≡◌, None, Some, Contains, OnOk, IfSome};
 ghost use Rattle.std.specs.Prelude.{if◌then◌else◌, is_some, true};
@@ -43,8 +44,8 @@ impl<G: Labelled> Settled<G> {
         }
     }
 
-    /// Enters the values under the node, which has none yet. After a refusal of memory nodes may be
-    /// gone.
+    /// Enters the values under the node, which has none yet. `TooMany` says that with these there
+    /// would be more than `limit` pairs. After a fault nodes may be gone.
     pub(crate) fn enter(
         &mut self,
         node: G::Node,

@@ -1,5 +1,5 @@
 //! Settles the nodes of a labelled graph from the ends of its chains back to their start, as far as
-//! there are no rings.
+//! there are no rings: for `gathering`.
 
 ghost use Rattle.std.specs.Prelude.{◌≡◌, ◌≤◌, ◌↔◌, ◌⊎◌, ◌++◌, [], true};
 ghost use Rattle.std.specs.Prelude.{Contains, IfOk, IfSome, IsTrue, OnOk, is_some, length, map};
@@ -27,8 +27,10 @@ pub(crate) struct Ordered<'a, N> {
     pub(crate) order: &'a [u32],
 }
 
-/// Those of the nodes that no ring of edges is reached from, each with the values that are found at
-/// it, where their order has each after those to which its edges lead.
+/// Some of the nodes, each with all values that are found at it. They are those that reach no ring
+/// of edges, if their order has each after those to which its edges lead: no clause says so, and
+/// `gathering` asks which there are. `TooMany` says that there are more than `limit` pairs of one
+/// of the nodes and a value found at it.
 pub(crate) fn settled<G: Labelled>(
     alloc: Global,
     graph: &G,
@@ -54,7 +56,8 @@ pub(crate) fn settled<G: Labelled>(
     Ok(settled)
 }
 
-/// Settles the node, unless it is or one of those is not to which its edges lead.
+/// Settles the node, unless it is settled, or a node to which its edges lead is not. No other node
+/// becomes settled. `TooMany` says that with its values more than `limit` pairs would be held.
 fn settle<G: Labelled>(
     alloc: Global,
     graph: &G,

@@ -1,4 +1,4 @@
-//! The nodes that a walk has found so far.
+//! The nodes that a walk has found so far: for `reach`, and for the pairs of `pairs`.
 
 ghost use Rattle.std.specs.Prelude.{◌≡◌, [], ◌∷◌};
 ghost use Rattle.rr_graph.specs.ListingParts.{AddsListed, IsListing};
@@ -26,7 +26,8 @@ impl<N: Ord + Drop> Found<N> {
         }
     }
 
-    /// Adds each of the nodes that is not there yet. On a fault some of them are added.
+    /// Adds each of the nodes that is not there yet. `TooMany` says that they and those found are
+    /// more than `limit`. After a fault no clause says which are there.
     pub(crate) fn add_all<G: Graph<Node = N>>(
         &mut self,
         alloc: Global,
@@ -44,7 +45,7 @@ impl<N: Ord + Drop> Found<N> {
         Ok(())
     }
 
-    /// Adds the node, unless it is there.
+    /// Adds the node, unless it is there. The faults are those of `add_all`.
     fn add<G: Graph<Node = N>>(
         &mut self,
         alloc: Global,
@@ -66,7 +67,7 @@ impl<N: Ord + Drop> Found<N> {
         Ok(())
     }
 
-    /// The nodes in the order in which they were found.
+    /// The list of the nodes, in the order in which they were found.
     pub(crate) fn into_list(self) -> Vec<N>
         ensures { result ≡ self.list }
     {

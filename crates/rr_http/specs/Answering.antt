@@ -18,7 +18,8 @@ use Rattle.rr_desk.specs.Turns.{ConnEnd}
 use Rattle.rr_http.specs.declared.asking.Refusal.TheVariants.{Unavailable}
 use Rattle.rr_http.specs.Replies.{ok_head, refusal_reply}
 
--- this text is the whole reply: a write failed where not all of it was taken
+-- this text is the whole reply; the only fault is that a write failed, and then the beginning of it
+-- was taken, and not all
 pub record WritesReply (text : List ℕ) (old new : Told) (result : ConnEnd) : Type 0 where
   pub writes : Writes old new text result
   pub cause : result ≢ Err conn_fault.Read
@@ -29,7 +30,7 @@ pub record IsUnavailable {D : Type 0} (before after : D) (old new : Told) (resul
   pub replies : WritesReply (refusal_reply Unavailable) old new result
   pub same : after ≡ before
 
--- the head of a reply could not be written
+-- the head of a reply could not be written whole, and a failed write is the fault
 pub record IsHeadCut (old new : Told) (result : ConnEnd) : Type 0 where
   pub cut : TakesPrefix old new ok_head
   pub failed : result ≡ Err conn_fault.Write
@@ -68,7 +69,8 @@ dump_end (Err dump_fault.Write) = Err conn_fault.Write
 dump_end (Err dump_fault.Memory) = Ok tt
 dump_end (Err dump_fault.Stopped) = Ok tt
 
--- the head of a reply was written, and after it this dump, or a part of it where it was cut short
+-- the head of a reply was written, and after it this dump, or where it was cut short the beginning
+-- of it and not all
 pub record IsDumped (text : List ℕ) (old new : Told) (result : ConnEnd) : Type 0 where
   pub between : Told
   pub head : Takes old between ok_head
@@ -103,7 +105,9 @@ abbrev pub EndsWhole : List ℕ → ℕ → Type 0
 EndsWhole read missing = (whole_part read ≡ read) ⊎ (missing ≡ 0)
 
 -- what a submission that ended so says of the bytes of its body that never came: none are missing
--- where its end was reached, and some where a read failed, after all that came (profile)
+-- where its end was reached, also if its last line could not be written, and some where a read
+-- failed, after all that came. Where the line of an item could not be written, or the store failed,
+-- what was read ends whole (`EndsWhole`). Of other ends nothing is said (profile)
 abbrev pub TellsMissing : {D : Type 0} (g : ledger.Ghosts D) (source : List ℕ) (sides : Sides)
     (before after : D) (rest : List ℕ) (missing : ℕ) (result : Result Done DeskFault)
     → Submits g before after source sides result → Type 0

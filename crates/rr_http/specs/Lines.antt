@@ -12,7 +12,8 @@ use Rattle.rr_http.specs.Heads.{has_line_feed}
 abbrev pub line_of : List ℕ → List ℕ
 line_of text = before_first (λ b. b == 10) text
 
--- a text ends with the name of a version of HTTP that is spoken here (RFC 9112, 2.3; profile)
+-- a text ends with a space and the name of a version of HTTP that is spoken here, 1.0 or 1.1 (RFC
+-- 9112, 2.3; profile)
 abbrev pub names_version : List ℕ → Bool
 names_version text =
     ends_with nat_eq text (codes " HTTP/1.0") || ends_with nat_eq text (codes " HTTP/1.1")

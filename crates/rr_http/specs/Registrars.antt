@@ -11,8 +11,8 @@ use Rattle.rr_submission.specs.Submissions.{UnlessStoreFault}
 use Rattle.rr_desk.specs.declared.desk_answering.WriteFault.{WriteFault}
 use Rattle.rr_desk.specs.Settings.{SettingsParts}
 
--- a registrar answered a query in some text, and the text was written: whole, or only a part of it
--- where a write failed (profile)
+-- a registrar answered a query in some text, and the text was written: whole, or where a write
+-- failed its beginning and not all (profile)
 pub record AnswersInWriting {D : Type 0} (Answers : D → List ℕ → List ℕ → D → Type 0)
     (query : List ℕ) (before after : D) (old new : Told) (result : Result (Unit {0}) WriteFault)
     : Type 0 where

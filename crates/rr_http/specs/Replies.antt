@@ -31,7 +31,7 @@ reason_of LengthRequired = codes "Length Required"
 reason_of PayloadTooLarge = codes "Payload Too Large"
 reason_of Unavailable = codes "Service Unavailable"
 
--- the status of a refusal in words: its code and its reason words
+-- the status of a refusal in words: its code, a space and its reason words
 unfoldable pub status_words : Refusal → List ℕ
 status_words refusal = code_digits (status_of refusal) ++ (codes " " ++ reason_of refusal)
 
@@ -55,7 +55,7 @@ refusal_reply refusal =
     codes "HTTP/1.1 " ++ (status_words refusal
     ++ (refusal_fields refusal ++ (status_words refusal ++ codes "\n")))
 
--- the head of a reply whose body is what was asked: the body ends with the connection
--- (RFC 9112, 6.3)
+-- the head of a reply whose body is what was asked, of status 200: the body ends with the
+-- connection (RFC 9112, 6.3)
 unfoldable pub ok_head : List ℕ
 ok_head = codes "HTTP/1.1 200 OK\r\nContent-Type: text/plain\r\nConnection: close\r\n\r\n"

@@ -35,8 +35,8 @@ IsSent text (Ok done) answered = answered ≡ text
 IsSent text (Err Read) answered = ⊥
 IsSent text (Err Write) answered = IsCutOff text answered
 
--- the dump is answered after the head of a reply: whole, or a part of it where memory ran out; or a
--- part of both where a write failed (profile)
+-- the dump is answered after the head of a reply: whole, or a beginning of it, as where memory ran
+-- out; or, where a write failed, a beginning of both, and not all (profile)
 abbrev pub IsDumpSent : List ℕ → ConnEnd → List ℕ → Type 0
 IsDumpSent text (Ok done) answered =
     (part : List ℕ) × (rest : List ℕ) × (text ≡ part ++ rest)
@@ -49,7 +49,8 @@ abbrev pub IsUnavailableSent : {D : Type 0} → D → D → ConnEnd → List ℕ
 IsUnavailableSent before after result answered =
     IsSent (refusal_reply Unavailable) result answered × (after ≡ before)
 
--- not even the head of a reply is answered, and the desk was not asked
+-- not even the head of a reply is answered whole, because a write failed, and the desk was not
+-- asked
 pub record IsHeadCutOff {D : Type 0} (before after : D) (result : ConnEnd) (answered : List ℕ)
     : Type 0 where
   pub cut : IsCutOff ok_head answered
@@ -63,9 +64,9 @@ pub record IsAnswerSent {D : Type 0} (registrar : Ghosts D) (head text : List �
   pub answers : registrar.Answers before text answer after
   pub sent : IsSent (head ++ answer) result answered
 
--- a body of so many bytes, that of what stands after the head, was read; the head of a reply and
--- the report on the body are answered, as far as they could be written: if not even the head could
--- be, nothing is submitted
+-- the desk runs, and a body of so many bytes, that of what stands after the head, was read; the
+-- head of a reply and the report on the body are answered, as far as they could be written: if not
+-- even the head could be, nothing is submitted
 pub record IsReportSent {D : Type 0} (registrar : Ghosts D) (given : List ℕ) (size : ℕ)
     (before after : D) (result : ConnEnd) (answered : List ℕ) : Type 0 where
   pub running : registrar.ledger.is_stopped before ≡ false

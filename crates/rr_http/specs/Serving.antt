@@ -32,7 +32,9 @@ end_by Short true = Err conn_fault.Write
 end_by Whole false = Ok tt
 end_by Short false = Ok tt
 
--- the head of the reply was written, and the body submitted: its report follows
+-- the head of the reply was written, and the body submitted: its report follows. Of the desk that
+-- leaves what a submission leaves (`LeavesSubmitted`), and serving ends by how the body was read
+-- and whether a write failed (`end_by`)
 pub record IsSubmitted {D : Type 0} (registrar : Ghosts D) (body : List ℕ) (size : ℕ)
     (end : BodyEnd) (before after : D) (old new : Told) (result : ConnEnd) : Type 0 where
   pub between : Told
@@ -43,14 +45,15 @@ pub record IsSubmitted {D : Type 0} (registrar : Ghosts D) (body : List ℕ) (si
   pub leaves : LeavesSubmitted registrar.ledger registrar.settings before after done
   pub ends : result ≡ end_by end (nat_lt old.faults new.faults)
 
--- the head of the reply could not be written, and nothing is submitted
+-- the head of the reply could not be written whole, and nothing is submitted: the desk is as it
+-- was, and serving ends by how the body was read and by a failed write
 pub record IsUnsubmitted {D : Type 0} (end : BodyEnd) (before after : D) (old new : Told)
     (result : ConnEnd) : Type 0 where
   pub cut : TakesPrefix old new ok_head
   pub failed : result ≡ end_by end true
   pub same : after ≡ before
 
--- a body that was read is submitted, unless the head of the reply could not be written
+-- a body that was read is submitted, unless the head of the reply could not be written whole
 abbrev pub SubmitsRead : {D : Type 0} → Ghosts D → List ℕ → ℕ → BodyEnd → D → D
     → Told → Told
     → ConnEnd → Type 0
@@ -82,7 +85,8 @@ abbrev pub IsVisitUnavailable : {D : Type 0} → D → D → Visit → Type 0
 IsVisitUnavailable before after visit =
     IsUnavailable before after visit.writer_before visit.writer_after visit.ended
 
--- the body was read, and it is submitted unless the head of the reply could not be written
+-- the desk runs, the body was read, and it is submitted unless the head of the reply could not be
+-- written whole
 pub record IsTakenIn {D : Type 0} (registrar : Ghosts D) (buffered : List ℕ) (size : ℕ)
     (before after : D) (visit : Visit) : Type 0 where
   pub running : registrar.ledger.is_stopped before ≡ false
@@ -99,7 +103,7 @@ pub record MeetsStoppedDesk {D : Type 0} (registrar : Ghosts D) (before after : 
   pub unread : visit.reader_after ≡ visit.reader_before
   pub unavailable : IsVisitUnavailable before after visit
 
--- memory ran out for a body, which is not empty, and none of it is read
+-- the desk runs, memory ran out for a body, which is not empty, and none of it is read
 pub record MeetsNoMemory {D : Type 0} (registrar : Ghosts D) (size : ℕ) (before after : D)
     (visit : Visit) : Type 0 where
   pub running : registrar.ledger.is_stopped before ≡ false
@@ -164,7 +168,8 @@ pub record IsServed {D : Type 0} (registrar : Ghosts D) (before after : D) (visi
       → IsWanted (head ++ more) wants
   pub serves : ServesWants registrar head wants before after (visit_from between visit)
 
--- a read failed before it was known what the connection wants: nothing is written
+-- a read failed before it was known what the connection wants: nothing is written, the desk is as
+-- it was, and the failed read is the fault
 pub record IsBroken {D : Type 0} (before after : D) (visit : Visit) : Type 0 where
   pub bytes : List ℕ
   pub breaks : BreaksOff visit.reader_before visit.reader_after bytes

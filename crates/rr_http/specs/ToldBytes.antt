@@ -9,7 +9,8 @@ use Rattle.rr_http.specs.declared.body_reading.BodyEnd.TheVariants.{Whole, Short
 use Rattle.rr_http.specs.Bodies.{ReadsBody}
 use Rattle.rr_http.specs.Wants.{IsWanted, ReadsHead, Wants}
 
--- what a connection wants whose head was read is what all of its bytes want
+-- what a connection that tells its bytes is found to want by the head that was read, whatever may
+-- follow, is what all of its bytes want
 abbrev pub WantsByItsBytes : Type 0
 WantsByItsBytes =
     (old between : Told) (bytes head : List ℕ) (at_end : Bool) (wants : Wants)
@@ -25,7 +26,8 @@ IsBodyOf Short size given body = (body ≡ given) × (length given < size)
 IsBodyOf Broken size given body =
     (rest : List ℕ) × (given ≡ body ++ rest) × (length body < size)
 
--- a body that was read is that of what stands after the head
+-- a body that was read after the head of a connection that tells its bytes is the body of what
+-- stands after that head (`IsBodyOf`)
 abbrev pub BodyFollowsItsHead : Type 0
 BodyFollowsItsHead =
     (old between new : Told) (bytes head body : List ℕ) (place size : ℕ) (end : BodyEnd)

@@ -28,7 +28,7 @@ use Rattle.rr_http.specs.Wants.{IsUndecided, IsWanted, ReadsHead, Wants, whois, 
 abbrev pub IsTurnedDown : List ℕ → Visit → List Event → Type 0
 IsTurnedDown page visit events = (events ≡ []) × Replies page visit
 
--- not even the head of a reply could be written, and nothing was done
+-- not even the head of a reply could be written whole, and nothing was done
 abbrev pub IsHeadUnwritten : Visit → List Event → Type 0
 IsHeadUnwritten visit events =
     (events ≡ []) × TakesPrefix visit.writer_before visit.writer_after ok_head
@@ -39,7 +39,7 @@ pub record IsQueryTurn (head text : List ℕ) (visit : Visit) (events : List Eve
   pub replies : Replies (head ++ bytes) visit
   pub event : events ≡ asked text bytes ∷ []
 
--- the public dump was given, after the head of a reply
+-- the public dump was given, whole or cut short, after the head of a reply; the event has it whole
 pub record IsDumpTurn (visit : Visit) (events : List Event) : Type 0 where
   pub bytes : List ℕ
   pub sent : IsDumped bytes visit.writer_before visit.writer_after visit.ended

@@ -43,8 +43,8 @@ abbrev pub RequestAsks : List ℕ → Asks → Type 0
 RequestAsks text asks =
     (parsed : Option RequestHead) × IsParsed text parsed × (asks ≡ head_asks parsed)
 
--- bytes that have no whole head are too many if they are 8,192, and else no head, because the input
--- ended (profile)
+-- the refusal of bytes that have no whole head: they are too many if they are 8,192, and else no
+-- head, because the input ended (profile)
 abbrev pub unended : Bool → Refusal
 unended full = if full then HeadTooLarge else BadRequest
 
@@ -85,15 +85,15 @@ abbrev pub IsDecided : List ℕ → Bool → Type 0
 IsDecided bytes at_end =
     IsTrue (says_wants bytes) ⊎ ((length bytes ≡ HEAD_LIMIT) ⊎ IsTrue at_end)
 
--- the head of a connection was read, so far that it is known what it wants; the input may have
--- ended there
+-- the head of a connection was read, at most 8,192 bytes, so far that it is known what it wants;
+-- the input may have ended there
 pub record ReadsHead (old new : Told) (head : List ℕ) (at_end : Bool) : Type 0 where
   pub gives : Gives old new head
   pub short : length head ≤ HEAD_LIMIT
   pub settled : IsDecided head at_end
   pub spent : IsTrue at_end → IsSpent new
 
--- bytes do not say yet what the connection wants
+-- bytes do not say yet what the connection wants, and are fewer than 8,192
 pub record IsUndecided (bytes : List ℕ) : Type 0 where
   pub unsaid : says_wants bytes ≡ false
   pub room_left : length bytes < HEAD_LIMIT
@@ -102,7 +102,9 @@ pub record IsUndecided (bytes : List ℕ) : Type 0 where
 abbrev pub BreaksHead : Told → Told → Type 0
 BreaksHead old new = (bytes : List ℕ) × BreaksOff old new bytes × IsUndecided bytes
 
--- what stands at the head of a connection of which these bytes were read, as code says it
+-- what stands at the head of a connection of which these bytes were read, as code says it: by
+-- whois, a query of so many bytes; by HTTP, the head of a request of so many, or the refusal of
+-- bytes that have none
 abbrev pub IsHead : List ℕ → Head → Type 0
 IsHead bytes (Whois count) =
     (speaks_http bytes ≡ false) × (count ≤ length bytes)
@@ -118,7 +120,8 @@ abbrev pub FindsHead : Told → Told → List ℕ → Head → Type 0
 FindsHead old new bytes head = (at_end : Bool) × ReadsHead old new bytes at_end × IsHead bytes head
 
 -- what is wanted by the head of a connection, once enough of it was read to know that, is wanted by
--- all that the connection gives, whatever may follow
+-- all that the connection gives, whatever may follow. The head has at most 8,192 bytes. Where the
+-- input ended with it, nothing follows
 abbrev pub WantsByItsHead : Type 0
 WantsByItsHead =
     (head more : List ℕ) (at_end : Bool) (wants : Wants) → length head ≤ HEAD_LIMIT

@@ -19,7 +19,8 @@ use rr_desk::{ConnFault, DeskDumpFault, DeskFault, Done};
 use rr_io::Sink;
 use std::alloc::Global;
 
-/// Refuses a request. The error is that a write failed: the writer has taken a part of the reply.
+/// Refuses a request. The error is that a write failed: the writer has taken the beginning of the
+/// reply, and not all.
 pub(crate) fn refuse<W: Sink>(writer: &mut W, refusal: Refusal) -> Result<(), ConnFault>
     ensures { WritesReply (refusal_reply refusal)
         (W.told writer.old) (W.told writer.new) result }
@@ -31,7 +32,7 @@ pub(crate) fn refuse<W: Sink>(writer: &mut W, refusal: Refusal) -> Result<(), Co
 }
 
 /// Asks the desk and writes its answer, alone (RFC 3912, 2) or after a head. The error is that a
-/// write failed: the writer has taken a part of the answer.
+/// write failed: the writer has taken the beginning of the answer, and not all.
 pub(crate) fn write_answer<D: Registrar, W: Sink>(
     alloc: Global,
     desk: &mut D,
@@ -49,7 +50,7 @@ pub(crate) fn write_answer<D: Registrar, W: Sink>(
 
 /// Answers a query by HTTP, whose percent escapes are read first (RFC 3986, 2.1). If the desk is
 /// stopped it is not asked, and the reply is 503. The error is that a write failed: the writer has
-/// taken a part of the reply.
+/// taken the beginning of the reply, and not all.
 pub(crate) fn answer_query<D: Registrar, W: Sink>(
     alloc: Global,
     desk: &mut D,
@@ -85,7 +86,8 @@ fn decode(escaped: &[u8], decoded: &mut [u8]) -> usize
 }
 
 /// Writes the head of a reply, and after it the answer to a query; the desk is asked once the head
-/// is written. The error is that a write failed: the writer has taken a part of the reply.
+/// is written. The error is that a write failed: the writer has taken the beginning of the reply,
+/// and not all.
 fn give_answer<D: Registrar, W: Sink>(
     alloc: Global,
     desk: &mut D,
@@ -102,8 +104,8 @@ fn give_answer<D: Registrar, W: Sink>(
 }
 
 /// Gives the public dump by HTTP, or 503 if the desk is stopped. Where memory runs out the dump
-/// ends early, which is not an error. The error is that a write failed: the writer has taken a part
-/// of the reply.
+/// ends early, which is not an error. The error is that a write failed: the writer has taken the
+/// beginning of the reply, and not all.
 pub(crate) fn give_dump<D: Registrar, W: Sink>(
     alloc: Global,
     desk: &D,

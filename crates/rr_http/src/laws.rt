@@ -11,7 +11,8 @@ use crate::registrar::Registrar;
 use sqlite::Alter;
 
 /// What is wanted by the head of a connection, once enough of it was read to know that, is wanted
-/// by all that the connection gives, whatever may follow.
+/// by all that the connection gives, whatever may follow. The head has at most 8,192 bytes. Where
+/// the input ended with it, nothing follows.
 pub fn wants_by_its_head()
     ensures { WantsByItsHead }
 {}
@@ -28,8 +29,9 @@ pub fn body_follows_its_head()
 {}
 
 /// A connection that tells its bytes, and to which nothing was written, is answered with its reply,
-/// by whois or HTTP. It is whole, or cut off where a write failed, a dump also where memory ran
-/// out. Nothing is answered if a read failed before it was known what is wanted.
+/// by whois or HTTP. It is whole, or cut off where a write failed; a dump may end early also
+/// without that, as where memory ran out. Nothing is answered if a read failed before it was known
+/// what is wanted.
 pub fn answers_with_its_reply<D: Registrar>()
     ensures { AnswersWithItsReply D.Registrar }
 {}

@@ -30,7 +30,8 @@ pub trait Registrar {
     fn stopped(&self) -> bool
         ensures { result ≡ ledger.is_stopped self.now };
 
-    /// Answers a query. After a failed write the writer has taken a part of the answer.
+    /// Answers a query. After a failed write the writer has taken the beginning of the answer, and
+    /// not all of it.
     fn answer<W: Sink>(
         &mut self,
         alloc: Global,
@@ -40,19 +41,20 @@ pub trait Registrar {
         ensures { AnswersInWriting Answers query.now self.old self.new
             (W.told writer.old) (W.told writer.new) result };
 
-    /// Writes the public dump. The fault is that it is stopped, and then nothing is written; or a
-    /// write failed or memory ran out, and then a part of the dump is.
+    /// Writes the public dump. The fault is that it is stopped, and then nothing is written. Or a
+    /// write failed or memory ran out, and then the beginning of the dump is written, and not all.
     fn dump<W: Sink>(&self, alloc: Global, writer: &mut W) -> Result<(), DeskDumpFault>
         ensures stopped { ledger.is_stopped self.now ≡ true
             → RefusesDump writer.old writer.new result }
         ensures dumps { ledger.is_stopped self.now ≡ false
             → Dumps (dumped self.now) (W.told writer.old) (W.told writer.new) result };
 
-    /// Submits what the reader gives, and writes the report; a stopped one refuses that, and stays
-    /// as it is. Only a fault of the store stops it, and after any other end it keeps what it is to
-    /// keep, as a desk the rows of its registry. What is to last of it lasts, its settings stay,
-    /// and a registry of its source stays one. Up to a fault of the store, what the holders of a
-    /// prefix hold is changed by nobody else.
+    /// Submits what the reader gives, and writes the report; a stopped one refuses that, stays as
+    /// it is, and reads and writes nothing. Only a fault of the store stops it, and after any other
+    /// end it keeps what it is to keep, as a desk the rows of its registry. What is to last of it
+    /// lasts, its settings stay, and a registry of its source stays one. Where a prefix is held,
+    /// and each item up to a fault of the store is foreign to its holders or their own, nobody else
+    /// changes what they hold.
     fn submit<R: Source, W: Sink>(
         &mut self,
         alloc: Global,

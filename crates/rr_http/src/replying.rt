@@ -45,7 +45,8 @@ fn refusal_reply(refusal: Refusal) -> ShortText
     reply
 }
 
-/// Appends the fields of a refusal, and the empty line after them.
+/// Appends the fields of a refusal, and the empty line after them. The bounds on lengths here keep
+/// the reply within the 320 bytes of a `ShortText`.
 #[tactic(auto, using(crate::proofs::ReplyLemmas::allow_short))]
 fn push_fields(reply: &mut ShortText, refusal: Refusal)
     requires { length reply.old ≤ 48 }

@@ -26,9 +26,10 @@ use std::alloc::Global;
 /// connection wants, nothing is written, and the desk stays as it is.
 ///
 /// A body is submitted as far as it came, without an item that misses bytes. Of submissions only a
-/// fault of the store stops the desk. After any other end of one it keeps what it is to keep, the
-/// rows of its registry. A registry of its source stays one. Up to a fault of the store, what the
-/// holders of a prefix hold is changed by nobody else.
+/// fault of the store stops the desk. After any other end of one it keeps what it is to keep: a
+/// desk over tables, the rows of its registry. A registry of its source stays one. Where a prefix
+/// is held, and each item up to a fault of the store is foreign to its holders or their own, nobody
+/// else changes what they hold.
 ///
 /// By HTTP a stopped desk is not asked, and the reply is 503, unless the request is refused anyway.
 /// The reply is 503, too, where memory runs out for a body, of which nothing is read then. Where

@@ -1,4 +1,8 @@
 -- The keys that spans and prefixes choose, and the objects to which they lead.
+-- Sorted entries that find the same are equal, so keys in order lead to the filtered objects. It
+-- is long because choosing is split by the seven classes of key, and each loop has its step.
+-- Boolean regroupings and ties of keys are given by hand. `covering`, `ObjectMap`, `inetnum_keys`
+-- and `Originated` need it.
 use Rattle.std.proofs.Common.{◌≡◌, ◌<◌, ◌+◌, ℕ, Bool, true, false, cond, ◌&&◌, ◌||◌, T, List, []}
 use Rattle.std.proofs.Common.{◌∷◌, get_or, length, map, take, refl, sym, ap, subst, ◌∙◌}
 use Rattle.std.specs.Prelude.{Option, None, Some, is_some}
@@ -22,7 +26,7 @@ use Rattle.rr_auth.specs.Closest.{origin_at, same_prefix}
 use Rattle.rr_auth.specs.Registries.{Reg, Sound}
 use Rattle.rr_book.proofs.KeysUnderSets.{updated_keys}
 use Rattle.rr_book.specs.Listings.{addresses}
-use Rattle.rr_cover.proofs.Among.{same_tied, tied_same}
+use Rattle.rr_cover.proofs.Ties.{same_tied, tied_same}
 use Rattle.rr_cover.proofs.Held.{any_filter}
 use Rattle.rr_cover.specs.SpanMaps.{SpanMap}
 use Rattle.rr_index.proofs.Gathered.{both}

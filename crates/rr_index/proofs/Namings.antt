@@ -1,4 +1,8 @@
 -- How often the objects of a registry name each maintainer, as objects come and go.
+-- Counts are sums, so an object changes each by how often it names that maintainer. It is long
+-- because counting up and down are loops with invariants, and a mntner's own name does not count.
+-- Sums and differences are set out for arithmetic by hand. `NamingIndex`, `Indexes`,
+-- `IndexedBook::change` and `names_maintainer` need it.
 use Rattle.std.proofs.Common.{◌≡◌, ◌+◌, ℕ, zero, suc, Bool, true, false, cond, not, List, [], ◌∷◌}
 use Rattle.std.proofs.Common.{◌++◌, length, take, append_assoc, length-append, arith, refl, sym, ap}
 use Rattle.std.proofs.Common.{subst, ◌∙◌}

@@ -1,5 +1,8 @@
 -- The routes of a registry by origin, as objects come and go, and the objects to which those of an
 -- origin lead.
+-- Routes rise by origin first and keys by prefix first; within one origin both agree. Claims on
+-- keys split by the seven classes, and lists go by induction. Ties and bounds are given by hand.
+-- `OriginIndex`, `IndexedBook::change`, `routes_of` and `prefixes_of` need it.
 use Rattle.std.proofs.Common.{◌≡◌, ◌≤◌, ℕ, Bool, true, false, cond, not, ◌&&◌, ◌||◌, List, [], ◌∷◌}
 use Rattle.std.proofs.Common.{map, arith, refl, sym, ap, subst, ◌∙◌}
 use Rattle.std.specs.Prelude.{Option, None, Some, is_some, ◌==◌}
@@ -32,7 +35,7 @@ use Rattle.rr_index.proofs.Kept.{one_order}
 use Rattle.rr_index.proofs.Ranges.{both_so, given_kept, greatest, least, tied, within}
 use Rattle.rr_index.proofs.Spans.{keys_in, keys_out}
 use Rattle.rr_index.specs.OriginIndexes.{HasOrigins, origin_cmp}
-use Rattle.rr_index.specs.Private.{is_from}
+use Rattle.rr_index.specs.Private.{is_of_origin}
 
 -- a route as origin and prefix
 abbrev pub RouteParts : Type 0
@@ -164,7 +167,7 @@ and_true true = refl
 and_true false = refl
 
 -- a route lies between the least and the greatest of an origin where it is its origin
-of_origin : (n : ℕ) (route : RouteParts) → is_from n route ≡ true → route.0 ≡ n
+of_origin : (n : ℕ) (route : RouteParts) → is_of_origin n route ≡ true → route.0 ≡ n
 of_origin n route e =
     let low = prefix_cmp (masked 0 0) route.1 in
     let high = prefix_cmp (masked 4294967295 32) route.1 in
@@ -172,7 +175,7 @@ of_origin n route e =
     (sym (within (nat_cmp n route.0) low high) ∙ e) in
     eqb-true route.0 n (sym (tied n route.0) ∙ parts.0)
 
-from_origin : (n m : ℕ) (q : PrefixParts) → IsMasked q → is_from n (m, q) ≡ (m == n)
+from_origin : (n m : ℕ) (q : PrefixParts) → IsMasked q → is_of_origin n (m, q) ≡ (m == n)
 from_origin n m q is =
     within (nat_cmp n m) (prefix_cmp (masked 0 0) q) (prefix_cmp (masked 4294967295 32) q)
     ∙ (λ i. tied n m i && both_so _ _ (from_least q) (to_greatest q is) i)
@@ -197,22 +200,23 @@ key_below x y same less =
 
 keys_below : (n : ℕ) (x : RouteParts) (xs : List RouteParts) → x.0 ≡ n →
     AllByRecursion (λ y. origin_cmp x y ≡ Less) xs
-    → AllByRecursion (λ k. key_cmp (key_of x) k ≡ Less) (map key_of (filter (is_from n) xs))
+    → AllByRecursion (λ k. key_cmp (key_of x) k ≡ Less) (map key_of (filter (is_of_origin n) xs))
 keys_below n x [] own h = tt
 keys_below n x (y ∷ ys) own h =
-    elim (is_from n y) as (λ b. is_from n y ≡ b → AllByRecursion (λ k. key_cmp (key_of x) k ≡ Less)
-    (map key_of (cond b (y ∷ filter (is_from n) ys) (filter (is_from n) ys)))) [
+    elim (is_of_origin n y) as (λ b. is_of_origin n y ≡ b →
+    AllByRecursion (λ k. key_cmp (key_of x) k ≡ Less)
+    (map key_of (cond b (y ∷ filter (is_of_origin n) ys) (filter (is_of_origin n) ys)))) [
       | true ↦ λ e. (key_below x y (own ∙ sym (of_origin n y e)) h.0, keys_below n x ys own h.1)
       | false ↦ λ e. keys_below n x ys own h.1
     ] refl
 
 keys_rise : (n : ℕ) (xs : List RouteParts) → IsStrictlySortedBy origin_cmp xs →
-    IsStrictlySortedBy key_cmp (map key_of (filter (is_from n) xs))
+    IsStrictlySortedBy key_cmp (map key_of (filter (is_of_origin n) xs))
 unfolding IsStrictlySortedBy
 keys_rise n [] h = tt
 keys_rise n (x ∷ xs) h =
-    elim (is_from n x) as (λ b. is_from n x ≡ b → IsStrictlySortedBy key_cmp
-    (map key_of (cond b (x ∷ filter (is_from n) xs) (filter (is_from n) xs)))) [
+    elim (is_of_origin n x) as (λ b. is_of_origin n x ≡ b → IsStrictlySortedBy key_cmp
+    (map key_of (cond b (x ∷ filter (is_of_origin n) xs) (filter (is_of_origin n) xs)))) [
       | true ↦ λ e. (keys_below n x xs (of_origin n x e) h.0, keys_rise n xs h.1)
       | false ↦ λ e. keys_rise n xs h.1
     ] refl
@@ -277,31 +281,34 @@ object_there (Some o) there = (o, refl)
 module _ (r : Reg) (sound : Sound r) (routes : BTreeSet RouteParts)
     (has : HasOrigins r routes) where
   chosen : (n : ℕ) (k : Key) (o : Obj) → get r k ≡ Some o → list_any (eq_by_cmp key_cmp k)
-      (map key_of (filter (is_from n) routes.keys)) ≡ is_key_from n k
-  chosen n (Mntner m) o at = no_route (Mntner m) (λ x. refl) (filter (is_from n) routes.keys)
-  chosen n (AsBlock s) o at = no_route (AsBlock s) (λ x. refl) (filter (is_from n) routes.keys)
-  chosen n (AutNum m) o at = no_route (AutNum m) (λ x. refl) (filter (is_from n) routes.keys)
-  chosen n (Inetnum s) o at = no_route (Inetnum s) (λ x. refl) (filter (is_from n) routes.keys)
+      (map key_of (filter (is_of_origin n) routes.keys)) ≡ is_key_from n k
+  chosen n (Mntner m) o at = no_route (Mntner m) (λ x. refl) (filter (is_of_origin n) routes.keys)
+  chosen n (AsBlock s) o at = no_route (AsBlock s) (λ x. refl) (filter (is_of_origin n) routes.keys)
+  chosen n (AutNum m) o at = no_route (AutNum m) (λ x. refl) (filter (is_of_origin n) routes.keys)
+  chosen n (Inetnum s) o at = no_route (Inetnum s) (λ x. refl) (filter (is_of_origin n) routes.keys)
   chosen n (Route q m) o at =
-      any_mapped (eq_by_cmp key_cmp (Route q m)) key_of (filter (is_from n) routes.keys)
-      ∙ (λ i. list_any (λ x. routes_tie (m, q) x i) (filter (is_from n) routes.keys))
-      ∙ any_kept (eq_by_cmp origin_cmp (m, q)) (is_from n) (m == n) routes.keys
-      (λ x e. ap (is_from n) (sym (same_route (m, q) x e)) ∙ from_origin n m q
+      any_mapped (eq_by_cmp key_cmp (Route q m)) key_of (filter (is_of_origin n) routes.keys)
+      ∙ (λ i. list_any (λ x. routes_tie (m, q) x i) (filter (is_of_origin n) routes.keys))
+      ∙ any_kept (eq_by_cmp origin_cmp (m, q)) (is_of_origin n) (m == n) routes.keys
+      (λ x e. ap (is_of_origin n) (sym (same_route (m, q) x e)) ∙ from_origin n m q
       (sound.formed (Route q m) o at).masked)
       ∙ ap (λ b. b && (m == n)) (has m q ∙ ap is_some at)
-  chosen n (AsSet m) o at = no_route (AsSet m) (λ x. refl) (filter (is_from n) routes.keys)
-  chosen n (RouteSet m) o at = no_route (RouteSet m) (λ x. refl) (filter (is_from n) routes.keys)
+  chosen n (AsSet m) o at = no_route (AsSet m) (λ x. refl) (filter (is_of_origin n) routes.keys)
+  chosen n (RouteSet m) o at = no_route (RouteSet m) (λ x. refl)
+      (filter (is_of_origin n) routes.keys)
 
   -- the routes of an origin lead to the objects that are routes from it
   pub listed_from : (n : ℕ) → IsStrictlySortedBy origin_cmp routes.keys
-      → filter_map (λ route. get r (Route route.1 route.0)) (filter (is_from n) routes.keys)
+      → filter_map (λ route. get r (Route route.1 route.0)) (filter (is_of_origin n) routes.keys)
       ≡ filter (is_originated n) (values r)
   listed_from n rise =
-      let keys : BTreeSet Key = record { keys = map key_of (filter (is_from n) routes.keys) } in
-      sym (found_at_keys (λ k. get r k) key_of (filter (is_from n) routes.keys))
+      let keys : BTreeSet Key = record {
+        keys = map key_of (filter (is_of_origin n) routes.keys);
+      } in
+      sym (found_at_keys (λ k. get r k) key_of (filter (is_of_origin n) routes.keys))
       ∙ led_to r sound (is_key_from n) keys
       (subst (λ (cmp : Key → Key → Ordering). IsStrictlySortedBy cmp
-      (map key_of (filter (is_from n) routes.keys))) (sym one_order)
+      (map key_of (filter (is_of_origin n) routes.keys))) (sym one_order)
       (keys_rise n routes.keys rise))
       (chosen n)
 
@@ -324,31 +331,31 @@ module _ (r : Reg) (sound : Sound r) (routes : BTreeSet RouteParts)
   prefixes_led_to : (n : ℕ) (xs : List RouteParts) →
       ((x : RouteParts) → list_any (eq_by_cmp origin_cmp x) xs ≡ true → (o : Obj)
       × (get r (key_of x) ≡ Some o))
-      → map (λ route. route.1) (filter (is_from n) xs) ≡ filter_map (λ o. prefix_from n o.key)
-      (filter_map (λ route. get r (Route route.1 route.0)) (filter (is_from n) xs))
+      → map (λ route. route.1) (filter (is_of_origin n) xs) ≡ filter_map (λ o. prefix_from n o.key)
+      (filter_map (λ route. get r (Route route.1 route.0)) (filter (is_of_origin n) xs))
   prefixes_led_to n [] there = refl
   prefixes_led_to n (x ∷ xs) there =
       let rest = prefixes_led_to n xs
       (λ y is. there y (ap (λ b. eq_by_cmp origin_cmp y x || b) is
       ∙ or_so (eq_by_cmp origin_cmp y x))) in
-      elim (is_from n x) as (λ b. is_from n x ≡ b → map (λ (route : RouteParts). route.1)
-      (cond b (x ∷ filter (is_from n) xs) (filter (is_from n) xs))
+      elim (is_of_origin n x) as (λ b. is_of_origin n x ≡ b → map (λ (route : RouteParts). route.1)
+      (cond b (x ∷ filter (is_of_origin n) xs) (filter (is_of_origin n) xs))
       ≡ filter_map (λ (o : Obj). prefix_from n o.key)
       (filter_map (λ (route : RouteParts). get r (Route route.1 route.0))
-      (cond b (x ∷ filter (is_from n) xs) (filter (is_from n) xs)))) [
+      (cond b (x ∷ filter (is_of_origin n) xs) (filter (is_of_origin n) xs)))) [
         | true ↦ λ e.
             let found = there x (ap (λ b. b || list_any (eq_by_cmp origin_cmp x) xs)
             (tied_route x)) in
             ap (λ ps. x.1 ∷ ps) rest
             ∙ sym
             (prefix_first n x found.0 (filter_map (λ route. get r (Route route.1 route.0))
-            (filter (is_from n) xs)) (of_origin n x e) found.1)
+            (filter (is_of_origin n) xs)) (of_origin n x e) found.1)
         | false ↦ λ e. rest
       ] refl
 
   -- the prefixes of the routes of an origin are those of the objects that are routes from it
   pub prefixes_listed : (n : ℕ) → IsStrictlySortedBy origin_cmp routes.keys
-      → map (λ route. route.1) (filter (is_from n) routes.keys) ≡ filter_map
+      → map (λ route. route.1) (filter (is_of_origin n) routes.keys) ≡ filter_map
       (λ o. prefix_from n o.key) (values r)
   prefixes_listed n rise =
       prefixes_led_to n routes.keys stands_there

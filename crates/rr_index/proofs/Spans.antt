@@ -19,7 +19,7 @@ use Rattle.rr_object.specs.KeyOrders.{key_cmp}
 use Rattle.rr_object.specs.Objects.{Obj}
 use Rattle.rr_object.proofs.KeyLaws.{keys_total, same_key, tied_key}
 use Rattle.rr_auth.specs.Registries.{Reg}
-use Rattle.rr_cover.proofs.Among.{same_tied, tied_same}
+use Rattle.rr_cover.proofs.Ties.{same_tied, tied_same}
 use Rattle.rr_cover.specs.SpanMaps.{SpanMap}
 use Rattle.rr_index.specs.Private.{IsTold}
 use Rattle.rr_index.specs.SpanIndexes.{HasSpans, IsRouted}

@@ -17,8 +17,8 @@ pub record IsApart (r : Reg) (k : Key) : Type 0 where
   pub apart : (l : Key) (x : Obj) → get r l ≡ Some x → keys_cross l k ≡ false
 
 -- The route lies from the least prefix of the origin to its greatest (profile).
-abbrev pub is_from : ℕ → ℕ × PrefixParts → Bool
-is_from origin route = is_le (origin_cmp (origin, masked 0 0) route)
+abbrev pub is_of_origin : ℕ → ℕ × PrefixParts → Bool
+is_of_origin origin route = is_le (origin_cmp (origin, masked 0 0) route)
     && not (is_lt (origin_cmp (origin, masked greatest_address 32) route))
 
 -- The key is that of an inetnum or an as-block, and its span crosses one that is held of its class.

@@ -1,5 +1,4 @@
-//! The book in which the program keeps its registry: objects by key, with what answers questions
-//! about spans, origins, sets and maintainers beside them.
+//! The book in which the program keeps its registry: objects by key, and the indexes beside them.
 
 ghost use Rattle.std.specs.Prelude.{◌≡◌, None, true, is_some};
 ghost use Rattle.std.specs.FinMap.{get, insert};
@@ -16,13 +15,15 @@ use rr_sets::SetBook;
 use std::alloc::{AllocError, Global};
 use std::marker::Model;
 
-/// Objects by key in a balanced tree, the spans of inetnums and as-blocks in nests, the prefixes of
-/// routes in a prefix tree, the routes by origin, the names of the maintainers and how often each
-/// is named, and the keys under the sets that the objects name in `member-of`; contracts see the
-/// finite map from keys to objects. It is always sound. A key, a maintainer and whether it is
-/// named, a closest inetnum, as-block or route, and a crossing are found in O(log n) steps for n
-/// objects; k objects of any list, or k origins, in O(k log n); k prefixes of an origin in O(k +
-/// log n), and what is inside a span alike, where k have their first address in it.
+/// Objects by key in a balanced tree; contracts see the finite map from keys to objects, which is
+/// always sound. Beside them are the spans of inetnums and as-blocks in nests, the prefixes of
+/// routes in a prefix tree, and the routes by origin. So are the names of the maintainers, how
+/// often each is named, and the keys under the sets that the objects name in `member-of`.
+///
+/// No clause says how many steps a call takes. For n objects, a key, a maintainer and whether it is
+/// named are found in O(log n) steps. So are a closest inetnum, as-block or route, and a crossing.
+/// k objects of any list, or k origins, take O(k log n). k prefixes of an origin take O(k + log n),
+/// and what is inside a span alike, where k have their first address in it.
 #[derive(Drop)]
 pub struct IndexedBook {
     objects: ObjectMap,

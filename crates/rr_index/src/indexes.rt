@@ -29,8 +29,8 @@ use rr_object::Object;
 use std::alloc::{AllocError, Global};
 use std::collections::BTreeSet;
 
-/// The spans of the objects, the routes by origin, the names of the mntners, the keys under the
-/// sets that the objects name in `member-of`, and how often they name each maintainer.
+/// The spans of the objects, the routes by origin, and the names of the mntners. Also the keys
+/// under the sets that the objects name in `member-of`, and how often they name each maintainer.
 #[derive(Drop)]
 pub(crate) struct Indexes {
     pub(crate) spans: SpanIndex,
@@ -88,7 +88,7 @@ impl Indexes {
     }
 
     /// Enters the key of the object, under the sets that it names too. If memory runs out, the
-    /// indexes stay those of the same objects.
+    /// indexes stay those of the same objects. The counts of namings stay in any case.
     fn enter_keys(&mut self, alloc: Global, object: &Object) -> Result<(), AllocError>
         requires { CanEnter self.old object.now }
         ensures ok { OnOk result ((r : Reg) → HasKeys r self.old.spans self.old.origins
@@ -98,7 +98,7 @@ impl Indexes {
         ensures err { OnErr result ((r : Reg) → HasKeys r self.old.spans self.old.origins
             self.old.names self.old.referrers → get r object.now.key ≡ None
             → HasKeys r self.new.spans self.new.origins self.new.names self.new.referrers) }
-        ensures aside { self.new.namings ≡ self.old.namings }
+        ensures namings { self.new.namings ≡ self.old.namings }
     {
         let none = BTreeSet::new(alloc);
         self.referrers.add(alloc, object, &none)?;
@@ -112,7 +112,7 @@ impl Indexes {
     }
 
     /// Enters the name, the origin and the span of the object. If memory runs out, these indexes
-    /// stay those of the same objects.
+    /// stay those of the same objects. The other indexes stay in any case.
     fn enter_key(&mut self, alloc: Global, object: &Object) -> Result<(), AllocError>
         requires { IsUncrossed self.old.spans object.now.key }
         ensures ok { OnOk result ((r : Reg) → HasPlaces r self.old.spans self.old.origins
@@ -122,7 +122,7 @@ impl Indexes {
         ensures err { OnErr result ((r : Reg) → HasPlaces r self.old.spans self.old.origins
             → HasNames r self.old.names.keys → get r object.now.key ≡ None
             → HasPlaces r self.new.spans self.new.origins × HasNames r self.new.names.keys) }
-        ensures aside { ChangesOwnKeys self.old self.new }
+        ensures own_keys { ChangesOwnKeys self.old self.new }
     {
         let key = object.key();
         self.names.add(alloc, key)?;
@@ -136,7 +136,7 @@ impl Indexes {
     }
 
     /// Enters the origin and the span of the object. If memory runs out, these indexes stay those
-    /// of the same objects.
+    /// of the same objects. The other indexes stay in any case.
     fn enter_place(&mut self, object: &Object) -> Result<(), AllocError>
         requires { IsUncrossed self.old.spans object.now.key }
         ensures ok { OnOk result ((r : Reg) → HasPlaces r self.old.spans self.old.origins
@@ -144,7 +144,7 @@ impl Indexes {
         ensures err { OnErr result ((r : Reg) → HasPlaces r self.old.spans self.old.origins
             → get r object.now.key ≡ None
             → HasPlaces r self.new.spans self.new.origins) }
-        ensures aside { ChangesPlaces self.old self.new }
+        ensures places { ChangesPlaces self.old self.new }
     {
         let key = object.key();
         self.origins.add(key)?;
@@ -158,8 +158,9 @@ impl Indexes {
     }
 
     /// Enters what an object names that comes in place of another: its key, under the sets that the
-    /// other does not name, and its maintainers. It gives the sets that the object names; the error
-    /// is that memory ran out, and it leaves the indexes those of the same objects.
+    /// other does not name, and its maintainers. Under none of these sets may the key stand before.
+    /// It gives the sets that the object names; the error is that memory ran out, and it leaves the
+    /// indexes those of the same objects.
     pub(crate) fn enter_names(
         &mut self,
         alloc: Global,
@@ -197,7 +198,8 @@ impl Indexes {
         self.namings.take(&old);
     }
 
-    /// Takes out an object that is no longer among these objects.
+    /// Takes out an object that is no longer among these objects. The indexes were those of
+    /// these and of it, and are then those of these alone.
     pub(crate) fn leave(&mut self, objects: &ObjectMap, gone: &Object)
         requires { Sound objects.now }
         ensures { (r : Reg) → HasIndexes r self.old → get r gone.now.key ≡ Some gone.now

@@ -1,5 +1,6 @@
-//! The book of a large registry: objects by key in a balanced tree, and beside it what answers
-//! questions about spans, origins, sets and maintainers without a look at all objects.
+//! The book in which the program keeps its registry: objects by key in a balanced tree, and
+//! indexes beside it. These answer questions about spans, origins, sets and maintainers without a
+//! look at all objects. `rr_desk` and `rr_commands` use the book.
 #![tactic(auto)]
 
 mod indexed_book;

@@ -32,15 +32,15 @@ impl NameIndex {
         }
     }
 
-    /// The key of the mntner of the name.
+    /// The key that the index has under the name; none if it has none.
     pub(crate) fn key(&self, name: &Name) -> Option<&Key>
         ensures { option_copied result ≡ key_at (slice_cmp nat_cmp) self.now.keys name.now }
     {
         self.keys.get(name)
     }
 
-    /// Enters the key of an object that is registered. The error is that memory ran out, and
-    /// nothing changes.
+    /// Enters the key of an object that is registered. The error is that memory ran out, and the
+    /// names are still those of the registry as it was.
     pub(crate) fn add(&mut self, alloc: Global, key: &Key) -> Result<(), AllocError>
         ensures { EntersName self.old.keys key.now self.new.keys result }
     {
@@ -51,7 +51,7 @@ impl NameIndex {
     }
 
     /// Puts the key of the mntner of the name under the name. The error is that memory ran out, and
-    /// nothing changes.
+    /// the names are still those of the registry as it was.
     fn put(&mut self, alloc: Global, name: &Name, key: &Key) -> Result<(), AllocError>
         requires { key.now ≡ Mntner name.now }
         ensures { EntersName self.old.keys (Mntner name.now) self.new.keys result }

@@ -40,7 +40,7 @@ impl NamingIndex {
         }
     }
 
-    /// Counts the maintainers that the object names. The error is that memory ran out, and nothing
+    /// Counts the maintainers that the object names. The error is that memory ran out, and no count
     /// changes.
     pub(crate) fn add(&mut self, alloc: Global, object: &Object) -> Result<(), AllocError>
         ensures ok { OnOk result ((name : List ℕ) → count_at self.new.counts name
@@ -156,7 +156,7 @@ impl NamingIndex {
         }
     }
 
-    /// Takes one from the count of the name, and says whether none is left.
+    /// Takes one from the count of the name; `true` says that none is left.
     fn lessen(&mut self, name: &Name) -> bool
         ensures lowered { (other : List ℕ) → count_at self.new.counts other
             ≡ count_at self.old.counts other - cond (bytes_eq name.now other) 1 0 }

@@ -26,7 +26,7 @@ ghost use Rattle.rr_index.specs.InsideParts.{inetnum_at, is_inetnum_in, is_route
 ghost use Rattle.rr_index.specs.InsideParts.{routes_from, routes_to};
 ghost use Rattle.rr_index.specs.KeyRangeParts.{lies_between};
 ghost use Rattle.rr_index.specs.OriginIndexes.{origin_cmp};
-ghost use Rattle.rr_index.specs.Private.{is_from, IsTold, PutsObject};
+ghost use Rattle.rr_index.specs.Private.{is_of_origin, IsTold, PutsObject};
 
 use crate::origin_index::OriginIndex;
 use rr_book::listings::lies_in;
@@ -114,7 +114,7 @@ impl ObjectMap {
     }
 
     /// Puts the object in place of the one of its key, which is given back; it takes no memory.
-    /// Where there is none, the object comes back.
+    /// Where there is none, nothing changes and the object comes back.
     pub(crate) fn replace(&mut self, object: Object) -> Result<Object, Object>
         ensures puts { PutsObject self.old object self.new result }
         ensures old { IfOk result (λ old. get self.old object.key ≡ Some old) }
@@ -127,7 +127,7 @@ impl ObjectMap {
         }
     }
 
-    /// Takes the object of the key out, if there is one.
+    /// Takes the object of the key out, if there is one, and gives it back.
     pub(crate) fn remove(&mut self, key: &Key) -> Option<Object>
         ensures rest { self.new ≡ remove self.old key.now }
         ensures old { result ≡ get self.old key.now }
@@ -174,8 +174,9 @@ impl ObjectMap {
         origins: &OriginIndex,
         origin: AsNumber,
     ) -> Result<Vec<&Object>, AllocError>
-        ensures found { IfOk result (λ found. lent found.items ≡ filter_map (λ route. get
-            self.now (Route route.1 route.0)) (filter (is_from origin) origins.now.routes.keys)) }
+        ensures found { IfOk result (λ found. lent found.items
+            ≡ filter_map (λ route. get self.now (Route route.1 route.0))
+            (filter (is_of_origin origin) origins.now.routes.keys)) }
         ensures ordered { IsStrictlySortedBy origin_cmp origins.now.routes.keys }
     {
         let mut found = Vec::new(alloc);

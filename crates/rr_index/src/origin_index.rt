@@ -6,7 +6,7 @@ ghost use Rattle.std.specs.List.Sorted.{IsStrictlySortedBy};
 ghost use Rattle.rr_object.specs.Objects.{Obj};
 ghost use Rattle.rr_auth.specs.Registries.{Reg};
 ghost use Rattle.rr_index.specs.OriginIndexes.{HasOrigins, origin_cmp};
-ghost use Rattle.rr_index.specs.Private.{is_from};
+ghost use Rattle.rr_index.specs.Private.{is_of_origin};
 
 use rr_number::{Address, AsNumber, Prefix};
 use rr_object::Key;
@@ -31,8 +31,8 @@ impl OriginIndex {
         }
     }
 
-    /// Enters an object that is registered under the key. The error is that memory ran out, and
-    /// nothing changes.
+    /// Enters an object that is registered under the key. The error is that memory ran out, and the
+    /// origins are still those of the registry as it was.
     pub(crate) fn add(&mut self, key: &Key) -> Result<(), AllocError>
         ensures ok { OnOk result ((r : Reg) (o : Obj) → HasOrigins r self.old.routes
             → HasOrigins (insert r key.now o) self.new.routes) }
@@ -57,7 +57,7 @@ impl OriginIndex {
 
     /// The routes of the origin, in the order of their prefixes.
     pub(crate) fn routes_of(&self, origin: AsNumber) -> Range<'_, (AsNumber, Prefix)>
-        ensures routes { result ≡ filter (is_from origin) self.now.routes.keys }
+        ensures routes { result ≡ filter (is_of_origin origin) self.now.routes.keys }
         ensures ordered { IsStrictlySortedBy origin_cmp self.now.routes.keys }
     {
         let least = Prefix::new(Address::from_bits(0), 0);
@@ -72,7 +72,7 @@ impl OriginIndex {
         origin: AsNumber,
     ) -> Result<Vec<Prefix>, AllocError>
         ensures found { IfOk result (λ found. found.items
-            ≡ map (λ route. route.1) (filter (is_from origin) self.now.routes.keys)) }
+            ≡ map (λ route. route.1) (filter (is_of_origin origin) self.now.routes.keys)) }
         ensures ordered { IsStrictlySortedBy origin_cmp self.now.routes.keys }
     {
         let mut found = Vec::new(alloc);

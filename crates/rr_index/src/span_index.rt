@@ -39,7 +39,7 @@ impl SpanIndex {
     }
 
     /// Enters the span of an object that is registered under the key, which no span held crosses.
-    /// The error is that memory ran out, and nothing changes.
+    /// The error is that memory ran out, and the spans are still those of the registry as it was.
     pub(crate) fn add(&mut self, key: &Key) -> Result<(), AllocError>
         requires { is_crossed self.old.inetnums self.old.blocks key.now ≡ false }
         ensures ok { OnOk result
@@ -86,7 +86,8 @@ impl SpanIndex {
         }
     }
 
-    /// The span of the closest inetnum to the span.
+    /// The span of the closest inetnum to the span; none if none covers it. The ends of the span
+    /// asked about are in order and have 32 bits.
     pub(crate) fn closest_inetnum(&self, span: Span) -> Option<Span>
         ensures found { IfSome result (λ own. IsClosest self.now.inetnums span own tt) }
         ensures none { IfNone result (NoneCovers self.now.inetnums span) }
@@ -98,7 +99,8 @@ impl SpanIndex {
         }
     }
 
-    /// The span of the closest as-block to the span.
+    /// The span of the closest as-block to the span; none if none covers it. The ends of the span
+    /// asked about are in order and have 32 bits.
     pub(crate) fn closest_block(&self, span: Span) -> Option<Span>
         ensures found { IfSome result (λ own. IsClosest self.now.blocks span own tt) }
         ensures none { IfNone result (NoneCovers self.now.blocks span) }
@@ -110,7 +112,7 @@ impl SpanIndex {
         }
     }
 
-    /// The prefix of the closest routes to the prefix.
+    /// The prefix of the closest routes to the prefix, in the sound registry whose spans these are.
     pub(crate) fn closest_routes(&self, prefix: Prefix) -> Option<Prefix>
         ensures { (r : Reg) → Sound r → HasSpans r self.now.inetnums self.now.blocks
             self.now.routes → result ≡ closest_routes r prefix }
@@ -125,7 +127,8 @@ impl SpanIndex {
         }
     }
 
-    /// Whether an inetnum or an as-block crosses the key, being of its class.
+    /// Whether an inetnum or an as-block of the sound registry whose spans these are crosses the
+    /// key, being of its class.
     pub(crate) fn crosses(&self, key: &Key) -> bool
         ensures { (r : Reg) → Sound r → HasSpans r self.now.inetnums self.now.blocks
             self.now.routes → result ≡ crosses_key r key.now }
@@ -138,7 +141,7 @@ impl SpanIndex {
     }
 }
 
-/// The longest prefix of the tree that covers the prefix.
+/// The longest prefix of the tree that covers the prefix; none if none does.
 fn closest_prefix(tree: &PrefixTree<()>, prefix: Prefix) -> Option<Prefix>
     ensures found { IfSome result (λ own. IsClosest tree.now (span_of prefix) (span_of own) tt) }
     ensures none { IfNone result (NoneCovers tree.now (span_of prefix)) }

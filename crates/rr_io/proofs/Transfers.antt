@@ -1,4 +1,5 @@
--- Readings and writings joined one after the other.
+-- Readings and writings joined one after the other: for `write_all`, `write_pieces` and `Joined`,
+-- and for the proofs of all crates that read a stream or print.
 use Rattle.std.proofs.Common.{◌≡◌, ℕ, ◌+◌, ◌<◌, List, [], ◌++◌, length, refl, ap, sym, ◌∙◌}
 use Rattle.std.proofs.Common.{append_assoc, length-append, arith, add-one, get_or, drop, drop-cons}
 use Rattle.std.specs.List.{flat_map}

@@ -1,4 +1,4 @@
--- What a connection is made of.
+-- What a connection of a reader and a writer is made of: for `Joined`.
 use Rattle.rr_io.specs.declared.joining.Joined.{Joined}
 
 -- the reader of a connection that is made of two

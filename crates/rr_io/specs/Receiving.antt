@@ -1,11 +1,11 @@
--- What a reader gives.
+-- What a reader gives, and how a reading ends: for `Source` and all that reads a text.
 use Rattle.std.specs.Prelude.{◌≡◌, ℕ, ◌+◌, ◌<◌, ◌≤◌, List, []}
 use Rattle.std.specs.Prelude.{◌++◌, length, take, Some, Result, Ok, Err}
 use Rattle.rr_io.specs.Told.{Told, Counts, Fails}
 use Rattle.rr_io.specs.declared.receiving.ReadEnd.{ReadEnd}
 use Rattle.rr_io.specs.declared.receiving.ReadEnd.TheVariants.{Whole, Broken, Endless}
 
--- these bytes were given, in this order, and no call failed
+-- these bytes were given, in this order, and no call failed; what stands beside stays
 pub record Gives (old new : Told) (bytes : List ℕ) : Type 0 where
   pub consumed : (xs : List ℕ) → old.bytes ≡ Some xs
       → (rest : List ℕ) × (new.bytes ≡ Some rest) × (xs ≡ bytes ++ rest)
@@ -43,13 +43,13 @@ pub record BreaksOff (old new : Told) (bytes : List ℕ) : Type 0 where
 abbrev pub read_limit : ℕ
 read_limit = 16777216
 
--- how many bytes a read asks for at most: those of a block (profile)
+-- how many bytes a read of a text asks for at most (profile)
 abbrev pub read_size : ℕ
 read_size = 4096
 
--- the reading of these bytes, by how it ended: with no byte left after at most 16,777,216 reads, by
--- a failed call after fewer reads, or after exactly 16,777,216 reads, with at least as many bytes
--- and no fault (profile)
+-- the reading of these bytes, by how it ended: with no byte left after at most 16,777,216 reads, or
+-- by a failed call after fewer reads. An endless one ended after exactly 16,777,216 reads, which
+-- gave at least as many bytes, and without a fault (profile)
 abbrev pub Reads : Told → Told → List ℕ → ReadEnd → Type 0
 Reads old new bytes Whole =
     Gives old new bytes × IsSpent new × (new.reads ≤ old.reads + read_limit)

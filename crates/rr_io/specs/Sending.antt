@@ -1,9 +1,10 @@
--- What a writer takes.
+-- What a writer takes: for `Sink` and all that is printed to one.
 use Rattle.std.specs.Prelude.{◌≡◌, ℕ, ◌<◌, ◌≤◌, List, ◌++◌, length, take, Result, Ok, Err}
 use Rattle.std.specs.Prelude.{Some, ◌⊎◌}
 use Rattle.rr_io.specs.Told.{Told, Fails}
 
--- these bytes were taken, in this order, and no call failed or was counted as a read
+-- these bytes were taken, in this order, and no call failed or was counted as a read; what stands
+-- beside stays
 pub record Takes (old new : Told) (bytes : List ℕ) : Type 0 where
   pub appended : (xs : List ℕ) → old.bytes ≡ Some xs → new.bytes ≡ Some (xs ++ bytes)
   pub no_fault : new.faults ≡ old.faults
@@ -31,12 +32,12 @@ pub record TakesPrefix (old new : Told) (bytes : List ℕ) : Type 0 where
   pub takes : Takes old between prefix
   pub fails : Fails between new
 
--- all of these bytes were taken, or the beginning of them before a call failed
+-- all of these bytes were taken, or the beginning of them, and not all, before a call failed
 abbrev pub TakesSome : Told → Told → List ℕ → Type 0
 TakesSome old new bytes = Takes old new bytes ⊎ TakesPrefix old new bytes
 
 -- the writing of these bytes: where it is `Ok`, all of them were taken; where it is `Err`, the
--- beginning of them, and then a call failed
+-- beginning of them and not all, and then a call failed
 abbrev pub Writes : {T E : Type 0} → Told → Told → List ℕ → Result T E → Type 0
 Writes old new bytes (Ok _) = Takes old new bytes
 Writes old new bytes (Err _) = TakesPrefix old new bytes

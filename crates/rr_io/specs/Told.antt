@@ -1,4 +1,4 @@
--- What a reader or a writer tells of itself.
+-- What a reader or a writer tells of itself: for every contract that reads or writes.
 use Rattle.std.specs.Prelude.{◌≡◌, ℕ, ◌+◌, ◌-◌, ◌^◌, ◌<◌, ◌≤◌, List}
 use Rattle.std.specs.Prelude.{Option, None, Some, max}
 
@@ -24,11 +24,11 @@ pub record Told : Type 0 where
 abbrev pub alone : Beside
 alone = record { bytes = None; faults = 0; reads = 0 }
 
--- what stands beside the other side of what tells this
+-- what one side of a connection tells, as it stands beside the other side
 abbrev pub beside : Told → Beside
 beside told = record { bytes = told.bytes; faults = told.faults; reads = told.reads }
 
--- what is told by this, with another beside it
+-- what one side of a connection tells, with this beside it
 abbrev pub set_beside : Beside → Told → Told
 set_beside other told = record told { aside = other }
 
@@ -38,7 +38,7 @@ pub record Counts (before after many : ℕ) : Type 0 where
   pub full : 2 ^ 64 ≤ before + many → after ≡ max before (2 ^ 64 - 1)
 
 -- a call failed: no byte passed in it, and it was counted as one fault and as no read (profile: an
--- error of any kind, Interrupted too)
+-- error of any kind, Interrupted too). What stands beside stays
 pub record Fails (old new : Told) : Type 0 where
   pub bytes_stay : (xs : List ℕ) → old.bytes ≡ Some xs → new.bytes ≡ Some xs
   pub counted : Counts old.faults new.faults 1

@@ -1,4 +1,4 @@
-//! A reader or a writer that is cut short, for tests.
+//! A reader or a writer that is cut short, for tests and for `MemoryPeers` of `rr_desk`.
 ghost use Rattle.std.specs.Prelude.{◌≡◌, ◌<◌, min};
 ghost use Rattle.rr_io.specs.Sending.{WritesOnce};
 ghost use Rattle.rr_io.specs.Receiving.{ReadsOnce};
@@ -64,6 +64,9 @@ impl<T: Source> Source for Cut<T> {
 
     ghost told = { cut_told T.told reads_cut };
 
+    /// Reads at most `step` bytes, and so many fewer are left to pass. Where none is left, it fails
+    /// without a read of what is inside; before that it fails only where this read does. A failure
+    /// is counted where it happens, and leaves what may still pass.
     fn read(&mut self, buf: &mut [u8]) -> io::Result<usize>
         ensures reads { ReadsOnce (cut_told T.told reads_cut self.old)
             (cut_told T.told reads_cut self.new) buf.new result }
@@ -89,6 +92,9 @@ impl<T: Sink> Sink for Cut<T> {
 
     ghost told = { cut_told T.told writes_cut };
 
+    /// Takes at most `step` bytes, and so many fewer are left to pass. Where none is left, it fails
+    /// without a write to what is inside; before that it fails only where this write does. A
+    /// failure is counted where it happens, and leaves what may still pass.
     fn write(&mut self, bytes: &[u8]) -> io::Result<usize>
         ensures writes { WritesOnce (cut_told T.told writes_cut self.old)
             (cut_told T.told writes_cut self.new) bytes.now result }

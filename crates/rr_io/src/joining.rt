@@ -1,4 +1,4 @@
-//! A reader and a writer as one connection.
+//! A reader and a writer as one connection: those over TCP and over memory are made so.
 ghost use Rattle.std.specs.Prelude.{◌≡◌, refl};
 ghost use Rattle.rr_io.specs.Told.{beside, set_beside};
 

@@ -1,5 +1,5 @@
-//! Readers and writers that count their failed calls and their reads, and whole transfers over
-//! them.
+//! Readers and writers as contracts see them, and whole texts written to them: for all crates that
+//! read a stream or print to one. They count their failed calls and their reads.
 #![tactic(auto)]
 
 mod counting;

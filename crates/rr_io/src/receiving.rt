@@ -1,7 +1,10 @@
-//! The limits on the reading of a text, and how a reading ends: for all that reads a stream.
+//! The limits on the reading of a text, and how a reading ends: for `Paragraphs` of `rr_text`, and
+//! for `rr_submission`. `rr_http` reads bodies by `READ_SIZE`. `rr_listener` takes in by it what a
+//! peer sends after its reply, at most 512 reads: no proof notes if that limit of bytes changes.
 ghost use Rattle.std.specs.Prelude.{◌≡◌, IsTrue, ◌↔◌};
 
-/// How many reads the reading of a text makes at most (profile).
+/// How many reads the reading of a text makes at most (profile). Messages of `rr_commands` have the
+/// number in their words.
 pub const READ_LIMIT: u32 = 16_777_216;
 
 /// How many bytes a read of a text asks for at most (profile).

@@ -13,7 +13,8 @@ pub trait Source {
     ghost told: { Self → Told };
 
     /// Reads some bytes into the beginning of `buf` and says how many: none only at the end, or
-    /// into an empty `buf`. The error is that the read failed: no byte was read, and it is counted.
+    /// into an empty `buf`. The error is that the read failed, and no byte was read. Reads that
+    /// fail are counted, and apart from them those that do not.
     fn read(&mut self, buf: &mut [u8]) -> io::Result<usize>
         ensures { ReadsOnce (told self.old) (told self.new) buf.new result };
 
@@ -39,7 +40,8 @@ pub trait Sink {
         ensures { result ≡ (told self.now).faults };
 }
 
-/// A reader and a writer in one value, each of which leaves the other alone.
+/// A reader and a writer in one value. What stands beside each is what the other tells, so that the
+/// calls of each leave the other alone.
 pub trait Connection: Source + Sink {
     ghost read_leaves_sink: { (c : Self)
         → (Self.Source.told c).aside ≡ beside (Self.Sink.told c) };

@@ -1,4 +1,4 @@
-//! How long a peer is waited for.
+//! How long a peer is waited for: `peer_reader` and `peer_writer` keep a deadline each.
 
 ghost use Rattle.std.specs.Prelude.{◌≡◌, ◌+◌, ◌-◌, ◌≤◌, min, IfOk, None, OnErr, Some};
 ghost use Rattle.std.specs.Duration.{as_nanos, max_nanos};
@@ -20,7 +20,7 @@ pub struct Wait {
 }
 
 impl Wait {
-    /// A wait from now on. The error is the system's.
+    /// A wait from now on, though no clause says when it began. The error is the system's.
     pub fn begin(rt: &HostRuntime) -> io::Result<Wait> {
         Ok(Wait {
             since: Instant::now(rt)?,
@@ -40,7 +40,7 @@ pub struct Deadline {
 impl Deadline {
     ghost use Rattle.rr_listener.specs.PeerCalls.{TakesUp};
 
-    /// No time is taken yet.
+    /// No time is taken yet, and no timeout is set.
     pub fn new() -> Deadline
         ensures taken { as_nanos result.taken ≡ 0 }
         ensures unset { result.timeout ≡ None }
@@ -51,8 +51,9 @@ impl Deadline {
         }
     }
 
-    /// Ends a wait now. If the clock cannot be read all time is taken, and the error is the
-    /// system's.
+    /// Ends a wait now, and adds it to the time taken. If the clock cannot be read all time is
+    /// taken, and the error is the system's. Clauses say only that no time is given back, and that
+    /// the timeout stays.
     pub fn end(&mut self, rt: &HostRuntime, wait: Wait) -> io::Result<()>
         ensures taken { as_nanos self.old.taken ≤ as_nanos self.new.taken }
         ensures timeout { self.new.timeout ≡ self.old.timeout }
@@ -88,8 +89,8 @@ impl Deadline {
     }
 
     /// The timeout to set before the next call, if the peer is given so many seconds in all; none
-    /// if the one that was set last still serves. The error is that the time is over; then the
-    /// deadline stays.
+    /// only if the one that was set last is the same. It then stands as the one set last. No time
+    /// is taken. The error is that the time is over; then the deadline stays.
     pub fn next_timeout(&mut self, seconds: u64) -> io::Result<Option<Duration>>
         ensures sets { IfOk result
             (λ set. SetsTimeout (next_wait seconds (as_nanos self.old.taken))

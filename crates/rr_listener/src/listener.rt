@@ -1,4 +1,5 @@
-//! A listener on this machine, whose connections are served one after the other.
+//! A listener on this machine, whose connections are served one after the other. `rr_cli` opens one
+//! to serve, and one to ask itself.
 
 ghost use Rattle.std.specs.Prelude.{◌≡◌, ◌+◌, ◌<◌, ◌^◌, IfOk, OnErr, OnOk};
 ghost use Rattle.std.specs.Option.{option_map};
@@ -48,8 +49,8 @@ impl<'a> Listener<'a> {
         self.accept_error.as_ref()
     }
 
-    /// What an accept that ended so is to whom serves it, with its error kept, and counted as a
-    /// turn.
+    /// The connection of an accept that ended so, or that it failed. An error is kept, and counted
+    /// as a turn; a connection is no turn yet, and no error is kept then.
     fn keep(&mut self, accepted: io::Result<Stream<'a>>) -> Result<Stream<'a>, AcceptFault>
         requires { self.old.turns + 1 < 2 ^ 64 }
         ensures kept { self.new.accept_error ≡ result_err accepted.entry }

@@ -1,4 +1,4 @@
-//! What a peer sends, and how long its request is waited for.
+//! What a peer sends, and how long its request is waited for: one side of a `stream`.
 
 ghost use Rattle.std.specs.Prelude.{◌≡◌, length};
 ghost use Rattle.std.specs.Duration.{as_nanos};
@@ -45,7 +45,7 @@ impl<'a> PeerReader<'a> {
     }
 
     /// Takes in what the peer still sends, to its end, but at most for a second, and at most 2 MiB
-    /// of it. The error is the system's, or that the time is over.
+    /// of it: no clause says so. The error is the system's, or that the time is over.
     pub fn drain(mut self) -> io::Result<()> {
         self.deadline = Deadline::new();
         self.skip_rest()

@@ -1,4 +1,4 @@
-//! What a peer is sent, and how long it is given to take that.
+//! What a peer is sent, and how long it is given to take that: one side of a `stream`.
 
 ghost use Rattle.std.specs.Prelude.{◌≡◌, ◌+◌, ◌-◌, ◌^◌, IfOk, OnErr, length, min, nat_lt};
 ghost use Rattle.std.specs.Duration.{as_nanos};
@@ -53,12 +53,13 @@ impl<'a> PeerWriter<'a> {
         self.written > 0
     }
 
-    /// Tells the peer that nothing more comes. The error is the system's.
+    /// Tells the peer that nothing more comes, which no clause says. The error is the system's.
     pub fn finish(self) -> io::Result<()> {
         self.socket.finish()
     }
 
-    /// Sends some of the bytes by one call. The error is the system's, or that the time is over.
+    /// Sends some of the bytes by one call, and counts those that went out, up to `u64::MAX`. The
+    /// error is the system's, or that the time is over; then none are counted.
     fn send(&mut self, buf: &[u8]) -> io::Result<usize>
         ensures spends { SpendsCall (reply_time self.old.written) (length buf.now)
             self.old.deadline self.new.deadline result }

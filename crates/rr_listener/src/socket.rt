@@ -1,4 +1,4 @@
-//! The socket of a peer, whose calls wait.
+//! The socket of a peer, whose calls wait: `peer_reader` reads from it, and `peer_writer` writes.
 
 ghost use Rattle.std.specs.Io.{ReadsAtMost, WritesAtMost};
 
@@ -8,7 +8,8 @@ use std::io::{Read, Write};
 use std::net::{Shutdown, TcpStream};
 use std::time::Duration;
 
-/// A socket that is read and written only while a wait for its peer goes on.
+/// A socket that is read and written only while a wait for its peer goes on. Contracts see nothing
+/// of it but how many bytes a call may pass.
 #[derive(Drop)]
 pub struct PeerSocket(TcpStream);
 
@@ -28,14 +29,16 @@ impl PeerSocket {
         self.0.set_write_timeout(Some(timeout))
     }
 
-    /// Reads some bytes by one call, which is the wait. The error is the system's.
+    /// Reads some bytes by one call, which is the wait, at most as many as `buf` has. The error is
+    /// the system's.
     pub fn read(&mut self, _wait: &Wait, buf: &mut [u8]) -> io::Result<usize>
         ensures { ReadsAtMost result buf.new }
     {
         self.0.read(buf)
     }
 
-    /// Writes some bytes by one call, which is the wait. The error is the system's.
+    /// Writes some bytes by one call, which is the wait, at most as many as `buf` has. The error is
+    /// the system's.
     pub fn write(&mut self, _wait: &Wait, buf: &[u8]) -> io::Result<usize>
         ensures { WritesAtMost result buf.now }
     {

@@ -13,7 +13,8 @@ use std::net::TcpListener;
 /// A connection over TCP: what the peer sends, and what it is sent.
 pub type Stream<'a> = Joined<Counted<PeerReader<'a>>, Counted<PeerWriter<'a>>>;
 
-/// Waits for the next connection to a socket. The error is the system's.
+/// Waits for the next connection to a socket. No call of it has failed, nothing was written to it,
+/// and what its peer sends is not told. The error is the system's.
 pub(crate) fn accept_stream<'a>(rt: &'a HostRuntime, socket: &TcpListener) -> io::Result<Stream<'a>>
     ensures fresh { IfOk result (λ stream. IsFresh
         (⟦<Stream<'static> as Source>⟧.told stream)
@@ -31,7 +32,8 @@ pub(crate) fn accept_stream<'a>(rt: &'a HostRuntime, socket: &TcpListener) -> io
 
 /// Ends a connection, and closes it. If the peer may get what was written it is told first that
 /// nothing more comes, and what it still sends is taken in for a while. For a socket that is closed
-/// over bytes that were not read resets the connection, and the peer may lose the reply.
+/// over bytes that were not read resets the connection, and the peer may lose the reply. No clause
+/// says so.
 pub(crate) fn end_stream(stream: Stream<'_>) {
     let (reader, writer) = stream.into_parts();
     if writer.failed_writes() > 0 {
@@ -45,7 +47,7 @@ pub(crate) fn end_stream(stream: Stream<'_>) {
 }
 
 /// Tells the peer, to which something was written, that nothing more comes, and takes in what it
-/// still sends.
+/// still sends. The error is the system's, or that the time for that is over.
 fn settle(reader: PeerReader<'_>, writer: PeerWriter<'_>) -> io::Result<()>
     requires { 0 < writer.written }
 {

@@ -1,4 +1,4 @@
--- Lemmas on the texts of addresses.
+-- Lemmas on the texts of addresses: for `Address::read`, and for prefixes and spans.
 use Rattle.std.proofs.Common.{◌≡◌, ℕ, ◌==◌, ◌<◌, ◌^◌, true, false, List, ◌∷◌, ◌++◌, Some, refl, ap}
 use Rattle.std.proofs.Common.{subst, sym, arith}
 use Rattle.std.proofs.lemmas.Option.{option_and_then_some}

@@ -1,4 +1,5 @@
--- The spellings of AS numbers, and what is read of them.
+-- The spellings of AS numbers, and what is read of them: for `AsNumber::read`, blocks and names of
+-- sets.
 use Rattle.std.proofs.Common.{◌≡◌, ℕ, ◌+◌, ◌≤◌, ◌<◌, Bool, true, false, cond, List, Option, Some}
 use Rattle.std.proofs.Common.{None, take, drop, refl, ap, ◌∙◌, arith}
 use Rattle.std.specs.Cmp.Lexicographic.{bytes_decides}

@@ -1,4 +1,4 @@
--- The spellings of blocks of AS numbers, and what is read of them.
+-- The spellings of blocks of AS numbers, and what is read of them: for `AsSpan::read`.
 use Rattle.std.proofs.Common.{◌≡◌, ℕ, ◌≤◌, ◌==◌, true, not, List, [], ◌∷◌, take, drop, Some, refl}
 use Rattle.std.proofs.Common.{arith}
 use Rattle.std.proofs.lemmas.Bool.Decides.{nat_tests}

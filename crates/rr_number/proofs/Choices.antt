@@ -1,4 +1,4 @@
--- Lemmas on optional values.
+-- Lemmas on optional values: for all that reads numbers, and for `rr_index`.
 use Rattle.std.proofs.Common.{◌≡◌, Option, Some, None, IfSome, refl}
 use Rattle.std.specs.Option.{option_map}
 

@@ -1,6 +1,5 @@
 -- The printed text of a component: it is its own printed text, has no colon, is no longer than a
--- spelling, and is a
--- component of the same sort.
+-- spelling, and is a component of the same sort. For the names of sets.
 use Rattle.std.proofs.Common.{◌≡◌, ℕ, ◌≤◌, true, ◌||◌, List, Some, None, Option, length, refl, ap}
 use Rattle.std.proofs.Common.{◌∙◌, arith}
 use Rattle.std.proofs.lemmas.Bool.{both_ways}

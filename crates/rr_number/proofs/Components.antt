@@ -1,4 +1,5 @@
--- The components of a text: cut off at the first colon, joined again, and in upper case.
+-- The components of a text: cut off at the first colon, joined again, and in upper case. For the
+-- names of sets and their parents.
 use Rattle.std.proofs.Common.{◌≡◌, ℕ, ◌+◌, ◌<◌, ◌≤◌, ◌==◌, Bool, true, false, not, cond, List, []}
 use Rattle.std.proofs.Common.{◌∷◌, ◌++◌, length, length-append, map, suc, Some, None, nat_lt, refl}
 use Rattle.std.proofs.Common.{ap, ◌∙◌, arith}

@@ -1,4 +1,4 @@
--- Lemmas on texts with a dash between them, and on the blanks beside it.
+-- Lemmas on texts with a dash between them, and on the blanks beside it: for spans and blocks.
 use Rattle.std.proofs.Common.{◌≡◌, ℕ, ◌&&◌, Bool, true, false, cond, not, List, [], ◌∷◌, ◌++◌, Some}
 use Rattle.std.proofs.Common.{refl, ap, sym, subst, ◌∙◌, arith, append_assoc}
 use Rattle.std.proofs.lemmas.Bool.Decides.{nat_tests}

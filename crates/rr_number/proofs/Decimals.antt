@@ -1,4 +1,4 @@
--- Lemmas on decimal numbers.
+-- Lemmas on decimal numbers: for all numbers that are read or printed.
 use Rattle.std.proofs.Common.{length, ◌≡◌, ℕ, ◌^◌, ◌<◌, ◌≤◌, true, List, Some, arith}
 use Rattle.std.proofs.Math.Nat.{pow-le-pow_right}
 use Rattle.std.proofs.lemmas.Bool.Decides.{nat_tests}

@@ -1,4 +1,4 @@
--- Lemmas on two ends with a dash between them.
+-- Lemmas on two ends with a dash between them: for spans and blocks.
 use Rattle.std.proofs.Common.{◌≡◌, ℕ, ◌≤◌, true, nat_le, List, [], ◌∷◌, Option, Some, refl, sym, ap}
 use Rattle.std.proofs.Common.{subst, arith}
 use Rattle.std.proofs.lemmas.Bool.Decides.{nat_tests}

@@ -1,4 +1,4 @@
--- Lemmas on multiples of a number.
+-- Lemmas on multiples of a number: for the spans of prefixes, and for trees of `rr_cover`.
 use Rattle.std.proofs.Common.{◌≡◌, ℕ, ◌+◌, ◌-◌, ◌*◌, ◌/◌, ◌%◌, ◌<◌, ◌≤◌, arith}
 use Rattle.std.proofs.Math.Nat.{div-add-mod, mul-mod_right, mul-le-mul_left, lt_of_mul-lt-mul_left}
 

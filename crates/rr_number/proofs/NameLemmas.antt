@@ -1,4 +1,5 @@
--- What upper case changes of a name: nothing that the rules ask for.
+-- What upper case changes of a name, which is nothing that the rules ask for: for `Name::read`, and
+-- for names of sets.
 use Rattle.std.proofs.Common.{◌≡◌, ℕ, ◌-◌, Bool, true, false, ◌&&◌, List, [], ◌∷◌, length, zero}
 use Rattle.std.proofs.Common.{suc, refl, ◌∙◌, arith, sym, cond, Some, ap, None, subst}
 use Rattle.std.proofs.lemmas.Bool.Decides.{nat_tests}

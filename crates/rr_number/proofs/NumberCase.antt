@@ -1,5 +1,5 @@
 -- Letter case makes no difference to AS numbers, and an AS number is printed no longer than it is
--- spelled.
+-- spelled: for the components of sets' names.
 use Rattle.std.proofs.Common.{◌≡◌, ℕ, ◌+◌, ◌*◌, ◌^◌, ◌<◌, ◌≤◌, true, ◌&&◌, List, [], ◌∷◌, Some}
 use Rattle.std.proofs.Common.{take, drop, length, refl, ap, ◌∙◌, arith, length-drop}
 use Rattle.std.proofs.lemmas.Bool.Decides.{nat_tests}

@@ -1,4 +1,5 @@
--- The orders of prefixes, ranges and operators are total, and only equal ones tie.
+-- The orders of prefixes, ranges and operators are total, and only equal ones tie: for `laws`, and
+-- for all crates that put them in order.
 use Rattle.std.proofs.Common.{◌≡◌, ℕ, refl, sym, ◌∙◌}
 use Rattle.std.specs.Prelude.{◌==◌, if◌then◌else◌}
 use Rattle.std.specs.declared.cmp.Ordering.{Ordering}

@@ -1,4 +1,4 @@
--- Lemmas on the texts of operators.
+-- Lemmas on the texts of operators: for `Operator::read`.
 use Rattle.std.proofs.Common.{◌≡◌, ℕ, ◌<◌, ◌==◌, Bool, true, false, List, [], ◌∷◌, ◌++◌, length}
 use Rattle.std.proofs.Common.{Option, Some, None, cond, nat_le, refl, ap, subst, sym, inl, inr}
 use Rattle.std.proofs.Common.{arith}

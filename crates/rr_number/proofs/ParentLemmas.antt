@@ -1,4 +1,4 @@
--- The parent of a set's name: all of its components but the last.
+-- The parent of a set's name, which is all of its components but the last: for `SetName::parent`.
 use Rattle.std.proofs.Common.{◌≡◌, ◌⊎◌, inl, inr, ⊎_elim, ℕ, ◌-◌, ◌≤◌, ◌==◌, Bool, true, false}
 use Rattle.std.proofs.Common.{◌&&◌, ◌||◌, cond, List, [], ◌∷◌, ◌++◌, length, length-append, map}
 use Rattle.std.proofs.Common.{take, Some, None, refl, ap, sym, ◌∙◌, subst, arith, append_assoc}

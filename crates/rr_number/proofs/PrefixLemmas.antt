@@ -1,4 +1,4 @@
--- Lemmas on the texts of prefixes.
+-- Lemmas on the texts of prefixes: for `Prefix::read`, and for ranges and spans.
 use Rattle.std.proofs.Common.{◌≡◌, ℕ, List, Some, refl, ap, sym, arith}
 use Rattle.std.proofs.lemmas.Option.{option_and_then_some}
 use Rattle.std.specs.Fmt.{decimal}

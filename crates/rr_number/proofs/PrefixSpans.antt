@@ -1,4 +1,5 @@
--- Lemmas on the spans of prefixes.
+-- Lemmas on the spans of prefixes: for `Prefix::new` and `span`, for `laws`, and for all crates
+-- that find routes by their prefixes.
 use Rattle.std.proofs.Common.{◌≡◌, ℕ, ◌+◌, ◌-◌, ◌*◌, ◌/◌, ◌^◌, ◌<◌, ◌≤◌, true, inl, inr, ap, ◌∙◌}
 use Rattle.std.proofs.Common.{arith, ◌⊎◌, not, ◌&&◌, Bool, refl, false}
 use Rattle.std.proofs.lemmas.Nat.{pow_pos, pow-add, pow_below}

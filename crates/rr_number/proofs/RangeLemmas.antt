@@ -1,4 +1,4 @@
--- Lemmas on ranges under operators.
+-- Lemmas on ranges under operators: for `Range::operator`, and for `laws`.
 use Rattle.std.proofs.Common.{◌≡◌, ℕ, ◌+◌, ◌-◌, ◌≤◌, ◌==◌, ◌&&◌, Bool, true, false, Option, Some}
 use Rattle.std.proofs.Common.{None, MatchOption, cond, max, nat_le, refl, ap, subst, ◌∙◌, arith}
 use Rattle.std.proofs.lemmas.Bool.Decides.{nat_tests}

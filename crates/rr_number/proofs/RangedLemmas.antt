@@ -1,4 +1,4 @@
--- Lemmas on the texts of prefixes with operators.
+-- Lemmas on the texts of prefixes with operators: for `read_ranged`, and for `laws`.
 use Rattle.std.proofs.Common.{◌≡◌, ℕ, ◌==◌, ◌⊎◌, true, List, [], ◌∷◌, ◌++◌, length, Some, refl}
 use Rattle.std.proofs.Common.{subst, sym, inl, inr, take-append-drop}
 use Rattle.std.proofs.lemmas.List.{take_at, drop_at}

@@ -1,4 +1,4 @@
--- What is printed of a set's name is a set's name, and its own printed text.
+-- What is printed of a set's name is a set's name, and its own printed text: for `SetName::read`.
 use Rattle.std.proofs.Common.{◌≡◌, ℕ, ◌≤◌, Bool, true, false, ◌||◌, List, [], ◌∷◌, ⊎_elim, length}
 use Rattle.std.proofs.Common.{length-append, map, refl, ap, sym, ◌∙◌, arith}
 use Rattle.std.proofs.lemmas.Bool.{and_from, and_parts, or_cases, le-leb, leb-true}

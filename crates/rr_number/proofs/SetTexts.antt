@@ -1,4 +1,4 @@
--- The printed text of a set's name: component by component, and in upper case.
+-- The printed text of a set's name, component by component, and in upper case: for `SetName::read`.
 use Rattle.std.proofs.Common.{◌≡◌, ℕ, List, [], ◌∷◌, ◌++◌, map, Some, None, refl, ap, sym, ◌∙◌}
 use Rattle.std.proofs.Common.{append_assoc}
 use Rattle.std.specs.List.{join_with_byte}

@@ -1,4 +1,5 @@
--- The words of sets: letter case makes no difference to them, and none of them is an AS number.
+-- The words of sets: letter case makes no difference to them, and none of them is an AS number. For
+-- the components and kinds of sets' names.
 use Rattle.std.proofs.Common.{◌≡◌, ℕ, ◌<◌, true, false, not, List, [], ◌∷◌, Some, drop, take}
 use Rattle.std.proofs.Common.{length, refl, arith}
 use Rattle.std.proofs.lemmas.Bool.Decides.{nat_tests}

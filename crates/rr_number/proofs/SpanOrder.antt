@@ -1,4 +1,5 @@
--- The order of spans is total, only equal spans tie, and the derived order is this one.
+-- The order of spans is total, only equal spans tie, and the derived order is this one: for `laws`,
+-- and for all crates that keep things by spans.
 use Rattle.std.proofs.Common.{◌≡◌, refl}
 use Rattle.std.specs.declared.cmp.Ordering.{Ordering}
 use Rattle.std.specs.declared.cmp.Ordering.TheVariants.{Less, Equal, Greater}

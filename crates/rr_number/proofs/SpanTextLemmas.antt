@@ -1,4 +1,4 @@
--- Lemmas on the texts of spans of addresses.
+-- Lemmas on the texts of spans of addresses: for `Span::read`.
 use Rattle.std.proofs.Common.{◌≡◌, ℕ, true, List, [], ◌∷◌, Option, Some, None, refl, sym, ap, inl}
 use Rattle.std.proofs.Common.{inr, arith}
 use Rattle.std.proofs.lemmas.Bool.Decides.{nat_tests}

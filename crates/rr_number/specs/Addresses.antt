@@ -1,4 +1,5 @@
--- Addresses (RFC 2622, 2): four numbers with dots between them.
+-- Addresses (RFC 2622, 2): four numbers with dots between them. For `Address`, and prefixes and
+-- spans of addresses.
 use Rattle.std.specs.Prelude.{◌≡◌, ℕ, ◌+◌, ◌*◌, List, ◌∷◌, ◌++◌, Option}
 use Rattle.std.specs.Fmt.{decimal}
 use Rattle.std.specs.Int.{byte_at}

@@ -1,4 +1,5 @@
--- Operators on ranges, and the texts of both together (RFC 2622, 2).
+-- Operators on ranges, and the texts of both together (RFC 2622, 2): for `Operator::apply`,
+-- `read_ranged` and `Range::text`.
 use Rattle.std.specs.Prelude.{◌≡◌, ℕ, Bool, false, ◌==◌, ◌&&◌, List, ◌++◌}
 use Rattle.std.specs.Prelude.{Option, Some, None, if◌then◌else◌}
 use Rattle.std.specs.List.{before_first}
@@ -12,7 +13,7 @@ use Rattle.rr_number.specs.Ranges.{RangeParts, bare, bounds_of, range_of}
 use Rattle.rr_number.specs.declared.operator.Operator.{Operator}
 use Rattle.rr_number.specs.declared.operator.Operator.TheVariants.{Plain, Plus, Minus, Lengths}
 
--- An operator changes the lengths of a range, or drops it (RFC 2622, 2).
+-- An operator keeps the prefix of a range and changes its lengths, or drops it (RFC 2622, 2).
 unfoldable pub applied : Operator → RangeParts → Option RangeParts
 applied operator r = option_map (range_of r.prefix) (lengths_under operator (bounds_of r))
 
@@ -43,17 +44,17 @@ abbrev pub is_bounds : Option Bounds → Bounds → Bool
 is_bounds None b = false
 is_bounds (Some c) b = c.low == b.low && c.high == b.high
 
--- An operator says a range where it makes the range of the range's prefix alone (profile).
+-- An operator says a range that it gives where it is applied to the range's own prefix alone
+-- (profile).
 abbrev pub says : Operator → RangeParts → Bool
 says operator r = is_bounds (lengths_under operator (bounds_of (bare r.prefix))) (bounds_of r)
 
--- The first of none, `^+`, `^-` and lengths that says the range (profile).
+-- The first of none, `^+` and `^-` that says the range; and else the range's lengths (profile).
 unfoldable pub operator_for : RangeParts → Operator
 operator_for r =
     if says Plain r then Plain
     else (if says Plus r then Plus else (if says Minus r then Minus else Lengths (bounds_of r)))
 
--- A range is printed as its prefix and, right after it, the operator that is chosen for it
--- (profile).
+-- A range is printed as its prefix and, right after it, its operator as just defined (profile).
 unfoldable pub range_text : RangeParts → List ℕ
 range_text r = prefix_text r.prefix ++ operator_text (operator_for r)

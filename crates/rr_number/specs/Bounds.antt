@@ -1,4 +1,4 @@
--- Bounds on the lengths of prefixes.
+-- Bounds on the lengths of prefixes: for `LengthBounds`, and for what operators make of ranges.
 use Rattle.std.specs.Prelude.{ℕ, ◌≤◌}
 use Rattle.std.specs.declared.cmp.Ordering.{Ordering}
 use Rattle.std.specs.Ordering.{ordering_then, nat_cmp}

@@ -1,5 +1,5 @@
--- Two texts with a dash between them, as the keys of inetnums and as-blocks have them, and the dash
--- of operators.
+-- Two texts with a dash between them, for the keys of inetnums and as-blocks, and the dash of
+-- operators.
 use Rattle.std.specs.Prelude.{◌≡◌, ℕ, true, List, ◌∷◌, ◌++◌, Option}
 use Rattle.std.specs.List.{list_all}
 use Rattle.std.specs.Option.{option_map}
@@ -11,7 +11,7 @@ use Rattle.rr_bytes.specs.Trims.{trim_end, trim_start}
 abbrev pub dash : ℕ
 dash = 45
 
--- Two texts stand with one dash between them, which may have blanks, but no LF, on either side
+-- Two texts stand with a dash between them, which may have blanks, but no LF, on either side
 -- (profile).
 pub record IsDashed (text first last : List ℕ) : Type 0 where
   pub before : List ℕ

@@ -1,4 +1,5 @@
--- The texts of spans: two ends with a dash between them. What an end is, each kind of span says.
+-- The texts of spans of addresses and of AS numbers: two ends with a dash between them. What an end
+-- is, `SpanTexts` and `AsSpans` say.
 use Rattle.std.specs.Prelude.{ℕ, ◌≤◌, nat_le, List, ◌∷◌, ◌++◌, Option, Some, None}
 use Rattle.std.specs.Prelude.{if◌then◌else◌}
 use Rattle.std.specs.Option.{option_and_then}
@@ -21,7 +22,8 @@ abbrev pub ends_of : ℕ → ℕ → Option Ends
 ends_of first last =
     if nat_le first last then Some (record { first = first; last = last }) else None
 
--- The span between the ends that two texts spell, if they spell such (profile).
+-- The span between the ends that two texts spell, if they do and the first is not above the last
+-- (profile).
 unfoldable pub ends_between : (List ℕ → Option ℕ) → List ℕ → List ℕ → Option Ends
 ends_between end_of first last =
     option_and_then (λ x. option_and_then (λ y. ends_of x y) (end_of last)) (end_of first)

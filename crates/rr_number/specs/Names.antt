@@ -1,4 +1,5 @@
--- The names of maintainers and sources, and the words that they may not be.
+-- The names of maintainers and sources, and the reserved words, which no maintainer is named by:
+-- for `Name`, and for names of sets.
 use Rattle.std.specs.Prelude.{◌≡◌, ℕ, Bool, true, not, ◌&&◌, List, [], ◌∷◌, codes}
 use Rattle.std.specs.Prelude.{nat_eq, Option, None, Some, if◌then◌else◌}
 use Rattle.std.specs.List.{list_any, starts_with}
@@ -11,7 +12,7 @@ use Rattle.rr_number.specs.AnySets.{as_any, rs_any}
 abbrev pub name_of : List ℕ → Option (List ℕ)
 name_of bs = if is_name bs then Some (upper bs) else None
 
--- A name as it is kept, which is in upper case (profile).
+-- A name as it is kept: it spells a name, and is in upper case (profile).
 pub record IsUpperName (name : List ℕ) : Type 0 where
   pub spelled : is_name name ≡ true
   pub upper_case : upper name ≡ name
@@ -26,12 +27,12 @@ reserved_words =
     (codes "EXCEPT" ∷ (codes "REFINE" ∷ (codes "NETWORKS"
     ∷ (codes "INTO" ∷ (codes "INBOUND" ∷ (codes "OUTBOUND" ∷ [])))))))))))))))))))
 
--- A name, in upper case, is reserved where it is one of these words (RFC 2622, 2).
+-- A name, in upper case, is reserved where RPSL keeps the word for itself (RFC 2622, 2).
 unfoldable pub is_reserved : List ℕ → Bool
 is_reserved name = list_any (bytes_eq name) reserved_words
 
--- A name, in upper case, may be a maintainer's where it is not reserved and does not begin as sets'
--- names do (RFC 2622, 2).
+-- A name, in upper case, may be a maintainer's where it is not reserved and does not begin with
+-- `AS-` or `RS-` (RFC 2622, 2).
 abbrev pub is_maintainer_name : List ℕ → Bool
 is_maintainer_name name =
     not (is_reserved name)

@@ -1,4 +1,4 @@
--- Decimal numbers as the registry's texts write them.
+-- Decimal numbers within a limit, as octets, lengths and AS numbers are written.
 use Rattle.std.specs.Prelude.{◌≡◌, ℕ, ◌<◌, ◌≤◌, Bool, true, ◌&&◌, List}
 use Rattle.std.specs.Prelude.{length, Option, Some, None, nat_lt, nat_le, if◌then◌else◌}
 use Rattle.std.specs.Str.{all_ascii_digits}

@@ -1,4 +1,4 @@
--- Range operators (RFC 2622, 2).
+-- Range operators (RFC 2622, 2), their texts, and what they make of lengths: for `Operator`.
 use Rattle.std.specs.Prelude.{◌≡◌, ℕ, ◌+◌, ◌≤◌, ◌⊎◌, ◌==◌, ◌&&◌}
 use Rattle.std.specs.Prelude.{List, [], ◌∷◌, ◌++◌, Option, Some, None}
 use Rattle.std.specs.Prelude.{if◌then◌else◌, max, nat_le}
@@ -45,7 +45,7 @@ IsOperator text Plus = text ≡ caret ∷ plus ∷ []
 IsOperator text Minus = text ≡ caret ∷ dash ∷ []
 IsOperator text (Lengths b) = IsOneLength text b ⊎ IsTwoLengths text b
 
--- The lengths of an operator are bounds (RFC 2622, 2).
+-- The lengths of an operator, if it has any, are in order and at most 32 (RFC 2622, 2).
 abbrev pub IsOperatorValue : Operator → Type 0
 IsOperatorValue Plain = Unit {0}
 IsOperatorValue Plus = Unit {0}
@@ -97,9 +97,9 @@ operator_text Plus = caret ∷ plus ∷ []
 operator_text Minus = caret ∷ dash ∷ []
 operator_text (Lengths b) = lengths_text b.low b.high
 
--- What an operator makes of a least and a greatest length, before any is dropped: `^+` goes up to
--- 32, `^-` begins one above the least, `^n-m` goes from n, or the least where this is greater, to m
--- (RFC 2622, 2).
+-- What an operator makes of a least and a greatest length, before any is dropped (RFC 2622, 2).
+-- `Plain` leaves them; `^+` goes from the least to 32, and `^-` from one above it to 32. `^n-m`
+-- goes from n, or the least where this is greater, to m.
 abbrev pub tabled : Operator → Bounds → Bounds
 tabled Plain b = b
 tabled Plus b = record { low = b.low; high = 32 }
@@ -126,8 +126,8 @@ abbrev pub operator_bounds : Operator → Bounds
 operator_bounds (Lengths b) = b
 operator_bounds _ = record { low = 0; high = 0 }
 
--- Operators are ordered by their forms: none, `^+`, `^-`, lengths, and these by their bounds
--- (profile).
+-- Operators are ordered by their forms: none, `^+`, `^-`, lengths. Lengths are ordered by their
+-- least, then by their greatest (profile).
 abbrev pub operator_cmp : Operator → Operator → Ordering
 operator_cmp o p = ordering_then (nat_cmp (operator_place o) (operator_place p))
     (bounds_cmp (operator_bounds o) (operator_bounds p))

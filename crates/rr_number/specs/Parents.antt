@@ -1,4 +1,5 @@
--- Which part of a set's name names the set's parent, and what that parent is.
+-- Which part of a set's name names the set's parent, and what that parent is: for
+-- `SetName::parent`, and for the verdict on a new set.
 use Rattle.std.specs.Prelude.{ℕ, List, [], ◌∷◌, Option, None, Some, if◌then◌else◌}
 use Rattle.std.specs.List.{join_with_byte, list_all}
 use Rattle.std.specs.Option.{option_map, option_map_or}
@@ -7,13 +8,13 @@ use Rattle.rr_number.specs.SetNames.{components, is_as_number}
 use Rattle.rr_number.specs.declared.set_name.parent.Parent.{Parent}
 use Rattle.rr_number.specs.declared.set_name.parent.Parent.TheVariants.{Number, Set, Bare}
 
--- all parts but the last
+-- All parts but the last.
 abbrev pub but_last : List (List ℕ) → List (List ℕ)
 but_last [] = []
 but_last (c ∷ []) = []
 but_last (c ∷ d ∷ ds) = c ∷ but_last (d ∷ ds)
 
--- Some components as one text, with colons between them (RFC 2622, 5).
+-- Components as one text, with colons between them, if there are any (RFC 2622, 5).
 abbrev pub parent_text_by : List (List ℕ) → Option (List ℕ)
 parent_text_by [] = None
 parent_text_by (c ∷ cs) = Some (join_with_byte 58 (c ∷ cs))

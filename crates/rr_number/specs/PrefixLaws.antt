@@ -1,4 +1,4 @@
--- How prefixes lie among each other as sets of addresses.
+-- How prefixes lie among each other as sets of addresses: laws of `src/laws.rt`.
 use Rattle.std.specs.Prelude.{◌≡◌, true, false, ◌≤◌}
 use Rattle.std.specs.Cmp.{IsTotalOrder}
 use Rattle.std.specs.FinMap.{IsAntisymmetric}

@@ -1,4 +1,5 @@
--- Prefixes (RFC 2622, 2): an address and how many of its first bits count.
+-- Prefixes (RFC 2622, 2): an address and how many of its first bits count. For `Prefix`, ranges and
+-- routes.
 use Rattle.std.specs.Prelude.{◌≡◌, ℕ, ◌+◌, ◌-◌, ◌%◌, ◌^◌, ◌<◌}
 use Rattle.std.specs.Prelude.{◌≤◌, List, ◌∷◌, ◌++◌, Option}
 use Rattle.std.specs.Fmt.{decimal}
@@ -47,7 +48,8 @@ slash = 47
 abbrev pub IsLength : List ℕ → ℕ → Type 0
 IsLength text n = IsNumber 2 33 text n
 
--- A prefix is spelled as an address, a slash and a length (RFC 2622, 2).
+-- A prefix is spelled as an address, a slash and a length (RFC 2622, 2); bits past the length are
+-- read as zero (profile).
 pub record IsPrefix (text : List ℕ) (p : PrefixParts) : Type 0 where
   pub address_text : List ℕ
   pub length_text : List ℕ

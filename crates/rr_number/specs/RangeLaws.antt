@@ -1,4 +1,4 @@
--- What operators mean for ranges as sets of prefixes.
+-- What operators mean for ranges as sets of prefixes: laws of `src/laws.rt`.
 use Rattle.std.specs.Prelude.{◌≡◌, ℕ, Bool, false, ◌&&◌, MatchOption, Some, nat_le}
 use Rattle.std.specs.Cmp.{IsTotalOrder}
 use Rattle.std.specs.FinMap.{IsAntisymmetric}
@@ -14,9 +14,9 @@ use Rattle.rr_number.specs.declared.operator.Operator.{Operator}
 abbrev pub is_between : Bounds → ℕ → Bool
 is_between b n = nat_le b.low n && nat_le n b.high
 
--- What an operator makes of a range admits what the range's prefix covers, of the lengths that the
--- operator makes of its lengths; where the operator drops the range, no prefix has such a length
--- (RFC 2622, 2).
+-- What an operator makes of a range admits exactly what the range's prefix covers, of the lengths
+-- that the operator makes of its lengths. Where the operator drops the range, no prefix has such a
+-- length (RFC 2622, 2).
 abbrev pub OperatorsAdmit : Type 0
 OperatorsAdmit =
     (o : Operator) (r : RangeParts) (q : PrefixParts) → IsMasked q
@@ -30,12 +30,13 @@ OperatorsKeepRanges =
     (o : Operator) (r s : RangeParts) → IsOperatorValue o → IsRange r → applied o r ≡ Some s
     → IsRange s
 
--- The text of a range spells its prefix and an operator (profile).
+-- The text of a range spells its prefix and the operator that is printed for it (profile).
 abbrev pub PrintedRangesAreRead : Type 0
 PrintedRangesAreRead =
     (r : RangeParts) → IsRange r → IsRanged (range_text r) r.prefix (operator_for r)
 
--- The operator with which a range is printed makes the range of its prefix alone (profile).
+-- The operator with which a range is printed gives the range where it is applied to the range's
+-- prefix alone (profile).
 abbrev pub PrintedOperatorsMakeRanges : Type 0
 PrintedOperatorsMakeRanges =
     (r : RangeParts) → IsRange r → applied (operator_for r) (bare r.prefix) ≡ Some r

@@ -1,4 +1,4 @@
--- Ranges of prefixes (RFC 2622, 2).
+-- Ranges of prefixes (RFC 2622, 2): for `Range`, `mnt-routes` and route-sets.
 use Rattle.std.specs.Prelude.{ℕ, ◌≤◌, Bool, ◌&&◌, nat_le}
 use Rattle.std.specs.declared.cmp.Ordering.{Ordering}
 use Rattle.std.specs.Ordering.{ordering_then, nat_cmp}
@@ -13,7 +13,7 @@ pub record RangeParts : Type 0 where
   pub high : ℕ
 
 -- A range has a prefix whose bits past its length are zero, a least length not below the prefix's,
--- and a greatest that is not below the least and not above 32 (RFC 2622, 2).
+-- and a greatest from the least to 32 (RFC 2622, 2).
 pub record IsRange (r : RangeParts) : Type 0 where
   pub masked : IsMasked r.prefix
   pub inside : r.prefix.length ≤ r.low

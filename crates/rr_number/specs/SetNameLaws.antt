@@ -1,4 +1,4 @@
--- How the names of sets, their spellings and their kinds go together.
+-- How the names of sets, their spellings and their kinds go together: laws of `src/laws.rt`.
 use Rattle.std.specs.Prelude.{◌≡◌, ℕ, true, false, List, [], ◌∷◌, ◌++◌, map, Some}
 use Rattle.rr_bytes.specs.LetterCase.{upper}
 use Rattle.rr_number.specs.Parents.{parent_text}
@@ -25,7 +25,7 @@ KindsAreTold =
     (name : List ℕ) → IsSetText name → is_any_set name ≡ false
     → is_name_of_kind (kind_of name) name ≡ true
 
--- The components of a name are those of its parent, and one more.
+-- The components of a name are those of its parent, and one more after them.
 abbrev pub ParentsLackTheLast : Type 0
 ParentsLackTheLast =
     (name parent : List ℕ) → parent_text name ≡ Some parent

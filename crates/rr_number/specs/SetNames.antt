@@ -1,4 +1,4 @@
--- The names of as-sets and route-sets.
+-- The names of as-sets and route-sets: for `SetName`, keys and members.
 use Rattle.std.specs.Prelude.{◌≡◌, ℕ, Bool, not, ◌==◌, ◌&&◌, ◌||◌, List, length}
 use Rattle.std.specs.Prelude.{map, codes, is_some, nat_eq, nat_le, Option, None, Some}
 use Rattle.std.specs.Prelude.{if◌then◌else◌, true}
@@ -71,7 +71,7 @@ set_text text = join_with_byte 58 (map component_text (components text))
 abbrev pub set_name_of : List ℕ → Option (List ℕ)
 set_name_of text = if is_set_name text then Some (set_text text) else None
 
--- A set's name as it is kept, which is as it is printed (profile).
+-- A set's name as it is kept: it spells a set's name, and is as it is printed (profile).
 pub record IsSetText (text : List ℕ) : Type 0 where
   pub spelled : is_set_name text ≡ true
   pub printed : set_text text ≡ text

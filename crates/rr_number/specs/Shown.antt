@@ -1,4 +1,4 @@
--- What a call gives of a value, and what is true of the value.
+-- What a call gives of a value, and what is true of the value: for calls that show what is inside.
 use Rattle.std.specs.Prelude.{◌≡◌}
 
 -- A call gives a value or a part of it, as it is; and the value has the property that each value of

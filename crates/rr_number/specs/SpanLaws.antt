@@ -1,4 +1,5 @@
--- What the tests on spans mean for spans as sets of numbers, and how they fit together.
+-- What the tests on spans mean for spans as sets of numbers, and how they fit together: laws of
+-- `src/span/laws.rt`.
 use Rattle.std.specs.Prelude.{◌≡◌, ℕ, true, false, ◌+◌, ◌<◌, ◌≤◌, ◌⊎◌}
 use Rattle.std.specs.Prelude.{◌↔◌}
 use Rattle.std.specs.Cmp.{IsTotalOrder}
@@ -10,7 +11,7 @@ abbrev pub CoveringIsInclusion : Type 0
 CoveringIsInclusion =
     (s t : Ends) → IsSpan t → (covers s t ≡ true) ↔ ((n : ℕ) → IsIn n t → IsIn n s)
 
--- Two spans meet where some number lies in both.
+-- Two spans meet exactly where some number lies in both.
 abbrev pub MeetingIsSharing : Type 0
 MeetingIsSharing =
     (s t : Ends) → IsSpan s → IsSpan t
@@ -39,7 +40,7 @@ ApartOrNested =
     (s t : Ends) → crosses s t ≡ false
     → (meets s t ≡ false) ⊎ ((covers s t ≡ true) ⊎ (covers t s ≡ true))
 
--- A span is no smaller than one that it covers, and as large only as itself.
+-- A span is larger than each other span that it covers.
 abbrev pub CoverIsLarger : Type 0
 CoverIsLarger =
     (s t : Ends) → IsSpan t → covers s t ≡ true → (s ≡ t) ⊎ (size t < size s)

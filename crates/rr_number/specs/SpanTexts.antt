@@ -1,4 +1,4 @@
--- The texts of spans of addresses, which are the keys of inetnums.
+-- The texts of spans of addresses, which are the keys of inetnums: for `Span::read` and `text`.
 use Rattle.std.specs.Prelude.{◌≡◌, ℕ, ◌⊎◌, List, Option, Some, None}
 use Rattle.std.specs.Option.{option_map}
 use Rattle.rr_number.specs.Addresses.{IsAddress, address_of, address_text}
@@ -13,7 +13,8 @@ pub record IsPrefixSpan (text : List ℕ) (s : Ends) : Type 0 where
   pub spelled : IsPrefix text prefix
   pub value : s ≡ span_of prefix
 
--- A span is spelled as two addresses or as a prefix (profile).
+-- A span is spelled as two addresses with a dash between them, the first not above the last, or as
+-- a prefix (profile).
 abbrev pub IsSpanText : List ℕ → Ends → Type 0
 IsSpanText text s = IsEndsText IsAddress text s ⊎ IsPrefixSpan text s
 
@@ -26,6 +27,6 @@ span_by text None = option_map span_of (prefix_of text)
 unfoldable pub spelled_span : List ℕ → Option Ends
 spelled_span text = span_by text (dashed_of text)
 
--- A span is printed as its two addresses (profile).
+-- A span is printed as its two addresses with ` - ` between them (profile).
 unfoldable pub span_text : Ends → List ℕ
 span_text s = ends_text address_text s

@@ -1,4 +1,5 @@
--- Spans of numbers: runs of addresses, or of AS numbers, seen as sets.
+-- Spans of numbers: runs of addresses, or of AS numbers, seen as sets. For `Span`, `AsSpan` and all
+-- that covers.
 use Rattle.std.specs.Prelude.{ℕ, refl, Bool, not, ◌&&◌, ◌+◌, ◌-◌, ◌^◌, ◌<◌}
 use Rattle.std.specs.Prelude.{◌≤◌, nat_le}
 use Rattle.std.specs.Coded.{Coded, code_by, coded×, coded_ℕ}
@@ -10,7 +11,7 @@ pub record Ends : Type 0 where
   pub first : ℕ
   pub last : ℕ
 
--- Ends are stored as the pair of them.
+-- The code of two ends is the pair of them, by which maps of spans tell them apart.
 abbrev pub ends_code : Coded Ends
 ends_code =
     code_by (ℕ × ℕ) (coded× coded_ℕ coded_ℕ) (λ s. (s.first, s.last))
@@ -26,11 +27,12 @@ pub record IsIn (n : ℕ) (s : Ends) : Type 0 where
   pub from : s.first ≤ n
   pub to : n ≤ s.last
 
--- A span covers another where each number of the other lies in it (RFC 2725, 9).
+-- A span covers another where it begins no later and ends no earlier: each number of the other lies
+-- in it (RFC 2725, 9).
 abbrev pub covers : Ends → Ends → Bool
 covers s t = nat_le s.first t.first && nat_le t.last s.last
 
--- Two spans meet where some number lies in both.
+-- Two spans meet where neither begins after the other ends: some number lies in both.
 abbrev pub meets : Ends → Ends → Bool
 meets s t = nat_le s.first t.last && nat_le t.first s.last
 
@@ -38,7 +40,7 @@ meets s t = nat_le s.first t.last && nat_le t.first s.last
 abbrev pub crosses : Ends → Ends → Bool
 crosses s t = meets s t && (not (covers s t) && not (covers t s))
 
--- The size of a span is the count of its numbers.
+-- The size of a span is the count of its numbers, both ends among them.
 abbrev pub size : Ends → ℕ
 size s = s.last - s.first + 1
 

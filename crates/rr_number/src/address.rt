@@ -52,7 +52,7 @@ impl Address {
         read_address(text)
     }
 
-    /// The address as four numbers joined by dots, without leading zeros.
+    /// The address as four numbers joined by dots, without leading zeros (RFC 2622, 2).
     pub fn text(self) -> NumberText
         ensures { result ≡ address_text self }
     {
@@ -93,6 +93,7 @@ impl fmt::Display for Address {
     }
 }
 
+/// The octet that the text spells, if it does.
 #[inline]
 fn read_octet(text: &[u8]) -> Option<u8>
     ensures { result ≡ octet_of text.now }
@@ -101,6 +102,7 @@ fn read_octet(text: &[u8]) -> Option<u8>
     Some(number as u8)
 }
 
+/// The address of four texts, if each spells an octet.
 #[inline]
 #[tactic(auto, unfolding(crate::specs::Addresses::joined_of))]
 fn join(first: &[u8], second: &[u8], third: &[u8], fourth: &[u8]) -> Option<Address>

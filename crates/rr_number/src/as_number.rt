@@ -23,7 +23,7 @@ const GREATEST: u32 = 4_294_967_295;
 /// The most digits that an AS number is spelled in (profile).
 const MOST_DIGITS: usize = 10;
 
-/// The number of an autonomous system.
+/// The number of an autonomous system. AS numbers are ordered as numbers (profile).
 #[derive(Clone, Copy, Debug, PartialEq, Eq, PartialOrd, Ord)]
 pub struct AsNumber {
     number: u32,
@@ -58,7 +58,7 @@ impl AsNumber {
     }
 
     /// The AS number that the bytes spell: `AS`, in any letter case, and 1 to 10 digits of a number
-    /// of at most 4294967295; `None` where they spell none (RFC 2622, 2; RFC 6793, 3; the count of
+    /// of at most 4294967295. `None` where they spell none (RFC 2622, 2; RFC 6793, 3; the count of
     /// digits: profile).
     pub fn read(bytes: &[u8]) -> Option<Self>
         ensures { ReadsExactly IsAsNumber as_number_of bytes.now result }
@@ -69,7 +69,7 @@ impl AsNumber {
         }
     }
 
-    /// The printed text: `AS` and the number without leading zeros.
+    /// The printed text: `AS` and the number without leading zeros (RFC 5396, 2).
     pub fn text(self) -> NumberText
         ensures { result ≡ as_number_text self }
     {
@@ -78,7 +78,8 @@ impl AsNumber {
         text
     }
 
-    /// Writes the printed text. After a fault the writer has taken the beginning of it.
+    /// Writes the printed text. After a fault the writer has taken the beginning of it, and not
+    /// all.
     pub fn print_to<W: Sink>(&self, writer: &mut W) -> io::Result<()>
         ensures { Writes (W.told writer.old) (W.told writer.new)
             (as_number_text self.now) result }
@@ -118,6 +119,7 @@ impl fmt::Display for AsNumber {
     }
 }
 
+/// The number of the AS number that the bytes spell, if they spell one.
 #[tactic(auto, unfolding(crate::specs::AsNumbers::as_number_of))]
 fn number_at(bytes: &[u8]) -> Option<u32>
     ensures { result ≡ as_number_of bytes.now }
@@ -132,6 +134,7 @@ fn number_at(bytes: &[u8]) -> Option<u32>
     number_in(digits)
 }
 
+/// The number that the text spells in one to ten digits, if it is that of an AS.
 #[tactic(auto, unfolding(crate::specs::Numerals::number_of))]
 fn number_in(digits: &[u8]) -> Option<u32>
     ensures { result ≡ number_of 10 (greatest_as_number + 1) digits.now }

@@ -1,4 +1,4 @@
-//! Blocks of AS numbers, the keys of as-blocks.
+//! Blocks of AS numbers, which are read, printed and ordered here: the keys of as-blocks.
 
 ghost use Rattle.std.specs.Prelude.{◌≡◌, Some};
 ghost use Rattle.rr_io.specs.Sending.{Writes};
@@ -14,8 +14,8 @@ use rr_io::{Sink, write_all};
 use std::marker::Model;
 use std::{fmt, io};
 
-/// The AS numbers from a first to a last one, both included, as the key of an as-block has them;
-/// ordered by the first number, then by the last (RFC 2725, 9; profile).
+/// The AS numbers from a first to a last one, both included, as the key of an as-block has them
+/// (RFC 2725, 9). Blocks are ordered by the first number, then by the last (profile).
 #[derive(Clone, Copy, Debug, PartialEq, Eq, PartialOrd, Ord)]
 pub struct AsSpan {
     span: Span,
@@ -44,29 +44,31 @@ impl AsSpan {
         AsSpan { span }
     }
 
-    /// The block's numbers.
+    /// The span of the block's numbers: AS numbers, the first not above the last.
     pub fn span(self) -> Span
         ensures { Shows IsAsSpan self self result }
     {
         self.span
     }
 
-    /// The block that the text spells: two AS numbers with `-` between them, which may have blanks
-    /// on either side, the first not above the last; `None` where it spells none (profile).
+    /// The block that the whole text spells: two AS numbers with `-` between them, the first not
+    /// above the last; blanks, but no LF, may stand beside the `-`. `None` where it spells none
+    /// (profile).
     pub fn read(text: &[u8]) -> Option<Self>
         ensures { ReadsExactly IsAsSpanText as_span_of text.now result }
     {
         read_block(text)
     }
 
-    /// The printed text: the two AS numbers with ` - ` between them.
+    /// The printed text: the two AS numbers with ` - ` between them (profile).
     pub fn text(self) -> NumberText
         ensures { result ≡ as_span_text self }
     {
         ends_text::<AsNumber>(self.span)
     }
 
-    /// Writes the printed text. After a fault the writer has taken the beginning of it.
+    /// Writes the printed text. After a fault the writer has taken the beginning of it, and not
+    /// all.
     pub fn print_to<W: Sink>(&self, writer: &mut W) -> io::Result<()>
         ensures { Writes (W.told writer.old) (W.told writer.new)
             (as_span_text self.now) result }
@@ -75,6 +77,7 @@ impl AsSpan {
     }
 }
 
+/// The block that the text spells, if it does.
 fn read_block(text: &[u8]) -> Option<AsSpan>
     ensures { result ≡ as_span_of text.now }
 {

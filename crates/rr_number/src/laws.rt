@@ -1,5 +1,5 @@
-//! What holds of addresses, prefixes, operators, ranges, spans, AS numbers and names together. Each
-//! function states a law and does nothing.
+//! What holds of addresses, prefixes, operators, ranges, spans, AS numbers and names together: for
+//! readers, and for the proofs of other crates. Each function states a law and does nothing.
 ghost use Rattle.std.specs.Prelude.{◌≡◌, ℕ, ◌<◌, ◌≤◌, ◌^◌, List, Some};
 ghost use Rattle.std.specs.Ordering.{nat_cmp};
 ghost use Rattle.rr_bytes.specs.LetterCase.{upper};
@@ -48,8 +48,8 @@ pub fn printed_operators_are_read()
         → IsOperator (operator_text operator) operator }
 {}
 
-/// What is printed is read again: the text of a range spells its prefix and an operator, and this
-/// makes the range of the prefix alone.
+/// What is printed is read again: the text of a range spells its prefix and the operator printed
+/// for it, which gives the range where it is applied to the prefix alone.
 pub fn printed_ranges_are_read()
     ensures spelled { PrintedRangesAreRead }
     ensures made { PrintedOperatorsMakeRanges }
@@ -60,29 +60,30 @@ pub fn printed_spans_are_read()
     ensures { (span : Ends) → IsSpan span → IsSpanText (span_text span) span }
 {}
 
-/// An AS number is read again from its printed text.
+/// What is printed is read again: the text of an AS number spells it, and is read as it.
 pub fn as_numbers_are_read_again()
     ensures spelled { (n : ℕ) → n ≤ greatest_as_number → IsAsNumber (as_number_text n) n }
     ensures again { (n : ℕ) → n ≤ greatest_as_number
         → as_number_of (as_number_text n) ≡ Some n }
 {}
 
-/// A block is read again from its printed text.
+/// What is printed is read again: the text of a block spells it.
 pub fn printed_blocks_are_read()
     ensures { (block : Ends) → IsAsSpan block → IsAsSpanText (as_span_text block) block }
 {}
 
 /// A name is read again from its bytes, letter case makes no difference to what is read, and what
-/// is read is in upper case.
+/// is read is a name in upper case.
 pub fn names_are_read_again()
     ensures again { (name : List ℕ) → IsUpperName name → name_of name ≡ Some name }
     ensures case_ignored { (a b : List ℕ) → upper a ≡ upper b → name_of a ≡ name_of b }
     ensures kept { (bs name : List ℕ) → name_of bs ≡ Some name → IsUpperName name }
 {}
 
-/// A set's name is read again from its printed text, and from it in any letter case. What is read
-/// has the components of the spelling, each as it is printed. Unless it is `AS-ANY` or `RS-ANY`,
-/// its components are those of its kind. Its parent has all of them but the last.
+/// A set's name is read again from its printed text, and letter case makes no difference to what is
+/// read. What is read has the components of the spelling, each as it is printed. Unless it is
+/// `AS-ANY` or `RS-ANY`, each component is an AS number or a word of its kind, and at least one is
+/// such a word. Where there are several, the text of its parent has all of them but the last.
 pub fn set_names_are_read_again()
     ensures again { SetNamesAreReadAgain }
     ensures case_ignored { SetNamesIgnoreCase }
@@ -96,7 +97,7 @@ pub fn prefixes_have_spans()
     ensures { PrefixesHaveSpans }
 {}
 
-/// Two prefixes lie apart, or one covers the other.
+/// Two prefixes never cross: they lie apart, or one covers the other.
 pub fn prefixes_never_cross()
     ensures { PrefixesNeverCross }
 {}
@@ -111,8 +112,9 @@ pub fn spans_tell_prefixes()
     ensures { SpansTellPrefixes }
 {}
 
-/// What an operator makes of a range admits what the range's prefix covers, of the lengths that the
-/// operator makes of its lengths. Where the operator drops the range, no prefix has such a length.
+/// What an operator makes of a range admits exactly what the range's prefix covers, of the lengths
+/// that the operator makes of its lengths. Where the operator drops the range, no prefix has such a
+/// length.
 pub fn operators_admit_what_they_say()
     ensures { OperatorsAdmit }
 {}
@@ -137,20 +139,21 @@ pub fn as_numbers_are_ordered()
     ensures { (a b : ℕ) → ⟦<AsNumber as Ord>⟧.cmp a b ≡ nat_cmp a b }
 {}
 
-/// Prefixes are ordered by address, then by length, and only equal ones tie.
+/// Prefixes are ordered by address, then by length. The order is total, and only equal ones tie.
 pub fn prefixes_are_ordered()
     ensures derived { (p q : PrefixParts) → ⟦<Prefix as Ord>⟧.cmp p q ≡ prefix_cmp p q }
     ensures ordered { PrefixesAreOrdered }
 {}
 
-/// Ranges are ordered by prefix, then by least and by greatest length, and only equal ones tie.
+/// Ranges are ordered by prefix, then by least and by greatest length. The order is total, and only
+/// equal ones tie.
 pub fn ranges_are_ordered()
     ensures derived { (r s : RangeParts) → ⟦<Range as Ord>⟧.cmp r s ≡ range_cmp r s }
     ensures ordered { RangesAreOrdered }
 {}
 
-/// Operators are ordered by their forms, none, `^+`, `^-` and lengths, then by their lengths, and
-/// only equal ones tie.
+/// Operators are ordered by their forms, none, `^+`, `^-` and lengths, then by their least and by
+/// their greatest length. The order is total, and only equal ones tie.
 pub fn operators_are_ordered()
     ensures derived { (o p : Operator) → ⟦<Operator as Ord>⟧.cmp o p ≡ operator_cmp o p }
     ensures ordered { OperatorsAreOrdered }

@@ -1,5 +1,7 @@
 //! The numbers and names of routing: addresses, prefixes, ranges of prefixes with their operators,
-//! AS numbers, spans, names. Each has an exact reader and an exact printer.
+//! AS numbers, spans, names. They are for all crates that speak of objects. Each is read from
+//! exactly the texts that spell it, a range as a prefix and an operator, and printed as one of
+//! them.
 #![tactic(auto)]
 
 mod address;

@@ -1,4 +1,4 @@
-//! Names: of maintainers and sources, and the words that they may not be.
+//! Names, of maintainers and sources, and the reserved words, which no maintainer is named by.
 
 ghost use Rattle.std.specs.Prelude.{◌≡◌, ℕ, IfOk, List, Some};
 ghost use Rattle.std.specs.List.{list_any};
@@ -17,7 +17,7 @@ use std::alloc::{AllocError, Global};
 use std::marker::Model;
 use std::{fmt, io};
 
-/// The words that no object and no maintainer is named by (RFC 2622, 2).
+/// The words that RPSL keeps for itself, in upper case (RFC 2622, 2).
 const RESERVED: [&[u8]; 20] = [
     b"ANY",
     AS_ANY,
@@ -42,7 +42,8 @@ const RESERVED: [&[u8]; 20] = [
 ];
 
 /// A name, in upper case: 1 to 80 letters, digits, `_` and `-`, the first a letter, the last a
-/// letter or a digit (RFC 2622, 2). Names are ordered by their bytes (profile).
+/// letter or a digit (RFC 2622, 2; the count and the case: profile). Names are ordered by their
+/// bytes (profile).
 #[derive(Debug, PartialEq, Eq, PartialOrd, Ord, Drop)]
 pub struct Name {
     text: NameText,
@@ -62,8 +63,8 @@ impl Model for Name {
 }
 
 impl Name {
-    /// The name that the bytes spell, in any letter case; `None` where they spell none. A reserved
-    /// word is a name. The error is that memory ran out.
+    /// The name that the bytes spell, in any letter case; `None` where they spell none (RFC 2622,
+    /// 2). It is in upper case, and may be a reserved word. The error is that memory ran out.
     pub fn read(alloc: Global, bytes: &[u8]) -> Result<Option<Self>, AllocError>
         ensures { IfOk result (λ name. name ≡ name_of bytes.now) }
     {
@@ -76,7 +77,7 @@ impl Name {
     }
 
     /// The maintainer's name that the bytes spell, in any letter case; `None` where they spell
-    /// none, as `AS-X` or a reserved word. The error is that memory ran out.
+    /// none, as `AS-X` or a reserved word (RFC 2622, 2). The error is that memory ran out.
     pub fn read_maintainer(alloc: Global, bytes: &[u8]) -> Result<Option<Self>, AllocError>
         ensures { IfOk result (λ name. name ≡ maintainer_name_of bytes.now) }
     {
@@ -86,7 +87,7 @@ impl Name {
         }
     }
 
-    /// The name's bytes, in upper case.
+    /// The name's bytes, which spell a name and are in upper case.
     pub fn as_bytes(&self) -> &[u8]
         ensures { Shows IsUpperName self.now self.now result.now }
     {
@@ -110,7 +111,7 @@ impl Name {
         !self.is_reserved() && !bytes.starts_with(b"AS-") && !bytes.starts_with(b"RS-")
     }
 
-    /// Writes the name. After a fault the writer has taken the beginning of it.
+    /// Writes the name. After a fault the writer has taken the beginning of it, and not all.
     pub fn print_to<W: Sink>(&self, writer: &mut W) -> io::Result<()>
         ensures { Writes (W.told writer.old) (W.told writer.new) self.now result }
     {
@@ -144,6 +145,7 @@ fn is_reserved(word: &[u8]) -> bool
     is_among(word, &RESERVED)
 }
 
+/// Whether the word is one of these.
 fn is_among(word: &[u8], words: &[&[u8]]) -> bool
     ensures { result ≡ list_any (λ w. bytes_eq word.now w.now) words.now }
 {
@@ -158,6 +160,7 @@ pub(crate) fn is_reserved_in_any_case(word: &[u8]) -> bool
     is_spelled_among(word, &RESERVED)
 }
 
+/// Whether the word is one of these, in any letter case.
 fn is_spelled_among(word: &[u8], words: &[&[u8]]) -> bool
     ensures { result ≡ list_any (λ w. bytes_eq (upper word.now) (upper w.now)) words.now }
 {

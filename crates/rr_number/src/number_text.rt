@@ -8,11 +8,11 @@ use arrayvec::ArrayString;
 use itoa::Buffer;
 use std::marker::Model;
 
-/// The most bytes that a `NumberText` has.
+/// The most bytes that a `NumberText` has. The longest, of a span of addresses, has 33 at most.
 pub const NUMBER_SIZE: usize = 40;
 
-/// The printed text of an address, an AS number, or a prefix, span, operator or range: at most 40
-/// bytes, which lie in the value itself, so printing takes no memory.
+/// The printed text of an address, an AS number, or a prefix, span, operator or range. It has at
+/// most 40 bytes, which lie in the value itself, so printing takes no memory.
 #[derive(Clone, Drop)]
 pub struct NumberText {
     text: ArrayString<NUMBER_SIZE>,

@@ -1,4 +1,5 @@
-//! Range operators, as `^24-32`: read, printed, and applied to ranges.
+//! Range operators, as `^24-32`: read after prefixes and names of sets in `members` and
+//! `mnt-routes`, printed, and applied to ranges when these are read or sets are expanded.
 ghost use Rattle.std.specs.Prelude.{◌≡◌, ◌+◌, ◌<◌, ◌≤◌, ◌↔◌};
 ghost use Rattle.std.specs.Prelude.{IsSome, IfSome, length, Some};
 ghost use Rattle.rr_number.specs.Applied.{applied};
@@ -24,9 +25,9 @@ use std::marker::Model;
 pub enum Operator {
     /// No operator: the lengths as they are.
     Plain,
-    /// `^+`: also each greater length.
+    /// `^+`: also each greater length, up to 32.
     Plus,
-    /// `^-`: only the greater lengths.
+    /// `^-`: only the greater lengths, up to 32.
     Minus,
     /// `^n-m`, or `^n` where the two are equal: the lengths from n to m.
     Lengths(LengthBounds),
@@ -53,7 +54,7 @@ impl Model for LengthBounds {
 }
 
 impl LengthBounds {
-    /// The bounds; none where `low` is above `high`, or `high` above 32.
+    /// The bounds of these two; none exactly where `low` is above `high`, or `high` above 32.
     pub fn new(low: u8, high: u8) -> Option<Self>
         ensures within { IsSome result ↔ ((low ≤ high) × (high ≤ 32)) }
         ensures value { IfSome result (λ bounds. bounds ≡ record { low = low; high = high }) }
@@ -73,7 +74,7 @@ impl LengthBounds {
         LengthBounds { low, high }
     }
 
-    /// The least length.
+    /// The least length, not above the greatest.
     pub fn low(self) -> u8
         ensures { Shows IsBounds self self.low result }
     {
@@ -89,17 +90,17 @@ impl LengthBounds {
 }
 
 impl Operator {
-    /// The operator that the whole text spells: nothing, `^+`, `^-`, `^n` or `^n-m`, with lengths
-    /// of one or two digits, n not above m and m at most 32. There is none where the text is
-    /// spelled otherwise (RFC 2622, 2).
+    /// The operator that the whole text spells: nothing, `^+`, `^-`, `^n` or `^n-m`. A length has
+    /// one or two digits and is at most 32, and n is not above m. There is none where the text is
+    /// spelled otherwise (RFC 2622, 2; nothing and the digits: profile).
     pub fn read(text: &[u8]) -> Option<Operator>
         ensures { ReadsExactly IsOperator operator_of text.now result }
     {
         read_operator(text)
     }
 
-    /// What the operator makes of the range; none where it drops the range, as `^8` drops one of
-    /// lengths from 16 (RFC 2622, 2).
+    /// What the operator makes of the range: the same prefix, with the lengths that it makes of the
+    /// range's. None where it drops the range, as `^8` drops one of lengths from 16 (RFC 2622, 2).
     #[tactic(auto, unfolding(crate::specs::Applied::applied, crate::specs::Applied::lengths_under))]
     pub fn apply(self, range: Range) -> Option<Range>
         ensures { result ≡ applied self range }
@@ -115,7 +116,8 @@ impl Operator {
         }
     }
 
-    /// The operator as it is spelled, `^n` where both lengths are n.
+    /// The operator as it is printed: nothing, `^+`, `^-`, `^n-m`, or `^n` where both lengths are
+    /// n, without leading zeros (profile).
     pub fn text(self) -> NumberText
         ensures { result ≡ operator_text self }
     {
@@ -147,6 +149,7 @@ impl fmt::Display for Operator {
     }
 }
 
+/// Appends the text of the operator of two lengths, at most 8 bytes.
 fn push_lengths(text: &mut NumberText, low: u8, high: u8)
     requires { length text.old + 8 ≤ NUMBER_SIZE }
     ensures { Appends 8 (lengths_text low high) text.old text.new }
@@ -159,6 +162,7 @@ fn push_lengths(text: &mut NumberText, low: u8, high: u8)
     }
 }
 
+/// The operator of the length that the text spells, if it does.
 #[tactic(auto, unfolding(crate::specs::Operators::one_length_of))]
 fn read_one_length(text: &[u8]) -> Option<Operator>
     ensures { result ≡ one_length_of text.now }
@@ -170,6 +174,8 @@ fn read_one_length(text: &[u8]) -> Option<Operator>
     }))
 }
 
+/// The operator of the lengths that two texts spell, if they do and the first is not above the
+/// second.
 #[tactic(auto, unfolding(crate::specs::Operators::two_lengths_of))]
 fn read_two_lengths(first: &[u8], second: &[u8]) -> Option<Operator>
     ensures { result ≡ two_lengths_of first.now second.now }

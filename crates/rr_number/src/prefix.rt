@@ -1,7 +1,6 @@
 //! Prefixes, as `192.0.2.0/24`, which are read, printed and compared here: keys of routes.
 ghost use Rattle.std.specs.Prelude.{◌≡◌, ◌+◌, ◌<◌, ◌≤◌, IfSome};
 ghost use Rattle.std.specs.Prelude.{length, Some};
-ghost use Rattle.rr_io.specs.Sending.{Writes};
 ghost use Rattle.rr_number.specs.ExactReads.{ReadsExactly};
 ghost use Rattle.rr_number.specs.NumberTextParts.{Appends};
 ghost use Rattle.rr_number.specs.Prefixes.{count_of, masked, masked_of, length_of};
@@ -15,12 +14,11 @@ use crate::ends::End;
 use crate::number_text::{NUMBER_SIZE, NumberText};
 use crate::span::Span;
 use rr_bytes::cut_at;
-use rr_io::{Sink, write_all};
+use std::fmt;
 use std::marker::Model;
-use std::{fmt, io};
 
 /// A prefix: the addresses whose first `length` bits are those of `address`, whose other bits are
-/// zero. Prefixes are ordered by address, then by length (profile).
+/// zero. The length is at most 32. Prefixes are ordered by address, then by length (profile).
 #[derive(Clone, Copy, Debug, PartialEq, Eq, PartialOrd, Ord)]
 pub struct Prefix {
     address: Address,
@@ -76,7 +74,7 @@ impl Prefix {
         Span::new(first as u32, last as u32)
     }
 
-    /// Whether each address of `other` is one of this prefix.
+    /// Whether each address of `other` is one of this prefix (RFC 2725, 9).
     pub fn covers(self, other: Prefix) -> bool
         ensures { result ≡ covers (span_of self) (span_of other) }
     {
@@ -85,28 +83,20 @@ impl Prefix {
 
     /// The prefix that the whole text spells: an address, a slash and a length of one or two
     /// digits, at most 32. Bits past the length are read as zero. There is none where the text is
-    /// spelled otherwise (RFC 2622, 2; for the bits profile).
+    /// spelled otherwise (RFC 2622, 2; the digits and the bits: profile).
     pub fn read(text: &[u8]) -> Option<Prefix>
         ensures { ReadsExactly IsPrefix prefix_of text.now result }
     {
         read_prefix(text)
     }
 
-    /// The prefix as its address, a slash and its length.
+    /// The prefix as its address, a slash and its length (RFC 2622, 2).
     pub fn text(self) -> NumberText
         ensures { result ≡ prefix_text self }
     {
         let mut text = NumberText::new();
         self.push_to(&mut text);
         text
-    }
-
-    /// Writes the prefix's text. After a fault the writer has taken the beginning of it.
-    pub fn print_to<W: Sink>(&self, writer: &mut W) -> io::Result<()>
-        ensures { Writes (W.told writer.old) (W.told writer.new)
-            (prefix_text self.now) result }
-    {
-        write_all(writer, self.text().as_bytes())
     }
 
     /// Appends the prefix's text, at most 19 bytes.
@@ -148,6 +138,7 @@ pub(crate) fn read_length(text: &[u8]) -> Option<u8>
     Some(number as u8)
 }
 
+/// The prefix of two texts, if they spell an address and a length.
 #[inline]
 #[tactic(auto, unfolding(crate::specs::Prefixes::masked_of))]
 fn join(address: &[u8], length: &[u8]) -> Option<Prefix>

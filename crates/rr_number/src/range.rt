@@ -49,6 +49,7 @@ impl Range {
     }
 
     /// The range of the same prefix with these lengths; none where the least is above the greatest.
+    /// The least is not below the prefix's, and the greatest not above 32.
     pub(crate) fn with_lengths(self, low: u8, high: u8) -> Option<Self>
         requires inside { self.prefix.length ≤ low }
         requires short { high ≤ 32 }
@@ -74,14 +75,14 @@ impl Range {
         self.prefix.covers(prefix) && self.low <= prefix.length() && prefix.length() <= self.high
     }
 
-    /// The prefix that covers all prefixes of the range.
+    /// The range's own prefix.
     pub fn prefix(self) -> Prefix
         ensures { Shows IsRange self self.prefix result }
     {
         self.prefix
     }
 
-    /// The least length, not below that of the prefix.
+    /// The least length, not below that of the prefix and not above the greatest.
     pub fn low(self) -> u8
         ensures { Shows IsRange self self.low result }
     {
@@ -95,8 +96,8 @@ impl Range {
         self.high
     }
 
-    /// The operator that makes the range of its prefix alone: the first that does, of none, `^+`,
-    /// `^-` and lengths (profile).
+    /// The first of none, `^+` and `^-` that gives the range where it is applied to the range's own
+    /// prefix alone. If none of these does, it is the operator of the range's lengths (profile).
     pub fn operator(self) -> Operator
         ensures { result ≡ operator_for self }
     {
@@ -109,7 +110,8 @@ impl Range {
         }
     }
 
-    /// The range as its prefix and the operator that makes it of the prefix alone.
+    /// The range as its prefix and, right after it, the operator that [`Range::operator`] gives
+    /// (profile).
     #[tactic(auto, unfolding(crate::specs::Applied::range_text))]
     pub fn text(self) -> NumberText
         ensures { result ≡ range_text self }
@@ -129,14 +131,15 @@ impl fmt::Display for Range {
     }
 }
 
-/// The prefix and its operator that the whole text spells, one right after the other. There is none
-/// where the text is spelled otherwise, as with two operators (RFC 2622, 2).
+/// The prefix and the operator that the whole text spells, one right after the other; the operator
+/// may be `Plain`. `None` where the text is spelled otherwise, as with two operators (RFC 2622, 2).
 pub fn read_ranged(text: &[u8]) -> Option<(Prefix, Operator)>
     ensures { ReadsExactly IsRangedText ranged_of text.now result }
 {
     read_both(text)
 }
 
+/// The prefix and the operator of two texts, if they spell them.
 #[tactic(auto, unfolding(crate::specs::Applied::ranged_from))]
 fn read_pair(before: &[u8], rest: &[u8]) -> Option<(Prefix, Operator)>
     ensures { result ≡ ranged_from before.now rest.now }

@@ -1,4 +1,5 @@
-//! The kinds of sets that have names: as-sets and route-sets.
+//! The kinds of sets that have names, as-sets and route-sets: `set_name` tells them by the words in
+//! a name. Keys, verdicts on sets and expansions go by them.
 
 ghost use Rattle.std.specs.Prelude.{◌≡◌};
 ghost use Rattle.rr_number.specs.SetNames.{word_start};

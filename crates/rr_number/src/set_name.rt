@@ -1,4 +1,4 @@
-//! The names of as-sets and route-sets.
+//! The names of as-sets and route-sets: their keys, and what lists of members refer to.
 
 ghost use Rattle.std.specs.Prelude.{◌≡◌, ◌++◌, nat_eq, IfOk, Some};
 ghost use Rattle.std.specs.Str.{bytes_eq};
@@ -28,9 +28,10 @@ use std::{fmt, io};
 /// The most bytes that a set's name is spelled in (profile).
 const MOST_BYTES: usize = 255;
 
-/// The name of an as-set or a route-set, as it is printed: components joined by `:`, in upper case,
-/// each an AS number or a name that begins with `AS-` (all of them) or `RS-` (all of them), at
-/// least one of them such a name (RFC 2622, 5). Names of sets are ordered by their bytes (profile).
+/// The name of an as-set or a route-set, as it is printed: components joined by `:`, in upper case
+/// (RFC 2622, 5; the case: profile). Each is an AS number or a name, and at least one is a name.
+/// All names begin with `AS-`, or all with `RS-`; `AS-ANY` and `RS-ANY` stand alone. Names of sets
+/// are ordered by their bytes (profile).
 #[derive(Debug, PartialEq, Eq, PartialOrd, Ord, Drop)]
 pub struct SetName {
     text: NameText,
@@ -50,8 +51,9 @@ impl Model for SetName {
 }
 
 impl SetName {
-    /// The set's name that the bytes spell, in any letter case and with leading zeros in AS
-    /// numbers; `None` where they spell none. `AS-ANY` and `RS-ANY` are names of sets. The error is
+    /// The set's name that the bytes spell, as it is printed; `None` where they spell none
+    /// (RFC 2622, 5). They are at most 255 (profile), in any letter case; AS numbers may have
+    /// leading zeros. `AS-ANY` and `RS-ANY` are names of sets, by themselves alone. The error is
     /// that memory ran out.
     pub fn read(alloc: Global, bytes: &[u8]) -> Result<Option<Self>, AllocError>
         ensures { IfOk result (λ name. name ≡ set_name_of bytes.now) }
@@ -64,7 +66,7 @@ impl SetName {
         Ok(Some(SetName { text }))
     }
 
-    /// The name's bytes, as it is printed.
+    /// The name's bytes, which spell a set's name as it is printed.
     pub fn as_bytes(&self) -> &[u8]
         ensures { Shows IsSetText self.now self.now result.now }
     {
@@ -72,7 +74,8 @@ impl SetName {
         &text.bytes
     }
 
-    /// The kind of the set that the name names.
+    /// The kind of the set that the name names: an as-set where a component begins with `AS-`, and
+    /// else a route-set (RFC 2622, 5).
     pub fn kind(&self) -> SetKind
         ensures { result ≡ kind_of self.now }
     {
@@ -83,7 +86,7 @@ impl SetName {
         }
     }
 
-    /// Whether the name is `AS-ANY` or `RS-ANY`, which name sets that are not registered.
+    /// Whether the name is `AS-ANY` or `RS-ANY` (RFC 2622, 5).
     pub fn is_any(&self) -> bool
         ensures { result ≡ is_any_set self.now }
     {
@@ -104,7 +107,7 @@ impl SetName {
         self.as_bytes() == RS_ANY
     }
 
-    /// Writes the name. After a fault the writer has taken the beginning of it.
+    /// Writes the name. After a fault the writer has taken the beginning of it, and not all.
     pub fn print_to<W: Sink>(&self, writer: &mut W) -> io::Result<()>
         ensures { Writes (W.told writer.old) (W.told writer.new) self.now result }
     {
@@ -138,6 +141,7 @@ fn has_word_start(kind: SetKind, bytes: &[u8]) -> bool
         .any(|component| component.starts_with(kind.word_start()))
 }
 
+/// Whether a text spells the name of a set, in any letter case.
 #[tactic(auto, unfolding(crate::specs::SetNames::is_set_name))]
 fn is_set_name(bytes: &[u8]) -> bool
     ensures { result ≡ is_set_name bytes.now }
@@ -160,6 +164,7 @@ fn is_name_of_kind(kind: SetKind, bytes: &[u8]) -> bool
     has_only_components(kind, bytes) && has_set_word(kind, bytes)
 }
 
+/// Whether each component is an AS number or a word of the kind.
 fn has_only_components(kind: SetKind, bytes: &[u8]) -> bool
     ensures { result ≡ list_all (is_component kind) (components bytes.now) }
 {
@@ -168,6 +173,7 @@ fn has_only_components(kind: SetKind, bytes: &[u8]) -> bool
         .all(|component| is_component(kind, component))
 }
 
+/// Whether some component is a word of the kind.
 fn has_set_word(kind: SetKind, bytes: &[u8]) -> bool
     ensures { result ≡ list_any (is_set_word kind) (components bytes.now) }
 {
@@ -188,6 +194,7 @@ fn is_as_number(component: &[u8]) -> bool
     AsNumber::read(component).is_some()
 }
 
+/// Whether the component is a name that begins as those of the kind do and is not reserved.
 fn is_set_word(kind: SetKind, component: &[u8]) -> bool
     ensures { result ≡ is_set_word kind component.now }
 {
@@ -208,7 +215,7 @@ fn begins_as(kind: SetKind, component: &[u8]) -> bool
     }
 }
 
-/// The text of a set's name as it is printed.
+/// The text of a set's name as it is printed; the error is that memory ran out.
 fn printed(alloc: Global, bytes: &[u8]) -> Result<Vec<u8>, AllocError>
     ensures { IfOk result (λ v. v.items ≡ set_text bytes.now) }
 {
@@ -223,7 +230,7 @@ fn printed(alloc: Global, bytes: &[u8]) -> Result<Vec<u8>, AllocError>
     Ok(text)
 }
 
-/// Puts a component at the end, as it is printed.
+/// Puts a component at the end, as it is printed; the error is that memory ran out.
 fn push_component(alloc: Global, text: &mut Vec<u8>, component: &[u8]) -> Result<(), AllocError>
     ensures { IfOk result
         (λ _. text.new.items ≡ text.old.items ++ component_text component.now) }

@@ -1,4 +1,5 @@
-//! Spans of numbers of 32 bits: of addresses, and of AS numbers.
+//! Spans of numbers of 32 bits: of addresses, the keys of inetnums, and of AS numbers, of which
+//! `as_span` makes blocks. `rr_cover` finds values by them.
 
 ghost use Rattle.std.specs.Prelude.{◌≡◌, ◌≤◌, Some};
 ghost use Rattle.rr_io.specs.Sending.{Writes};
@@ -54,14 +55,14 @@ impl Span {
         self.first
     }
 
-    /// The last number of the span, which is not below the first.
+    /// The last number of the span, which is not below the first, and is below 2^32.
     pub fn last(self) -> u32
         ensures { Shows IsSpan self self.last result }
     {
         self.last
     }
 
-    /// How many numbers the span has: 1 to 2^32.
+    /// How many numbers the span has, both ends among them.
     pub fn size(self) -> u64
         ensures { result ≡ size self }
     {
@@ -89,16 +90,16 @@ impl Span {
         self.meets(other) && !self.covers(other) && !other.covers(self)
     }
 
-    /// The span of addresses that the whole text spells: two addresses with a dash between them,
-    /// the first not above the last, with or without blanks beside the dash; or a prefix. There is
-    /// none where the text is spelled otherwise (profile).
+    /// The span of addresses that the whole text spells: two addresses with a dash between them, or
+    /// a prefix. The first address is not above the last; blanks, but no LF, may stand beside the
+    /// dash. There is none where the text is spelled otherwise (profile).
     pub fn read(text: &[u8]) -> Option<Span>
         ensures { ReadsExactly IsSpanText spelled_span text.now result }
     {
         read_span(text)
     }
 
-    /// The span of addresses as its two ends with ` - ` between them.
+    /// The span of addresses as its two ends with ` - ` between them (profile).
     #[tactic(auto, unfolding(crate::specs::SpanTexts::span_text))]
     pub fn text(self) -> NumberText
         ensures { result ≡ span_text self }
@@ -107,7 +108,7 @@ impl Span {
     }
 
     /// Writes the text of the span of addresses. After a fault the writer has taken the beginning
-    /// of it.
+    /// of it, and not all.
     pub fn print_to<W: Sink>(&self, writer: &mut W) -> io::Result<()>
         ensures { Writes (W.told writer.old) (W.told writer.new)
             (span_text self.now) result }

@@ -1,4 +1,8 @@
 -- What is read of the items of `mnt-routes` is what they spell.
+-- Both ways are inductions: one over items, by three states of the reader, one over entries, by
+-- three forms. Reading keeps how the items so far are cut; spelling needs that a name is no
+-- keyword and no brace. These cuts are given by hand. The law `grants_are_read_as_spelled` needs
+-- both ways.
 use Rattle.std.proofs.Common.{◌≡◌, arith, ℕ, List, [], ◌∷◌, ◌++◌, Option, Some, None, Bool, true}
 use Rattle.std.proofs.Common.{false, ◌⊎◌, inl, inr, refl, sym, ap, ◌∙◌, append_assoc, if◌then◌else◌}
 use Rattle.std.proofs.Common.{is_some}

@@ -38,8 +38,9 @@ salted_digest_of word =
 abbrev pub is_sha256_pw : List ℕ → Bool
 is_sha256_pw word = is_keyword (codes "sha256-pw") word
 
--- a scheme and what stands after it: one word for `SHA256-PW`; another scheme is well spelled and
--- stands for nothing; no word at all is badly spelled (RFC 2622, 3; profile)
+-- what the words of an `auth` stand for: the salt and the digest of the one word after `SHA256-PW`;
+-- another scheme is well spelled and stands for nothing. Badly spelled is no word at all, and
+-- `SHA256-PW` without such a word or with more (RFC 2622, 3; profile)
 unfoldable pub auth_of_words : List (List ℕ) → Option (Option AuthParts)
 auth_of_words [] = None
 auth_of_words (scheme ∷ further) =

@@ -7,7 +7,7 @@ use Rattle.rr_object.specs.declared.object_fault.ObjectFault.TheVariants.{OtherS
 use Rattle.rr_object.specs.declared.code.Code.{Code}
 use Rattle.rr_object.specs.declared.code.Code.TheVariants.{E02, E03, E04, E05, E06, E90}
 
--- a call answers this value, or this fault, unless memory runs out (profile)
+-- a call answers exactly this value or this fault, or that memory ran out (profile)
 pub record GivesUnlessMemory {X : Type 0} (expected answer : Result X ObjectFault) : Type 0 where
   pub ok : IfOk answer (λ x. expected ≡ Ok x)
   pub fault : IfErr answer (λ fault. fault ≢ Memory → expected ≡ Err fault)

@@ -20,13 +20,14 @@ abbrev pub class_in : List Field → Option Class
 class_in [] = None
 class_in (first ∷ others) = class_named first.name
 
--- a fact of the class and the paragraph, where the class is known (profile)
+-- a fact of the class and the paragraph, which holds only where the class is known (profile)
 abbrev pub in_its_class : (Class → List Field → Bool) → List Field → Bool
 in_its_class fact fields = option_map_or (λ class. fact class fields) (class_in fields) false
 
--- a paragraph has a fault: its first attribute names no class; its key is none of its class; an
--- attribute is missing, has no item or is repeated; a value is bad; its source is not the
--- registry's (profile)
+-- a paragraph has a fault: its first attribute names no class; it has no key of a class; an
+-- attribute is missing, has no item or is repeated. Or a value is bad, or it has a
+-- pseudo-attribute; or its source is not the registry's. That memory ran out is no fault of it
+-- (profile)
 abbrev pub has_fault : List ℕ → List Field → ObjectFault → Bool
 has_fault source fields UnknownClass = is_none (class_in fields)
 has_fault source fields BadKey = is_none (result_ok (key_of fields))
@@ -48,7 +49,7 @@ abbrev pub FirstFaultIsTold : Type 0
 FirstFaultIsTold = (fields : List Field) (source : List ℕ)
     → result_err (object_of fields source) ≡ first_fault source fields
 
--- an object says what its paragraph says (RFC 2622, 2)
+-- an object has the key of its paragraph, and says what this says (RFC 2622, 2)
 abbrev pub ObjectsSayTheirParagraphs : Type 0
 ObjectsSayTheirParagraphs =
     (fields : List Field) (source : List ℕ) (object : Obj)

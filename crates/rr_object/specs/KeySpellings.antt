@@ -48,8 +48,8 @@ route_key_of_words (prefix ∷ []) = None
 route_key_of_words (prefix ∷ (origin ∷ [])) = route_key_of prefix origin
 route_key_of_words (prefix ∷ (origin ∷ (other ∷ others))) = None
 
--- the key that a text spells: for a route its prefix, blanks and its origin, and else what the
--- first attribute of the object means (profile)
+-- the key that a text spells: for a route by two words, its prefix and its origin; else as the
+-- value of an object's first attribute does (profile)
 unfoldable pub key_of_text : Class → List ℕ → Option Key
 key_of_text class.Mntner text = option_map Mntner (maintainer_name_of text)
 key_of_text class.AsBlock text = option_map AsBlock (as_span_of text)
@@ -76,7 +76,8 @@ abbrev pub or_bad_key : Option Key → Result Key ObjectFault
 or_bad_key None = Err BadKey
 or_bad_key (Some key) = Ok key
 
--- the key of a paragraph of a class, if the class is known (RFC 2622, 2)
+-- the key of a paragraph of a class, or the fault that it is bad, if the class is known; else the
+-- fault that this is not (RFC 2622, 2)
 abbrev pub key_in : Option Class → List ℕ → List Field → Result Key ObjectFault
 key_in None text fields = Err UnknownClass
 key_in (Some found) text fields = or_bad_key (key_at found text fields)
@@ -85,8 +86,8 @@ key_in (Some found) text fields = or_bad_key (key_at found text fields)
 abbrev pub key_from : Field → List Field → Result Key ObjectFault
 key_from first fields = key_in (class_named first.name) (value_meaning first.lines) fields
 
--- the key of a paragraph: its first attribute names the class, and the value of that is the key
--- (RFC 2622, 2)
+-- the key of a paragraph: its first attribute names the class, and the value of that is the key. A
+-- paragraph without attributes has an unknown class (RFC 2622, 2)
 unfoldable pub key_of : List Field → Result Key ObjectFault
 key_of [] = Err UnknownClass
 key_of (first ∷ others) = key_from first (first ∷ others)

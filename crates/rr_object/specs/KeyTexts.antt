@@ -11,7 +11,7 @@ use Rattle.rr_object.specs.declared.key.Key.{Key}
 use Rattle.rr_object.specs.declared.key.Key.TheVariants.{Mntner, AsBlock, AutNum, Inetnum, Route}
 use Rattle.rr_object.specs.declared.key.Key.TheVariants.{AsSet, RouteSet}
 
--- a key as reports print it: a route's is its prefix, a blank and its origin (profile)
+-- a key as reports print it: a route's is its prefix, a space and its origin (profile)
 abbrev pub key_text : Key → List ℕ
 key_text (Mntner name) = name
 key_text (AsBlock block) = as_span_text block

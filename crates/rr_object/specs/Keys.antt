@@ -19,7 +19,7 @@ class_of (Route prefix origin) = class.Route
 class_of (AsSet name) = class.AsSet
 class_of (RouteSet name) = class.RouteSet
 
--- the key of the set of a kind and a name: as-sets and route-sets are told apart by their names
+-- the key of the set of a kind and a name; whether the name is one of that kind is not asked
 -- (RFC 2622, 5)
 abbrev pub key_of_kind : SetKind → List ℕ → Key
 key_of_kind kinds.AsSet name = AsSet name

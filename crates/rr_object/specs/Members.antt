@@ -59,7 +59,8 @@ operated_set item =
     (λ set. option_map (member.Set set) (operator_of (from_first caret item)))
     (member_set_of (before_first (λ b. b == caret) item))
 
--- an item of a route-set: a range, which may be dropped, or a set (RFC 2622, 5)
+-- an item of a route-set: a range, which may be dropped; or an AS number or a set's name, with an
+-- operator or none (RFC 2622, 5)
 unfoldable pub route_set_item : List ℕ → Option (Option Member)
 route_set_item item =
     if is_some (range_item item) then option_map (option_map member.Range) (range_item item)

@@ -20,7 +20,7 @@ use Rattle.rr_object.specs.KeyTexts.{bytes_with}
 abbrev pub has_two_octets : ℕ → Bool
 has_two_octets number = nat_le number greatest_16_bit_as_number
 
--- a 16-bit AS number as four hexadecimal digits in lower case (profile)
+-- the lower 16 bits of an AS number as four hexadecimal digits in lower case (profile)
 abbrev pub four_digits : ℕ → List ℕ
 four_digits number = encode_lower (to_be_bytes w16 number)
 
@@ -38,8 +38,8 @@ numbers_in (Route prefix origin) = origin ∷ []
 numbers_in (AsSet name) = numbers_among name
 numbers_in (RouteSet name) = numbers_among name
 
--- a key as bytes in tables of version 1: an AS number has four digits there, and a key with a
--- greater number has no such bytes (profile)
+-- a key as bytes in tables of version 1, with four digits for an AS number outside a set's name. A
+-- key with an AS number above 65535, also in a set's name, has no such bytes (profile)
 abbrev pub old_key_bytes : Key → Option (List ℕ)
 old_key_bytes key =
     if list_all has_two_octets (numbers_in key) then Some (bytes_with four_digits key) else None

@@ -104,7 +104,7 @@ member_item class.Route item = route_set_item item
 member_item class.AsSet item = as_set_item item
 member_item class.RouteSet item = route_set_item item
 
--- the source that a paragraph names, where it names one (RFC 2622, 2)
+-- the source that a paragraph names, where it has one `source` and that is a name (RFC 2622, 2)
 abbrev pub source_of : List Field → Option (List ℕ)
 source_of fields = option_and_then name_of (only (values_of (kind_name Source) fields))
 
@@ -140,8 +140,8 @@ has_bad_membership class fields =
     || (not (are_good by_ref_item (items_read MbrsByRef class fields))
     || not (are_good set_item (items_read MemberOf class fields)))
 
--- an interpreted attribute of an object of the class has a bad value (RFC 2622, 2 to 6;
--- RFC 2725, 10)
+-- a paragraph of the class has a pseudo-attribute, or a bad value of an interpreted attribute
+-- (RFC 2622, 2 to 6; RFC 2725, 10; pseudo-attributes: profile)
 unfoldable pub has_bad_value : Class → List Field → Bool
 has_bad_value class fields =
     has_bad_text fields || (has_bad_authority class fields || has_bad_membership class fields)
@@ -150,7 +150,8 @@ has_bad_value class fields =
 abbrev pub by_ref_of : List (List ℕ) → ByRefParts
 by_ref_of listed = record { any = list_any is_any listed; names = meant by_ref_item listed }
 
--- an object of this key, with what its paragraph says (RFC 2622, 2 to 6; RFC 2725, 10)
+-- an object of this key, with what its paragraph says. A bad `mnt-routes` says nothing, nor does a
+-- bad item elsewhere (RFC 2622, 2 to 6; RFC 2725, 10)
 unfoldable pub obj_at : Key → List Field → Obj
 obj_at key fields =
     let class = class_of key in
@@ -180,7 +181,8 @@ abbrev pub result_and_then : {X Y : Type 0} → (X → Result Y ObjectFault)
 result_and_then next (Ok x) = next x
 result_and_then next (Err fault) = Err fault
 
--- the object that a paragraph is in a registry of any source (RFC 2622, 2 to 6; RFC 2725, 10)
+-- the object that a paragraph is in a registry of any source, or the first of its faults (RFC 2622,
+-- 2 to 6; RFC 2725, 10)
 unfoldable pub obj_of : List Field → Result Obj ObjectFault
 obj_of fields = result_and_then (obj_of_key fields) (key_of fields)
 
@@ -202,7 +204,7 @@ ReadsAs source fields object = object_of fields source ≡ Ok object
 abbrev pub hidden : List ℕ
 hidden = codes "# filtered"
 
--- the paragraph of an object in public answers: no value of an attribute named `auth` is shown
--- (profile)
+-- the paragraph of an object in public answers: in place of each value of an attribute named `auth`
+-- stands the line that hides it (profile)
 unfoldable pub public_of : Obj → List Field
 public_of object = map (with_value (kind_name Auth) hidden) object.paragraph

@@ -1,4 +1,5 @@
-//! Lines of `auth` as they are kept with a mntner: a salt and a digest.
+//! Lines of `auth` as they are kept with a mntner: a salt and a digest. `auths` makes them, and
+//! `rr_auth` tries secrets with them.
 
 ghost use Rattle.std.specs.Prelude.{◌≡◌, IfOk};
 
@@ -8,8 +9,8 @@ use std::marker::Model;
 /// How many bytes a SHA-256 digest has (FIPS 180-4).
 pub const DIGEST_BYTES: usize = 32;
 
-/// A salt of 0 to 16 letters or digits, and the SHA-256 digest of the salt followed by a secret
-/// (profile).
+/// A salt, and the SHA-256 digest of the salt followed by a secret (profile). In what `read_auth`
+/// gives, the salt is 0 to 16 letters or digits.
 #[derive(Debug, Drop)]
 pub struct Auth {
     salt: Vec<u8>,

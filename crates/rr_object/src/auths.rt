@@ -16,7 +16,8 @@ use std::alloc::Global;
 const SALT_BYTES: usize = 16;
 
 /// What a value of `auth` stands for: a salt and a digest, or `None` for another scheme than
-/// SHA256-PW. The error is `BadValue` where it is badly spelled, or that memory ran out.
+/// SHA256-PW, whatever follows it. The error is `BadValue` where it is badly spelled, or that
+/// memory ran out (RFC 2622, 3; profile).
 pub fn read_auth(alloc: Global, value: &[u8]) -> Result<Option<Auth>, ObjectFault>
     ensures good { IfOk result (λ read. auth_item value.now ≡ Some read) }
     ensures bad { IfErr result
@@ -26,6 +27,7 @@ pub fn read_auth(alloc: Global, value: &[u8]) -> Result<Option<Auth>, ObjectFaul
     read_words(alloc, &found)
 }
 
+/// What the words of a value of `auth` stand for. `BadValue` says that they are badly spelled.
 #[tactic(auto, unfolding(crate::specs::Auths::auth_of_words))]
 fn read_words(alloc: Global, found: &[&[u8]]) -> Result<Option<Auth>, ObjectFault>
     ensures good { IfOk result
@@ -53,7 +55,8 @@ fn is_sha256_pw(scheme: &[u8]) -> bool
     is_keyword(scheme, b"sha256-pw")
 }
 
-/// A salt, a colon and the hexadecimal digits of a digest.
+/// A salt, a colon and the hexadecimal digits of a digest, read. `BadValue` says that it is no such
+/// word.
 #[tactic(auto, unfolding(crate::specs::Auths::salted_digest_of))]
 fn read_salted_digest(alloc: Global, word: &[u8]) -> Result<Auth, ObjectFault>
     ensures good { IfOk result (λ auth. salted_digest_of word.now ≡ Some auth) }

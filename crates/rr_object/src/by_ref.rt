@@ -1,4 +1,4 @@
-//! Values of `mbrs-by-ref`.
+//! What `mbrs-by-ref` says. `object_reading` makes it, and `object` keeps it and answers by it.
 
 ghost use Rattle.std.specs.Prelude.{◌≡◌};
 

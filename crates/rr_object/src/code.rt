@@ -16,7 +16,7 @@ pub enum Code {
     E03,
     /// A needed attribute is missing or has no item, or one that stands once is repeated.
     E04,
-    /// An interpreted attribute has a bad value.
+    /// An interpreted attribute has a bad value, or there is a `password` or a `delete`.
     E05,
     /// The source is not the registry's own.
     E06,
@@ -28,7 +28,7 @@ pub enum Code {
     E11,
     /// No object covers the new one, or the parent of a set is not registered.
     E12,
-    /// The covering object does not authorise it.
+    /// The covering object, or the parent of a set, does not authorise it.
     E13,
     /// The origin has no aut-num.
     E14,

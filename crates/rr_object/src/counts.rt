@@ -1,4 +1,5 @@
-//! How often attributes stand in an object.
+//! How often attributes stand in an object, which `object` judges; and the text of a list, for
+//! `object_reading`.
 
 ghost use Rattle.std.specs.Prelude.{◌≡◌, not, IfOk, map};
 ghost use Rattle.rr_bytes.specs.Parts.{is_filled};
@@ -37,6 +38,7 @@ pub(crate) fn is_miscounted(
     )
 }
 
+/// Whether there is no item.
 fn is_missing(listed: &[&[u8]]) -> bool
     ensures { result ≡ not (is_filled (map (λ item. item.now) listed.now)) }
 {

@@ -1,4 +1,4 @@
-//! Entries of `mnt-routes`.
+//! Entries of `mnt-routes`. `grants` reads them, and `rr_auth` asks them who decides about a route.
 
 ghost use Rattle.std.specs.Prelude.{◌≡◌, IfOk};
 
@@ -62,8 +62,8 @@ impl Grant {
         self.any
     }
 
-    /// The ranges whose prefixes the entry is for, none where it is for each prefix. Dropped ranges
-    /// are left out.
+    /// The ranges of the entry, which is for the prefixes that one of them admits, unless it is for
+    /// each. Reading an entry leaves out dropped ranges.
     pub fn ranges(&self) -> &[Range]
         ensures { result.now ≡ self.now.ranges }
     {

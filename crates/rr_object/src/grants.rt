@@ -1,4 +1,6 @@
-//! Reading entries of `mnt-routes`.
+//! Reading entries of `mnt-routes`, for `object_reading`; and maintainers' names, ranges and `ANY`
+//! as items, also for `members`. The error `BadValue` says that items are badly spelled, and
+//! `Memory` that memory ran out.
 
 ghost use Rattle.std.specs.Prelude.{◌≡◌, ◌≢◌, ◌++◌, map, IfErr, IfOk, None, OnOk};
 ghost use Rattle.std.specs.Prelude.{Some};
@@ -85,6 +87,7 @@ fn next_grant(
     }
 }
 
+/// What an item adds to an entry of which its maintainer was read.
 #[tactic(auto, unfolding(crate::specs::Grants::next_grant))]
 fn after_name(
     alloc: Global,
@@ -114,6 +117,7 @@ fn after_name(
     }
 }
 
+/// What an item adds to an entry whose braces are open.
 #[tactic(auto, unfolding(crate::specs::Grants::next_grant))]
 fn in_braces(grant: Grant, item: &[u8]) -> Result<(Option<Grant>, OpenGrant), ObjectFault>
     ensures good { IfOk result (λ next. next_grant (Braced grant) item.now ≡ Some next) }

@@ -1,4 +1,5 @@
-//! Items of lists: each kind of list has its own.
+//! Items of lists: each kind of list has its own. `members` says how each kind is read, and
+//! `object_reading` reads the lists.
 
 ghost use Rattle.std.specs.Prelude.{◌≡◌, ◌≢◌, false, true, map, IfErr, IfOk, List};
 ghost use Rattle.std.specs.Prelude.{None, Option, Some, ℕ};
@@ -16,14 +17,16 @@ pub(crate) trait ReadItem {
     // what an item stands for, if anything; nothing at all where it is badly spelled
     ghost item_of: { List ℕ → Option (Option Self.Item) };
 
-    /// What the item stands for, `None` where it is well spelled and stands for nothing.
+    /// What the item stands for, `None` where it is well spelled and stands for nothing. The error
+    /// `BadValue` says that it is badly spelled, and `Memory` that memory ran out.
     fn read_item(alloc: Global, item: &[u8]) -> Result<Option<Self::Item>, ObjectFault>
         ensures good { IfOk result (λ read. item_of item.now ≡ Some read) }
         ensures bad { IfErr result
             (λ fault. fault ≢ Memory → (fault ≡ BadValue) × (item_of item.now ≡ None)) };
 }
 
-/// What the items stand for.
+/// What the items stand for, without those that stand for nothing. The error `BadValue` says that
+/// one is badly spelled, and `Memory` that memory ran out.
 pub(crate) fn read_items<R: ReadItem>(
     alloc: Global,
     listed: &[&[u8]],

@@ -1,4 +1,5 @@
-//! Keys of objects: what names an object in its class.
+//! Keys of objects: what names an object in its class. Registries, queries, reports and rows use
+//! them.
 
 ghost use Rattle.std.specs.Prelude.{◌≡◌, IfOk};
 ghost use Rattle.rr_object.specs.Keys.{class_of, is_mntner_of, key_of_kind};
@@ -29,7 +30,7 @@ pub enum Key {
 }
 
 impl Key {
-    /// The key of the set of this kind and name.
+    /// The key of the set of this kind and name; whether the name is of that kind is not asked.
     pub fn of_kind(kind: SetKind, name: SetName) -> Key
         ensures { result ≡ key_of_kind kind name }
     {

@@ -1,4 +1,5 @@
-//! Keys as texts: as reports print them, and as the bytes in rows and of the order of keys.
+//! Keys as texts. As reports print them, here for messages about dumps; and as the bytes in rows
+//! of `rr_store`, whose order is that of the keys of a class.
 
 ghost use Rattle.std.specs.Prelude.{◌≡◌, ◌∷◌, ◌++◌, IfOk, OnOk};
 ghost use Rattle.std.specs.List.{list_all};
@@ -28,7 +29,8 @@ const SPAN_LENGTH: usize = NUMBER_LENGTH + 1 + NUMBER_LENGTH;
 const ROUTE_LENGTH: usize = NUMBER_LENGTH + 1 + 2 + 1 + NUMBER_LENGTH;
 
 impl Key {
-    /// Writes the key as reports print it. After a fault the writer has taken the beginning of it.
+    /// Writes the key as reports print it (profile). After a fault the writer has taken the
+    /// beginning of it, but not all.
     pub fn print_to<W: Sink>(&self, writer: &mut W) -> io::Result<()>
         ensures { Writes (W.told writer.old) (W.told writer.new) (key_text self.now) result }
     {
@@ -43,8 +45,9 @@ impl Key {
         }
     }
 
-    /// The bytes by which the keys of a class are ordered and stored; the error is that memory ran
-    /// out. Each part of the key is well formed.
+    /// The bytes by which the keys of a class are ordered and stored (profile); the error is that
+    /// memory ran out. In either case the parts of the key are names, spans, prefixes and AS
+    /// numbers.
     pub fn bytes(&self, alloc: Global) -> Result<Vec<u8>, AllocError>
         ensures value { IfOk result (λ bytes. bytes.items ≡ key_bytes self.now) }
         ensures parts { HasKeyParts self.now }
@@ -53,8 +56,8 @@ impl Key {
         bytes_with(alloc, Digits::Eight, self)
     }
 
-    /// The bytes of the key in tables of version 1; `None` where an AS number in it has more than
-    /// two octets, which those could not write. The error is that memory ran out.
+    /// The bytes of the key in tables of version 1 (profile); `None` where an AS number in it, also
+    /// in a set's name, has more than two octets. The error is that memory ran out.
     pub fn old_bytes(&self, alloc: Global) -> Result<Option<Vec<u8>>, AllocError>
         ensures { IfOk result
             (λ old. option_map (λ bytes. bytes.items) old ≡ old_key_bytes self.now) }
@@ -120,6 +123,7 @@ fn numbers_have_two_octets(name: &[u8]) -> bool
         .all(|component| is_old_component(component))
 }
 
+/// Whether a component of a set's name is no AS number of more than two octets.
 fn is_old_component(component: &[u8]) -> bool
     ensures { result ≡ is_old_component component.now }
 {
@@ -129,6 +133,7 @@ fn is_old_component(component: &[u8]) -> bool
     }
 }
 
+/// Writes a route's prefix, a space and its origin.
 fn print_route<W: Sink>(prefix: Prefix, origin: AsNumber, writer: &mut W) -> io::Result<()>
     ensures { Writes (W.told writer.old) (W.told writer.new)
         (prefix_text prefix ++ (32 ∷ as_number_text origin)) result }
@@ -165,6 +170,7 @@ fn eight_digits(number: u32) -> [u8; 8]
     }
 }
 
+/// Appends a number in so many digits.
 fn push_digits(text: &mut Vec<u8>, digits: Digits, number: u32) -> Result<(), AllocError>
     ensures { OnOk result (text.new.items ≡ text.old.items ++ digits_of digits number) }
 {
@@ -174,6 +180,7 @@ fn push_digits(text: &mut Vec<u8>, digits: Digits, number: u32) -> Result<(), Al
     }
 }
 
+/// Appends the length of a prefix as two decimal digits.
 fn push_length(text: &mut Vec<u8>, prefix: Prefix) -> Result<(), AllocError>
     ensures { OnOk result (text.new.items ≡ text.old.items ++ length_bytes prefix.length) }
 {

@@ -1,4 +1,5 @@
-//! Keys read from texts.
+//! Keys read from texts: from queries, and from the first attributes of paragraphs for
+//! `paragraph_key`.
 
 ghost use Rattle.std.specs.Prelude.{◌≡◌, IfOk, map};
 ghost use Rattle.rr_object.specs.KeySpellings.{as_set_key_of, key_of_text, route_key_of};
@@ -13,8 +14,9 @@ use rr_number::{AsNumber, AsSpan, Name, Prefix, SetName, Span};
 use std::alloc::{AllocError, Global};
 
 impl Key {
-    /// The key of a class that a text spells, as in a query: for a route its prefix, blanks and its
-    /// origin. `None` where it spells none; the error is that memory ran out.
+    /// The key of a class that a text spells, as in a query: for a route by two words, its prefix
+    /// and its origin. `None` where it spells none, as `AS-ANY` and `RS-ANY`; the error is that
+    /// memory ran out (RFC 2622, 3 to 6; profile).
     #[tactic(auto, unfolding(crate::specs::KeySpellings::key_of_text))]
     pub fn read(alloc: Global, class: Class, text: &[u8]) -> Result<Option<Key>, AllocError>
         ensures { IfOk result (λ key. key ≡ key_of_text class text.now) }
@@ -31,6 +33,7 @@ impl Key {
     }
 }
 
+/// The key of a route that a text spells by two words.
 #[tactic(auto, unfolding(crate::specs::KeySpellings::key_of_text))]
 fn read_route(alloc: Global, text: &[u8]) -> Result<Option<Key>, AllocError>
     ensures { IfOk result (λ key. key ≡ key_of_text class.Route text.now) }
@@ -39,6 +42,7 @@ fn read_route(alloc: Global, text: &[u8]) -> Result<Option<Key>, AllocError>
     Ok(route_of_words(&found))
 }
 
+/// The key of a route that these words spell, if they are two.
 fn route_of_words(found: &[&[u8]]) -> Option<Key>
     ensures { result ≡ route_key_of_words (map (λ word. word.now) found.now) }
 {
@@ -57,6 +61,7 @@ pub(crate) fn route_key_of(prefix: &[u8], origin: &[u8]) -> Option<Key>
     Some(Key::Route(prefix, origin))
 }
 
+/// The name of an as-set other than `AS-ANY` that a text spells.
 fn read_as_set(alloc: Global, text: &[u8]) -> Result<Option<SetName>, AllocError>
     ensures { IfOk result (λ name. name ≡ as_set_key_of text.now) }
 {
@@ -66,6 +71,7 @@ fn read_as_set(alloc: Global, text: &[u8]) -> Result<Option<SetName>, AllocError
     }
 }
 
+/// The name of a route-set other than `RS-ANY` that a text spells.
 fn read_route_set(alloc: Global, text: &[u8]) -> Result<Option<SetName>, AllocError>
     ensures { IfOk result (λ name. name ≡ route_set_key_of text.now) }
 {

@@ -1,4 +1,5 @@
-//! The interpreted attributes, and how often each stands in an object of each class.
+//! The interpreted attributes, and how often each stands in an object of each class: for the
+//! reading of objects, and for `rr_store`, which looks for the source in a row.
 
 ghost use Rattle.std.specs.Prelude.{◌≡◌};
 ghost use Rattle.rr_object.specs.Kinds.{is_read, kind_name, occurs};
@@ -76,7 +77,7 @@ impl Kind {
         }
     }
 
-    /// Whether the attribute is read in an object of a class.
+    /// Whether the attribute is read in an object of a class, and not only kept as text.
     pub fn is_read(self, class: Class) -> bool
         ensures { result ≡ is_read self class }
     {

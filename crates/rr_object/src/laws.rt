@@ -1,5 +1,5 @@
-//! What follows of an object from how it is read, and of keys from their bytes. Each function
-//! states a law and does nothing.
+//! What follows of an object from how it is read, and of keys from their bytes: for readers, and
+//! for the proofs of this crate and others. Each function states a law and does nothing.
 
 ghost use Rattle.std.specs.Prelude.{◌≡◌, ◌<◌, List, Ok, Some, length, ℕ};
 ghost use Rattle.rr_text.specs.Fields.{Field};
@@ -16,8 +16,8 @@ ghost use Rattle.rr_object.specs.declared.key.Key as keys;
 
 use crate::key::Key;
 
-/// A paragraph is refused for its first fault, and for nothing else; an object says what its
-/// paragraph says.
+/// A paragraph is refused for its first fault, and for nothing else. An object has the key of its
+/// paragraph, and says what this says.
 pub fn the_first_fault_is_told()
     ensures told { FirstFaultIsTold }
     ensures says { ObjectsSayTheirParagraphs }
@@ -43,7 +43,7 @@ pub fn an_object_has_its_paragraphs_key()
         → key_of fields ≡ Ok object.key }
 {}
 
-/// An object has a maintainer.
+/// An object names at least one maintainer in its `mnt-by`.
 pub fn an_object_has_a_maintainer()
     ensures { (fields : List Field) (object : Obj) → obj_of fields ≡ Ok object
         → 0 < length object.maintainers }
@@ -104,7 +104,8 @@ pub fn any_two_keys_compare_as_their_bytes(key: &Key, other: &Key)
 }
 
 /// Old bytes are those of tables of version 1. Well-formed keys of a class have equal old bytes
-/// only if they are equal; keys that have such are ordered by class number, then by them.
+/// only if they are equal. Well-formed keys that have old bytes are ordered by the numbers of their
+/// classes, then by these bytes.
 pub fn old_bytes_tell_keys_in_their_order()
     ensures told { OldBytesTellKeys }
     ensures order { OldBytesKeepOrder }
@@ -121,8 +122,8 @@ pub fn keys_are_read_well_formed()
         → IsKeyValue object.key }
 {}
 
-/// The entries of `mnt-routes` that are read of items are those that the items spell, and items
-/// that spell no list of entries are refused.
+/// Items are read as entries of `mnt-routes` exactly where they spell such entries, one after
+/// another, and then as those that they spell.
 pub fn grants_are_read_as_spelled()
     ensures read { ReadGrantsAreSpelled }
     ensures spelled { SpelledGrantsAreRead }

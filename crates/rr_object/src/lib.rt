@@ -1,5 +1,5 @@
 //! The objects of the registry: classes, keys, and what a paragraph's attributes say (RFC 2622, 2
-//! to 6).
+//! to 6). The crates above decide on objects, look them up, store them and answer with them.
 #![tactic(auto)]
 
 pub mod auth;

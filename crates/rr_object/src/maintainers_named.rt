@@ -1,4 +1,5 @@
-//! The maintainers that an object names.
+//! The maintainers that an object names: for verdicts and loads, which look whether they are
+//! registered, and for books and rows, which keep who is named.
 
 ghost use Rattle.std.specs.Prelude.{◌≡◌};
 ghost use Rattle.std.specs.Iterator.{YieldsFirstRef, item_count};
@@ -30,7 +31,7 @@ impl<'a> Model for MaintainersNamed<'a> {
 
 impl Object {
     /// The maintainers that the object names in `mnt-by`, `mnt-lower`, `mnt-routes` and
-    /// `mbrs-by-ref`, in this order.
+    /// `mbrs-by-ref`, in this order and without `ANY` (profile).
     pub fn maintainers_named(&self) -> MaintainersNamed<'_>
         ensures { result ≡ names_of self.now }
     {
@@ -42,7 +43,8 @@ impl Object {
         }
     }
 
-    /// Whether the object names the maintainer in one of these attributes.
+    /// Whether the object names the maintainer in `mnt-by`, `mnt-lower`, `mnt-routes` or
+    /// `mbrs-by-ref` (profile).
     pub fn names(&self, name: &Name) -> bool
         ensures { result ≡ object_names name.now self.now }
     {

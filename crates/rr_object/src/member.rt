@@ -1,11 +1,11 @@
-//! Members of sets.
+//! Members of sets, as `members` reads them of objects and `rr_sets` follows them.
 
 use rr_number::{AsNumber, Operator, Range, SetName};
 
 /// What a set's `members` names beside ranges (RFC 2622, 5).
 #[derive(Debug, PartialEq, Eq, PartialOrd, Ord, Drop)]
 pub enum MemberSet {
-    /// The routes that an autonomous system originates.
+    /// An autonomous system; in a route-set, the routes that it originates.
     AutNum(AsNumber),
     /// A set, `AS-ANY` and `RS-ANY` among them.
     Set(SetName),
@@ -16,6 +16,6 @@ pub enum MemberSet {
 pub enum Member {
     /// A range of prefixes, its operator applied.
     Range(Range),
-    /// A set with a range operator, which is plain in an as-set.
+    /// An autonomous system or a set, with a range operator, which is plain in an as-set.
     Set(MemberSet, Operator),
 }

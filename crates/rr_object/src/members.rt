@@ -1,4 +1,6 @@
-//! Reading items of `mnt-by`, `mnt-lower`, `mbrs-by-ref`, `member-of`, `members` and `auth`.
+//! Reading items of `mnt-by`, `mnt-lower`, `mbrs-by-ref`, `member-of`, `members` and `auth`, for
+//! `object_reading`. The error `BadValue` says that an item is badly spelled, and `Memory` that
+//! memory ran out.
 
 ghost use Rattle.std.specs.Prelude.{◌≡◌, ◌≢◌, IfErr, IfOk, None, Some};
 ghost use Rattle.rr_number.specs.SetNames.{set_name_of};
@@ -110,6 +112,7 @@ impl ReadItem for RouteSetMembers {
     }
 }
 
+/// Whether as-sets may list it: an AS number, or an as-set.
 fn is_in_as_sets(set: &MemberSet) -> bool
     ensures { result ≡ is_in_as_sets set.now }
 {

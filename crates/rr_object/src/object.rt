@@ -1,4 +1,5 @@
-//! Objects of the registry, each read from its paragraph.
+//! Objects of the registry, each read from its paragraph. Submissions, loads and opened databases
+//! read them, and all that decides or answers asks them.
 
 ghost use Rattle.std.specs.Prelude.{◌≡◌, ◌≢◌, Err, IfErr, IfOk, Ok, Some};
 ghost use Rattle.rr_object.specs.Faults.{GivesUnlessMemory};
@@ -26,8 +27,9 @@ use rr_text::Paragraph;
 use std::alloc::{AllocError, Global};
 use std::marker::Model;
 
-/// An object: its paragraph, and what the interpreted attributes of it say (RFC 2622, 2 to 6;
-/// RFC 2725, 10). All of it is in a place of its own, so that lists and maps of objects stay small.
+/// An object: its key, its paragraph, and what the interpreted attributes of it say (RFC 2622, 2 to
+/// 6; RFC 2725, 10). An attribute that its class keeps as text says nothing here. All of it is in a
+/// place of its own, so that lists and maps of objects stay small.
 #[derive(Debug, Drop)]
 pub struct Object {
     kept: Box<Kept>,
@@ -101,8 +103,8 @@ impl Object {
         }
     }
 
-    /// What names the object. It is well formed: the name of a set is one of its kind, and neither
-    /// `AS-ANY` nor `RS-ANY`.
+    /// What names the object. It is well formed: its parts are names, spans, prefixes and AS
+    /// numbers, and the name of a set is one of its kind, and neither `AS-ANY` nor `RS-ANY`.
     #[tactic(auto, using(crate::proofs::KeyBounds::obj_key_formed))]
     pub fn key(&self) -> &Key
         ensures value { result.now ≡ self.now.key }
@@ -111,7 +113,7 @@ impl Object {
         &self.kept.key
     }
 
-    /// The whole paragraph, from which the object was read.
+    /// The whole paragraph. The object is the one that this is in a registry of any source.
     pub fn paragraph(&self) -> &Paragraph
         ensures value { result.now ≡ self.now.paragraph }
         ensures read { obj_of self.now.paragraph ≡ Ok self.now }
@@ -146,7 +148,7 @@ impl Object {
         }
     }
 
-    /// The digests of secrets in `auth`.
+    /// The salts and digests in `auth`; lines of other schemes than SHA256-PW are left out.
     pub fn auths(&self) -> &[Auth]
         ensures { result.now ≡ self.now.auths }
     {
@@ -156,7 +158,7 @@ impl Object {
         }
     }
 
-    /// The items of `members`.
+    /// The items of `members`, without dropped ranges.
     pub fn members(&self) -> &[Member]
         ensures { result.now ≡ self.now.members }
     {
@@ -205,7 +207,7 @@ struct Sourced {
 }
 
 /// The object that a paragraph of this key is in a registry of any source, and the source that it
-/// names.
+/// names. The error is its first fault, or that memory ran out.
 fn read_of_any_source(alloc: Global, key: Key, paragraph: Paragraph) -> Result<Sourced, ObjectFault>
     requires { key_of paragraph ≡ Ok key }
     ensures ok { IfOk result (λ read. obj_of paragraph ≡ Ok read.object) }
@@ -226,6 +228,7 @@ struct Said {
     membership: Membership,
 }
 
+/// What a paragraph of this key says. The error is its first fault, or that memory ran out.
 #[tactic(auto, using(crate::proofs::Parsed::what_is_said))]
 fn read_said(alloc: Global, key: &Key, paragraph: &Paragraph) -> Result<Said, ObjectFault>
     requires { key_of paragraph.now ≡ Ok key.now }

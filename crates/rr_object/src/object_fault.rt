@@ -1,4 +1,5 @@
-//! Why a paragraph is not an object, in the order in which a paragraph is judged.
+//! Why a paragraph is not an object, in the order in which a paragraph is judged: for all that
+//! reads objects, and for the code in the report.
 
 ghost use Rattle.std.specs.Prelude.{◌≡◌};
 ghost use Rattle.rr_object.specs.Faults.{code_of};
@@ -6,34 +7,28 @@ ghost use Rattle.rr_object.specs.declared.object_fault.ObjectFault.TheVariants.{
 
 use crate::code::Code;
 use std::alloc::AllocError;
-use thiserror::Error;
 
 /// Why a paragraph is not an object of the registry. But for `Memory` these stand in the order in
 /// which they are found.
-#[derive(Clone, Copy, Debug, PartialEq, Eq, Error)]
+#[derive(Clone, Copy, Debug, PartialEq, Eq)]
 pub enum ObjectFault {
     /// It has no attribute, or the first one names no class.
-    #[error("the class is unknown")]
     UnknownClass,
     /// The key is bad; for a route also an origin that is missing, repeated or bad.
-    #[error("the key is bad")]
     BadKey,
     /// A needed attribute is missing or has no item, or one that stands once is repeated.
-    #[error("an attribute is missing or repeated")]
     BadCount,
-    /// An interpreted attribute has a bad value.
-    #[error("a value is bad")]
+    /// An interpreted attribute has a bad value, or there is a `password` or a `delete`, which
+    /// stand in no object.
     BadValue,
     /// The source is not the registry's own.
-    #[error("the source is another one")]
     OtherSource,
     /// Memory ran out.
-    #[error("out of memory")]
     Memory,
 }
 
 impl ObjectFault {
-    /// The code of an item that is refused for this fault.
+    /// The code of an item that is refused for this fault (profile).
     pub fn code(self) -> Code
         ensures { result ≡ code_of self }
     {

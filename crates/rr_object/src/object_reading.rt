@@ -1,4 +1,5 @@
 //! What the attributes of a paragraph say, for `object`: of its source, of authority and of sets.
+//! The error `BadValue` says that a value is bad, and `Memory` that memory ran out.
 
 ghost use Rattle.std.specs.Prelude.{◌≡◌, ◌≢◌, IfErr, IfOk, None, Some, false, map};
 ghost use Rattle.std.specs.Prelude.{true};
@@ -49,7 +50,7 @@ pub(crate) struct Membership {
     pub(crate) member_of: Vec<SetName>,
 }
 
-/// The source that a paragraph names. It is a fault that it names none, and that it has a
+/// The source that a paragraph names. `BadValue` says that it names none, or that it has a
 /// pseudo-attribute.
 #[tactic(auto, unfolding(crate::specs::Readings::has_bad_text))]
 pub(crate) fn read_source(
@@ -86,6 +87,7 @@ fn is_pseudo_attribute(attribute: &Attribute) -> bool
     attribute.has_name(b"password") || attribute.has_name(b"delete")
 }
 
+/// The name that the one of these values spells; none where they are not one.
 fn source_among(alloc: Global, values: &[Text]) -> Result<Option<Name>, AllocError>
     ensures { IfOk result (λ source. source ≡ option_and_then name_of (only values.now)) }
 {
@@ -272,6 +274,7 @@ fn read_by_ref(alloc: Global, class: Class, paragraph: &Paragraph) -> Result<ByR
     Ok(ByRef::new(has_any(&listed), names))
 }
 
+/// Whether one of the items is `ANY`.
 fn has_any(listed: &[&[u8]]) -> bool
     ensures { result ≡ list_any is_any (map (λ item. item.now) listed.now) }
 {

@@ -1,4 +1,5 @@
-//! The keys of paragraphs.
+//! The keys of paragraphs: for the reading of objects, and for reports and messages about what is
+//! no object.
 
 ghost use Rattle.std.specs.Prelude.{◌≡◌, IfOk};
 ghost use Rattle.rr_object.specs.Faults.{GivesUnlessMemory};
@@ -59,6 +60,7 @@ fn key_at(
     }
 }
 
+/// The key of a route whose class attribute means this text, by the one `origin` of its paragraph.
 #[tactic(auto, unfolding(crate::specs::KeySpellings::key_at))]
 fn route_key_at(
     alloc: Global,
@@ -71,6 +73,7 @@ fn route_key_at(
     Ok(route_key_with(text, &origins))
 }
 
+/// The key of a route of this prefix and the one of these origins; none where they are not one.
 fn route_key_with(text: &[u8], origins: &[Text]) -> Option<Key>
     ensures { result ≡ option_and_then (route_key_of text.now) (only origins.now) }
 {

@@ -1,4 +1,5 @@
-//! Objects as they are shown to everybody in answers and dumps: without the values of `auth`.
+//! Objects as `rr_answer` shows them to everybody in answers and dumps: without the values of
+//! `auth`.
 
 ghost use Rattle.std.specs.Prelude.{◌≡◌, IfOk};
 ghost use Rattle.rr_object.specs.Readings.{public_of};
@@ -16,7 +17,7 @@ const SECRET: &[u8] = b"auth";
 const FILTERED: &[u8] = b"# filtered";
 
 /// The paragraph of an object for public answers: each value of an attribute named `auth` is the
-/// line `# filtered`. The error is that memory ran out.
+/// line `# filtered`, and the other attributes are as they are. The error is that memory ran out.
 #[tactic(auto, unfolding(crate::specs::Readings::public_of))]
 pub fn public(alloc: Global, object: &Object) -> Result<Paragraph, AllocError>
     ensures { IfOk result (λ paragraph. paragraph ≡ public_of object.now) }
@@ -25,8 +26,8 @@ pub fn public(alloc: Global, object: &Object) -> Result<Paragraph, AllocError>
 }
 
 /// Appends the canonical text of an object's paragraph for public answers, each value of `auth` in
-/// it the line `# filtered`. The error is that memory ran out: then some bytes may have been
-/// appended.
+/// it the line `# filtered`. The error is that memory ran out: then bytes may have been appended,
+/// and what stood before them stays.
 #[tactic(auto, unfolding(crate::specs::Readings::public_of))]
 pub fn print_public(out: &mut Vec<u8>, object: &Object) -> Result<(), AllocError>
     ensures { MayAdd (canonical (public_of object.now)) out.old.items out.new.items result }

@@ -1,4 +1,8 @@
 -- An item of the holders' own is judged alike in registries that agree on what is held.
+-- A verdict is the first of some conditions, E10 to E17, and each is shown alike in both
+-- registries. Most of them split by the seven classes of key; crossings and routes go one way, and
+-- back by symmetry. That what they ask for is held is given by hand. The law
+-- `own_items_are_judged_alike` and `Confined` need it.
 use Rattle.std.proofs.Common.{◌≡◌, ◌≤◌, ℕ, true, false, cond, not, ◌&&◌, List, [], ◌∷◌, refl, sym}
 use Rattle.std.proofs.Common.{ap, ◌∙◌}
 use Rattle.std.specs.Prelude.{Option, None, Some, is_none, if◌then◌else◌}

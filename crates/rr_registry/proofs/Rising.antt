@@ -1,4 +1,8 @@
 -- Objects whose keys rise: each is put after those before it.
+-- Where keys rise, each object goes last, so it is enough to ask the spans gone over. Inetnums and
+-- AS blocks share one module; the five other classes are told apart and cross nothing. That all
+-- before the last are below it is an induction by hand. `are_in_order`, `none_cross` and
+-- `GoneOver::go_over` need it.
 use Rattle.std.proofs.Common.{◌≡◌, ◌⊎◌, ◌||◌, ℕ, ◌+◌, ◌-◌, ◌<◌, ◌≤◌, Bool, true, false, ◌&&◌, inl}
 use Rattle.std.proofs.Common.{inr, List, [], ◌∷◌, ◌++◌, length, get_or, take, drop, refl, sym, ap}
 use Rattle.std.proofs.Common.{subst, ◌∙◌, add-one, arith}

@@ -1,4 +1,5 @@
--- What a run does to what the holders of a prefix hold.
+-- What a run does to what the holders of a prefix hold: for `Registry::run_items`, a law of
+-- `src/laws.rt`, and submissions.
 use Rattle.std.specs.Prelude.{◌≡◌, Bool, true, not, ◌||◌, List, [], ◌∷◌, filter}
 use Rattle.std.specs.Prelude.{Result, Ok, Err, if◌then◌else◌}
 use Rattle.std.specs.List.{list_all}
@@ -32,8 +33,8 @@ own_outcomes h r (s ∷ ss) [] = []
 own_outcomes h r (s ∷ ss) (o ∷ os) =
     if is_foreign h r s.secrets then own_outcomes h r ss os else o ∷ own_outcomes h r ss os
 
--- What the holders submitted, with the outcomes that it had, is by itself a run from where the run
--- began, and both runs end agreeing on what is held, with the prefix held; and where all was
+-- What was submitted and not foreign, with the outcomes that it had, is by itself a run from where
+-- the whole run began. Both runs end agreeing on what is held, with the prefix held. Where all was
 -- foreign, what is held is what it was.
 pub record IsConfined (h : Holding) (before : Reg) (submitted : List Submitted)
     (outcomes : List Outcome) (ended : Reg) : Type 0 where
@@ -52,8 +53,8 @@ Confines before submitted outcomes ended =
     (h : Holding) → IsHeld h before → are_foreign_or_own h before submitted ≡ true
     → IsConfined h before submitted outcomes ended
 
--- Each run from a sound registry is confined, for whoever holds a prefix, where each of what is
--- submitted is foreign or their own.
+-- Each run of well-formed items from a sound registry is confined, for whoever holds a prefix,
+-- where each of what is submitted is foreign or their own.
 abbrev pub RunsConfine : Type 0
 RunsConfine =
     (r s : Reg) (submitted : List Submitted) (outcomes : List Outcome)

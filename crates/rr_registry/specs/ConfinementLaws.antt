@@ -1,4 +1,4 @@
--- What one item does to what is held.
+-- What one item does to what is held: for `Registry::apply`, and laws of `src/confinement_laws.rt`.
 use Rattle.std.specs.Prelude.{◌≡◌, ℕ, true, List}
 use Rattle.rr_auth.specs.declared.item.Item.{Item}
 use Rattle.rr_auth.specs.Laws.{IsItem}
@@ -11,13 +11,15 @@ pub record IsLeft (h : Holding) (before then : Reg) : Type 0 where
   pub agree : Agree h before then
   pub held : IsHeld h then
 
--- Whoever holds a prefix, and has no secret among these, keeps what is held.
+-- Where a prefix is held, and none of the secrets fits a mntner of the holders, what is held is
+-- left as it was, and the prefix held.
 abbrev pub LeavesOthers : Reg → List (List ℕ) → Reg → Type 0
 LeavesOthers before secrets then =
     (h : Holding) → IsHeld h before → is_foreign h before secrets ≡ true
     → IsLeft h before then
 
--- An item that nobody among the holders sent leaves what they hold.
+-- In a sound registry, a well-formed item leaves what is held, and the prefix held, where none of
+-- the secrets given with it fits a mntner of the holders.
 abbrev pub ForeignItemsLeave : Type 0
 ForeignItemsLeave =
     (r : Reg) (secrets : List (List ℕ)) (i : Item) → Sound r → IsItem i
@@ -31,8 +33,8 @@ pub record IsAlike (h : Holding) (r q : Reg) (secrets : List (List ℕ)) (i : It
   pub held : IsHeld h (step r secrets i)
   pub held_too : IsHeld h (step q secrets i)
 
--- An item of the holders' own is judged alike in registries that agree on what is held, and leaves
--- them agreeing.
+-- A well-formed item of the holders' own is judged alike in two sound registries in which the
+-- prefix is held and which agree on what is held. It leaves them agreeing, with the prefix held.
 abbrev pub OwnItemsAreAlike : Type 0
 OwnItemsAreAlike =
     (h : Holding) (r q : Reg) (secrets : List (List ℕ)) (i : Item) → Sound r → Sound q

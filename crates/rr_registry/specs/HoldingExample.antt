@@ -59,8 +59,8 @@ object_by name key = object_of_maintainer key [] name
 abbrev pub ends : ℕ → ℕ → Ends
 ends first last = record { first = first; last = last }
 
--- The three maintainers; all AS numbers and all addresses of ROOT-MNT; AS1 of A-MNT and AS2 of
--- B-MNT; 10.0.0.0/8 of B-MNT, and in it 10.1.0.0/16 of A-MNT, as an inetnum and as a route of AS1.
+-- The three maintainers. ROOT-MNT has all AS numbers and all addresses, A-MNT has AS1, and B-MNT
+-- has AS2 and 10.0.0.0/8. In it A-MNT has 10.1.0.0/16, as an inetnum and as a route of AS1.
 abbrev pub example_objects : List Obj
 example_objects =
     maintainer_with a_mnt (codes "ab")

@@ -73,9 +73,8 @@ names_holders h k o =
     && (is_mntner k
     || (list_all (is_holder h) o.lower && list_all (λ g. is_holder h g.name) o.routes))
 
--- The prefix is held in a registry: the holders are registered, and so are an inetnum and a route
--- of exactly the prefix and the aut-nums of the holders' AS numbers; and all that is held names
--- holders alone.
+-- The prefix is held in a registry: the holders are registered, and so are the aut-nums of their AS
+-- numbers, and an inetnum and a route of exactly the prefix. All that is held names holders alone.
 pub record IsHeld (h : Holding) (r : Reg) : Type 0 where
   pub registered : (name : List ℕ) → is_holder h name ≡ true
       → is_some (get r (Mntner name)) ≡ true
@@ -113,9 +112,9 @@ is_whole h (Inetnum s) = same_ends s (space_of h)
 is_whole h (Route p n) = same_prefix p h.prefix
 is_whole h _ = false
 
--- An item is the holders' own where it is about an inetnum or route inside the prefix, the route's
--- origin being one of theirs, or a set under their ASes, where its object names holders alone, and
--- where it does not delete an inetnum or a route of exactly the prefix.
+-- An item is the holders' own where it is about an inetnum inside the prefix, a route inside it
+-- with an origin of theirs, or a set under their ASes. An object that is submitted names holders
+-- alone, and what is deleted is no inetnum and no route of exactly the prefix.
 abbrev pub is_own : Holding → Item → Bool
 is_own h (Submit o) = is_within h o.key && list_all (is_holder h) (names_of o)
 is_own h (Delete k) = is_within h k && not (is_whole h k)

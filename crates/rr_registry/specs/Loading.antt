@@ -1,4 +1,5 @@
--- When a list of objects is a sound registry, and what else is the matter with it.
+-- When a list of objects can be taken as a registry, and otherwise what is the matter with it: for
+-- `Registry::from_objects`, and for desks that are opened, loaded or migrated.
 use Rattle.std.specs.Prelude.{◌≡◌, ℕ, ◌+◌, Bool, ◌⊎◌, List, [], ◌∷◌}
 use Rattle.std.specs.Prelude.{◌++◌, Option, None, Some, position, if◌then◌else◌}
 use Rattle.std.specs.List.{list_any}
@@ -40,12 +41,12 @@ clash before n (o ∷ os) = option_or (clash_of before n o) (clash (before ++ o 
 abbrev pub unnamed : Reg → List Obj → Option LoadFault
 unnamed r os = option_map (λ i. Unnamed (i + 1)) (position (λ o. some_is_unknown r (names_of o)) os)
 
--- What is the matter with a list of objects, counted from 1: first a key that stands twice or spans
--- that cross, then a maintainer who is not in the list (profile).
+-- What is the matter with a list of objects, counted from 1. A key that stands twice or spans that
+-- cross come first, then a maintainer who is not in the list (profile).
 abbrev pub load_fault : List Obj → Option LoadFault
 load_fault os = option_or (clash [] 1 os) (unnamed (gathered empty os) os)
 
--- A list of objects was taken whole as a registry.
+-- A list of objects without a fault was taken whole as a registry.
 pub record IsTaken (os : List Obj) (r : Reg) : Type 0 where
   pub faultless : load_fault os ≡ None
   pub whole : r ≡ gathered empty os

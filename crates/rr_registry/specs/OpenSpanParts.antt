@@ -63,8 +63,8 @@ pub record IsJoined (gone : Ends → Bool) (s : Ends) (more : Ends → Bool) : T
   pub own : more s ≡ true
   pub old : (t : Ends) → gone t ≡ true → more t ≡ true
 
--- Open spans are what is kept of spans that were gone over, at a number that is not above where all
--- of these begin.
+-- Open spans are what is kept of spans that were gone over, at a number that is not above the
+-- greatest at which one of these begins.
 pub record HasGoneOver (gone : Ends → Bool) (open_spans : OpenSpans) : Type 0 where
   pub kept : IsKept gone open_spans.first open_spans.outer.items open_spans.level.items
   pub within : IsWithinFirsts gone open_spans.first
@@ -80,8 +80,8 @@ pub record GoesOver (gone : Ends → Bool) (s : Ends) (more : Ends → Bool)
   pub free : (t : Ends) → gone t ≡ true → crosses t s ≡ false
   pub passed : HasGoneOver more now
 
--- It is true only if a span, which comes after those that were gone over, crosses none of them; and
--- then it was gone over after them.
+-- The answer is true only if a span, which comes after those that were gone over, crosses none of
+-- them; and then it was gone over after them.
 abbrev pub MayGoOver : OpenSpans → Ends → OpenSpans → Bool → Type 0
 MayGoOver old span new free =
     (gone more : Ends → Bool) → HasGoneOver gone old → ComesAfter gone span

@@ -1,4 +1,4 @@
--- How runs fit together, and what they keep.
+-- How runs fit together, and what they keep: laws of `src/laws.rt`.
 use Rattle.std.specs.Prelude.{◌≡◌, ℕ, List, [], ◌∷◌, ◌++◌, IfOk}
 use Rattle.rr_auth.specs.Laws.{IsItem}
 use Rattle.rr_auth.specs.Registries.{Reg, Sound}
@@ -31,12 +31,12 @@ RunsPart =
     (r t : Reg) (first later : List Submitted) (outcomes : List Outcome)
     → Run r (first ++ later) outcomes t → IsSplit r t first later outcomes
 
--- Each item of a list is about a well formed key.
+-- Each item of a list is well formed: the object that it submits, if any, has a well-formed key.
 abbrev pub AreFormed : List Submitted → Type 0
 AreFormed [] = Unit {0}
 AreFormed (submitted ∷ later) = IfOk submitted.action IsItem × AreFormed later
 
--- A run from a sound registry ends at a sound one, whatever is submitted.
+-- A run from a sound registry ends at a sound one, whatever well-formed items are submitted.
 abbrev pub RunsStaySound : Type 0
 RunsStaySound =
     (r s : Reg) (submitted : List Submitted) (outcomes : List Outcome)
@@ -48,8 +48,8 @@ AreReadIn source [] = Unit {0}
 AreReadIn source (submitted ∷ later) =
     IfOk submitted.action (IsReadIn source) × AreReadIn source later
 
--- A run from a registry of a source ends at a registry of that source, whatever is submitted that
--- is read in it.
+-- A run from a registry of a source ends at a registry of that source, whatever items are submitted
+-- that are as they are read in it.
 abbrev pub RunsStayOfSource : Type 0
 RunsStayOfSource =
     (source : List ℕ) (r s : Reg) (submitted : List Submitted) (outcomes : List Outcome)

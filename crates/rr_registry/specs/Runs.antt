@@ -1,4 +1,5 @@
--- What becomes of what is submitted: the outcome of each, and the registry after it.
+-- What becomes of what is submitted: the outcome of each, and the registry after it. For
+-- `Registry::apply` and `run_items`, and for submissions.
 use Rattle.std.specs.Prelude.{◌≡◌, ℕ, ◌⊎◌, List, [], ◌∷◌, IfOk, OnErr, Result, Ok, Err}
 use Rattle.std.specs.Global.{Vec}
 use Rattle.rr_object.specs.declared.code.Code.{Code}
@@ -30,17 +31,18 @@ pub record HasEffect (before : Reg) (judged : Verdict) (item : Item) (outcome : 
   pub outcome_is : outcome ≡ outcome_of judged
   pub effect : then ≡ after judged before item
 
--- Memory ran out: the item is refused and nothing changes (profile).
+-- Memory ran out: the item is refused with E90 and nothing changes (profile).
 pub record IsOutOfMemory (before : Reg) (outcome : Outcome) (then : Reg) : Type 0 where
   pub outcome_is : outcome ≡ Refused E90
   pub effect : then ≡ before
 
--- A verdict on an item was carried out, or memory ran out.
+-- A verdict on an item had its effect, or memory ran out.
 abbrev pub IsCarriedOut : Reg → Verdict → Item → Outcome → Reg → Type 0
 IsCarriedOut before judged item outcome then =
     HasEffect before judged item outcome then ⊎ IsOutOfMemory before outcome then
 
--- What one item, with the secrets given with it, does to a registry.
+-- What one item, with the secrets given with it, does to a registry: its verdict there is carried
+-- out, or memory ran out.
 abbrev pub IsStep : Reg → List (List ℕ) → Item → Outcome → Reg → Type 0
 IsStep before secrets item outcome then =
     IsCarriedOut before (verdict before secrets item) item outcome then
@@ -51,8 +53,8 @@ abbrev pub Decides : Reg → List (List ℕ) → Result Item Code → Outcome �
 Decides before secrets (Ok item) outcome then = IsStep before secrets item outcome then
 Decides before secrets (Err code) outcome then = (outcome ≡ Refused code) × (then ≡ before)
 
--- Each of what is submitted is decided in turn, over the registry that the one before it left
--- (profile).
+-- Each of what is submitted is decided in turn, over the registry that the one before it left, and
+-- has its own outcome in the list (profile).
 abbrev pub Run : Reg → List Submitted → List Outcome → Reg → Type 0
 Run before [] [] then = then ≡ before
 Run before [] (outcome ∷ outcomes) then = ⊥

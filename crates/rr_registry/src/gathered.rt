@@ -18,7 +18,7 @@ use rr_object::{Key, Object};
 use std::alloc::{AllocError, Global};
 use std::collections::BTreeMap;
 
-/// Objects under their keys, and the spans of the inetnums and the as-blocks among them: whether a
+/// Objects under their keys, and the spans of the inetnums and the as-blocks among them. Whether a
 /// key stands there or is crossed is found in O(log n) steps for n objects.
 #[derive(Drop)]
 pub(crate) struct Gathered {

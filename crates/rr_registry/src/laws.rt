@@ -15,20 +15,23 @@ pub fn runs_part()
     ensures { RunsPart }
 {}
 
-/// A run from a sound registry ends at a sound one.
+/// A run from a sound registry ends at a sound one, where each object that is submitted has a
+/// well-formed key.
 #[tactic(auto, using(crate::proofs::Running::run_stays_sound))]
 pub fn runs_stay_sound()
     ensures { RunsStaySound }
 {}
 
-/// A run from a registry of a source ends at a registry of that source, where all items are read in
-/// it.
+/// A run from a registry of a source ends at a registry of that source, where each item is as it is
+/// read in that source.
 pub fn runs_stay_of_their_source()
     ensures { RunsStayOfSource }
 {}
 
-/// Where each item is foreign to the holders of a prefix or their own, a run from a sound registry
-/// answers these as if nobody else had submitted anything. It leaves what they hold to them.
+/// A run of well-formed items begins at a sound registry in which a prefix is held. Where all that
+/// is submitted is foreign to the holders or their own, what is not foreign has the outcomes of a
+/// run by itself. What is held ends as that run leaves it, or as it was if all was foreign. After
+/// either run the prefix is held.
 pub fn runs_confine_what_is_foreign()
     ensures { RunsConfine }
 {}

@@ -1,9 +1,10 @@
-//! The registry in memory: a sound set of objects, and what items do to it.
+//! The registry in memory: a sound map of objects, and what items do to it. `rr_submission` and
+//! `rr_desk` decide items by it; `rr_answer` answers from it.
 #![tactic(auto)]
 
 pub mod confinement_laws;
 mod gathered;
-mod in_order;
+mod key_order;
 pub mod laws;
 mod load;
 mod open_spans;

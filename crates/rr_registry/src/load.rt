@@ -12,7 +12,7 @@ ghost use Rattle.rr_object.specs.Keys.{is_mntner_of};
 ghost use Rattle.rr_registry.specs.Private.{IsClashOf, IsGathered};
 
 use crate::gathered::Gathered;
-use crate::in_order::are_gathered;
+use crate::key_order::are_gathered;
 use crate::registry::Registry;
 use rr_book::Keeper;
 use rr_number::Name;
@@ -33,6 +33,7 @@ pub enum LoadFault {
     Memory,
 }
 
+/// The fault is that memory ran out.
 impl From<AllocError> for LoadFault {
     ghost use Rattle.std.specs.Prelude.{◌≡◌};
     ghost use Rattle.rr_registry.specs.declared.load.LoadFault.TheVariants.{Memory};
@@ -44,6 +45,7 @@ impl From<AllocError> for LoadFault {
     }
 }
 
+/// The fault is that memory ran out.
 impl<T: Drop> From<AllocFailed<T>> for LoadFault {
     ghost use Rattle.std.specs.Prelude.{◌≡◌};
     ghost use Rattle.rr_registry.specs.declared.load.LoadFault.TheVariants.{Memory};
@@ -59,9 +61,10 @@ impl<B: Keeper> Registry<B> {
     ghost use Rattle.rr_auth.specs.Registries.{Sound};
     ghost use Rattle.rr_registry.specs.Loading.{IsFaultOf, IsTaken};
 
-    /// The registry of these objects. The fault is the first key that stands twice or span that
-    /// crosses one before it, otherwise the first object that names a maintainer who is not in the
-    /// list, or that memory ran out (profile).
+    /// The registry of all these objects, which is sound; there is one only if the list has no
+    /// fault. The fault is of the first object that has the key of one before it or crosses one
+    /// before it, and is `Duplicate` if it does both. If there is none, it is of the first object
+    /// that names a maintainer who is not in the list (profile). Or memory ran out, with any list.
     #[tactic(auto, using(crate::proofs::Gathering::clash_is_fault))]
     pub fn from_objects(alloc: Global, objects: Vec<Object>) -> Result<Registry<B>, LoadFault>
         ensures taken { MatchResult result (IsTaken objects.items) (IsFaultOf objects.items) }
@@ -78,7 +81,7 @@ impl<B: Keeper> Registry<B> {
     }
 }
 
-/// The names of the mntners among the objects.
+/// The names of the mntners among the objects; the error is that memory ran out.
 fn names_of_mntners(alloc: Global, objects: &[Object]) -> Result<BTreeSet<Name>, AllocError>
     ensures { IfOk result (λ mntners. (name : List ℕ) → contains
         (slice_cmp nat_cmp) mntners name ≡ list_any (λ o. is_mntner_of name o.key) objects.now) }
@@ -90,7 +93,8 @@ fn names_of_mntners(alloc: Global, objects: &[Object]) -> Result<BTreeSet<Name>,
     Ok(mntners)
 }
 
-/// Adds the name of the key to the mntners, where it is that of one.
+/// Adds the name of the key to the mntners, where it is that of one; the error is that memory ran
+/// out.
 fn add_mntner(alloc: Global, mntners: &mut BTreeSet<Name>, key: &Key) -> Result<(), AllocError>
     ensures { OnOk result ((name : List ℕ) → contains (slice_cmp nat_cmp) mntners.new name
         ≡ (contains (slice_cmp nat_cmp) mntners.old name || is_mntner_of name key.now)) }
@@ -105,7 +109,7 @@ fn add_mntner(alloc: Global, mntners: &mut BTreeSet<Name>, key: &Key) -> Result<
 }
 
 /// The place of the first object that names a maintainer who is not among the objects; none if
-/// there is no such object.
+/// there is no such object. The error is that memory ran out.
 fn first_unnamed(alloc: Global, objects: &[Object]) -> Result<Option<usize>, AllocError>
     ensures value { IfOk result (λ place. place ≡ position (λ o. list_any
         (λ n. not (list_any (λ x. is_mntner_of n x.key) objects.now)) (names_of o)) objects.now) }
@@ -136,8 +140,8 @@ fn names_unknown(object: &Object, mntners: &BTreeSet<Name>) -> bool
         .any(|name| !mntners.contains(name))
 }
 
-/// The objects in order, or the first whose key stands twice or whose span crosses one before it.
-/// Those that stand so already are not put together.
+/// The objects in order; or the first whose key stands twice or whose span crosses one before it,
+/// or that memory ran out. Those that stand so already are not put together.
 fn gather(alloc: Global, objects: Vec<Object>) -> Result<Vec<Object>, LoadFault>
     ensures { MatchResult result (λ gathered. IsGathered objects.items gathered.items)
         (IsClashOf objects.items) }
@@ -148,7 +152,8 @@ fn gather(alloc: Global, objects: Vec<Object>) -> Result<Vec<Object>, LoadFault>
     put_in_order(alloc, objects)
 }
 
-/// The objects in order, or the first whose key stands twice or whose span crosses one before it.
+/// The objects in order; or the first whose key stands twice or whose span crosses one before it,
+/// or that memory ran out.
 #[tactic(auto, using(crate::proofs::Gathering::clash_next))]
 fn put_in_order(alloc: Global, objects: Vec<Object>) -> Result<Vec<Object>, LoadFault>
     ensures { MatchResult result (λ gathered. IsGathered objects.items gathered.items)

@@ -49,7 +49,7 @@ impl OpenSpans {
         Ok(true)
     }
 
-    /// Goes on to spans that begin at this number.
+    /// Goes on to spans that begin at this number; the error is that memory ran out.
     fn move_on(&mut self, first: u32) -> Result<(), AllocError>
         ensures kept { OnOk result ((gone : Ends → Bool) → self.old.first ≤ first
             → IsKept gone self.old.first self.old.outer.items self.old.level.items

@@ -1,5 +1,5 @@
 //! Registries, and what items do to them. Desks and submissions decide items by `apply`; queries
-//! and dumps read the lists.
+//! and dumps read the lists, and `rr_answer` asks the book as well.
 
 ghost use Rattle.std.specs.Prelude.{◌≡◌, ◌⊎◌, true, IfOk};
 ghost use Rattle.std.specs.FinMap.{empty, insert, remove, values};
@@ -58,7 +58,7 @@ impl<B: Keeper> Registry<B> {
         }
     }
 
-    /// The registry of this book.
+    /// The registry of this book, which has to be sound.
     pub(crate) fn of(alloc: Global, book: B) -> Registry<B>
         requires { Sound (B.contents book) }
         ensures { result ≡ B.contents book }
@@ -113,10 +113,11 @@ impl<B: Keeper> Registry<B> {
         self.book.inside(alloc, span)
     }
 
-    /// Does with the item, which is well formed, what its verdict says, over this registry and
-    /// these secrets (RFC 2725, 9; profile). If memory runs out the item is refused with E90 and
-    /// nothing changes. What the holders of a prefix hold stays as it was where none of the secrets
-    /// is theirs. The secrets stay as they were.
+    /// Does with the item what its verdict says, over this registry and these secrets, and tells
+    /// the outcome (RFC 2725, 9; profile). If memory runs out the item is refused with E90 and
+    /// nothing changes. Where a prefix is held and none of the secrets fits a holder's mntner, what
+    /// is held stays as it was, and the prefix held. An object that is submitted has a well-formed
+    /// key. The secrets stay as they were.
     #[tactic(auto, using(crate::proofs::Judged::carried_out))]
     pub fn apply(&mut self, alloc: Global, secrets: &mut Secrets, item: Item) -> Outcome
         ensures step { IsStep self.old secrets.old item result self.new }
@@ -131,7 +132,8 @@ impl<B: Keeper> Registry<B> {
         }
     }
 
-    /// The verdict on the item, which is a refusal with E90 if memory runs out.
+    /// The verdict on the item, which is a refusal with E90 if memory runs out. The registry is
+    /// sound and stays as it was.
     fn verdict(&mut self, alloc: Global, secrets: &mut Secrets, item: &Item) -> Verdict
         ensures judged { JudgesItem self.old secrets.old item.now result secrets.new }
         ensures sound { Sound self.old }
@@ -143,7 +145,8 @@ impl<B: Keeper> Registry<B> {
         }
     }
 
-    /// Carries out the verdict on an object.
+    /// Carries out the verdict on an object. If memory runs out, it is refused with E90, and
+    /// nothing changes.
     fn submit(&mut self, alloc: Global, judged: Verdict, object: Object) -> Outcome
         requires added { judged ≡ Add → Sound (insert self.old object.key object) }
         requires changed { judged ≡ Change → Sound (insert self.old object.key object) }
@@ -160,7 +163,8 @@ impl<B: Keeper> Registry<B> {
         }
     }
 
-    /// Puts the object under its key, with this outcome.
+    /// Puts the object under its key, with this outcome. If memory runs out, it is refused with
+    /// E90, and nothing changes.
     fn put(&mut self, alloc: Global, object: Object, done: Outcome) -> Outcome
         requires { Sound (insert self.old object.key object) }
         ensures { ((result ≡ done) × (self.new ≡ insert self.old object.key object))

@@ -26,9 +26,11 @@ impl<B: Keeper> Registry<B> {
     ghost use Rattle.rr_registry.specs.Runs.{Decides, MayRun};
 
     /// Decides in turn what was submitted and gives the outcome of each. The error is that memory
-    /// ran out for the outcomes, before the first item, and leaves the registry as it was. Where
-    /// each item is foreign to the holders of a prefix or their own, these are answered as if
-    /// nobody else had submitted anything.
+    /// ran out for the outcomes, and leaves the registry as it was.
+    ///
+    /// Let a prefix be held at first, and all that is submitted be foreign to its holders or their
+    /// own. Then what is not foreign has the outcomes of a run by itself. What is held ends as that
+    /// run leaves it, or as it was if all was foreign. After either run the prefix is held.
     pub fn run_items(
         &mut self,
         alloc: Global,
@@ -43,7 +45,8 @@ impl<B: Keeper> Registry<B> {
         self.run_each(alloc, items)
     }
 
-    /// Decides in turn what was submitted.
+    /// Decides in turn what was submitted. The error is that memory ran out for the outcomes, and
+    /// leaves the registry as it was.
     fn run_each(&mut self, alloc: Global, items: Vec<Submitted>) -> Result<Vec<Outcome>, AllocError>
         ensures run { MayRun self.old items.items self.new result }
         ensures formed { OnOk result (AreFormed items.items) }

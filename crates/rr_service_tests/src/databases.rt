@@ -68,18 +68,12 @@ pub trait Database: Sized {
     /// Makes a store of the four objects.
     fn created(self, alloc: Global) -> Result<(Option<CreateFault>, Self), Fail>;
 
-    /// The objects of the store, opened with them for a source.
+    /// The objects with which the store is opened for a source.
     fn opened(
         self,
         alloc: Global,
         source: &str,
     ) -> Result<(Result<Vec<u8>, OpenFault>, Self), Fail>;
-
-    /// All objects of the store, opened without them.
-    fn all(self, alloc: Global) -> Result<(Vec<u8>, Self), Fail>;
-
-    /// The objects of the store that name a maintainer.
-    fn naming(self, alloc: Global, maintainer: &str) -> Result<(Vec<u8>, Self), Fail>;
 
     /// Puts an object into the store, and takes out another.
     fn changed(self, alloc: Global, put: &str, removed: &str) -> Result<Self, Fail>;
@@ -152,20 +146,6 @@ impl<S: Alter + Drop> Database for Connection<S> {
         }
     }
 
-    fn all(self, alloc: Global) -> Result<(Vec<u8>, Connection<S>), Fail> {
-        let source = name(alloc, "TEST")?;
-        let mut store = opened_alone(alloc, self, &source)?;
-        let objects = store.all(alloc, &source)?;
-        Ok((text_of(alloc, &objects)?, store.close().into_connection()))
-    }
-
-    fn naming(self, alloc: Global, maintainer: &str) -> Result<(Vec<u8>, Connection<S>), Fail> {
-        let source = name(alloc, "TEST")?;
-        let mut store = opened_alone(alloc, self, &source)?;
-        let text = text_naming(alloc, &mut store, &source, maintainer)?;
-        Ok((text, store.close().into_connection()))
-    }
-
     fn changed(self, alloc: Global, put: &str, removed: &str) -> Result<Connection<S>, Fail> {
         let source = name(alloc, "TEST")?;
         let mut store = opened_alone(alloc, self, &source)?;
@@ -222,18 +202,6 @@ fn made<S: Alter + Drop>(alloc: Global, conn: Connection<S>) -> Result<Made<S>, 
     Ok(Store::create(alloc, settled(conn)?, &lent))
 }
 
-/// The objects of the store that name a maintainer.
-fn text_naming<S: Alter>(
-    alloc: Global,
-    store: &mut Store<S>,
-    source: &Name,
-    maintainer: &str,
-) -> Result<Vec<u8>, Fail> {
-    let maintainer = name(alloc, maintainer)?;
-    let objects = store.naming(alloc, source, &maintainer)?;
-    text_of(alloc, &objects)
-}
-
 /// Puts an object into the store, and takes out another.
 fn exchange<S: Alter>(
     alloc: Global,
@@ -272,14 +240,14 @@ fn removes<S: Alter>(alloc: Global, store: &mut Store<S>, text: &str) -> Result<
     Ok(store.remove(alloc, object.key()).is_ok())
 }
 
-/// The store in this database, opened without its objects.
+/// The store in this database, without the objects that come with it.
 fn opened_alone<S: Alter + Drop>(
     alloc: Global,
     conn: Connection<S>,
     source: &Name,
 ) -> Result<Store<S>, Fail> {
-    match Store::open(alloc, settled(conn)?, source) {
-        Ok(store) => Ok(store),
+    match Store::open_all(alloc, settled(conn)?, source) {
+        Ok((store, _objects)) => Ok(store),
         Err((fault, _conn)) => Err(fault.into()),
     }
 }

@@ -122,7 +122,7 @@ impl<S: Alter + Drop> Office for Desk<S> {
     }
 
     fn begun_again(self, alloc: Global) -> Result<Desk<S>, Fail> {
-        Ok(desk_of(self.reopen(alloc))?)
+        opened(alloc, self.close().into_connection())
     }
 
     fn after(self, alloc: Global, statements: &[&str]) -> Result<Desk<S>, Fail> {

@@ -12,7 +12,7 @@ use Rattle.rr_object.specs.declared.key.Key.TheVariants.{AutNum, AsSet}
 use Rattle.rr_object.specs.declared.member.Member.{Member}
 use Rattle.rr_sets.specs.SetObjects.{set_listed, number_listed, takes}
 
--- A registered as-set lists the name of another set (RFC 2622, 5).
+-- A registered as-set lists the name of a set (RFC 2622, 5).
 abbrev pub ListsSet : Reg → List ℕ → List ℕ → Type 0
 ListsSet r name listed = (o : Obj) × (get r (AsSet name) ≡ Some o)
     × ((m : Member) × Contains o.members m × (set_listed m ≡ Some listed))
@@ -41,7 +41,8 @@ IsDirect r name n = ListsNumber r name n ⊎ (BelongsTo r name n ⊎ IsAnyNumber
 abbrev pub IsReachedSet : Reg → List ℕ → List ℕ → Type 0
 IsReachedSet r start name = IsReached (ListsSet r) (start ∷ []) name
 
--- An AS number is in an as-set: it is in a set that a chain of listed names leads to (RFC 2622, 5).
+-- An AS number is in an as-set: a chain of listed names, which may be empty, leads from that to a
+-- set in which the number is itself (RFC 2622, 5).
 abbrev pub InAsSet : Reg → List ℕ → ℕ → Type 0
 InAsSet r start n = (name : List ℕ) × IsReachedSet r start name × IsDirect r name n
 
@@ -49,6 +50,7 @@ InAsSet r start n = (name : List ℕ) × IsReachedSet r start name × IsDirect r
 abbrev pub has_as_set : Reg → List ℕ → Bool
 has_as_set r name = is_some (get r (AsSet name)) || bytes_eq name as_any
 
--- A chain of listed names leads from a set to a name of which there is no as-set (profile).
+-- A chain of listed names, which may be empty, leads from a set to a name of which there is no
+-- as-set (profile).
 abbrev pub IsMissing : Reg → List ℕ → List ℕ → Type 0
 IsMissing r start name = IsReachedSet r start name × (has_as_set r name ≡ false)

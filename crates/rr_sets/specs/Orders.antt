@@ -1,6 +1,6 @@
--- The orders of sets, prefixes and ranges tell them apart, and each operator but none looks at the
--- least length of a range alone. These are proofs; they stand here because ghost items of src, by
--- which the graph of route-sets promises this, name them.
+-- The orders of sets, prefixes and ranges tell them apart, and each operator but `Plain` looks at
+-- the least length of a range alone. These are proofs; they stand here because ghost items of src,
+-- by which the graph of route-sets promises this, name them.
 use Rattle.std.proofs.Common.{◌≡◌, ℕ, ◌+◌, Bool, true, false, max, Option, None, Some, refl, sym}
 use Rattle.std.proofs.Common.{ap, ◌∙◌}
 use Rattle.std.specs.Option.{option_map}
@@ -64,14 +64,14 @@ least_of r = r.low
 abbrev pub prefix_of : RangeParts → PrefixParts
 prefix_of r = r.prefix
 
--- the operator is none
+-- the operator is `Plain`, which is none
 abbrev pub is_plain : Operator → Bool
 is_plain Plain = true
 is_plain Plus = false
 is_plain Minus = false
 is_plain (Lengths b) = false
 
--- Each operator but none looks at the least length alone.
+-- Each operator but `Plain` looks at the least length alone.
 under_least : (l : Operator) (v w : RangeParts) → is_plain l ≡ false → v.low ≡ w.low
     → lengths_under l (bounds_of v) ≡ lengths_under l (bounds_of w)
 unfolding lengths_under
@@ -90,7 +90,8 @@ same_lengths prefix (Some a) None is = cc
 same_lengths prefix (Some a) (Some b) is = let same : range_of prefix a ≡ range_of prefix b =
     cc in ap (λ (r : RangeParts). Some (bounds_of r)) same
 
--- Operators but none that make the same of a range make the same of each of its least length.
+-- Two operators, neither of them `Plain`, that make the same of a range make the same of each range
+-- of its least length.
 pub applied_alike : (l m : Operator) (v w : RangeParts) → is_plain l ≡ false
     → is_plain m ≡ false → v.low ≡ w.low → applied l v ≡ applied m v → applied l w ≡ applied m w
 unfolding applied
@@ -100,7 +101,7 @@ applied_alike l m v w l_other m_other same is =
     ap (option_map (range_of w.prefix)) (sym (under_least l v w l_other same) ∙ under
     ∙ under_least m v w m_other same)
 
--- An operator but none that drops a range drops each of its least length.
+-- An operator other than `Plain` that drops a range drops each range of its least length.
 pub applied_dropped : (l : Operator) (v w : RangeParts) → is_plain l ≡ false → v.low ≡ w.low
     → applied l v ≡ None → applied l w ≡ None
 unfolding applied
@@ -109,7 +110,7 @@ applied_dropped l v w other same none =
     same_lengths v.prefix (lengths_under l (bounds_of v)) None none in
     ap (option_map (range_of w.prefix)) (sym (under_least l v w other same) ∙ under)
 
--- An operator but none makes the same of all ranges of one prefix and least length.
+-- An operator other than `Plain` makes the same of all ranges of one prefix and least length.
 pub applied_same : (l : Operator) (v w : RangeParts) → is_plain l ≡ false → v.low ≡ w.low
     → v.prefix ≡ w.prefix → applied l v ≡ applied l w
 unfolding applied

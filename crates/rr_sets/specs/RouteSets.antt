@@ -78,26 +78,27 @@ IsRangeTaken r by_ref name range = (prefix : PrefixParts) × (n : ℕ) × (route
     × (get r (key.Route prefix n) ≡ Some route) × Contains route.member_of name
     × IsTrue (takes by_ref route) × (range ≡ bare prefix)
 
--- A route belongs to a registered set by its own word (RFC 2622, 5; that an as-set takes routes:
--- profile).
+-- A registered set has the range of a route that belongs to it by the route's own word (RFC 2622,
+-- 5; that an as-set takes routes: profile).
 abbrev pub IsByReference : Reg → List ℕ → RangeParts → Type 0
 IsByReference r name range =
     (o : Obj) × (registered_set r name ≡ Some o) × IsRangeTaken r o.by_ref name range
 
--- The name is `RS-ANY`, and the range that of a route (RFC 2622, 5).
+-- The name is `RS-ANY`, and the range that of a registered route's prefix alone (RFC 2622, 5).
 abbrev pub IsAnyRange : Reg → List ℕ → RangeParts → Type 0
 IsAnyRange r name range = IsTrue (bytes_eq name rs_any) × ((n : ℕ) × IsOriginated r n range)
 
 -- An AS or a set has a range itself: a route of the AS has its prefix, the set lists it, a route of
--- its prefix belongs to the set by its own word, or the set is `RS-ANY` (RFC 2622, 5).
+-- its prefix belongs to the set by its own word, or the set is `RS-ANY` and some route has its
+-- prefix (RFC 2622, 5).
 abbrev pub HasRange : Reg → MemberSet → RangeParts → Type 0
 HasRange r (AutNum n) range = IsOriginated r n range
 HasRange r (Set name) range =
     ListsRange r name range ⊎ (IsByReference r name range ⊎ IsAnyRange r name range)
 
--- A range is in the set of a name: some chain of references leads from that set to a set or AS that
--- has a range itself, and the operators of the chain, from the last to the first, make this range
--- of it (RFC 2622, 5).
+-- A range is in the set of a name: some chain of references, which may be empty, leads from there
+-- to a set or AS that has a range itself. The operators of the chain, from the last to the first,
+-- make this range of it (RFC 2622, 5).
 abbrev pub InRouteSet : Reg → List ℕ → RangeParts → Type 0
 InRouteSet r start range = carried.IsFound (Refers r) (HasRange r) applied (Set start) range
 
@@ -106,11 +107,12 @@ InRouteSet r start range = carried.IsFound (Refers r) (HasRange r) applied (Set 
 abbrev pub IsReachedFrom : Reg → List ℕ → MemberSet → Type 0
 IsReachedFrom r start set = carried.IsReachedFrom (Refers r) (Set start) set
 
--- A chain of references leads from a set to a name of which there is no set (profile).
+-- A chain of references, which may be empty, leads from a set to a name of which there is no set
+-- (profile).
 abbrev pub IsMissingName : Reg → List ℕ → List ℕ → Type 0
 IsMissingName r start name = IsReachedFrom r start (Set name) × (has_set r name ≡ false)
 
--- References lead to more than `limit` sets and ASes, or to more than `limit` pairs of one of these
--- and a range that it stands for (profile).
+-- References lead to more than `limit` sets and ASes, the set itself among them, or to more than
+-- `limit` pairs of one of these and a range that it stands for (profile).
 abbrev pub HasTooMany : Reg → ℕ → List ℕ → Type 0
 HasTooMany r limit start = carried.IsTooMany (Refers r) (HasRange r) applied limit (Set start)

@@ -21,7 +21,8 @@ pub record Meaning (X : Type 0) : Type 1 where
   pub Lacks : List ℕ → Type 0
   pub Overflows : Type 0
 
--- What an as-set stands for (RFC 2622, 5).
+-- What an as-set stands for. It is over the limit where it reaches more than `limit` names, its own
+-- among them (RFC 2622, 5; the limit: profile).
 abbrev pub as_set_at : Reg → ℕ → List ℕ → Meaning ℕ
 as_set_at r limit name = record {
   known = has_as_set r name;
@@ -30,7 +31,9 @@ as_set_at r limit name = record {
   Overflows = MoreThan limit (IsReachedSet r name);
 }
 
--- What a set of either kind stands for, as ranges (RFC 2622, 5).
+-- What a set of either kind stands for, as ranges. It is over the limit where it reaches more than
+-- `limit` sets and ASes, itself among them. So it is where there are more than `limit` pairs of one
+-- of these and a range that it stands for (RFC 2622, 5; the limit: profile).
 abbrev pub route_set_at : Reg → ℕ → List ℕ → Meaning RangeParts
 route_set_at r limit name = record {
   known = has_set r name;
@@ -39,8 +42,8 @@ route_set_at r limit name = record {
   Overflows = HasTooMany r limit name;
 }
 
--- An expansion lists exactly what is in a set, and the names that are missing, both in ascending
--- order (RFC 2622, 5; profile).
+-- An expansion lists exactly what is in a set, and exactly the names that are missing, both in
+-- ascending order without repeats (RFC 2622, 5; profile).
 pub record StandsFor {X : Type 0} (cmp : X → X → Ordering) (set : Meaning X)
     (members : Members X) : Type 0 where
   pub found : ListsInOrder cmp set.Has members.found.items

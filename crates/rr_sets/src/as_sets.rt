@@ -1,4 +1,5 @@
-//! The expansion of as-sets into AS numbers.
+//! The expansion of as-sets into AS numbers, for `rr_answer`; and the names that as-sets list, for
+//! `references`.
 
 ghost use Rattle.std.specs.Prelude.{◌≡◌, ◌↔◌, ◌||◌, ◌++◌, ◌∷◌, [], ℕ, List, not, true, false};
 ghost use Rattle.std.specs.Prelude.{Contains, IfOk, OnOk, filter, is_some};
@@ -27,18 +28,20 @@ use rr_object::{Member, MemberSet, Object};
 use std::alloc::{AllocError, Global};
 use std::collections::BTreeSet;
 
-/// Lists the AS numbers that an as-set stands for: those that it and the sets that it reaches by
-/// their `members` list or have by `mbrs-by-ref`; those of `AS-ANY` are all that are registered
-/// (RFC 2622, 5). The names reached that are those of no registered as-set, nor `AS-ANY`, are
-/// missing.
+/// Lists the AS numbers that an as-set stands for: those that are in it or in a set that it
+/// reaches, by names in `members`. In a set are the numbers that it lists or has by `mbrs-by-ref`;
+/// in `AS-ANY` are all that have an aut-num (RFC 2622, 5). The names reached that are those of no
+/// registered as-set, nor `AS-ANY`, are missing. Both lists are in ascending order, without
+/// repeats.
 ///
-/// The fault is `NoSuchSet` where the name itself is such a one, otherwise `TooMany` exactly where
-/// more than `limit` names are reached, unless memory runs out.
+/// The fault is `NoSuchSet` exactly where the name itself is such a one. For any other name it is
+/// `TooMany` exactly where more than `limit` names are reached, itself among them. In either case
+/// memory may run out instead.
 ///
 /// The steps outside the book are O(n log n), where n counts the names reached, the members of
 /// each, listed or by reference, and the names in its `mbrs-by-ref` and in `mnt-by` of its
 /// referrers. The book is asked once for the `referrers` of each set reached that has
-/// `mbrs-by-ref`.
+/// `mbrs-by-ref`. No clause counts steps or questions.
 pub fn expand_as_set<B: SetBook>(
     alloc: Global,
     book: &B,

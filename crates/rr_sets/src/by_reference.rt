@@ -1,5 +1,5 @@
 //! The objects that say by their `member-of` that they belong to a set, where the set takes their
-//! word.
+//! word: for `direct` and `ranges`.
 
 ghost use Rattle.std.specs.Prelude.{◌≡◌, ◌↔◌, ◌||◌, ℕ, List, Contains, IfOk};
 ghost use Rattle.std.specs.Prelude.{IsTrue, filter, length, not, ◌==◌};

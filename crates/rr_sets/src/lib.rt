@@ -1,4 +1,5 @@
 //! Which AS numbers and which ranges of prefixes the sets of a registry stand for (RFC 2622, 5).
+//! `rr_answer` asks for them; `rr_book` and `rr_index` implement `SetBook`.
 #![tactic(auto)]
 
 mod as_sets;

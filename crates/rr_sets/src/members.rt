@@ -1,31 +1,27 @@
-//! What an expansion answers.
+//! What an expansion answers, of either kind: `rr_answer` prints it.
 
 use rr_graph::ReachFault;
 use rr_number::SetName;
 use std::alloc::{AllocError, AllocFailed};
-use thiserror::Error;
 
 /// What a set stands for, and the names of sets that it reaches and that are missing.
 #[derive(Drop)]
 pub struct Members<T> {
-    /// What is in the set, in ascending order.
+    /// What is in the set, in ascending order, without repeats.
     pub found: Vec<T>,
-    /// The names of sets that are reached and not registered, in ascending order; `AS-ANY` and
-    /// `RS-ANY` always stand for something.
+    /// The names that are reached and of which there is no set, in ascending order, without
+    /// repeats. There is a set `AS-ANY` and, where the set stands for ranges, `RS-ANY`.
     pub missing: Vec<SetName>,
 }
 
 /// Why a set is not expanded.
-#[derive(Clone, Copy, Debug, PartialEq, Eq, Error)]
+#[derive(Clone, Copy, Debug, PartialEq, Eq)]
 pub enum ExpandFault {
     /// There is no such set.
-    #[error("no such set")]
     NoSuchSet,
-    /// The expansion would go over the limit.
-    #[error("too many members")]
+    /// There is such a set, and its expansion would go over the limit.
     TooMany,
     /// Memory ran out.
-    #[error("out of memory")]
     Memory,
 }
 

@@ -16,11 +16,11 @@ use rr_number::{AsNumber, Operator, SetKind, SetName};
 use rr_object::{Key, Member, MemberSet};
 use std::alloc::{AllocError, Global};
 
-/// A set to which another refers, with the operator of the reference.
+/// A set or AS to which a set refers, with the operator of the reference.
 pub type Reference = Edge<MemberSet, Operator>;
 
-/// The sets to which the set refers, in ascending order: each once under each operator, however
-/// often it is listed.
+/// The sets and ASes to which the set refers, in ascending order: each once under each operator,
+/// however often it is listed. An AS refers to none.
 pub(crate) fn references_of<B: SetBook>(
     alloc: Global,
     book: &B,
@@ -34,7 +34,7 @@ pub(crate) fn references_of<B: SetBook>(
     Ok(references)
 }
 
-/// The sets to which the set refers, as often as it lists them.
+/// The sets and ASes to which the set refers, where one may come twice.
 fn all_references<B: SetBook>(
     alloc: Global,
     book: &B,

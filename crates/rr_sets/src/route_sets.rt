@@ -1,4 +1,4 @@
-//! The expansion of sets into ranges of prefixes.
+//! The expansion of sets into ranges of prefixes, for `rr_answer`.
 
 ghost use Rattle.std.specs.Prelude.{◌≡◌, true, IfOk};
 ghost use Rattle.std.specs.List.{filter_map};
@@ -22,14 +22,18 @@ use rr_object::MemberSet;
 use std::alloc::{AllocError, Global};
 
 /// Lists the ranges of prefixes that a set stands for, of either kind, `AS-ANY` and `RS-ANY` among
-/// them: those that it lists, those of the routes of its ASes and of the routes that it has by
-/// `mbrs-by-ref`, and those of the sets to which it refers, each put through the operator of the
-/// reference unless this drops it (RFC 2622, 5). The names of sets reached that are neither
-/// registered nor `AS-ANY` or `RS-ANY` are missing.
+/// them. They are those that it lists, those of the routes that it has by `mbrs-by-ref`, and those
+/// of the sets and ASes to which it refers. Each of the last is put through the operator of the
+/// reference, unless this drops it (RFC 2622, 5). The ranges of an AS are those of its routes. An
+/// as-set refers also to the ASes that it has by `mbrs-by-ref`, and `AS-ANY` to all that have an
+/// aut-num; the ranges of `RS-ANY` are those of all routes. The names of sets reached that are
+/// neither registered nor `AS-ANY` or `RS-ANY` are missing. Both lists are in ascending order,
+/// without repeats.
 ///
-/// The fault is `NoSuchSet` where the name itself is such a one, otherwise `TooMany` exactly where
-/// more than `limit` sets are reached, ASes among them, or more than `limit` pairs of one of these
-/// and a range that it stands for, unless memory runs out.
+/// The fault is `NoSuchSet` exactly where the name itself is such a one. For any other name it is
+/// `TooMany` exactly where more than `limit` sets and ASes are reached, itself among them, or there
+/// are more than `limit` pairs of one and a range that it stands for. In either case memory may run
+/// out instead.
 ///
 /// The steps outside the book are O((P + KR + F) log P). P counts the sets reached, the members of
 /// each, listed or by reference, the routes of each AS reached, the names in its `mbrs-by-ref` and
@@ -40,7 +44,7 @@ use std::alloc::{AllocError, Global};
 /// m route-sets that each list all the others under all operators, and `0.0.0.0/0`, have 561m
 /// pairs, and F is about 7,100m². The book is asked at most three times for the `referrers` of each
 /// set reached that has `mbrs-by-ref`, and once for the prefixes of each AS reached; if sets refer
-/// to each other in a ring, at most four times and twice.
+/// to each other in a ring, at most four times and twice. No clause counts steps or questions.
 pub fn expand_route_set<B: SetBook>(
     alloc: Global,
     book: &B,

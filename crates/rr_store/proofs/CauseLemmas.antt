@@ -3,7 +3,6 @@ use Rattle.std.proofs.Common.{◌≡◌, inl, inr, ℕ, true, false, List, [], �
 use Rattle.std.proofs.Common.{IsSome, refl, sym, ap, subst, ◌∙◌, arith, append-nil, codes}
 use Rattle.std.proofs.Math.Dec.{leb}
 use Rattle.std.proofs.lemmas.Bool.{both_ways, leb-true}
-use Rattle.sqlite_value.specs.declared.value.Value.TheVariants.{Text}
 use Rattle.sqlite_value.specs.Order.{Row}
 use Rattle.sqlite_trees.specs.declared.error.StoreError.{StoreError}
 use Rattle.sqlite_trees.specs.declared.error.StoreError.TheVariants.{OutOfMemory, Io, Corrupt, Full}
@@ -27,11 +26,11 @@ use Rattle.sqlite.specs.State.{State, Fails, FailsToQuery, HasCause, HasCleanDis
 use Rattle.sqlite.specs.State.{IsUnchanged, Survives}
 use Rattle.sqlite.proofs.Callers.{IsPlain, command_of}
 use Rattle.rr_store.specs.Contents.{IsTidy}
-use Rattle.rr_store.specs.Queries.{Means, alone, naming_query, rows_of}
+use Rattle.rr_store.specs.Queries.{Means, alone, rows_of}
 use Rattle.rr_store.specs.Tables.{HasTables, Layout, laid}
-use Rattle.rr_store.specs.Texts.{select_meta, select_naming, select_object, select_named}
+use Rattle.rr_store.specs.Texts.{select_meta, select_object, select_named}
 use Rattle.rr_store.specs.Texts.{select_sorted_named, meta_numbers, object_numbers, named_numbers}
-use Rattle.rr_store.proofs.TextLemmas.{select_meta_is, select_naming_is, select_object_is}
+use Rattle.rr_store.proofs.TextLemmas.{select_meta_is, select_object_is}
 use Rattle.rr_store.proofs.TextLemmas.{select_named_is, select_sorted_named_is, meta_numbers_is}
 use Rattle.rr_store.proofs.TextLemmas.{object_numbers_is, named_numbers_is}
 use Rattle.rr_store.specs.Calls.{FailsFor, FailsOverTidy, IsCaused}
@@ -186,16 +185,3 @@ pub named_numbers_told : IsTold named_numbers []
 unfolding understood everything
 named_numbers_told = told 4 (col 1 0 ∷ []) (col 1 0 ∷ []) named_numbers (codes "rowid" ∷ [])
     named_numbers_is (λ l. (refl, refl)) (λ l. refl)
-
--- the join that finds the objects that name a maintainer
-joins_sum_nothing : (name : List ℕ) (db : Trees) → QueryOverflows naming_query db (Text name ∷ [])
-    → ⊥
-joins_sum_nothing name db (inl h) = h
-joins_sum_nothing name db (inr h) = h.4.4
-
-pub select_naming_told : (name : List ℕ) → IsTold select_naming (Text name ∷ [])
-unfolding understood everything
-select_naming_told name =
-    asked_told naming_query select_naming (Text name ∷ []) (codes "rowid" ∷ codes "class"
-    ∷ codes "okey" ∷ codes "body" ∷ []) select_naming_is (λ l. (refl, refl)) (λ l. refl)
-    (joins_sum_nothing name)

@@ -1,6 +1,6 @@
 -- Why a reading of rows one at a time failed.
 use Rattle.std.proofs.Common.{◌≡◌, ◌≢◌, inl, inr, ℕ, true, List, [], ◌∷◌, ◌++◌, Ok, Err, Result}
-use Rattle.std.proofs.Common.{IfErr, map, refl, sym, ap, subst, arith, IsPermutation}
+use Rattle.std.proofs.Common.{IfErr, map, sym, subst, arith, IsPermutation}
 use Rattle.std.proofs.lemmas.List.Sorted.{IsPermutation-map, IsPermutation-sym}
 use Rattle.std.specs.List.{AllByRecursion}
 use Rattle.sqlite_value.specs.Order.{Row}
@@ -23,15 +23,10 @@ use Rattle.rr_store.specs.Queries.{Means}
 use Rattle.rr_store.specs.Tables.{HasTables, Layout}
 use Rattle.rr_store.proofs.NumberLemmas.{keyed_by}
 use Rattle.rr_store.specs.Calls.{FailsFor, FailsOverTidy, IsCaused}
-use Rattle.rr_store.specs.Faults.{store_fault}
-use Rattle.rr_store.specs.Listing.{FailsToList}
-use Rattle.rr_store.specs.Opening.{HoldNone, IfStore}
-use Rattle.rr_store.specs.CheckParts.{HasBadRow}
+use Rattle.rr_store.specs.Opening.{IfStore}
 use Rattle.rr_store.specs.StreamParts.{FailsToCount, FailsAfterRows}
 use Rattle.rr_store.specs.declared.store_fault.OpenFault.{OpenFault}
-use Rattle.rr_store.specs.declared.store_fault.OpenFault.TheVariants.{WrongVersion, BadRow, Store}
-use Rattle.rr_store.specs.declared.store_fault.OpenFault.TheVariants.{Memory}
-use Rattle.rr_store.specs.declared.version.Version.TheVariants.{Current}
+use Rattle.rr_store.specs.declared.store_fault.OpenFault.TheVariants.{Store}
 use Rattle.rr_store.proofs.CauseLemmas.{IsTold, caused_then, fails_then, tidy_then}
 use Rattle.rr_store.proofs.StreamLemmas.{Begins, HasRead, begun_answer}
 
@@ -174,18 +169,3 @@ module _ {S : Type 0} (g : Ghosts S) (a b c : Held S) (same : HasCleanDisk (stat
       IfErr r (IfStore (FailsOverTidy g b c)) → IfErr r (IfStore (FailsOverTidy g a c))
   second_reads (Ok x) h = tt
   second_reads (Err fault) h = λ error is. tidy_then g a b c same first then error (h error is)
-
--- objects are listed from tables that hold rows of such, unless the database fails for a cause
--- outside these
-pub lists_fail : {S : Type 0} (g : Ghosts S) (source : List ℕ) (old new : Held S)
-    (fault : OpenFault) → (HasCleanDisk (state g new) →
-    HasBadRow (HoldNone Current source) (state g old).now fault) →
-    IfStore (FailsOverTidy g old new) fault → FailsToList g source old new (store_fault fault)
-lists_fail g source old new (WrongVersion number) why cause objects stored error is = λ clean.
-    absurd ((why clean).no_other number refl)
-lists_fail g source old new BadRow why cause objects stored error is = λ clean.
-    absurd ((why clean).bad_row refl objects stored)
-lists_fail g source old new (Store e) why cause objects stored error is =
-    let same : e ≡ error = cc in
-    cause error (ap Store same) stored.rows.tidy
-lists_fail g source old new Memory why cause objects stored error is = absurd (cc)

@@ -18,7 +18,6 @@ pub mod LookLemmas
 pub mod MapEntries
 pub mod MapKeys
 pub mod MapLists
-pub mod MapNaming
 pub mod MapRows
 pub mod MigrateLemmas
 pub mod MigratedLemmas
@@ -31,12 +30,10 @@ pub mod OnceLemmas
 pub mod OrderLemmas
 pub mod OtherLemmas
 pub mod OtherVersions
-pub mod PointedLemmas
 pub mod QueryLemmas
 pub mod RowLemmas
 pub mod SchemaLemmas
 pub mod SettledLemmas
-pub mod ShownLemmas
 pub mod SortedLemmas
 pub mod SourceLemmas
 pub mod StatementLemmas

@@ -61,13 +61,3 @@ pub matches_of : (tree : ℕ) (tests : List Term) (params : Row) (trees : Trees)
     → matches trees tests (inner tree end) (params ∷ []) ≡ map (λ r. params ∷ r ∷ [])
     (filter (λ r. list_all (holds (params ∷ r ∷ [])) tests) (trees tree))
 matches_of tree tests params trees = flat_map-cond _ (λ r. params ∷ r ∷ []) (trees tree)
-
--- those of two are the pairs that pass
-pub matches_of_pairs : (first second : ℕ) (tests : List Term) (params : Row) (trees : Trees)
-    → matches trees tests (inner first (inner second end)) (params ∷ [])
-    ≡ flat_map
-    (λ a. map (λ b. params ∷ a ∷ b ∷ [])
-    (filter (λ b. list_all (holds (params ∷ a ∷ b ∷ [])) tests) (trees second))) (trees first)
-matches_of_pairs first second tests params trees = λ i.
-    flat_map (λ a. flat_map-cond (λ b. list_all (holds (params ∷ a ∷ b ∷ [])) tests)
-    (λ b. params ∷ a ∷ b ∷ []) (trees second) i) (trees first)

@@ -1,21 +1,22 @@
 -- What each statement does to a database with the three tables.
+-- Inserting, deleting and selecting are proved once for any of the tables, and then stated of
+-- each. The length is in these statements and in the filters and permutations that rows go
+-- through. What each text means and which columns it gives is handed in. The functions of
+-- `statements` and `row_reading` need it.
 use Rattle.std.proofs.Common.{◌≡◌, ◌≢◌, ◌⊎◌, inl, inr, ℕ, ◌/◌, ◌≤◌, ℤ, pos, Bool, true, false, not}
-use Rattle.std.proofs.Common.{cond, List, [], ◌∷◌, length, map, filter, flat_map, Some, Ok}
+use Rattle.std.proofs.Common.{cond, List, [], ◌∷◌, length, map, filter, Some, Ok}
 use Rattle.std.proofs.Common.{slice_get, codes, refl, sym, ap, subst, ◌∙◌, arith, IsPermutation}
 use Rattle.std.proofs.Common.{Ordering, Equal}
 use Rattle.std.specs.List.{AllByRecursion, list_all}
 use Rattle.std.proofs.lemmas.Bool.{cases_eq}
 use Rattle.std.proofs.lemmas.List.Sorted.{IsPermutation-map}
 use Rattle.sqlite_value.specs.declared.value.Value.TheVariants.{Null, Int, Text, Blob}
-use Rattle.sqlite_value.specs.declared.keys.Collation.TheVariants.{Binary}
-use Rattle.sqlite_value.specs.Keys.{ascending}
 use Rattle.sqlite_value.specs.Order.{Row, column}
 use Rattle.sqlite_trees.specs.Tree.{Trees, rowid, put_row}
-use Rattle.sqlite_trees.proofs.ListLemmas.{all_weaker, map-map, filter-map, map-flat_map}
-use Rattle.sqlite_trees.proofs.ListLemmas.{flat_map-map}
+use Rattle.sqlite_trees.proofs.ListLemmas.{all_weaker, map-map, filter-map}
 use Rattle.sqlite_sql.specs.Term.{Term, Env, col, holds, eval_all}
 use Rattle.sqlite_sql.specs.Ops.{unary}
-use Rattle.sqlite_sql.specs.Query.{inner, end, key_cmp, matches, output, output_cmp}
+use Rattle.sqlite_sql.specs.Query.{inner, end, matches, output, output_cmp}
 use Rattle.sqlite_sql.specs.Program.{overlay}
 use Rattle.sqlite_schema.specs.declared.schema.Column.{Column}
 use Rattle.sqlite_schema.specs.declared.schema.Kind.TheVariants as kind
@@ -33,23 +34,22 @@ use Rattle.rr_store.specs.Tables.{Layout, Rules, laid, table_with, stands_apart,
 use Rattle.rr_store.specs.Texts.{clear_meta, clear_named, clear_object, delete_name, delete_object}
 use Rattle.rr_store.specs.Texts.{insert_meta, insert_named, insert_object, meta_numbers}
 use Rattle.rr_store.specs.Texts.{named_numbers, object_numbers, select_meta, select_named}
-use Rattle.rr_store.specs.Texts.{select_naming, select_object, select_of_key, select_sorted_named}
+use Rattle.rr_store.specs.Texts.{select_object, select_of_key, select_sorted_named}
 use Rattle.rr_store.specs.Queries.{Means, alone, rowids_of, rows_of, object_tests, name_tests}
-use Rattle.rr_store.specs.Queries.{naming_tests}
 use Rattle.rr_store.specs.Contents.{AreNumbered, IsTidy, IsOfOther, Alters, Adds, RemovesRows}
 use Rattle.rr_store.specs.Contents.{IsInRank}
 use Rattle.rr_store.specs.Contents.{columns, contents, number, numbered, meta_values, object_values}
-use Rattle.rr_store.specs.Contents.{named_values, meets_tests, is_object_of, is_name_of, are_joined}
-use Rattle.rr_store.specs.Contents.{pointed, by_one, by_two, by_three}
+use Rattle.rr_store.specs.Contents.{named_values, meets_tests, is_object_of, is_name_of}
+use Rattle.rr_store.specs.Contents.{by_one, by_two, by_three}
 use Rattle.rr_store.proofs.TextLemmas.{insert_meta_is, insert_object_is, insert_named_is}
 use Rattle.rr_store.proofs.TextLemmas.{delete_object_is, delete_name_is, clear_meta_is}
 use Rattle.rr_store.proofs.TextLemmas.{clear_object_is, clear_named_is, select_meta_is}
 use Rattle.rr_store.proofs.TextLemmas.{select_object_is, select_of_key_is, select_named_is}
-use Rattle.rr_store.proofs.TextLemmas.{select_sorted_named_is, select_naming_is, meta_numbers_is}
+use Rattle.rr_store.proofs.TextLemmas.{select_sorted_named_is, meta_numbers_is}
 use Rattle.rr_store.proofs.TextLemmas.{object_numbers_is, named_numbers_is}
 use Rattle.rr_store.proofs.RowLemmas.{put_permutes, put_keyed, without_those, filter_keyed}
 use Rattle.rr_store.proofs.ChangeLemmas.{Sets, inserted, deleted}
-use Rattle.rr_store.proofs.QueryLemmas.{answers, matches_of, matches_of_pairs}
+use Rattle.rr_store.proofs.QueryLemmas.{answers, matches_of}
 
 abbrev IsOurs : ℕ → Type 0
 IsOurs tree = (tree ≡ 0) ⊎ ((tree ≡ 2) ⊎ (tree ≡ 4))
@@ -332,34 +332,3 @@ selects_of_key class key old new has rows h =
     ∙ map-map _ _ (filter (λ row. is_object_of class key (columns row)) object)
     ∙ sym (filter-map (is_object_of class key) columns object))
     list.same
-
--- the rows to which a maintainer's point
-pub selects_naming : (name : List ℕ) (old new : State) → HasTables old.now.schema →
-    (rows : List Row) → Shown select_naming (Text name ∷ []) old new rows
-    → IsPermutation (pointed name (contents (old.now.trees 4)) (contents (old.now.trees 2)))
-    (contents rows)
-selects_naming name old new has rows h =
-    let l = has.layout in
-    let means = select_naming_is l in
-    let params : Row = Text name ∷ [] in
-    let shown = col 2 0 ∷ col 2 1 ∷ col 2 2 ∷ col 2 3 ∷ [] in
-    let named = old.now.trees 4 in
-    let object = old.now.trees 2 in
-    let all = overlay old.now.trees [] in
-    let sure = (reads_as select_naming params old new (laid l) has.is _ means.is means.plain
-    means.unlisted rows h).answer in
-    let list = answers (inner 4 (inner 2 end)) naming_tests shown (col 2 1 ∷ col 2 2 ∷ []) params
-    all (key_cmp 1 (ascending Binary ∷ ascending Binary ∷ [])) (λ a b. refl) rows sure in
-    let held : Env → Row = λ e. columns (eval_all shown e) in
-    let p : Row → Row → Bool = λ a b. list_all (holds (params ∷ a ∷ b ∷ [])) naming_tests in
-    let each : (a : Row) → map held (map (λ b. params ∷ a ∷ b ∷ []) (filter (p a) object))
-    ≡ filter (are_joined name (columns a)) (contents object) =
-    λ a. map-map _ _ (filter (p a) object) ∙ sym (filter-map (are_joined name (columns a)) columns
-    object) in
-    subst (λ xs. IsPermutation xs (contents rows))
-    (map-map columns (eval_all shown) (matches all naming_tests (inner 4 (inner 2 end))
-    (params ∷ [])) ∙ ap (map held) (matches_of_pairs 4 2 naming_tests params all)
-    ∙ map-flat_map held _ named ∙ ap (λ (f : Row → List Row). flat_map f named) (λ i a. each a i)
-    ∙ sym (flat_map-map (λ first. filter (are_joined name first) (contents object)) columns
-    named))
-    (IsPermutation-map columns _ _ list.same)

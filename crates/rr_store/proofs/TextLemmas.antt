@@ -7,10 +7,10 @@ use Rattle.rr_store.specs.Tables.{Layout}
 use Rattle.rr_store.specs.Texts.{clear_meta, clear_named, clear_object, delete_name, delete_object}
 use Rattle.rr_store.specs.Texts.{insert_meta, insert_named, insert_object, meta_numbers}
 use Rattle.rr_store.specs.Texts.{named_numbers, object_numbers, select_meta, select_named}
-use Rattle.rr_store.specs.Texts.{select_naming, select_object, select_of_key, select_sorted_named}
+use Rattle.rr_store.specs.Texts.{select_object, select_of_key, select_sorted_named}
 use Rattle.rr_store.specs.Queries.{Means, insert_into, alone, rowids_of, numbers_of, numbered_of}
 use Rattle.rr_store.specs.Queries.{object_tests, name_tests, meta_query, of_key_query}
-use Rattle.rr_store.specs.Queries.{sorted_named_query, naming_query}
+use Rattle.rr_store.specs.Queries.{sorted_named_query}
 
 pub insert_meta_is : (l : Layout) → Means l insert_meta (insert_into 0 2)
 unfolding understood everything
@@ -71,12 +71,6 @@ pub select_sorted_named_is : (l : Layout) → Means l select_sorted_named
     (Select (alone (sorted_named_query)) (codes "maintainer" ∷ codes "class" ∷ codes "okey" ∷ []))
 unfolding understood everything
 select_sorted_named_is l = record { is = refl; plain = (refl, refl); unlisted = refl }
-
-pub select_naming_is : (l : Layout) → Means l select_naming
-    (Select (alone (naming_query)) (codes "rowid" ∷ codes "class" ∷ codes "okey" ∷ codes "body"
-    ∷ []))
-unfolding understood everything
-select_naming_is l = record { is = refl; plain = (refl, refl); unlisted = refl }
 
 pub meta_numbers_is : (l : Layout) → Means l meta_numbers
     (Select (alone (numbers_of 0)) (codes "rowid" ∷ []))

@@ -12,9 +12,9 @@ use Rattle.sqlite.specs.State.{HasCause, HasCleanDisk, IsUnchanged, State, Survi
 use Rattle.rr_store.specs.Contents.{IsTidy}
 use Rattle.rr_store.specs.Entries.{TreesOf}
 
--- the database's error names a cause outside the rows: memory ran out, of which nothing shows; the
--- disk failed or refused, which is counted; the connection was shut; or its limit of steps was
--- reached
+-- the database's error names a cause outside the rows. Memory ran out, of which nothing shows; the
+-- disk failed or refused, which is counted; the connection was shut; or the call was interrupted,
+-- and the connection had a limit of steps
 abbrev pub IsCaused : State → State → Error → Type 0
 IsCaused old new error =
     ((cause : StoreError) × (error ≡ store_error cause) × HasCause old new ⊥ cause)
@@ -41,7 +41,7 @@ module _ {S : Type 0} (g : Ghosts S) where
   abbrev pub FailsOverTidy : Held S → Held S → Error → Type 0
   FailsOverTidy old new error = IsTidy (database old) → FailsFor old new error
 
-  -- the connection is open
+  -- the connection is open, where the disk has returned what was written
   abbrev pub IsOpen : Held S → Type 0
   IsOpen conn = OnCleanDisk conn (IsTrue (state g conn).is_open)
 
@@ -54,21 +54,23 @@ module _ {S : Type 0} (g : Ghosts S) where
   abbrev pub WhereOpen : Held S → (Trees → Type 0) → Trees → Type 0
   WhereOpen conn Commits trees = IsTrue (state g conn).is_open × Commits trees
 
-  -- nothing changes, a stop leaves what it left before, and no transaction is under way
+  -- nothing changes while the connection is open, one that was shut stays shut, a stop leaves what
+  -- it left before, and no transaction is under way
   pub record Rests (old new : Held S) : Type 0 where
     pub autocommit : new.in_transaction ≡ false
     pub opened : WhileOpen new (IsTrue (state g old).is_open)
     pub same : WhileOpen new (database new ≡ database old)
     pub crash : Survives (state g old) (state g new) (λ _. ⊥)
 
-  -- rows are read, and nothing changes
+  -- rows are read, and nothing changes; if that does not fail, the connection was open and is
   pub record Looks {X E : Type 0} (old new : Held S) (result : Result X E) : Type 0 where
     pub rests : Rests old new
     pub same : OnCleanDisk new (OnOk result (IsUnchanged (state g old) (state g new)))
 
-  -- one transaction makes this change, or fails and leaves the rows as they were, while the
-  -- connection is open; a stop leaves one of the two, and the change only where it was open before;
-  -- in any case no transaction is under way then
+  -- one transaction makes this change over an open connection, which stays open, or fails and
+  -- leaves the rows as they were, while the connection is open. A stop leaves what it left before
+  -- or the change, and this only where the connection was open before. In any case no transaction
+  -- is under way then, and a connection that was shut stays shut
   pub record Transacts {X E : Type 0} (Change : Database → Database → Type 0) (old new : Held S)
       (result : Result X E) : Type 0 where
     pub autocommit : new.in_transaction ≡ false

@@ -7,9 +7,9 @@ use Rattle.sqlite_value.specs.Order.{Row}
 use Rattle.rr_object.specs.Objects.{Obj}
 use Rattle.sqlite.specs.Effect.{Database}
 use Rattle.rr_store.specs.Contents.{AreNumbered, IsInRank, by_one, contents, meta_row}
-use Rattle.rr_store.specs.Contents.{numbered, pointed}
+use Rattle.rr_store.specs.Contents.{numbered}
 use Rattle.rr_store.specs.Entries.{named_rows}
-use Rattle.rr_store.specs.Maps.{KeyForm, entry_in, current_form}
+use Rattle.rr_store.specs.Maps.{KeyForm, entry_in}
 use Rattle.rr_store.specs.Tables.{HasTables, meta_tree, named_tree, object_tree}
 use Rattle.rr_store.specs.ReadingParts.{AreNone, AreRead, TellsNoVersion}
 use Rattle.rr_store.specs.Versions.{SaysVersion, form_of, version_number, version_text}
@@ -90,15 +90,3 @@ pub record TableGives (version : Version) (source : List ℕ) (objects : List Ob
 abbrev pub TableHoldsNone : Version → List ℕ → Database → Type 0
 TableHoldsNone version source db =
     AreRowsOfNone (form_of version) source (contents (db.trees object_tree))
-
--- the objects are those to which `named` points from this maintainer
-abbrev pub NamedPointsTo : List ℕ → List ℕ → List Obj → Database → Type 0
-NamedPointsTo source name objects db =
-    HoldsObjects current_form source objects
-    (pointed name (contents (db.trees named_tree)) (contents (db.trees object_tree)))
-
--- the rows to which `named` points from this maintainer are those of no objects of the source
-abbrev pub NamedPointsToNone : List ℕ → List ℕ → Database → Type 0
-NamedPointsToNone source name db =
-    AreRowsOfNone current_form source
-    (pointed name (contents (db.trees named_tree)) (contents (db.trees object_tree)))

@@ -3,7 +3,7 @@ use Rattle.std.specs.Prelude.{ℤ, ◌<ℤ◌, Option, None, Some, ◌≡◌, �
 use Rattle.std.specs.Prelude.{true, not, Bool, List, [], ◌∷◌, ◌++◌, map, filter}
 use Rattle.std.specs.Prelude.{IsPermutation, IsSorted, IsTrue}
 use Rattle.std.specs.declared.cmp.Ordering.{Ordering}
-use Rattle.std.specs.List.{AllByRecursion, list_all, list_any, flat_map}
+use Rattle.std.specs.List.{AllByRecursion, list_all, list_any}
 use Rattle.sqlite_value.specs.declared.value.Value.TheVariants.{Null, Int, Text, Blob}
 use Rattle.sqlite_value.specs.declared.keys.Collation.TheVariants.{Binary}
 use Rattle.sqlite_value.specs.Order.{Row, column}
@@ -16,7 +16,7 @@ use Rattle.sqlite_rules.specs.Edit.{IsNoIndex}
 use Rattle.sqlite.specs.Effect.{Database}
 use Rattle.sqlite.specs.State.{State}
 use Rattle.rr_store.specs.Tables.{HasTables, meta_tree, named_tree, object_tree}
-use Rattle.rr_store.specs.Queries.{object_tests, name_tests, named_tests, naming_tests}
+use Rattle.rr_store.specs.Queries.{object_tests, name_tests, named_tests}
 
 -- each row has a number, and no two the same
 pub record AreNumbered (rows : List Row) : Type 0 where
@@ -122,15 +122,6 @@ is_name_of class key name =
 -- a row of `named` has the class and the key, and is of one of these maintainers
 abbrev pub is_name_among : ℕ → List ℕ → List (List ℕ) → Row → Bool
 is_name_among class key names row = list_any (λ name. is_name_of class key name row) names
-
--- a row of `named` and one of `object` are of one object, and the first is of the maintainer
-abbrev pub are_joined : List ℕ → Row → Row → Bool
-are_joined name first second = list_all
-    (holds ((Text name ∷ []) ∷ (Null ∷ first) ∷ (Null ∷ second) ∷ [])) naming_tests
-
--- the rows of `object` to which those of `named` point that are of the maintainer
-abbrev pub pointed : List ℕ → List Row → List Row → List Row
-pointed name named object = flat_map (λ first. filter (are_joined name first) object) named
 
 -- rows in the order of their first columns
 abbrev pub by_one : Row → Row → Ordering

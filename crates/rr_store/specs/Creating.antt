@@ -36,8 +36,9 @@ module _ {S : Type 0} (g : Ghosts S) (objects : List Obj) (conn : Held S) where
   LeavesStore new = Survives (state g conn) (state g new)
       (WhereOpen g conn (TreesOf (IsMadeWith (IsStoreOf objects) (database g conn))))
 
-  -- a database that had room for a new store, over a connection that was open, is now the store of
-  -- the objects (profile)
+  -- a database that had room for a new store is now the store of the objects, with the tables of a
+  -- new store. The connection was open and is. A stop during the call leaves what it left before or
+  -- the store; one after it the rows that stand, while the connection is open (profile)
   pub record MakesStore (store : Held S) : Type 0 where
     pub filled : OnCleanDisk g store (IsStoreOf objects (database g store))
     pub tables : OnCleanDisk g store (HasItsTables (database g conn) (database g store))
@@ -47,9 +48,11 @@ module _ {S : Type 0} (g : Ghosts S) (objects : List Obj) (conn : Held S) where
     pub vacant : OnCleanDisk g store (IsVacant (database g conn))
     pub crash : LeavesStore store
 
-  -- no transaction is under way, and the rows are as they were, while the connection is open. Where
-  -- the three tables had a row, that is the fault, unless the database failed. Where other tables
-  -- stood in place of the three, that is the fault
+  -- no transaction is under way, and tables and rows are as they were, while the connection is
+  -- open, which it then was before. Where the three tables had a row, and only there, that is the
+  -- fault, unless the database failed for a cause outside the rows. Where something stood other
+  -- than the three, that is the fault. A stop leaves what it may leave after a call that makes the
+  -- store
   pub record FailsToMake (left : Held S) (fault : CreateFault) : Type 0 where
     pub autocommit : left.in_transaction ≡ false
     pub was_open : WhileOpen g left (IsTrue (state g conn).is_open)

@@ -1,4 +1,5 @@
--- The rows of a set of objects.
+-- What the tables keep of an object: its rows, and what becomes of the tables as rows are added,
+-- put and taken out.
 use Rattle.std.specs.Prelude.{◌≡◌, ℕ, not, List, [], ◌∷◌, ◌++◌, map, filter}
 use Rattle.std.specs.Prelude.{bytes_eq, if◌then◌else◌, IsPermutation}
 use Rattle.std.specs.List.{list_any, flat_map}
@@ -21,7 +22,7 @@ pub record Entry : Type 0 where
   pub body : List ℕ
   pub names : List (List ℕ)
 
--- the names of a list, each once (profile)
+-- the names of a list, each once, where it is named last (profile)
 abbrev pub once : List (List ℕ) → List (List ℕ)
 once [] = []
 once (name ∷ names) = if list_any (bytes_eq name) names then once names else name ∷ once names
@@ -45,14 +46,14 @@ object_row entry = object_values entry.class entry.key entry.body
 abbrev pub named_rows : Entry → List Row
 named_rows entry = map (λ name. named_values name entry.class entry.key) entry.names
 
--- the tables have the rows of these entries and no others: `object` one of each, `named` one for
--- each maintainer that an entry names (profile)
+-- the tables have the rows of these entries and no others, each with its own number: `object` one
+-- of each entry, `named` one for each maintainer that an entry names (profile)
 pub record AreRowsOf (entries : List Entry) (db : Database) : Type 0 where
   pub tidy : IsTidy db
   pub objects : IsPermutation (map object_row entries) (contents (db.trees object_tree))
   pub named : IsPermutation (flat_map named_rows entries) (contents (db.trees named_tree))
 
--- the rows of these entries are added, and all else stays
+-- the rows of these entries are added, and all else stays; each row has its own number then
 pub record IsAdded (entries : List Entry) (old new : Database) : Type 0 where
   pub tidy : IsTidy new
   pub objects : IsPermutation (map object_row entries ++ contents (old.trees object_tree))
@@ -62,7 +63,8 @@ pub record IsAdded (entries : List Entry) (old new : Database) : Type 0 where
   pub meta : new.trees meta_tree ≡ old.trees meta_tree
   pub others : KeepsOthers old new
 
--- the rows of the entry take the place of those with its class and key, and all else stays
+-- the rows of the entry take the place of those with its class and key, and all else stays; each
+-- row has its own number then
 pub record IsPut (entry : Entry) (old new : Database) : Type 0 where
   pub tidy : IsTidy new
   pub objects : IsPermutation (object_row entry
@@ -76,7 +78,8 @@ pub record IsPut (entry : Entry) (old new : Database) : Type 0 where
   pub meta : new.trees meta_tree ≡ old.trees meta_tree
   pub others : KeepsOthers old new
 
--- the rows with this class and key are taken out, and all else stays
+-- the rows with this class and key are taken out, and all else stays; each row has its own number
+-- then
 pub record IsTakenOut (class : ℕ) (key : List ℕ) (old new : Database) : Type 0 where
   pub tidy : IsTidy new
   pub objects : contents (new.trees object_tree)

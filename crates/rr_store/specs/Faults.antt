@@ -1,7 +1,6 @@
 -- Faults of one kind as those of another: what `?` makes of a fault.
 use Rattle.sqlite.specs.declared.error.Error.{Error}
-use Rattle.sqlite.specs.declared.error.Error.TheVariants.{SqlInputError, SqliteFailure}
-use Rattle.sqlite.specs.declared.error.ErrorCode.TheVariants.{DatabaseCorrupt}
+use Rattle.sqlite.specs.declared.error.Error.TheVariants.{SqlInputError}
 use Rattle.sqlite_resolve.specs.declared.error.CompileError.TheVariants.{NoSuchTable}
 use Rattle.rr_store.specs.declared.store_fault.StoreFault.{StoreFault}
 use Rattle.rr_store.specs.declared.store_fault.StoreFault.TheVariants.{Store, Memory}
@@ -22,20 +21,9 @@ abbrev pub migrate_fault : StoreFault → MigrateFault
 migrate_fault (Store error) = migrated.Store error
 migrate_fault Memory = migrated.Memory
 
--- what is told of a database without the three tables (profile)
+-- what is told of a database without the three tables: that a table is not there (profile)
 abbrev pub no_tables : Error
 no_tables = SqlInputError NoSuchTable
-
--- what is told of rows that no store has written (profile)
-abbrev pub bad_rows : Error
-bad_rows = SqliteFailure DatabaseCorrupt
-
--- why tables were not read, as a fault of a call on the store that had them
-abbrev pub store_fault : OpenFault → StoreFault
-store_fault (opened.WrongVersion number) = Store bad_rows
-store_fault opened.BadRow = Store bad_rows
-store_fault (opened.Store error) = Store error
-store_fault opened.Memory = Memory
 
 -- why tables of version 1 could not be opened, as a fault of the call that migrates them
 abbrev pub unread_fault : OpenFault → MigrateFault

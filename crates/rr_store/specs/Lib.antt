@@ -8,7 +8,6 @@ pub mod Entries
 pub mod Faults
 pub mod FillingParts
 pub mod Kept
-pub mod Listing
 pub mod LookParts
 pub mod Made
 pub mod Maps

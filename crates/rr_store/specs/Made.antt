@@ -1,4 +1,5 @@
--- The schemas that the three CREATE statements make of none.
+-- The schemas that the three CREATE statements make of none, when a database has room for a new
+-- store, and which tables that store has.
 use Rattle.std.specs.Prelude.{◌≡◌, ◌⊎◌, ℕ, pos, List, [], ◌∷◌}
 use Rattle.std.specs.List.{AllByRecursion}
 use Rattle.sqlite_value.specs.declared.value.Value.TheVariants.{Int}
@@ -79,8 +80,9 @@ IsOccupied db = HasTables db.schema × HasSomeRow db
 abbrev pub IsVacant : Database → Type 0
 IsVacant db = (db.schema ≡ no_schema) ⊎ IsBare db
 
--- a new store leaves these tables: where nothing stood, those that the texts make, and no other, no
--- other index and no view; where the three stood without a row, those that stood (profile)
+-- a new store leaves these tables. Where nothing stood, they are those that the texts make, with no
+-- other table, no other index and no view. Where the three stood without a row, all but their rows
+-- stays (profile)
 pub record HasItsTables (old new : Database) : Type 0 where
   pub made : old.schema ≡ no_schema → new.schema ≡ with_named
   pub kept : IsBare old → KeepsOthers old new

@@ -23,12 +23,12 @@ use Rattle.rr_store.specs.Tables.{meta_tree}
 abbrev pub HasVersion : List ℕ → Database → Type 0
 HasVersion version db = meta_rows (db.trees meta_tree) ≡ meta_row (codes "version") version ∷ []
 
--- the version of tables whose keys have AS numbers of four octets, in eight hexadecimal digits
+-- 2, the version of tables whose keys have AS numbers of four octets, in eight hexadecimal digits
 -- (profile)
 abbrev pub current_version : List ℕ
 current_version = codes "2"
 
--- the version of tables whose keys have AS numbers of two octets, in four hexadecimal digits
+-- 1, the version of tables whose keys have AS numbers of two octets, in four hexadecimal digits
 -- (profile)
 abbrev pub old_version : List ℕ
 old_version = codes "1"
@@ -38,18 +38,19 @@ pub record IsFilled (entries : List Entry) (db : Database) : Type 0 where
   pub rows : AreRowsOf entries db
   pub version : HasVersion current_version db
 
--- an object as readers make it: of good attributes, and what these read as in a registry of any
--- source (RFC 2622, 2 to 6; RFC 2725, 10)
+-- an object as readers make it: its attributes are well formed, and it is what they read as,
+-- whatever the source (RFC 2622, 2 to 6; RFC 2725, 10)
 pub record IsObject (object : Obj) : Type 0 where
   pub fields : AreFields object.paragraph
   pub read : obj_of object.paragraph ≡ Ok object
 
--- an object as readers make it in a registry of this source
+-- an object as readers make it in a registry of this source: its attributes are well formed, and it
+-- is what they read as there
 pub record IsObjectOf (source : List ℕ) (object : Obj) : Type 0 where
   pub fields : AreFields object.paragraph
   pub read : ReadsAs source object.paragraph object
 
--- the tables hold the rows of some objects and no others
+-- the tables hold the rows of some objects, which are such as readers make, and no others
 pub record AreOfObjects (db : Database) : Type 0 where
   pub objects : List Obj
   pub read : AllByRecursion IsObject objects
@@ -98,12 +99,13 @@ AreInOrder = IsAscending (λ a b. key_cmp a.key b.key ≡ Less)
 abbrev pub KeyForm : Type 0
 KeyForm = Key → Option (List ℕ)
 
--- what the tables keep of an object, with its key in this form
+-- what the tables keep of an object, with its key in this form, or empty if it has none there
 abbrev pub entry_in : KeyForm → Obj → Entry
 entry_in form object = record (entry_of object) { key = unwrap_or (form object.key) [] }
 
 -- the tables hold the rows of a list of objects of one source and no others, with keys in this
--- form, and their version has this text; no two of the objects have the same key (profile)
+-- form, and their version has this text. No two of the objects have the same key, and each key has
+-- a text in this form (profile)
 pub record AreStoredIn (form : KeyForm) (text : List ℕ) (source : List ℕ) (objects : List Obj)
     (db : Database) : Type 0 where
   pub rows : AreRowsOf (map (entry_in form) objects) db
@@ -116,10 +118,12 @@ pub record AreStoredIn (form : KeyForm) (text : List ℕ) (source : List ℕ) (o
 abbrev pub current_form : KeyForm
 current_form key = Some (key_bytes key)
 
--- the tables are those of version 2 and hold the rows of these objects, all of one source (profile)
+-- the tables are those of version 2 and hold the rows of these objects and no others. All are of
+-- one source, and no two have the same key (profile)
 abbrev pub AreStored : List ℕ → List Obj → Database → Type 0
 AreStored = AreStoredIn current_form current_version
 
--- the tables are those of version 1 and hold the rows of these objects, all of one source (profile)
+-- the tables are those of version 1 and hold the rows of these objects and no others. All are of
+-- one source, no two have the same key, and each key has a text there (profile)
 abbrev pub AreOldStored : List ℕ → List Obj → Database → Type 0
 AreOldStored = AreStoredIn old_key_bytes old_version

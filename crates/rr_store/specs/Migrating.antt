@@ -1,4 +1,4 @@
--- What migration makes of tables of version 1.
+-- What migration makes of tables of version 1, and what becomes of the call that migrates them.
 use Rattle.std.specs.Prelude.{◌≡◌, ◌⊎◌, ℕ, Bool, true, false, List, [], ◌∷◌, ◌++◌}
 use Rattle.std.specs.Prelude.{IsTrue, codes}
 use Rattle.std.specs.List.{list_any}
@@ -81,8 +81,8 @@ pub record RefusesOldTables (root source : List ℕ) (db : Database) (fault : Mi
   pub no_root : fault ≡ NoRoot → HasNoRoot root source db
 
 module _ {S : Type 0} (g : Ghosts S) (root source : List ℕ) (conn : Held S) where
-  -- where the rows are tidy, the database's error has a cause outside the rows, or tables of
-  -- version 1 hold the root's mntner: then no clause says why writing them anew failed
+  -- where the tables were tidy, the database's error has a cause outside the rows, or tables of
+  -- version 1 hold the root's mntner. Then no clause says why writing them anew failed
   abbrev pub FailsOverOldRows : Held S → Error → Type 0
   FailsOverOldRows left error = IsTidy (database g conn) → OnCleanDisk g left
       (IsCaused (state g conn) (state g left) error ⊎ HasRoot root source (database g conn))
@@ -94,7 +94,8 @@ module _ {S : Type 0} (g : Ghosts S) (root source : List ℕ) (conn : Held S) wh
       (WhereOpen g conn (TreesOf (IsMigrated root source (database g conn))))
 
   -- the tables are migrated, over a connection that was open, and the store of their objects and
-  -- the block is open
+  -- the block is open. A stop during the call leaves what it left before or the migrated tables;
+  -- one after it the rows that stand, while the connection is open
   pub record MigratesStore (store : Held S) : Type 0 where
     pub migrated : OnCleanDisk g store (IsMigrated root source (database g conn) (database g store))
     pub was_open : OnCleanDisk g store (IsTrue (state g conn).is_open)
@@ -102,8 +103,9 @@ module _ {S : Type 0} (g : Ghosts S) (root source : List ℕ) (conn : Held S) wh
     pub settled : IsSettled g store
     pub crash : LeavesMigrated store
 
-  -- no transaction is under way, the rows are as they were, while the connection is open, and a
-  -- fault of the rows says why they are not migrated
+  -- no transaction is under way, and the rows are as they were, while the connection is open, which
+  -- it then was before. A fault of the rows says why they are not migrated, and one of the database
+  -- what `FailsOverOldRows` has. A stop leaves what it may leave after a call that migrates them
   pub record FailsToMigrate (left : Held S) (fault : MigrateFault) : Type 0 where
     pub autocommit : left.in_transaction ≡ false
     pub was_open : WhileOpen g left (IsTrue (state g conn).is_open)

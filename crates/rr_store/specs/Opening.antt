@@ -41,11 +41,13 @@ pub record AreListed (source : List ℕ) (objects : List Obj) : Type 0 where
   pub in_order : AreInOrder objects
   pub of_source : AreObjectsOf source objects
 
--- the tables of this version hold the rows of these objects, all of the source (profile)
+-- the tables of this version hold the rows of these objects and no others. All are of the source,
+-- no two have the same key, and each key has a text there (profile)
 abbrev pub AreStoredAs : Version → List ℕ → List Obj → Database → Type 0
 AreStoredAs version = AreStoredIn (form_of version) (version_text version)
 
--- the tables of this version hold the rows of no list of objects of the source (profile)
+-- the tables are not those of this version with exactly the rows of objects of the source, no two
+-- of one key (profile)
 abbrev pub HoldNone : Version → List ℕ → Database → Type 0
 HoldNone version source db = (objects : List Obj) → AreStoredAs version source objects db → ⊥
 
@@ -72,8 +74,8 @@ pub record RefusesTables (version : Version) (source : List ℕ) (db : Database)
   pub tables : IsOfRows fault → HasTables db.schema
   pub untabled : ¬ HasTables db.schema → fault ≡ Store no_tables
 
--- rows are read, and nothing changes: where the disk has returned what was written, this is read of
--- the tables, or this is why they are not read; where they were tidy, the database's error has a
+-- rows are read, and nothing changes. Where the disk has returned what was written, this is read of
+-- the tables, or this is why they are not read. Where they were tidy, the database's error has a
 -- cause outside the rows
 pub record Inspects {S : Type 0} (g : Ghosts S) {X : Type 0} (old new : Held S)
     (result : Result X OpenFault) (Read : Database → X → Type 0)
@@ -93,7 +95,8 @@ pub record InspectsWith {S : Type 0} (g : Ghosts S) {X : Type 0} (old new : Held
 
 module _ {S : Type 0} (g : Ghosts S) (source : List ℕ) (conn : Held S) where
   -- the store of these objects is open, in order of class and key, with the rows as they were, over
-  -- a connection that was open (profile)
+  -- a connection that was open. A stop during the call leaves what it left before; one after it the
+  -- rows that stand, while the connection is open (profile)
   pub record OpensStore (store : Held S) (objects : List Obj) : Type 0 where
     pub stored : OnCleanDisk g store (AreStored source objects (database g store))
     pub in_order : AreInOrder objects
@@ -105,7 +108,8 @@ module _ {S : Type 0} (g : Ghosts S) (source : List ℕ) (conn : Held S) where
     pub crash : Survives (state g conn) (state g store) (λ _. ⊥)
 
   -- nothing changes while the connection is open, and a fault of the rows says why they are not
-  -- read; where the tables were tidy, the database's error has a cause outside the rows
+  -- read. Where the tables were tidy, the database's error has a cause outside the rows. What a
+  -- stop leaves is as after a call that opens the store
   pub record FailsToOpen (left : Held S) (fault : OpenFault) : Type 0 where
     pub rests : Rests g conn left
     pub settled : IsSettled g left

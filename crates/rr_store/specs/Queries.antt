@@ -70,12 +70,6 @@ abbrev pub name_tests : List Term
 name_tests =
     equals (col 1 1) (col 0 0) ∷ equals (col 1 2) (col 0 1) ∷ equals (col 1 3) (col 0 2) ∷ []
 
--- a row of `named` is of the maintainer that is given, and of the class and the key of a row of
--- `object`
-abbrev pub naming_tests : List Term
-naming_tests =
-    equals (col 2 1) (col 1 2) ∷ equals (col 2 2) (col 1 3) ∷ equals (col 1 1) (col 0 0) ∷ []
-
 -- the names and values of `meta`, in order of the names, then of the values
 abbrev pub meta_query : Query
 meta_query = rows_of meta_tree [] (col 1 1 ∷ col 1 2 ∷ []) (col 1 1 ∷ col 1 2 ∷ [])
@@ -88,12 +82,6 @@ of_key_query = rows_of object_tree object_tests (col 1 1 ∷ col 1 2 ∷ col 1 3
 abbrev pub sorted_named_query : Query
 sorted_named_query =
     rows_of named_tree [] (col 1 1 ∷ col 1 2 ∷ col 1 3 ∷ []) (col 1 1 ∷ col 1 2 ∷ col 1 3 ∷ [])
-
--- the rows of `object`, with their rowids, to which those of `named` point that are of the
--- maintainer that is given, by class and key
-abbrev pub naming_query : Query
-naming_query = select_from (inner named_tree (inner object_tree end)) naming_tests
-    (col 2 0 ∷ col 2 1 ∷ col 2 2 ∷ col 2 3 ∷ []) (col 2 1 ∷ col 2 2 ∷ [])
 
 -- the parameters become a row of so many columns, whose rowid SQLite chooses
 abbrev pub insert_into : ℕ → ℕ → Command

@@ -14,7 +14,7 @@ module _ {S : Type 0} (g : Ghosts S) where
   abbrev pub IsOver : (Database → Type 0) → Held S → Type 0
   IsOver Seen conn = WhileOpen g conn (Seen (database g conn))
 
-  -- a step of a transaction: over a database of which this is true, it was changed so; the
+  -- a step of a transaction: over a database of which this is true, it was changed so. The
   -- transaction goes on, nothing was committed, and a stop leaves what it left before
   pub record Step {X E : Type 0} (Seen : Database → Type 0)
       (Change : Database → Database → Type 0) (old new : Held S) (result : Result X E)
@@ -26,7 +26,7 @@ module _ {S : Type 0} (g : Ghosts S) where
     pub survives : Survives (state g old) (state g new) (λ _. ⊥)
 
   -- some steps or none: where the connection was open, over such a database, it was changed so, and
-  -- the transaction goes on; nothing was committed, and a stop leaves what it left before
+  -- the transaction goes on. Nothing was committed, and a stop leaves what it left before
   pub record StepWhereOpen {X E : Type 0} (Seen : Database → Type 0)
       (Change : Database → Database → Type 0) (old new : Held S) (result : Result X E)
       : Type 0 where
@@ -52,7 +52,7 @@ module _ {S : Type 0} (g : Ghosts S) where
     pub step : StepWhereOpen Seen Change old.conn.now new.conn.now result
 
   -- the end of a transaction: where its work was done and the database did not fail, that is
-  -- committed; else the rows are those last committed, while the connection is open
+  -- committed. Else the rows are those last committed, while the connection is open
   pub record EndsWork {X E Y F : Type 0} (old new : Held S) (work : Result X E)
       (result : Result Y F) : Type 0 where
     pub autocommit : new.in_transaction ≡ false

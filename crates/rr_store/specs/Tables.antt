@@ -16,7 +16,8 @@ use Rattle.sqlite_schema.specs.declared.schema.View.{View}
 use Rattle.sqlite_schema.specs.declared.schema.Schema.{Schema}
 use Rattle.sqlite_schema.specs.Names.{same_name}
 
--- a column of a STRICT table that takes no NULL (profile)
+-- a column of a STRICT table that takes no NULL, has no default, and is compared as BINARY
+-- (profile)
 abbrev pub required : List ℕ → Kind → Column
 required name kind = record {
   name = name;
@@ -128,7 +129,8 @@ refers_elsewhere reference = not (same_name (codes "meta") reference.parent
 abbrev pub stands_apart : Table → Bool
 stands_apart table = nat_lt named_tree table.tree && list_all refers_elsewhere table.references
 
--- a schema has the three tables first, and others that stand apart from them (profile)
+-- a schema has the three tables first, each at its tree, and others that stand apart from them
+-- (profile)
 pub record HasTables (schema : Schema) : Type 0 where
   pub layout : Layout
   pub is : schema ≡ laid layout

@@ -1,4 +1,4 @@
--- The statements on the three tables.
+-- The SQL texts of the statements on the three tables.
 use Rattle.std.specs.Prelude.{ℕ, List, ◌++◌, codes}
 
 -- makes the table `meta`, if there is none (profile)
@@ -71,14 +71,6 @@ select_named = codes "SELECT rowid, maintainer, class, okey FROM named ORDER BY 
 abbrev pub select_sorted_named : List ℕ
 select_sorted_named =
     codes "SELECT maintainer, class, okey FROM named ORDER BY maintainer, class, okey"
-
--- asks for the rows of `object` to which those of `named` point from a maintainer, by class
--- and key
-abbrev pub select_naming : List ℕ
-select_naming =
-    codes "SELECT o.rowid, o.class, o.okey, o.body FROM named n JOIN object o "
-    ++ codes "ON o.class = n.class AND o.okey = n.okey WHERE n.maintainer = ?1 "
-    ++ codes "ORDER BY o.class, o.okey"
 
 -- asks for the rowids of `meta`, in order
 abbrev pub meta_numbers : List ℕ

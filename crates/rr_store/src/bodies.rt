@@ -1,4 +1,5 @@
-//! What a transaction that adds, puts or takes out one object does before its commit.
+//! What a transaction that adds, puts or takes out one object does before its commit, for `writes`
+//! and `filling`.
 
 ghost use Rattle.std.specs.Prelude.{[], ◌∷◌, map};
 ghost use Rattle.rr_store.specs.Contents.{Adds, Alters, IsTidy, RemovesRows, is_name_among};
@@ -69,8 +70,8 @@ fn remove_names<S: Alter>(
     Ok(())
 }
 
-/// Takes out the rows of `named` of the object with this class and key, if there is one: each by
-/// its whole primary key, because no index of that table begins with the class.
+/// Takes out the rows of `named` of the object with this class and key, if there is one. Each goes
+/// by its whole primary key, because no index of that table begins with the class.
 fn forget_names<S: Alter>(
     tx: &mut Transaction<'_, S>,
     alloc: Global,

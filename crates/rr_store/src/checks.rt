@@ -1,44 +1,37 @@
-//! What the rows of the three tables say, each table by itself.
+//! What the rows of the three tables say, each table by itself: `opening` checks all.
 
 ghost use Rattle.std.specs.Prelude.{◌≡◌, [], ◌∷◌, codes, IfErr, IfOk};
 ghost use Rattle.std.specs.Prelude.{OnOk};
 ghost use Rattle.std.specs.Prelude.{IsSorted};
-ghost use Rattle.sqlite.specs.Held.{state};
-ghost use Rattle.sqlite.specs.State.{IsUnchanged};
-ghost use Rattle.rr_store.specs.Contents.{AreNumbered, by_three, contents, meta_row, meta_rows};
-ghost use Rattle.rr_store.specs.Maps.{HasVersion, current_form};
+ghost use Rattle.rr_store.specs.Contents.{AreNumbered, by_three, meta_row, meta_rows};
+ghost use Rattle.rr_store.specs.Maps.{HasVersion};
 ghost use Rattle.rr_store.specs.Tables.{meta_tree, named_tree, object_tree};
-ghost use Rattle.rr_store.specs.Calls.{OnCleanDisk};
-ghost use Rattle.rr_store.specs.CheckParts.{AreNamingRows, HoldsObjects, IsVersionFault};
-ghost use Rattle.rr_store.specs.CheckParts.{NamedPointsTo, NamesAre};
+ghost use Rattle.rr_store.specs.CheckParts.{AreNamingRows, IsVersionFault, NamesAre};
 ghost use Rattle.rr_store.specs.CheckParts.{TableHoldsNone};
-ghost use Rattle.rr_store.specs.Opening.{AreObjectsOf, HoldNone, IfStore};
+ghost use Rattle.rr_store.specs.Opening.{AreObjectsOf, IfStore};
 ghost use Rattle.rr_store.specs.Versions.{version_text};
-ghost use Rattle.rr_store.specs.declared.store_fault.OpenFault.TheVariants.{BadRow, Memory};
+ghost use Rattle.rr_store.specs.declared.store_fault.OpenFault.TheVariants.{BadRow};
 ghost use Rattle.rr_store.specs.declared.store_fault.OpenFault.TheVariants.{WrongVersion};
-ghost use Rattle.rr_store.specs.declared.version.Version.TheVariants.{Current};
 ghost use Rattle.rr_store.specs.LookParts.{IfSeen, IsTabled};
-ghost use Rattle.rr_store.specs.Opening.{AreListed, Inspects, InspectsWith};
+ghost use Rattle.rr_store.specs.Opening.{Inspects};
 ghost use Rattle.rr_store.specs.CheckParts.{HasBadRow, TableGives};
 ghost use Rattle.rr_store.specs.ReadingParts.{IsRowFault};
 
 use crate::idle_connection::IdleConnection;
 use crate::meta::{is_version_row_alone, other_version};
 use crate::namings::are_named;
-use crate::objects::in_order;
 use crate::row_reading::{
-    count_named, count_object, meta_rows, names_in_turn, read_naming, read_objects,
-    sorted_named_rows,
+    count_named, count_object, meta_rows, names_in_turn, read_objects, sorted_named_rows,
 };
-use crate::schema::has_tables;
-use crate::store_fault::{NO_TABLES, OpenFault};
+use crate::store_fault::OpenFault;
 use crate::version::Version;
 use rr_number::Name;
 use rr_object::Object;
 use sqlite::{Alter, Row};
 use std::alloc::Global;
 
-/// Checks that the rows of `meta` are the one that says the version asked for.
+/// Checks that the rows of `meta` are the one that says the version asked for. The fault is another
+/// version that a row says, and else `BadRow`.
 fn judge_version(rows: &[Row], version: Version) -> Result<(), OpenFault>
     ensures ok { OnOk result
         (rows.now ≡ meta_row (codes "version") (version_text version) ∷ []) }
@@ -55,7 +48,8 @@ fn judge_version(rows: &[Row], version: Version) -> Result<(), OpenFault>
     }
 }
 
-/// Checks that the tables are of the version asked for.
+/// Checks that the tables are of the version asked for. The fault is as at `judge_version`, or of
+/// the query.
 pub(crate) fn check_version<S: Alter>(
     conn: &mut IdleConnection<S>,
     version: Version,
@@ -86,26 +80,6 @@ pub(crate) fn check_objects<S: Alter>(
 {
     let count = count_object(conn)?;
     read_objects(conn, alloc, count, source, version)
-}
-
-/// The objects that tables of version 2 hold, in order of class and key.
-pub(crate) fn all_objects<S: Alter>(
-    conn: &mut IdleConnection<S>,
-    alloc: Global,
-    source: &Name,
-) -> Result<Vec<Object>, OpenFault>
-    ensures { InspectsWith S.Store conn.old conn.new result
-        (λ objects. AreListed source.now objects.items)
-        (λ db objects. HoldsObjects current_form source.now objects.items
-        (contents (db.trees object_tree)))
-        (HasBadRow (HoldNone Current source.now)) }
-{
-    conn.note_idle();
-    if !has_tables(conn.schema()) {
-        return Err(OpenFault::Store(NO_TABLES));
-    }
-    let objects = check_objects(conn, alloc, source, Version::Current)?;
-    in_order(objects)
 }
 
 /// Checks that the rows of `named`, by maintainer, class and key, are those of the maintainers that
@@ -145,7 +119,7 @@ fn check_sorted_names<S: Alter>(
     judge_names(alloc, &rows, objects, version)
 }
 
-/// Checks the rows of `named` as they stand, and only if these differ in order.
+/// Checks the rows of `named` as they stand, and once more in order only where these differ.
 fn check_maintainers<S: Alter>(
     conn: &mut IdleConnection<S>,
     alloc: Global,
@@ -179,26 +153,4 @@ pub(crate) fn check_named_table<S: Alter>(
     // the count is not needed: the clause says that the rows have numbers of their own
     let _count = count_named(conn)?;
     check_maintainers(conn, alloc, objects, version)
-}
-
-/// The objects that name a maintainer, in order of class and key.
-pub(crate) fn naming_objects<S: Alter>(
-    conn: &mut IdleConnection<S>,
-    alloc: Global,
-    source: &Name,
-    name: &Name,
-) -> Result<Vec<Object>, OpenFault>
-    ensures lists { InspectsWith S.Store conn.old conn.new result
-        (λ objects. AreListed source.now objects.items)
-        (λ db objects. NamedPointsTo source.now name.now objects.items db)
-        (HasBadRow (HoldNone Current source.now)) }
-    ensures memory { OnCleanDisk S.Store conn.new (IfErr result (λ fault. fault ≡ Memory →
-        IsUnchanged (state S.Store conn.old) (state S.Store conn.new))) }
-{
-    conn.note_idle();
-    if !has_tables(conn.schema()) {
-        return Err(OpenFault::Store(NO_TABLES));
-    }
-    let objects = read_naming(conn, alloc, source, name.as_bytes())?;
-    in_order(objects)
 }

@@ -1,4 +1,4 @@
-//! What the columns of a row hold.
+//! What the columns of a row hold, for all that compares rows or reads objects from them.
 
 ghost use Rattle.std.specs.Prelude.{◌≡◌, pos, IfSome, IsTrue, None};
 ghost use Rattle.sqlite_value.specs.declared.value.Value.TheVariants.{Blob, Int, Text};
@@ -41,7 +41,7 @@ fn has_blob(row: &Row, at: usize, bytes: &[u8]) -> bool
     }
 }
 
-/// The bytes of a column, if it has some.
+/// The bytes of a column, if it holds a blob.
 pub(crate) fn bytes_at(row: &Row, at: usize) -> Option<&[u8]>
     ensures found { IfSome result (λ bytes. column row.now at ≡ Blob bytes.now) }
     ensures none { (bytes : _) → result ≡ None → column row.now at ≡ Blob bytes → ⊥ }
@@ -52,7 +52,7 @@ pub(crate) fn bytes_at(row: &Row, at: usize) -> Option<&[u8]>
     }
 }
 
-/// The text of the second column, if it has some.
+/// The text of the second column of a row without a number, if it holds one.
 pub(crate) fn second_text(row: &Row) -> Option<&[u8]>
     ensures found { IfSome result (λ text. column row.now 1 ≡ Text text.now) }
     ensures none { (text : _) → result ≡ None → column row.now 1 ≡ Text text → ⊥ }

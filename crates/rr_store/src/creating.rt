@@ -1,4 +1,4 @@
-//! A new store, made in one transaction.
+//! A new store, made in one transaction, for `Store::create`.
 
 ghost use Rattle.std.specs.Prelude.{◌≡◌, ◌≢◌, false, IfErr};
 ghost use Rattle.sqlite.specs.declared.error.Error.{Error};
@@ -77,7 +77,8 @@ fn create_in_tables<S: Alter>(
     }
 }
 
-/// Makes a store in a database with nothing in it, or with the three tables and no row in them.
+/// Makes a store in a database with nothing in it, or with the three tables and no row in them. The
+/// faults are those of `Store::create`.
 pub(crate) fn create_where_vacant<S: Alter>(
     conn: &mut IdleConnection<S>,
     alloc: Global,

@@ -1,4 +1,4 @@
-//! What the tables keep of an object.
+//! What the tables keep of an object, as all that adds or puts rows is given it.
 
 ghost use Rattle.std.specs.Prelude.{◌≡◌, IfOk};
 ghost use Rattle.rr_object.specs.KeyOrders.{IsKeyValue};
@@ -35,7 +35,8 @@ impl Model for Entry {
 }
 
 impl Entry {
-    /// The entry of an object, which is such as readers make.
+    /// The entry of an object, which is such as readers make, under a key of such a form. The error
+    /// is that memory ran out.
     pub(crate) fn of(alloc: Global, object: &Object) -> Result<Entry, AllocError>
         ensures entry { IfOk result (λ entry. entry ≡ entry_of object.now) }
         ensures object { IsObject object.now }

@@ -1,4 +1,5 @@
-//! The rows of a list of objects, as a transaction adds them to tables without a row.
+//! The rows of a list of objects, as a transaction of `creating` or `migrating` adds them to tables
+//! without a row.
 
 ghost use Rattle.std.specs.Prelude.{map, OnOk};
 ghost use Rattle.std.specs.List.{AllByRecursion};

@@ -1,4 +1,5 @@
-//! A connection in no transaction: what all calls of the store take, and a closed store gives back.
+//! A connection in no transaction: what the calls that make or open a store take, and a closed
+//! store gives back. The diagnosis of `rr_commands` asks it why a database is refused.
 
 ghost use Rattle.std.specs.Prelude.{◌≡◌, false, IfErr, IfOk, IsTrue};
 ghost use Rattle.sqlite.specs.Held.{state};
@@ -10,7 +11,8 @@ use sqlite::{Alter, Connection, Error, Row};
 use sqlite_schema::schema::Schema;
 use std::marker::Model;
 
-/// A connection to SQLite in no transaction; a contract sees the connection.
+/// A connection to SQLite in no transaction; a contract sees the connection. A call opens none, and
+/// shuts one only where the disk failed or refused.
 #[derive(Drop)]
 pub struct IdleConnection<S: Alter> {
     pub(crate) inner: Connection<S>,
@@ -30,7 +32,7 @@ impl<S: Alter> Model for IdleConnection<S> {
 }
 
 impl<S: Alter> IdleConnection<S> {
-    /// The connection as one that is in no transaction, as each is that was just opened.
+    /// The same connection, which must be in no transaction; one that was just opened is in none.
     pub fn of(conn: Connection<S>) -> IdleConnection<S>
         requires { conn.in_transaction ≡ false }
         ensures { result ≡ conn }
@@ -54,10 +56,11 @@ impl<S: Alter> IdleConnection<S> {
         self.inner.schema()
     }
 
-    /// The rows that a query without parameters shows, or SQLite's error if it shows none. It is
-    /// asked in a transaction of its own that is rolled back: nothing is committed, and a stop
-    /// leaves what one before the call left. What is said of the rows is true where the disk has
-    /// returned what was written.
+    /// The rows that a query without parameters shows of what stands, or why SQLite shows none. It
+    /// is asked in a transaction of its own. That is then rolled back, of which clauses speak only
+    /// after an error. The connection is in no transaction then, and a stop leaves what one before
+    /// the call left. What is said of rows and errors is true where the disk has returned what was
+    /// written.
     pub fn ask(&mut self, query: &str) -> Result<Vec<Row>, Error>
         ensures autocommit { self.new.in_transaction ≡ false }
         ensures crash { Survives (state S.Store self.old) (state S.Store self.new) (λ _. ⊥) }

@@ -1,4 +1,4 @@
-//! The maintainers that an object names, read from its row before its rows are taken out.
+//! The maintainers that an object names, read from its row before `bodies` takes its rows out.
 
 ghost use Rattle.std.specs.Prelude.{◌≡◌, ◌≢◌, [], ◌∷◌, IfErr, IfOk, IfSome, IsSome};
 ghost use Rattle.std.specs.List.{AllByRecursion, find};
@@ -70,8 +70,9 @@ fn names_of_row(alloc: Global, row: &Row) -> Result<Vec<Name>, StoreFault>
     }
 }
 
-/// The maintainers that the object names, each once, whose row is the one row of a class and a key.
-/// A fault of the store says that these rows are not the one of an object.
+/// The maintainers that the object names, each once, whose row is the one row of a class and a key;
+/// no maintainers if there is no row. A fault of the store says that these rows are not the one of
+/// an object.
 pub(crate) fn names_of_rows(alloc: Global, rows: &[Row]) -> Result<Vec<Name>, StoreFault>
     ensures names { IfOk result (λ names. AllByRecursion (AreNamesOf names.items) rows.now) }
     ensures refused { IfErr result (λ fault. fault ≢ Memory → (object : _) → IsObject object →

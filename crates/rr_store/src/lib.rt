@@ -1,5 +1,6 @@
 //! The store: objects kept in SQLite, and whom they name, in three tables that hold exactly their
-//! rows. A desk keeps the objects of its registry in it.
+//! rows. A desk keeps the objects of its registry in it, and commands ask here why a database is
+//! refused.
 #![tactic(auto)]
 
 mod bodies;

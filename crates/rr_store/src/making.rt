@@ -1,4 +1,4 @@
-//! The three tables of a new store, made in a transaction.
+//! The three tables of a new store, made in a transaction before `filling` adds their rows.
 
 ghost use Rattle.std.specs.Prelude.{◌≡◌, []};
 ghost use Rattle.rr_store.specs.FillingParts.{HasNewTables, IsBlank};

@@ -1,4 +1,4 @@
-//! The version that the rows of `meta` say.
+//! The version that the rows of `meta` say, as `checks` and the diagnosis of `rr_commands` ask.
 
 ghost use Rattle.std.specs.Prelude.{◌≡◌, ◌≢◌, ◌<◌, ◌^◌, [], ◌∷◌};
 ghost use Rattle.std.specs.Prelude.{Contains, None, codes, decimal};

@@ -1,4 +1,5 @@
-//! Whether a database has the three tables, with numbers of their own for the rows of `meta`.
+//! Whether a database has the three tables, with numbers of their own for the rows of `meta`:
+//! `opening` asks this first.
 
 ghost use Rattle.std.specs.Prelude.{◌≡◌, IfErr, OnOk};
 ghost use Rattle.rr_store.specs.Tables.{HasTables};

@@ -1,4 +1,5 @@
-//! Tables of version 1, written anew in one transaction as those of version 2.
+//! Tables of version 1, written anew in one transaction as those of version 2, for
+//! `Store::migrate`.
 
 ghost use Rattle.std.specs.Prelude.{◌≡◌, [], ◌∷◌, ◌++◌, map, IfErr, IfOk};
 ghost use Rattle.rr_store.specs.Contents.{IsTidy};
@@ -103,8 +104,9 @@ fn has_mntner(objects: &[Object], name: &Name) -> bool
     objects.iter().any(|object| object.key().is_mntner_of(name))
 }
 
-/// Writes tables of version 1 that hold objects of the source anew as those of version 2, with the
-/// block of the AS numbers of more than 16 bits, which the root maintains.
+/// Writes tables of version 1 that hold objects of the source anew as those of version 2. The block
+/// of the AS numbers of more than 16 bits, which the root maintains, is added to them. The faults
+/// are those of `Store::migrate`.
 pub(crate) fn migrate_rows<S: Alter>(
     conn: &mut IdleConnection<S>,
     alloc: Global,

@@ -1,4 +1,4 @@
-//! The maintainers that an object names, each once.
+//! The maintainers that an object names, each once: `named` has a row for each.
 
 ghost use Rattle.std.specs.Prelude.{◌≡◌, IfOk};
 ghost use Rattle.rr_object.specs.Objects.{names_of};
@@ -9,7 +9,8 @@ use rr_object::Object;
 use std::alloc::{AllocError, Global};
 use std::collections::BTreeSet;
 
-/// The maintainers that the object names, as often as it names them.
+/// The maintainers that the object names, as often as it names them. The error is that memory ran
+/// out, here and below.
 fn named(alloc: Global, object: &Object) -> Result<Vec<Name>, AllocError>
     ensures { IfOk result (λ names. names.items ≡ names_of object.now) }
 {

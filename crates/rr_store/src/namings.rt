@@ -1,4 +1,6 @@
-//! Which objects name which maintainers, as the rows of `named` have it.
+//! Which objects name which maintainers, as the rows of `named` have it. `checks` compares these
+//! rows with the objects by `are_named`, if `row_streams` did not find them in the order of the
+//! objects. `row_streams` takes `key_text`.
 
 ghost use Rattle.std.specs.Prelude.{◌≡◌, ◌++◌, [], IfOk, IsSorted};
 ghost use Rattle.std.specs.Prelude.{IsTrue};
@@ -27,7 +29,8 @@ pub(crate) struct Naming {
     key: Vec<u8>,
 }
 
-/// The text of a key in tables of a version, which is empty where it has none.
+/// The text of a key in tables of a version, which is empty where it has none. The error is that
+/// memory ran out.
 pub(crate) fn key_text(alloc: Global, key: &Key, version: Version) -> Result<Vec<u8>, AllocError>
     ensures { IfOk result (λ bytes. bytes.items ≡ unwrap_or (form_of version key.now) []) }
 {
@@ -117,8 +120,9 @@ fn are_rows_of(rows: &[Row], namings: &[Naming]) -> bool
     rest.is_empty() && left.is_empty()
 }
 
-/// Whether rows without numbers, in their order, are those of the maintainers that the objects
-/// name.
+/// Whether rows without numbers, sorted by maintainer, class and key, are those of the maintainers
+/// that the objects name. Of rows that are not sorted so, `false` says nothing. The error is that
+/// memory ran out.
 pub(crate) fn are_named(
     alloc: Global,
     rows: &[Row],

@@ -1,4 +1,4 @@
-//! Objects read from rows, and put in the order of their keys.
+//! Objects read from rows, and put in the order of their keys, for what opens tables.
 
 ghost use Rattle.std.specs.Prelude.{◌≡◌, ◌++◌, [], ◌∷◌, IfErr, IfOk, IfSome};
 ghost use Rattle.std.specs.Prelude.{IsPermutation, IsSome};
@@ -26,7 +26,7 @@ use sqlite::Row;
 use std::alloc::{AllocError, Global};
 use std::cmp::Ordering;
 
-/// The object of the source that a paragraph is, if it is one.
+/// The object of the source that a paragraph is, if it is one. The error is that memory ran out.
 pub(crate) fn read_paragraph(
     alloc: Global,
     paragraph: Paragraph,
@@ -104,7 +104,8 @@ fn read_object(
     }
 }
 
-/// Takes in the object of the source whose row, with its number, this is.
+/// Takes in the object of the source whose row, with its number, this is. The fault is `BadRow`,
+/// which says that there is none, or that memory ran out.
 pub(crate) fn take_object(
     objects: &mut Vec<Object>,
     alloc: Global,
@@ -165,7 +166,7 @@ fn are_in_order(objects: &[Object]) -> bool
     true
 }
 
-/// The objects sorted by their keys.
+/// The objects sorted by their keys. The error is that memory ran out.
 fn sorted(mut objects: Vec<Object>) -> Result<Vec<Object>, AllocError>
     ensures same { IfOk result (λ sorted. IsPermutation objects.items sorted.items) }
     ensures order { IfOk result (λ sorted. IsSorted by_key sorted.items) }
@@ -176,8 +177,8 @@ fn sorted(mut objects: Vec<Object>) -> Result<Vec<Object>, AllocError>
     Ok(objects)
 }
 
-/// The objects in the order of their keys, of which no two are the same. Those that stand so
-/// already are not sorted.
+/// The objects in the order of their keys, of which no two are the same. The fault is `BadRow`,
+/// which says that two are, or that memory ran out. Those that stand so already are not sorted.
 pub(crate) fn in_order(objects: Vec<Object>) -> Result<Vec<Object>, OpenFault>
     ensures same { IfOk result (λ ordered. IsPermutation objects.items ordered.items) }
     ensures order { IfOk result (λ ordered. AreInOrder ordered.items) }

@@ -1,21 +1,19 @@
 //! Queries on the three tables, asked by the checks of `checks`, `meta_check` and `vacancy`.
 
-ghost use Rattle.std.specs.Prelude.{◌≡◌, [], map, IfErr, IfOk};
+ghost use Rattle.std.specs.Prelude.{[], map, IfErr, IfOk};
 ghost use Rattle.std.specs.Prelude.{IsTrue};
 ghost use Rattle.sqlite.specs.Given.{IsPlain};
 ghost use Rattle.sqlite.specs.Held.{state};
 ghost use Rattle.sqlite.specs.Listing.{understood};
-ghost use Rattle.sqlite.specs.State.{FailsToQuery, IsUnchanged, Shown};
+ghost use Rattle.sqlite.specs.State.{FailsToQuery, Shown};
 ghost use Rattle.sqlite.specs.Values.{bound};
 ghost use Rattle.rr_store.specs.Contents.{IsInRank, by_three, by_two, contents};
 ghost use Rattle.rr_store.specs.Contents.{number};
 ghost use Rattle.rr_store.specs.Contents.{by_one, meta_rows};
 ghost use Rattle.rr_store.specs.Tables.{meta_tree, named_tree, object_tree};
 ghost use Rattle.rr_store.specs.Calls.{Looks, OnCleanDisk};
-ghost use Rattle.rr_store.specs.CheckParts.{NamedPointsTo, NamedPointsToNone, NamesAre};
-ghost use Rattle.rr_store.specs.CheckParts.{TableHoldsNone};
+ghost use Rattle.rr_store.specs.CheckParts.{NamesAre, TableHoldsNone};
 ghost use Rattle.rr_store.specs.Opening.{AreObjectsOf};
-ghost use Rattle.rr_store.specs.declared.store_fault.OpenFault.TheVariants.{Memory};
 ghost use Rattle.rr_store.specs.LookParts.{Counts, IfSeen, IsTabled, Selects};
 ghost use Rattle.rr_store.specs.Opening.{Inspects};
 ghost use Rattle.rr_store.specs.CheckParts.{HasBadRow, TableGives};
@@ -159,7 +157,8 @@ pub(crate) fn read_objects<S: Alter>(
     take_objects(&mut rows, alloc, count, source, version)
 }
 
-/// Whether the rows of `named`, in their order, are those of the maintainers that the objects name.
+/// True only if the rows of `named`, in their order, are those of the maintainers that the objects
+/// name.
 pub(crate) fn names_in_turn<S: Alter>(
     conn: &mut IdleConnection<S>,
     alloc: Global,
@@ -176,30 +175,4 @@ pub(crate) fn names_in_turn<S: Alter>(
         &[],
     )?;
     take_all_names(&mut rows, alloc, objects, version)
-}
-
-/// The objects that name a maintainer.
-pub(crate) fn read_naming<S: Alter>(
-    conn: &mut IdleConnection<S>,
-    alloc: Global,
-    source: &Name,
-    name: &[u8],
-) -> Result<Vec<Object>, OpenFault>
-    ensures inspects { IfSeen S.Store IsTabled conn.old
-        (Inspects S.Store conn.old conn.new result
-        (λ db objects. NamedPointsTo source.now name.now objects.items db)
-        (HasBadRow (NamedPointsToNone source.now name.now))) }
-    ensures of_source { IfOk result (λ objects. AreObjectsOf source.now objects.items) }
-    ensures memory { IfSeen S.Store IsTabled conn.old
-        (OnCleanDisk S.Store conn.new (IfErr result (λ fault. fault ≡ Memory →
-        IsUnchanged (state S.Store conn.old) (state S.Store conn.new)))) }
-{
-    conn.note_committed();
-    let mut rows = conn.inner.query(
-        "SELECT o.rowid, o.class, o.okey, o.body FROM named n JOIN object o \
-         ON o.class = n.class AND o.okey = n.okey WHERE n.maintainer = ?1 \
-         ORDER BY o.class, o.okey",
-        &[ValueRef::Text(name)],
-    )?;
-    take_objects(&mut rows, alloc, 0, source, Version::Current)
 }

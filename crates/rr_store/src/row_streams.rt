@@ -1,4 +1,6 @@
-//! Rows that are read one at a time, so that only what is made of them takes memory.
+//! Rows read one at a time for `row_reading`, so that only what is made of them takes memory. They
+//! are counted, read as objects, or compared with the names of objects; of names the contracts say
+//! only what `true` means.
 
 ghost use Rattle.std.specs.Prelude.{◌≡◌, List, IfErr, IfOk, IsTrue, length, map};
 ghost use Rattle.std.specs.List.{flat_map};
@@ -28,7 +30,8 @@ use rr_object::Object;
 use sqlite::{Alter, Error, ErrorCode, Row, Rows};
 use std::alloc::Global;
 
-/// The number of a row, which has to be above the last.
+/// The number of a row. The error is that it has no whole number above the last one, or that memory
+/// ran out.
 fn next_number(row: &Row, last: Option<i64>) -> Result<i64, Error>
     ensures number { IfOk result (λ number. rowid row.now ≡ Int number) }
     ensures past { IfOk result (IsPast last) }
@@ -47,7 +50,8 @@ fn next_number(row: &Row, last: Option<i64>) -> Result<i64, Error>
     }
 }
 
-/// How many rows are to come, whose first values are numbers that rise.
+/// How many rows are to come, whose first values are numbers that rise. The error is that a row has
+/// no such number, that the query failed, or that memory ran out.
 pub(crate) fn count_numbered<S: Alter>(rows: &mut Rows<'_, S>) -> Result<usize, Error>
     requires { IsOpen S.Store rows.old.conn.now }
     ensures streams { Streams S.Store rows.old rows.new result }
@@ -68,7 +72,9 @@ pub(crate) fn count_numbered<S: Alter>(rows: &mut Rows<'_, S>) -> Result<usize, 
     Err(Error::SqliteFailure(ErrorCode::OutOfMemory))
 }
 
-/// The objects of the rows to come, in turn.
+/// The objects of the rows to come, in turn; room is made for `count` of them at first. `BadRow`
+/// says that some row is that of no object of the source in tables of this version. Otherwise the
+/// query failed, or memory ran out; no other version is told of.
 pub(crate) fn take_objects<S: Alter>(
     rows: &mut Rows<'_, S>,
     alloc: Global,
@@ -97,7 +103,7 @@ pub(crate) fn take_objects<S: Alter>(
     Err(OpenFault::Memory)
 }
 
-/// Whether the next rows are those of the names of an object.
+/// True only if the next rows are those of these names, for an object of this class and key.
 fn take_names<S: Alter>(
     rows: &mut Rows<'_, S>,
     names: &[Name],
@@ -124,7 +130,7 @@ fn take_names<S: Alter>(
     Ok(true)
 }
 
-/// Whether the next rows are those of the maintainers that the object names.
+/// True only if the next rows are those of the maintainers that the object names.
 fn take_names_of<S: Alter>(
     rows: &mut Rows<'_, S>,
     alloc: Global,
@@ -144,8 +150,9 @@ fn take_names_of<S: Alter>(
     Ok(take_names(rows, &names, object.key().class().number(), &key)?)
 }
 
-/// Whether the rows to come are those of the maintainers that the objects name, in the order of the
-/// objects. So they stand where each object's were written with the object's own.
+/// True only if the rows to come are those of the maintainers that the objects name, in the order
+/// of the objects. They stand so unless others wrote them. At `false`, `checks` compares them once
+/// more in order.
 pub(crate) fn take_all_names<S: Alter>(
     rows: &mut Rows<'_, S>,
     alloc: Global,

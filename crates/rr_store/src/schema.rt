@@ -1,4 +1,6 @@
-//! The three tables in a schema: whether they are there, and which trees are theirs.
+//! The three tables in a schema: whether they are there, and which trees are theirs. Calls that
+//! make or open a store ask this first, and so do messages of `rr_commands` about refused
+//! databases.
 
 ghost use Rattle.std.specs.Prelude.{◌≡◌, [], ◌∷◌, true, false, codes, IsTrue};
 ghost use Rattle.std.specs.List.{list_all};
@@ -20,6 +22,7 @@ pub const OBJECT_TREE: u32 = 2;
 /// The tree of `named`; the next one is that of its primary key.
 pub const NAMED_TREE: u32 = 4;
 
+/// Whether a column has this name and kind, and is one of a STRICT table that takes no NULL.
 fn is_required(column: &Column, name: &[u8], kind: Kind) -> bool
     ensures is { IsTrue result → column.now ≡ required name.now kind }
     ensures only { column.now ≡ required name.now kind → IsTrue result }
@@ -157,8 +160,10 @@ fn are_ours(first: &Table, second: &Table, third: &Table, others: &[Table]) -> b
     is_meta(first) && is_object(second) && is_named(third) && stand_apart(others)
 }
 
-/// Whether the schema begins with the three tables, each with its columns and any keys and checks,
-/// and each other table has a later tree than `named` and no foreign key to the three.
+/// Whether the schema begins with the three tables, and each other table has a later tree than
+/// `named` and no foreign key to the three. Each of the three must have its tree and its columns,
+/// and no foreign key, INTEGER PRIMARY KEY, AUTOINCREMENT or default. Its other keys and its checks
+/// are free.
 pub fn has_tables(schema: &Schema) -> bool
     ensures is { IsTrue result → HasTables schema.now }
     ensures only { HasTables schema.now → IsTrue result }

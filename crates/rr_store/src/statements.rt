@@ -1,4 +1,5 @@
-//! The statements of a transaction that add, take out or read rows, one in each function.
+//! The statements of a transaction that add, take out or read rows, one in each function, for
+//! `bodies`, `filling` and `migrating`.
 
 ghost use Rattle.std.specs.Prelude.{◌≡◌, [], ◌∷◌, filter, true, IfOk};
 ghost use Rattle.std.specs.Prelude.{IsPermutation};

@@ -1,10 +1,11 @@
-//! Why a call on a store failed.
+//! Why a call on a store failed, and why none was made, opened or migrated. A desk hands these
+//! faults on, and `rr_commands` has their messages.
 
 use sqlite::{Error, ErrorCode};
 use sqlite_resolve::CompileError;
 use std::alloc::AllocError;
 
-/// What is told of a database without the three tables.
+/// What is told of a database without the three tables: that a table is not there.
 pub(crate) const NO_TABLES: Error = Error::SqlInputError(CompileError::NoSuchTable);
 
 /// What is told of rows that no store has written.
@@ -48,8 +49,8 @@ impl From<Error> for StoreFault {
 pub enum CreateFault {
     /// One of the three tables has a row.
     NotEmpty,
-    /// SQLite's own error, its lack of memory included; or other tables stand in place of the
-    /// three.
+    /// SQLite's own error, its lack of memory included; or something else stands than the three
+    /// tables.
     Store(Error),
     /// Memory for objects and texts ran out.
     Memory,
@@ -69,7 +70,7 @@ impl From<StoreFault> for CreateFault {
     }
 }
 
-/// Why a store was not opened. No row was changed.
+/// Why a store was not opened, or tables of version 1 were not read. No row was changed.
 #[derive(Clone, Copy, Debug, PartialEq, Eq)]
 pub enum OpenFault {
     /// A row of `meta` says this version, which is not the one asked for.
@@ -77,8 +78,7 @@ pub enum OpenFault {
     /// No row of `meta` says another version, and the tables do not hold exactly the rows of
     /// objects of the source in the version asked for.
     BadRow,
-    /// SQLite's own error, its lack of memory included; or other tables stand in place of the
-    /// three.
+    /// SQLite's own error, its lack of memory included; or the three tables are not there.
     Store(Error),
     /// Memory for objects and texts ran out.
     Memory,
@@ -106,23 +106,6 @@ impl From<Error> for OpenFault {
     }
 }
 
-/// A store's own tables can be read: what else is found there, another version or bad rows, is told
-/// as damage of the database.
-impl From<OpenFault> for StoreFault {
-    ghost use Rattle.std.specs.Prelude.{◌≡◌};
-    ghost use Rattle.rr_store.specs.Faults.{store_fault};
-
-    ghost from_gives = { λ refused fault. fault ≡ store_fault refused };
-
-    fn from(refused: OpenFault) -> StoreFault {
-        match refused {
-            OpenFault::WrongVersion(_) | OpenFault::BadRow => StoreFault::Store(BAD_ROWS),
-            OpenFault::Store(error) => StoreFault::Store(error),
-            OpenFault::Memory => StoreFault::Memory,
-        }
-    }
-}
-
 /// Why tables were not migrated. While the connection is open, its rows are as they were; if it is
 /// shut, a later open finds the rows before the call or the new ones.
 #[derive(Clone, Copy, Debug, PartialEq, Eq)]
@@ -134,8 +117,7 @@ pub enum MigrateFault {
     BadRow,
     /// The root's mntner is not among the objects.
     NoRoot,
-    /// SQLite's own error, its lack of memory included; or other tables stand in place of the
-    /// three.
+    /// SQLite's own error, its lack of memory included; or the three tables are not there.
     Store(Error),
     /// Memory for objects and texts ran out.
     Memory,

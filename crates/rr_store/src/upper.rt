@@ -1,4 +1,5 @@
-//! The block of AS numbers that tables of version 1 did not know.
+//! The block of AS numbers that tables of version 1 did not know, which `migrating` adds. A new
+//! registry of `rr_desk` has it too.
 
 ghost use Rattle.std.specs.Prelude.{◌≡◌, IfOk, IfSome, IsSome};
 ghost use Rattle.rr_text.specs.Fields.{AreFields};
@@ -16,7 +17,7 @@ use std::alloc::{AllocError, Global};
 /// The AS numbers of more than 16 bits (RFC 6793).
 const UPPER: &[u8] = b"AS65536 - AS4294967295";
 
-/// The attributes of the block.
+/// The attributes of the block, which are well formed. The error is that memory ran out.
 #[tactic(auto, using(crate::proofs::UpperLemmas::upper_fields))]
 fn upper_attributes(
     alloc: Global,
@@ -43,8 +44,9 @@ fn upper_paragraph(alloc: Global, root: &Name, source: &Name) -> Result<Paragrap
     Paragraph::new(alloc, &attributes)
 }
 
-/// The block of the AS numbers of more than 16 bits, which the root maintains; none for a root
-/// that can be no maintainer. The error is that memory ran out.
+/// The block of the AS numbers of more than 16 bits, in this source, which the root maintains. It
+/// is none exactly where its paragraph reads as no object of the source, as for a root that can be
+/// no maintainer. The error is that memory ran out.
 pub fn upper_object(alloc: Global, root: &Name, source: &Name) -> Result<Option<Object>, AllocError>
     ensures of_source { IfOk result (λ made. IfSome made (IsObjectOf source.now)) }
     ensures read { IfOk result (λ made. IfSome made

@@ -1,4 +1,4 @@
-//! Whether a database has room for a new store.
+//! Whether a database has room for a new store, as `creating` asks.
 
 ghost use Rattle.std.specs.Prelude.{◌≡◌, IsTrue};
 ghost use Rattle.rr_store.specs.Made.{no_schema};

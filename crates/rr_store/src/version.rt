@@ -1,4 +1,5 @@
-//! The versions of tables, and how each writes its number and its keys.
+//! The versions of tables, and how each writes its number and its keys. Reading and migrating ask
+//! for one of them, and messages print their numbers.
 
 ghost use Rattle.std.specs.Prelude.{◌≡◌, ◌<◌, ◌^◌, decimal, IfOk, IfSome, IsTrue};
 ghost use Rattle.std.specs.Prelude.{None, Some};
@@ -18,9 +19,9 @@ pub const OLD_VERSION: u32 = 1;
 /// The version of tables, which says how their keys are written.
 #[derive(Clone, Copy, Debug, PartialEq, Eq)]
 pub enum Version {
-    /// 16-bit AS numbers, in four hexadecimal digits.
+    /// 1: 16-bit AS numbers, in four hexadecimal digits.
     Old,
-    /// 32-bit AS numbers, in eight.
+    /// 2: 32-bit AS numbers, in eight.
     Current,
 }
 
@@ -55,8 +56,8 @@ impl Version {
         }
     }
 
-    /// The text of a key, if it has one in tables of this version. The error is that memory ran
-    /// out.
+    /// The bytes of a key in tables of this version, if it has some there: a key with an AS number
+    /// above 65535 has none in version 1. The error is that memory ran out.
     pub fn key_bytes(self, alloc: Global, key: &Key) -> Result<Option<Vec<u8>>, AllocError>
         ensures { IfOk result
             (λ bytes. option_map (λ b. b.items) bytes ≡ form_of self key.now) }

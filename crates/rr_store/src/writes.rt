@@ -1,4 +1,6 @@
-//! The writes of a store, each one transaction.
+//! The writes of a store, each one transaction, for `put`, `add` and `remove` of `Store`. What is
+//! said of rows, and that a connection is open, is true where the disk has returned what was
+//! written.
 
 ghost use Rattle.std.specs.Prelude.{[], ◌∷◌};
 ghost use Rattle.rr_store.specs.Entries.{IsAdded, IsPut, IsTakenOut};
@@ -13,9 +15,9 @@ use crate::store_fault::StoreFault;
 use sqlite::Alter;
 use std::alloc::Global;
 
-/// Puts the rows of an object in place of those with its class and key. After an error the rows are
-/// as they were, while the connection is open; a stop leaves those that stood before or those with
-/// this one.
+/// Puts the rows of an object in place of those with its class and key. The connection was open
+/// then, and stays so. After an error the rows are as they were, while the connection is open. A
+/// stop leaves what one before the call left or, where the connection was open, the rows after it.
 pub(crate) fn put_entry<S: Alter>(
     conn: &mut IdleConnection<S>,
     alloc: Global,
@@ -30,8 +32,8 @@ pub(crate) fn put_entry<S: Alter>(
     end(tx, work)
 }
 
-/// Adds the rows of an object. After an error the rows are as they were, while the connection is
-/// open; a stop leaves those that stood before or those with this one.
+/// Adds the rows of an object. The connection, and what an error and a stop leave, are as at
+/// `put_entry`.
 pub(crate) fn insert_entry<S: Alter>(
     conn: &mut IdleConnection<S>,
     entry: &Entry,
@@ -45,9 +47,8 @@ pub(crate) fn insert_entry<S: Alter>(
     end(tx, work)
 }
 
-/// Takes out the rows of the object with this class and key, if there is one. After an error the
-/// rows are as they were, while the connection is open; a stop leaves those that stood before or
-/// those without this one.
+/// Takes out the rows of the object with this class and key, if there is one. The connection, and
+/// what an error and a stop leave, are as at `put_entry`.
 pub(crate) fn remove_entry<S: Alter>(
     conn: &mut IdleConnection<S>,
     alloc: Global,

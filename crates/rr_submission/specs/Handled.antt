@@ -18,8 +18,8 @@ use Rattle.rr_submission.specs.SubmissionItems.{AreItems, ItemRequest, submitted
 use Rattle.rr_submission.specs.SubmissionLaws.{ConfinesItems}
 use Rattle.rr_submission.specs.Reports.{item_line, lines_from, stop_lines}
 
--- the last item was decided, and its line could not be written: the items before it had been
--- decided and their lines written whole
+-- the last item was decided, and its line could not be written whole: the items before it had been
+-- decided and their lines written whole. The count is of all of them
 pub record HandlesSome (source : List ℕ) (entries : List (Result (List Field) TextFault))
     (old new : Reg) (writer_old writer_new : Told) (count : ℕ) : Type 0 where
   pub told : List ItemRequest
@@ -40,9 +40,9 @@ abbrev pub StopsAt : {L : Type 0} → Ghosts L → L → List (List ℕ) → Res
 StopsAt g old secrets (Ok item) new = g.Stops old secrets item new
 StopsAt g old secrets (Err code) new = ⊥
 
--- the ledger stopped at the last item: the items before it had been decided and their lines written
--- whole. Its line with the code E91 and the last line after that were written as far as they could
--- be
+-- the ledger ran until it stopped at the last item: the items before it, which are counted, had
+-- been decided and their lines written whole. Its line with the code E91 and the last line after
+-- that were written as far as they could be
 pub record HandlesThenStops {L : Type 0} (g : Ghosts L) (source : List ℕ)
     (entries : List (Result (List Field) TextFault)) (old new : L) (writer_old writer_new : Told)
     (count : ℕ) : Type 0 where
@@ -60,9 +60,9 @@ pub record HandlesThenStops {L : Type 0} (g : Ghosts L) (source : List ℕ)
   pub ends : TakesSome between writer_new (stop_lines count last.request.key)
   pub counted : count ≡ length told
 
--- a prefix of the text was read and used, and at most 4,096 bytes after it were read and not used:
--- the prefix ends with a blank line, so that its entries are the first of the text whatever
--- follows, or with the text (profile)
+-- a prefix of the text was read and used, and at most 4,096 bytes after it were read and not used,
+-- by at most 16,777,216 reads. The prefix is empty or ends with a blank line, so that its entries
+-- are the first of the text whatever follows; or it ends with the text (profile)
 pub record ReadsItems (start now : Told) (prefix : List ℕ) : Type 0 where
   pub left : List ℕ
   pub gives : Gives start now (prefix ++ left)

@@ -62,8 +62,9 @@ pub record HandlesNone (reader_old reader_new : Told) (old new : Reg) (writer_ol
   pub same : new ≡ old
   pub unwritten : writer_new ≡ writer_old
 
--- all of the items, with what is counted; none of them; those up to the one whose line could not be
--- written, with their number; or those before the one at which the ledger stopped
+-- all of the items were handled, with what is counted; or none of them. Or those up to the one
+-- whose line could not be written were, with their number; or those before the one at which the
+-- ledger stopped
 abbrev pub HandlesItems : {L : Type 0} → Ghosts L → L → L → List ℕ → Told → Told → Told → Told
     → Result (Done × ReadEnd) HandlingFault → Type 0
 HandlesItems g old new source reader_old reader_new writer_old writer_new (Ok handled) =

@@ -16,7 +16,7 @@ use Rattle.rr_submission.specs.declared.ending.Ending.TheVariants.{Stopped}
 use Rattle.rr_submission.specs.Endings.{last_line}
 use Rattle.rr_submission.specs.SubmissionItems.{ItemRequest}
 
--- the word of an outcome
+-- the word of an outcome, for a refusal with a space after it
 abbrev pub outcome_word : Outcome → List ℕ
 outcome_word Added = codes "added"
 outcome_word Changed = codes "changed"
@@ -32,7 +32,7 @@ refusal_code Unchanged = []
 refusal_code Deleted = []
 refusal_code (Refused code) = code_name code
 
--- a class before a key
+-- a class before a key, and the space between them
 abbrev pub class_part : Class → List ℕ
 class_part class = class_name class ++ codes " "
 
@@ -41,11 +41,11 @@ abbrev pub subject : Option Key → List ℕ
 subject None = codes "-"
 subject (Some key) = class_part (class_of key) ++ key_text key
 
--- the number of an item
+-- the number of an item in decimal digits, and a space
 abbrev pub number_part : ℕ → List ℕ
 number_part number = decimal number ++ codes " "
 
--- a colon and the outcome
+-- a colon, a space, the outcome and an LF
 abbrev pub outcome_part : Outcome → List ℕ
 outcome_part outcome = codes ": " ++ outcome_word outcome ++ refusal_code outcome ++ codes "\n"
 
@@ -60,8 +60,8 @@ lines_from number (item ∷ items) [] = []
 lines_from number (item ∷ items) (outcome ∷ outcomes) =
     item_line number item.request.key outcome ++ lines_from (number + 1) items outcomes
 
--- what ends a report where the ledger stops at an item after so many: the line of the item, and the
--- last line
+-- what ends a report where the ledger stops at an item after so many: the line of the item, with
+-- the code E91, and the last line
 unfoldable pub stop_lines : ℕ → Option Key → List ℕ
 stop_lines count key = item_line (count + 1) key (Refused E91) ++ last_line Stopped count
 

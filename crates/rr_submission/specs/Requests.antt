@@ -1,4 +1,4 @@
--- What a paragraph of a submission asks (profile).
+-- What a paragraph of a submission asks, or the code with which it is refused (profile).
 use Rattle.std.specs.Prelude.{◌≡◌, ℕ, Bool, true, false, List, Some, None, Result, Ok, Err}
 use Rattle.std.specs.Prelude.{IfSome, Option, ◌⊎◌}
 use Rattle.rr_io.specs.declared.receiving.ReadEnd.{ReadEnd}

@@ -1,4 +1,5 @@
--- What submissions keep.
+-- Laws of the items of a submission: they keep the source of a registry, and confine what is
+-- foreign.
 use Rattle.std.specs.Prelude.{ℕ, List, [], ◌++◌, map, Result}
 use Rattle.rr_text.specs.Fields.{Field}
 use Rattle.rr_text.specs.declared.text_fault.TextFault.{TextFault}
@@ -17,15 +18,17 @@ ItemsKeepTheSource =
     → IsRegistryOf source r → AreItems source [] entries items
     → Run r (map submitted items) outcomes s → IsRegistryOf source s
 
--- this run of items answers the holders of a prefix as if nobody else had submitted anything, and
--- leaves what they hold to them, where each item is foreign or their own
+-- this run of items is confined. Where a prefix is held and each item is foreign to its holders or
+-- their own, those not foreign are answered as if nobody else had submitted anything. What the
+-- holders hold ends as it then would, and the prefix stays held
 pub record ConfinesItems (before : Reg) (items : List ItemRequest) (outcomes : List Outcome)
     (after : Reg) : Type 0 where
   pub confines : Confines before (map submitted items) outcomes after
 
--- from this registry a run of the first items of a text answers the holders of a prefix as if
--- nobody else had submitted anything, and leaves what they hold to them, where each item is foreign
--- or their own
+-- each run of the first items of a text from this registry is confined. Where a prefix is held and
+-- each item is foreign to its holders or their own, those not foreign are answered as if nobody
+-- else had submitted anything. What the holders hold ends as it then would, and the prefix stays
+-- held
 abbrev pub ConfinesTexts : List ℕ → Reg → Type 0
 ConfinesTexts source r =
     (entries : List (Result (List Field) TextFault)) (items later : List ItemRequest) (s : Reg)
@@ -33,7 +36,8 @@ ConfinesTexts source r =
     → AreItems source [] entries (items ++ later) → Run r (map submitted items) outcomes s
     → Confines r (map submitted items) outcomes s
 
--- from each sound registry each text is confined. Where each of its first items is foreign or their
--- own, a run of these answers the holders of a prefix as if nobody else had submitted anything
+-- from each sound registry each text is confined. A run of its first items, each foreign to the
+-- holders of a held prefix or their own, answers those not foreign as if nobody else had submitted
+-- anything
 abbrev pub ItemsAreConfined : Type 0
 ItemsAreConfined = (source : List ℕ) (r : Reg) → Sound r → ConfinesTexts source r

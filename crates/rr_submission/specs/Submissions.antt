@@ -44,7 +44,8 @@ sides reader_old reader_new writer_old writer_new before after = record {
   after = after;
 }
 
--- the text was read to its end, each item was decided, and the whole report was written
+-- the text was read to its end, each item was decided, and the whole report was written. The result
+-- counts the items and those that were refused
 pub record IsDone (source : List ℕ) (sides : Sides) (done : Done) : Type 0 where
   pub text : List ℕ
   pub items : List ItemRequest
@@ -58,7 +59,8 @@ pub record IsDone (source : List ℕ) (sides : Sides) (done : Done) : Type 0 whe
   pub refused : done.refused ≡ refusals outcomes
 
 -- a read failed, or the text had no end within 16,777,216 reads. The items up to its last blank
--- line were decided and their lines written, and the last line was written or cut short
+-- line were decided and their lines written, and the last line was written or cut short. The count
+-- is of these items
 pub record IsReadFault (source : List ℕ) (sides : Sides) (count : ℕ) : Type 0 where
   pub text : List ℕ
   pub end : ReadEnd
@@ -74,14 +76,15 @@ pub record IsReadFault (source : List ℕ) (sides : Sides) (count : ℕ) : Type 
   pub ends : TakesSome between sides.writer_after (last_line ReadFault (length items))
   pub counted : count ≡ length items
 
--- a write failed in the line of an item: the items up to that one were decided, and no others
+-- a write failed in the line of an item: the items up to that one were decided and counted, and no
+-- others
 abbrev pub IsLineFault : List ℕ → Sides → ℕ → Type 0
 IsLineFault source sides count =
     HandlesUnwritten source sides.reader_before sides.reader_after sides.before sides.after
     sides.writer_before sides.writer_after count
 
 -- the text was read to its end, and a write failed in the last line: all items were decided and
--- their lines written whole
+-- their lines written whole. The count is of all items
 pub record IsLastLineFault (source : List ℕ) (sides : Sides) (count : ℕ) : Type 0 where
   pub text : List ℕ
   pub items : List ItemRequest
@@ -100,7 +103,8 @@ abbrev pub IsWriteFault : List ℕ → Sides → ℕ → Type 0
 IsWriteFault source sides count =
     IsLineFault source sides count ⊎ IsLastLineFault source sides count
 
--- the ledger stopped at an item: the items before it were decided, and none after it was decided
+-- the ledger stopped at an item: the items before it were decided and counted, and none after it
+-- was decided
 abbrev pub IsStoreFault : {L : Type 0} → Ghosts L → L → L → List ℕ → Sides → ℕ → Type 0
 IsStoreFault g old new source sides count = HandlesStopped g source sides.reader_before
     sides.reader_after old new sides.writer_before sides.writer_after count
@@ -121,7 +125,7 @@ FailsBy g old new source sides (fault.StoreFault items) = IsStoreFault g old new
 FailsBy g old new source sides fault.Memory = IsUnread sides
 FailsBy g old new source sides fault.Stopped = ⊥
 
--- what a submission to a ledger with a registry of this source does, by its answer
+-- what a submission to a ledger that runs does, read in this source, by its answer
 abbrev pub Submits : {L : Type 0} → Ghosts L → L → L → List ℕ → Sides
     → Result Done DeskFault → Type 0
 Submits g old new source sides (Ok done) = IsDone source sides done

@@ -1,4 +1,4 @@
-//! The last line of a report, which says how the submission ended.
+//! The last line of a report, which says how the submission ended. `handling` writes it.
 
 ghost use Rattle.std.specs.Prelude.{◌≡◌};
 ghost use Rattle.rr_io.specs.Sending.{Writes};
@@ -8,8 +8,8 @@ use crate::short_text::ShortText;
 use rr_io::{Sink, write_all};
 use std::io;
 
-/// How a submission ended, as its last line says. None is written after a write fault in the line
-/// of an item, or where the ledger was stopped before.
+/// How a submission ended, as its last line says. There is none after a write fault in the line of
+/// an item, or where the ledger was stopped before.
 #[derive(Clone, Copy, Debug, PartialEq, Eq)]
 pub enum Ending {
     /// With the end of its text.
@@ -23,6 +23,7 @@ pub enum Ending {
 }
 
 impl Ending {
+    /// What stands before the count of items.
     fn before_count(self) -> &'static str
         ensures { result.now ≡ before_count self }
     {
@@ -34,6 +35,7 @@ impl Ending {
         }
     }
 
+    /// What stands after the count of items, with the LF.
     fn after_count(self) -> &'static str
         ensures { result.now ≡ after_count self }
     {
@@ -44,8 +46,9 @@ impl Ending {
     }
 }
 
-/// Writes the last line of a report on this many items, whole in the first call of the writer.
-/// After a fault the writer has taken the beginning of it.
+/// Writes the last line of a report, with how many items were decided. The first call of the writer
+/// is given all of it, which no clause says. After a fault the writer has taken the beginning of
+/// it, and not all.
 pub(crate) fn write_last_line<W: Sink>(writer: &mut W, ending: Ending, items: u64) -> io::Result<()>
     ensures { Writes (W.told writer.old) (W.told writer.new)
         (last_line ending items) result }

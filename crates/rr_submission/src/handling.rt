@@ -30,28 +30,32 @@ use rr_text::Paragraphs;
 use std::alloc::Global;
 use std::io;
 
-/// Submits what the reader gives to a ledger with a registry of this source, and writes the report.
-/// The items are read, decided and reported one by one, in order, in memory that grows with the
-/// secrets of the text and what is remembered of them, and otherwise not. Where all goes well, the
-/// whole report is written, and the result counts the items and those that were refused.
+/// Submits what the reader gives, read in this source, to a ledger, and writes the report. The
+/// items are read, decided and reported one by one, in order. Memory grows with the secrets of the
+/// text and what is remembered of them, and otherwise not: no clause says so. Where all goes well,
+/// the whole report is written, and the result counts the items and those that were refused. A
+/// fault counts those that were decided.
 ///
 /// - `ReadFault`: where a read fails, or the text has no end within 16,777,216 reads, the items up
 ///   to the last blank line that came are decided and reported. A last line says so, as far as it
 ///   can be written.
-/// - `WriteFault`: where the line of an item cannot be written, that item and those before it
-///   stand. Those after it are not decided, though up to 4,096 bytes after it may have been read.
-///   Where only the last line cannot be written, all items stand.
+/// - `WriteFault`: where the line of an item cannot be written whole, that item and those before
+///   it stand. Those after it are not decided, though up to 4,096 bytes after it may have been
+///   read. Where only the last line cannot be written whole, all items stand.
 /// - `StoreFault`: where the ledger stops at an item, those before it stand. Its line with the code
-///   E91 and a last line are written as far as they can be. After every other end a ledger that ran
-///   still runs.
+///   E91 and a last line are written as far as they can be. Those after it are not decided, though
+///   up to 4,096 bytes after it may have been read. After every other end a ledger that ran still
+///   runs.
 /// - `Stopped`: where the ledger was stopped before, nothing is read, decided or written.
 /// - `Memory`: where memory runs out before the first item, nothing is read or decided. A last line
 ///   says so, as far as it can be written.
 ///
-/// Where each item is foreign to the holders of a prefix or their own, these are answered as if
-/// nobody else had submitted anything. Where the ledger stops at an item, this is said of the items
+/// Where a prefix is held, and each item is foreign to its holders or their own, those not foreign
+/// are answered as if nobody else had submitted anything. What the holders hold ends as it then
+/// would, and the prefix stays held. Where the ledger stops at an item, this is said of those
 /// before that one; what the stop leaves is what `Stops` of the ledger says. What lasts of a ledger
-/// through any items lasts, and what is so of it between items is so, however the submission ends.
+/// through any items (`Lasts`) lasts, and what is so of it between items (`Kept`) is so, however
+/// the submission ends.
 pub fn submit<L: Ledger, R: Source, W: Sink>(
     alloc: Global,
     ledger: &mut L,

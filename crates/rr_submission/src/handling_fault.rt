@@ -1,4 +1,4 @@
-//! What keeps items from being handled.
+//! What keeps items from being handled: the faults of `handling` before it reports.
 
 /// Why the items of a text were not all handled, or not all told.
 #[derive(Clone, Copy, Debug, PartialEq, Eq)]

@@ -69,7 +69,7 @@ fn text_code(fault: TextFault) -> Result<Code, ReadEnd>
     }
 }
 
-/// Adds the secrets of a paragraph, all or none.
+/// Adds the secrets of a paragraph; the error is that memory ran out, and then none is added.
 fn add_secrets(
     alloc: Global,
     paragraph: &Paragraph,
@@ -93,7 +93,8 @@ fn own_secrets(alloc: Global, paragraph: &Paragraph) -> Result<Secrets, AllocErr
     Ok(own)
 }
 
-/// Adds the secret of an attribute, if it gives one.
+/// Adds the secret of an attribute, if it gives one; the error is that memory ran out, and then
+/// nothing is added.
 fn add_secret(alloc: Global, attribute: &Attribute, secrets: &mut Secrets) -> Result<(), AllocError>
     ensures ok { OnOk result (secrets.new ≡ secrets.old ++ secrets_of (attribute.now ∷ [])) }
     ensures err { OnErr result (secrets.new ≡ secrets.old) }

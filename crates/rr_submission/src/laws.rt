@@ -3,14 +3,16 @@
 
 ghost use Rattle.rr_submission.specs.SubmissionLaws.{ItemsAreConfined, ItemsKeepTheSource};
 
-/// From a registry of their source, the items of a text leave one of it, whatever they ask.
+/// From a registry of the source in which it is read, the items of a text lead to a registry of
+/// that source, whatever they ask.
 pub fn items_keep_the_source()
     ensures { ItemsKeepTheSource }
 {}
 
-/// From a sound registry, where each item of a text is foreign to the holders of a prefix or their
-/// own, its items answer these as if nobody else had submitted anything, and leave what they hold
-/// to them.
+/// A run of the first items of a text begins at a sound registry in which a prefix is held. Where
+/// each item is foreign to the holders or their own, the run answers those not foreign as if nobody
+/// else had submitted anything. What the holders hold ends as it then would, and the prefix stays
+/// held.
 pub fn items_are_confined()
     ensures { ItemsAreConfined }
 {}

@@ -1,4 +1,5 @@
-//! Ledgers: what keeps a registry and decides items.
+//! Ledgers: what keeps a registry and decides items. A submission is decided by one: a registry in
+//! memory here, or the stock of a desk in `rr_desk`.
 
 ghost use Rattle.std.specs.Prelude.{◌≡◌, ℕ, Bool, false, List, IfOk, OnOk, OnErr};
 ghost use Rattle.rr_auth.specs.Registries.{Reg, Sound};
@@ -14,7 +15,7 @@ use std::alloc::Global;
 #[derive(Clone, Copy, Debug, PartialEq, Eq)]
 pub struct Stopped;
 
-/// What keeps a registry and decides items one by one, each for good before the next.
+/// What keeps a registry and decides items one by one.
 pub trait Ledger {
     // The registry that it keeps.
     ghost registry: { Self → Reg };
@@ -38,8 +39,10 @@ pub trait Ledger {
         ensures sound { Sound (registry self.now) }
         ensures kept { Kept self.now };
 
-    /// Decides an item that came with these secrets; the ledger must run. The error is that it
-    /// stopped at the item: `Stops` says what that leaves. The secrets stay.
+    /// Decides an item that came with these secrets, as a step of its registry; the secrets stay.
+    /// The ledger must run, and still does after `Ok`. The error is that it stopped at the item:
+    /// `Stops` says what that leaves. In either case `Lasts` is true of the ledger before and
+    /// after, and `Kept` of the ledger after.
     fn decide(
         &mut self,
         alloc: Global,

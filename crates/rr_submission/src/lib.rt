@@ -1,4 +1,6 @@
-//! Submissions: the items of a text, what decides them, and the report on them.
+//! Submissions: the items of a text, what decides them, and the report on them. A desk takes
+//! submissions by `submit`, and its stock is the ledger in it. `rr_http` puts replies together in a
+//! `ShortText`.
 #![tactic(auto)]
 
 mod ending;

@@ -1,4 +1,4 @@
-//! How a key is printed in a line of a report.
+//! How a key is printed in a line of a report, for `report_line`.
 
 ghost use Rattle.std.specs.Prelude.{◌≡◌, ◌+◌, ◌≤◌, ◌∷◌, ◌++◌, length};
 ghost use Rattle.rr_number.specs.AsNumbers.{as_number_text};
@@ -11,7 +11,7 @@ use rr_number::{AsNumber, Prefix};
 use rr_object::Key;
 
 impl ShortText {
-    /// Appends a key as reports print it, at most 255 bytes.
+    /// Appends a key as reports print it, at most 255 bytes; there must be room for so many.
     #[tactic(auto, using(crate::proofs::LineSizes::key_short))]
     pub(crate) fn push_key(&mut self, key: &Key)
         requires { length self.old + set_name_limit ≤ SHORT_SIZE }
@@ -29,6 +29,7 @@ impl ShortText {
         }
     }
 
+    /// Appends a route: its prefix and its origin, at most 40 bytes each, and a space.
     fn push_route(&mut self, prefix: Prefix, origin: AsNumber)
         requires { length self.old + 81 ≤ SHORT_SIZE }
         ensures value { self.new

@@ -1,4 +1,4 @@
-//! The lines of a report on items.
+//! The lines of a report on items. `handling` writes one after each item.
 
 ghost use Rattle.std.specs.Prelude.{◌≡◌, ◌+◌, ◌≤◌, [], ◌++◌, length};
 ghost use Rattle.rr_io.specs.Sending.{Writes};
@@ -11,8 +11,8 @@ use rr_object::Key;
 use rr_registry::Outcome;
 use std::io;
 
-/// Writes the line of an item, whole in the first call of the writer. After a fault the writer has
-/// taken the beginning of it.
+/// Writes the line of an item. The first call of the writer is given all of it, which no clause
+/// says. After a fault the writer has taken the beginning of it, and not all.
 pub(crate) fn write_item_line<W: Sink>(
     writer: &mut W,
     number: u64,
@@ -36,6 +36,7 @@ fn item_line(number: u64, key: &Option<Key>, outcome: Outcome) -> ShortText
     line
 }
 
+/// The number, of at most 20 digits, and a space.
 fn push_item_number(line: &mut ShortText, number: u64)
     requires { line.old ≡ [] }
     ensures value { line.new ≡ line.old ++ number_part number }
@@ -45,7 +46,7 @@ fn push_item_number(line: &mut ShortText, number: u64)
     line.push(b" ");
 }
 
-/// The class and the key, or `-`.
+/// The class, a space and the key, or `-`: at most 9, 1 and 255 bytes.
 #[tactic(auto, using(crate::proofs::LineSizes::class_name_short))]
 fn push_subject(line: &mut ShortText, key: &Option<Key>)
     requires { length line.old ≤ 21 }
@@ -62,7 +63,7 @@ fn push_subject(line: &mut ShortText, key: &Option<Key>)
     }
 }
 
-/// What stands after the subject.
+/// What stands after the subject, at most 15 bytes: a line has room for 320 in all.
 #[tactic(auto, using(crate::proofs::LineSizes::outcome_short))]
 fn push_outcome(line: &mut ShortText, outcome: Outcome)
     requires { length line.old ≤ 286 }
@@ -74,6 +75,7 @@ fn push_outcome(line: &mut ShortText, outcome: Outcome)
     line.push(b"\n");
 }
 
+/// The word of an outcome, for a refusal with a space after it.
 fn word(outcome: Outcome) -> &'static str
     ensures { result.now ≡ outcome_word outcome }
 {

@@ -36,7 +36,8 @@ impl Model for Request {
 impl Request {
     ghost use Rattle.rr_submission.specs.Requests.{IsRequest, action_of, unread};
 
-    /// The request of a paragraph that was refused before its class and key were read.
+    /// The request of a paragraph that was refused with this code before its class and key were
+    /// read.
     pub fn unread(code: Code) -> Request
         ensures { result ≡ unread code }
     {
@@ -46,8 +47,10 @@ impl Request {
         }
     }
 
-    /// What a paragraph asks of a registry of this source. Where memory runs out, it is refused
-    /// with E90.
+    /// What a paragraph asks of a registry of this source: if it has `delete`, that the object of
+    /// its key be deleted, and else that this be as the paragraph says. Its attributes `password`
+    /// and `delete` are no part of the object. It is refused with the code of its first fault.
+    /// Where memory runs out, it is refused with E90, and shows its own key or none.
     pub fn read(alloc: Global, paragraph: Paragraph, source: &Name) -> Request
         ensures { IsRequest source.now paragraph result }
     {
@@ -61,7 +64,8 @@ impl Request {
         }
     }
 
-    /// What is asked by a paragraph of this key. Where memory runs out, it is refused with E90.
+    /// What is asked by a paragraph of this key. Where memory runs out, it is refused with E90, and
+    /// shows the key.
     #[tactic(auto, using(crate::proofs::Asking::shown_action))]
     fn about(alloc: Global, own: Paragraph, source: &Name, key: Key, deletes: bool) -> Request
         requires { key_of own ≡ Ok key }
@@ -79,7 +83,8 @@ impl Request {
         }
     }
 
-    /// What is asked about the object of a key: an item, or the code of its refusal.
+    /// What is asked about the object of a key: an item, or the code of its refusal, which is E90
+    /// where memory runs out.
     fn action(
         alloc: Global,
         own: Paragraph,

@@ -1,4 +1,4 @@
-//! How a submission ended: the count of its items, or why it was cut short.
+//! How a submission ended, as `submit` answers it: the count of its items, or why it was cut short.
 
 /// How many items a submission had, and how many of them were refused.
 #[derive(Clone, Copy, Debug, PartialEq, Eq)]

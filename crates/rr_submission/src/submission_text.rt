@@ -1,4 +1,4 @@
-//! What a submission's paragraph holds beside its object.
+//! What a submission's paragraph holds beside its object, as `items` and `request` ask.
 
 ghost use Rattle.std.specs.Prelude.{◌≡◌, IfOk};
 ghost use Rattle.rr_submission.specs.SubmissionTexts.{asks_deletion, is_password, is_secrets_alone};
@@ -30,7 +30,7 @@ pub(crate) fn asks_deletion(paragraph: &Paragraph) -> bool
     paragraph.has(b"delete")
 }
 
-/// The paragraph less its attributes `password` and `delete`; the error is out of memory.
+/// The paragraph less its attributes `password` and `delete`; the error is that memory ran out.
 pub(crate) fn own_paragraph(alloc: Global, paragraph: Paragraph) -> Result<Paragraph, AllocError>
     ensures { IfOk result (λ own. own ≡ own_fields paragraph) }
 {

@@ -1,5 +1,4 @@
-//! Registries in memory, in either book: of texts, and after submissions.
-use crate::texts::OPENING;
+//! Registries in memory, in either book: of texts, and what they report and answer.
 use rr_answer::{answer_to, dump};
 use rr_auth::Item;
 use rr_io::{Counted, Cut, Source};
@@ -80,19 +79,6 @@ pub fn cut_report<B: Keeper>(
 ) -> Result<Vec<u8>, Fail> {
     let mut reader = Cut::new(Counted::new(text), step.max(1), usize::MAX);
     report(alloc, registry, &mut reader)
-}
-
-/// The registry of the opening objects after these submissions, and the report on the last of them.
-pub fn submitted<B: Keeper + Drop>(
-    alloc: Global,
-    given: &[&str],
-) -> Result<(Registry<B>, Vec<u8>), Fail> {
-    let mut registry = taken(alloc, OPENING.as_bytes())?;
-    let mut last = Vec::new(alloc);
-    for text in given {
-        last = report(alloc, &mut registry, &mut Counted::new(text.as_bytes()))?;
-    }
-    Ok((registry, last))
 }
 
 /// The dump of a registry.

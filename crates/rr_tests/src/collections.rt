@@ -1,5 +1,5 @@
-//! Lists and nests of spans and trees of prefixes, as one.
-use rr_cover::{InsertFault, PrefixTree, SpanList, SpanNest};
+//! Nests of spans, trees of prefixes and plain vectors, as one.
+use rr_cover::{InsertFault, PrefixTree, SpanNest};
 use rr_number::{Address, Prefix, Span};
 use std::alloc::{AllocError, Global};
 
@@ -16,40 +16,53 @@ pub trait Collection {
     fn closest_to(&self, span: Span) -> Option<(Span, u32)>;
 
     fn spans_covering(&self, alloc: Global, span: Span) -> Result<Vec<Span>, AllocError>;
-
-    fn spans_inside(&self, alloc: Global, span: Span) -> Result<Vec<Span>, AllocError>;
 }
 
-impl Collection for SpanList<u32> {
+/// Spans in no order, which are scanned: the simplest way, with which the others are compared.
+impl Collection for Vec<(Span, u32)> {
     fn put(&mut self, span: Span, value: u32) -> Result<Option<u32>, InsertFault<u32>> {
-        self.insert(span, value)
-    }
-
-    fn take(&mut self, span: Span) -> Option<u32> {
-        self.remove(span)
-    }
-
-    fn value_at(&self, span: Span) -> Option<u32> {
-        self.get(span).copied()
-    }
-
-    fn is_crossed_by(&self, span: Span) -> bool {
-        self.crosses(span)
-    }
-
-    fn closest_to(&self, span: Span) -> Option<(Span, u32)> {
-        match self.closest(span) {
-            Some((found, value)) => Some((found, *value)),
-            None => None,
+        if self.is_crossed_by(span) {
+            return Err(InsertFault::Overlap(value));
+        }
+        let old = self.take(span);
+        match self.push((span, value)) {
+            Ok(()) => Ok(old),
+            Err(_) => Err(InsertFault::Memory(value)),
         }
     }
 
-    fn spans_covering(&self, alloc: Global, span: Span) -> Result<Vec<Span>, AllocError> {
-        self.covering(alloc, span)
+    fn take(&mut self, span: Span) -> Option<u32> {
+        let old = self.value_at(span);
+        self.retain(|entry| entry.0 != span);
+        old
     }
 
-    fn spans_inside(&self, alloc: Global, span: Span) -> Result<Vec<Span>, AllocError> {
-        self.inside(alloc, span)
+    fn value_at(&self, span: Span) -> Option<u32> {
+        let found = self.iter().find(|entry| entry.0 == span)?;
+        Some(found.1)
+    }
+
+    fn is_crossed_by(&self, span: Span) -> bool {
+        self.iter().any(|entry| entry.0.crosses(span))
+    }
+
+    fn closest_to(&self, span: Span) -> Option<(Span, u32)> {
+        let mut closest: Option<(Span, u32)> = None;
+        let mut least = u64::MAX;
+        for entry in self.iter() {
+            if entry.0.covers(span) && entry.0.size() < least {
+                least = entry.0.size();
+                closest = Some(*entry);
+            }
+        }
+        closest
+    }
+
+    fn spans_covering(&self, alloc: Global, span: Span) -> Result<Vec<Span>, AllocError> {
+        let held = self.iter().map(|entry| entry.0);
+        let mut found: Vec<Span> = held.filter(|held| held.covers(span)).collect(alloc)?;
+        found.sort_unstable();
+        Ok(found)
     }
 }
 
@@ -80,10 +93,6 @@ impl Collection for SpanNest<u32> {
     fn spans_covering(&self, alloc: Global, span: Span) -> Result<Vec<Span>, AllocError> {
         self.covering(alloc, span)
     }
-
-    fn spans_inside(&self, alloc: Global, span: Span) -> Result<Vec<Span>, AllocError> {
-        self.inside(alloc, span)
-    }
 }
 
 /// The prefix of a span that is one.
@@ -93,12 +102,7 @@ fn prefix_of(span: Span) -> Prefix {
     Prefix::new(Address::from_bits(span.first()), length)
 }
 
-/// The spans of prefixes.
-fn spans(alloc: Global, prefixes: &[Prefix]) -> Result<Vec<Span>, AllocError> {
-    prefixes.iter().map(|prefix| prefix.span()).collect(alloc)
-}
-
-/// Spans that are prefixes; those of the lists may be any.
+/// Spans that are prefixes; those of the others may be any.
 impl Collection for PrefixTree<u32> {
     fn put(&mut self, span: Span, value: u32) -> Result<Option<u32>, InsertFault<u32>> {
         self.insert(prefix_of(span), value)
@@ -126,11 +130,6 @@ impl Collection for PrefixTree<u32> {
 
     fn spans_covering(&self, alloc: Global, span: Span) -> Result<Vec<Span>, AllocError> {
         let found = self.covering(alloc, span)?;
-        spans(alloc, &found)
-    }
-
-    fn spans_inside(&self, alloc: Global, span: Span) -> Result<Vec<Span>, AllocError> {
-        let found = self.inside(alloc, span)?;
-        spans(alloc, &found)
+        found.iter().map(|prefix| prefix.span()).collect(alloc)
     }
 }

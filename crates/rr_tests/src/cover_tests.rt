@@ -1,5 +1,4 @@
-//! How many levels trees and nests of spans have. What they hold is seen in `collection_tests.rt`
-//! and `sequence_tests.rt`.
+//! How many levels trees and nests of spans have. What they hold is seen in `sequence_tests.rt`.
 use rr_cover::{PrefixTree, SpanNest};
 use rr_number::{Address, Prefix, Span};
 use std::test::Fail;

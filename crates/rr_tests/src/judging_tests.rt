@@ -1,12 +1,10 @@
-//! Calls below the desk, each with ample memory: runs, names for routes, and the lists of a book.
+//! Calls that the program does not make, each with ample memory: runs, and names for routes.
 use crate::books::{item, objects, taken};
-use rr_auth::{Book, Secrets, route_names};
+use rr_auth::{Secrets, route_names};
 use rr_index::IndexedBook;
-use rr_io::{Counted, write_all};
-use rr_number::{AsNumber, Prefix, SetName};
-use rr_object::{Code, Object};
+use rr_number::Prefix;
+use rr_object::Code;
 use rr_registry::{Keeper, Outcome, PlainBook, Submitted};
-use rr_sets::SetBook;
 use std::alloc::Global;
 use std::fmt::Write;
 use std::process::Abort;
@@ -189,63 +187,4 @@ fn names_for_a_route_are_those_of_its_grants_else_of_its_object(
         assert_eq!(rt; names.as_str(), *wanted, "{prefix}");
     }
     Ok(())
-}
-
-/// The keys of the objects, each with a bar after it.
-fn keys(alloc: Global, objects: &[&Object]) -> Result<Vec<u8>, Fail> {
-    let mut keys = Counted::new(Vec::new(alloc));
-    for object in objects {
-        object.key().print_to(&mut keys)?;
-        write_all(&mut keys, b"|")?;
-    }
-    Ok(keys.into_inner())
-}
-
-/// Sets, with who refers to them in `member-of`.
-const REFERRERS: &[(&str, &str)] = &[
-    ("rs-a", "AS1|10.1.0.0/16 AS1|"),
-    ("RS-B", "10.1.0.0/16 AS1|"),
-    ("RS-C", ""),
-];
-
-/// Asserts who refers to each set.
-fn expect_referrers<B: SetBook, R: Abort + AllocGlobal>(rt: &R, book: &B) -> Result<(), Fail> {
-    for (set, wanted) in REFERRERS {
-        let name = SetName::read(rt.alloc(), set.as_bytes())?.ok_or("no name of a set")?;
-        let found = keys(rt.alloc(), &book.referrers(rt.alloc(), &name)?)?;
-        assert_eq!(rt; found.as_slice(), wanted.as_bytes(), "{set}");
-    }
-    Ok(())
-}
-
-/// Asserts which numbers and routes there are, and the origins of one prefix.
-fn expect_lists<B: SetBook, R: Abort + AllocGlobal>(rt: &R, book: &B) -> Result<(), Fail> {
-    let numbers = keys(rt.alloc(), &book.aut_nums(rt.alloc())?)?;
-    assert_eq!(rt; numbers.as_slice(), b"AS1|AS2|".as_slice());
-    let routes = keys(rt.alloc(), &book.routes(rt.alloc())?)?;
-    let wanted = b"10.1.0.0/16 AS1|10.1.0.0/16 AS2|";
-    assert_eq!(rt; routes.as_slice(), wanted.as_slice());
-    let of_first = keys(rt.alloc(), &book.routes_of(rt.alloc(), AsNumber::new(1))?)?;
-    assert_eq!(rt; of_first.as_slice(), b"10.1.0.0/16 AS1|".as_slice());
-    let prefix = Prefix::read(b"10.1.0.0/16").ok_or("no prefix")?;
-    let prefixes = book.prefixes_of(rt.alloc(), AsNumber::new(1))?;
-    assert_eq!(rt; prefixes.as_slice(), [prefix].as_slice());
-    let origins = book.origins(rt.alloc(), prefix)?;
-    assert_eq!(rt;
-        origins.as_slice(),
-        [AsNumber::new(1), AsNumber::new(2)].as_slice()
-    );
-    Ok(())
-}
-
-fn expect_book<B: Keeper + Drop, R: Abort + AllocGlobal>(rt: &R) -> Result<(), Fail> {
-    let registry = taken::<B>(rt.alloc(), HELD_SETS.as_bytes())?;
-    expect_lists(rt, registry.book())?;
-    expect_referrers(rt, registry.book())
-}
-
-#[test]
-fn a_book_lists_numbers_routes_and_referrers(rt: HostRuntime) -> Result<(), Fail> {
-    expect_book::<PlainBook, _>(&rt)?;
-    expect_book::<IndexedBook, _>(&rt)
 }

@@ -1,9 +1,9 @@
-//! Paragraphs read piece by piece: blocks, cuts, and readers that fail or never end.
+//! Paragraphs read piece by piece: cuts, and readers that fail or never end.
 
-use crate::text_tests::{CANONICAL, FOLDED, is_printed, sized};
+use crate::text_tests::{CANONICAL, FOLDED, is_printed};
 use rr_io::READ_SIZE;
-use rr_text::{Counted, Cut, ParagraphReader, Paragraphs, Source, TextFault};
-use std::alloc::{AllocError, Global};
+use rr_text::{Counted, Cut, Paragraphs, Source, TextFault};
+use std::alloc::Global;
 use std::io;
 use std::io::Read;
 use std::process::Abort;
@@ -43,30 +43,26 @@ impl Read for Unending {
 /// Whether a reader gives, in its next paragraph, one that is printed so.
 fn gives<S: Source>(
     alloc: Global,
-    reader: &mut ParagraphReader<S>,
+    paragraphs: &mut Paragraphs,
+    reader: &mut S,
     printed: &str,
 ) -> Result<bool, TextFault> {
-    match reader.next(alloc)? {
+    match paragraphs.next(alloc, reader)? {
         Some(paragraph) => Ok(is_printed(alloc, &paragraph, printed)?),
         None => Ok(false),
     }
 }
 
-/// Whether a reader gives no paragraph any more.
-fn ends<S: Source>(alloc: Global, reader: &mut ParagraphReader<S>) -> Result<bool, TextFault> {
-    Ok(reader.next(alloc)?.is_none())
-}
-
 /// Asserts that a reader gives one paragraph, printed so, and then none for good.
-fn expect_one<S: Source + Drop, R: Abort + AllocGlobal>(
+fn expect_one<S: Source, R: Abort + AllocGlobal>(
     rt: &R,
-    source: S,
+    reader: &mut S,
     printed: &str,
 ) -> Result<(), TextFault> {
-    let mut reader = ParagraphReader::new(rt.alloc(), source)?;
-    assert!(rt; gives(rt.alloc(), &mut reader, printed)?);
-    assert!(rt; ends(rt.alloc(), &mut reader)?);
-    assert!(rt; ends(rt.alloc(), &mut reader)?);
+    let mut paragraphs = Paragraphs::new(rt.alloc())?;
+    assert!(rt; gives(rt.alloc(), &mut paragraphs, reader, printed)?);
+    assert!(rt; paragraphs.next(rt.alloc(), reader)?.is_none());
+    assert!(rt; paragraphs.next(rt.alloc(), reader)?.is_none());
     Ok(())
 }
 
@@ -75,51 +71,25 @@ fn a_text_is_one_paragraph_however_it_is_cut(rt: HostRuntime) -> Result<(), Fail
     let text = FOLDED.as_bytes();
     for cut in 0..=text.len() {
         let (first, second) = text.split_at(cut);
-        expect_one(&rt, Counted::new(Halves { first, second }), CANONICAL)?;
+        let mut reader = Counted::new(Halves { first, second });
+        expect_one(&rt, &mut reader, CANONICAL)?;
     }
     Ok(())
 }
 
-/// A skipped line and a blank one with so many bytes, a paragraph with so many more than 65,536,
-/// and a small one.
-fn framed(alloc: Global, before: usize, more: usize) -> Result<Vec<u8>, AllocError> {
-    let mut text = Vec::new(alloc);
-    text.resize(before.saturating_sub(2), b'%')?;
-    text.extend_from_slice(b"\n\n")?;
-    text.extend_from_slice(sized(alloc, more, b'a')?.as_slice())?;
-    text.extend_from_slice(b"\nb: 2\n")?;
-    Ok(text)
-}
-
-/// Asserts how the first paragraph of a text ends that comes by at most `step` bytes a read, and
-/// that a small one follows it.
-fn expect_framed<R: Abort + AllocGlobal>(
-    rt: &R,
-    text: &[u8],
-    step: usize,
-    fault: Option<TextFault>,
-) -> Result<(), TextFault> {
-    let pieces = Cut::new(Counted::new(text), step.max(1), usize::MAX);
-    let mut reader = ParagraphReader::new(rt.alloc(), pieces)?;
-    assert_eq!(rt; reader.next(rt.alloc()).err(), fault);
-    assert!(rt; gives(rt.alloc(), &mut reader, "b:              2\n")?);
-    assert!(rt; ends(rt.alloc(), &mut reader)?);
-    Ok(())
-}
-
-/// How many bytes a paragraph has more than 65,536, and its fault.
-const SIZES: &[(usize, Option<TextFault>)] = &[(0, None), (1, Some(TextFault::TooLarge))];
+/// A text with a faulty paragraph between two good ones.
+const MIDDLE: &[u8] = b"% mirror\n\na: 1\n\n\nfaulty\n% x\n \t\nb: 2";
 
 #[test]
-fn size_is_the_same_at_each_place_of_a_block(rt: HostRuntime) -> Result<(), Fail> {
-    for before in READ_SIZE - 1..=READ_SIZE + 1 {
-        for (more, fault) in SIZES {
-            let text = framed(rt.alloc(), before, *more)?;
-            assert_eq!(rt; text.len(), (before + 65_542).saturating_add(*more));
-            expect_framed(&rt, &text, 1, *fault)?;
-            expect_framed(&rt, &text, READ_SIZE, *fault)?;
-        }
-    }
+fn paragraphs_after_a_fault_are_read(rt: HostRuntime) -> Result<(), Fail> {
+    let alloc = rt.alloc();
+    let mut reader = Counted::new(MIDDLE);
+    let mut paragraphs = Paragraphs::new(alloc)?;
+    assert!(rt; gives(alloc, &mut paragraphs, &mut reader, "a:              1\n")?);
+    let fault = paragraphs.next(alloc, &mut reader).err();
+    assert_eq!(rt; fault, Some(TextFault::NoColon));
+    assert!(rt; gives(alloc, &mut paragraphs, &mut reader, "b:              2\n")?);
+    assert!(rt; paragraphs.next(alloc, &mut reader)?.is_none());
     Ok(())
 }
 

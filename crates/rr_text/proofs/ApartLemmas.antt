@@ -1,4 +1,8 @@
--- Lemmas on lines that are cut, on what a blank line closes, and on the one block of a text.
+-- Lemmas on lines that are cut, on what a blank line closes, and on the one block of a text: for
+-- texts that are read piece by piece.
+-- No block goes past a blank line, so a text cut there reads as its parts do. Cuts are an
+-- induction over bytes, split by LF; closing is one over lines. The parts are given by hand. The
+-- law `closed_text_joins`, `DraftLemmas`, `ReaderLemmas` and `DumpTexts` need it.
 use Rattle.std.proofs.Common.{◌≡◌, ◌≢◌, ℕ, ◌<◌, Bool, true, false, ◌&&◌, List, [], ◌∷◌, ◌++◌}
 use Rattle.std.proofs.Common.{length, map, refl, sym, ap, ◌∙◌, arith, append_assoc}
 use Rattle.std.proofs.lemmas.List.{append-nil, map-append}

@@ -1,4 +1,8 @@
--- The lines of canonical text: their kinds, and what each of them gives.
+-- The lines of canonical text, their kinds, and what each of them gives: for what it spells.
+-- Names have no LF, colon or blank, so a text is cut again where printing joined it. Inductions go
+-- over bytes, lines and attributes, apart for the first line of a value and its further ones. The
+-- colon's place, padding and trims are given by hand. `RoundTrip`, `KeptLemmas` and `DumpTexts`
+-- need it.
 use Rattle.std.proofs.Common.{◌≡◌, ◌==◌, ℕ, ◌+◌, ◌-◌, ◌<◌, max, Bool, true, false, ◌&&◌, ◌||◌, List}
 use Rattle.std.proofs.Common.{[], ◌∷◌, ◌++◌, length, take, drop, replicate, refl, sym, ap, ◌∙◌}
 use Rattle.std.proofs.Common.{arith, append_assoc, length-append, suc, zero}
@@ -118,7 +122,7 @@ pub any_further : (p : ℕ → Bool) (line : List ℕ) → p 32 ≡ false → p 
 any_further p [] h k e = any_cons p 43 [] k refl
 any_further p (b ∷ bs) h k e = any_append p (replicate 16 32) (b ∷ bs) (any_blanks p h 16) e
 
--- what a good attribute's name is made of
+-- what the name of a well-formed attribute is made of
 pub name_bytes : (field : Field) → IsField field → list_all is_name_byte field.name ≡ true
 name_bytes field good = and_right (begins is_ascii_alphabetic field.name) _
     (and_left (begins is_ascii_alphabetic field.name && list_all is_name_byte field.name) _

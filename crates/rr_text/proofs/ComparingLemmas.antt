@@ -1,4 +1,4 @@
--- What stands in a text after a prefix.
+-- What stands in a text after a prefix: for `comparing`.
 use Rattle.std.proofs.Common.{◌≡◌, ◌≢◌, ◌==◌, ◌&&◌, ◌<◌, ◌+◌, ℕ, Bool, true, false, List, [], ◌∷◌}
 use Rattle.std.proofs.Common.{◌++◌, length, take, drop, refl, sym, ap, ◌∙◌, arith, cond, Option}
 use Rattle.std.proofs.Common.{Some, None, Bor}

@@ -1,4 +1,8 @@
--- Lemmas on what a draft has of the text so far.
+-- Lemmas on what a draft has of the text so far: for `draft` and `paragraphs`.
+-- A draft is told by a cut of the text: lines passed, the open block and the line that has begun.
+-- It splits by the line's end (passed, taken, closed) and by whether the text kept is over its
+-- limit. The new cut is given by hand in each case. `Draft` (`add`, `add_lines`, `finish`),
+-- `Paragraphs::gather` and `ReaderLemmas` need it.
 use Rattle.std.proofs.Common.{◌≡◌, ℕ, ◌+◌, ◌-◌, ◌<◌, ◌≤◌, Bool, true, false, ◌&&◌, ◌||◌, List, []}
 use Rattle.std.proofs.Common.{◌∷◌, ◌++◌, ◌⊎◌, inl, inr, length, length-append, take, map, refl, sym}
 use Rattle.std.proofs.Common.{ap, subst, ◌∙◌, arith, append_assoc, if◌then◌else◌}

@@ -1,4 +1,4 @@
--- An entry has no fault of a reader.
+-- An entry has no fault of a reader: for `draft`.
 use Rattle.std.proofs.Common.{◌≡◌, ◌≢◌, ℕ, ◌<◌, Bool, true, false, not, List, [], ◌∷◌, length}
 use Rattle.std.proofs.Common.{Option, Some, None, Result, Ok, Err, IfOk, IfErr, refl, sym, ap, ◌∙◌}
 use Rattle.std.proofs.Common.{nat_lt, if◌then◌else◌}

@@ -1,8 +1,8 @@
--- Lemmas on what the lines of a block give.
+-- Lemmas on what the lines of a block give: for the entries of texts, here and in the crates above.
 use Rattle.std.proofs.Common.{◌≡◌, ℕ, ◌<◌, ◌≤◌, Bool, true, false, List, [], ◌∷◌, ◌++◌, length}
 use Rattle.std.proofs.Common.{drop, map, refl, sym, ap, ◌∙◌, arith, Option, Err, nat_lt}
 use Rattle.std.proofs.Common.{if◌then◌else◌}
-use Rattle.std.proofs.lemmas.List.{drop_all, map-append}
+use Rattle.std.proofs.lemmas.List.{map-append}
 use Rattle.std.specs.List.{concat, onto_first}
 use Rattle.std.proofs.lemmas.Bool.Decides.{nat_tests}
 use Rattle.rr_text.specs.declared.text_fault.TextFault.{TextFault}
@@ -16,7 +16,7 @@ use Rattle.rr_text.specs.Lines.{text_lines, are_whole_lines, IsWholeLine, is_bla
 use Rattle.rr_text.specs.Lines.{is_skipped_line, line_kind}
 use Rattle.rr_text.specs.Blocks.{blocks}
 use Rattle.rr_text.specs.PrivateParts.{added_lines, opens_attribute}
-use Rattle.rr_text.proofs.BlockLemmas.{blocks_none, blocks_apart, blocks_blank, blocks_skipped}
+use Rattle.rr_text.proofs.BlockLemmas.{blocks_apart, blocks_blank, blocks_skipped}
 use Rattle.rr_text.proofs.LineLemmas.{text_lines-append}
 use Rattle.rr_text.specs.Entries.{added_value, continued, opened_field, block_fields, block_entry}
 use Rattle.rr_text.specs.Entries.{entries, size_limit, unless_fault}
@@ -124,15 +124,6 @@ entries_fault text after block fault h e = let all = entries_more text after blo
 pub entries_some : (text after : List ℕ) (block : List (List ℕ)) → blocks (text_lines text) ≡ block
     ∷ blocks (text_lines after) → 0 < length (entries text)
 entries_some text after block h = rw (entries_more text after block h) (omega arith)
-
-pub entries_skipped : (text after : List ℕ) (block : List (List ℕ)) → blocks (text_lines text)
-    ≡ block ∷ blocks (text_lines after) → entries after ≡ drop 1 (entries text)
-entries_skipped text after block h = rw (entries_more text after block h) refl
-
-pub entries_end : (text : List ℕ) → entries (drop (length text) text) ≡ []
-unfolding entries text_lines
-entries_end text = rw (drop_all (length text) text (omega arith))
-    (entries_empty [] (blocks_none [] refl))
 
 pub entries_joined : (prefix blank back : List ℕ) → are_whole_lines prefix ≡ true →
     IsWholeLine blank → is_blank_line blank ≡ true → entries (prefix ++ (blank ++ back)) ≡ entries

@@ -1,4 +1,4 @@
--- Lemmas on lists of attributes.
+-- Lemmas on lists of attributes: for `Paragraph::without` and `with_values`.
 use Rattle.std.proofs.Common.{◌≡◌, ℕ, Bool, true, false, List, [], ◌∷◌, map, filter, arith, refl}
 use Rattle.rr_text.specs.Fields.{Field, IsLine, IsField, AreFields, has_name, with_value}
 
@@ -7,7 +7,7 @@ kept_by : (t : Bool) (test : Field → Bool) (field : Field) (others : List Fiel
 kept_by true test field others h good rec = rw h (good, rec)
 kept_by false test field others h good rec = rw h rec
 
--- some good attributes are good attributes
+-- some of the well-formed attributes of a list are well-formed attributes
 pub AreFields-filter : (test : Field → Bool) (fields : List Field) → AreFields fields →
     AreFields (filter test fields)
 AreFields-filter test [] good = tt
@@ -20,7 +20,7 @@ valued_by true name line field h is good =
     rw h (record { named = good.named; lower = good.lower; some = omega arith; good = (is, tt) })
 valued_by false name line field h is good = rw h good
 
--- a good line leaves them good
+-- a well-formed line leaves them well formed
 pub AreFields-with_value : (name line : List ℕ) (fields : List Field) → IsLine line →
     AreFields fields → AreFields (map (with_value name line) fields)
 AreFields-with_value name line [] is good = tt

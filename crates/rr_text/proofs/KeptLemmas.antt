@@ -1,4 +1,8 @@
--- The text that a paragraph is kept as.
+-- The text that a paragraph is kept as: for `Paragraph`, its attributes, and what prints them.
+-- Reading gives back what printing took, so that the text may be kept in place of the attributes.
+-- It is long because inductions over lines, split by the four kinds of line, go both ways. The
+-- kind of each line is handed on by hand. rr_text's `Paragraph`, `attributes`, `canonical`,
+-- `printing`, `entry` and `comparing`, and rr_answer's `Places`, need it.
 use Rattle.std.proofs.Common.{◌≡◌, ◌==◌, ℕ, ◌+◌, ◌<◌, ◌≤◌, Bool, true, false, ◌&&◌, not, List, []}
 use Rattle.std.proofs.Common.{◌∷◌, ◌++◌, length, map, filter, refl, sym, ap, ◌∙◌, arith}
 use Rattle.std.proofs.Common.{append_assoc, None, if◌then◌else◌}
@@ -99,7 +103,7 @@ unfolding fields_in
 kept_again fields good = ap kept_fields (canonical_text_lines fields good)
     ∙ (kept_lines fields good).1
 
--- the canonical text of good attributes may be kept
+-- the canonical text of well-formed attributes may be kept
 pub kept_of : (fields : List Field) (text : List ℕ) → AreFields fields → text ≡ canonical fields →
     (fields_in text ≡ fields) × IsKept text
 kept_of fields text good same =

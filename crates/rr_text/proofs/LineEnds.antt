@@ -1,4 +1,4 @@
--- Lemmas on the lines of a text at the end of one of them.
+-- Lemmas on the lines of a text at the end of one of them: for `draft`.
 use Rattle.std.proofs.Common.{◌≡◌, ℕ, Bool, true, false, ◌||◌, List, [], ◌∷◌, ◌++◌, refl}
 use Rattle.std.proofs.Common.{sym, ap, ◌∙◌, append_assoc}
 use Rattle.std.proofs.lemmas.List.{append-nil}

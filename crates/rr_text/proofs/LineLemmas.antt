@@ -1,4 +1,4 @@
--- Lemmas on the lines of a text.
+-- Lemmas on the lines of a text: for `split_line`, and for blocks and entries.
 use Rattle.std.proofs.Common.{◌≡◌, ◌≢◌, ℕ, ◌+◌, ◌<◌, ◌≤◌, Bool, true, false, not, cond, List, []}
 use Rattle.std.proofs.Common.{◌∷◌, ◌++◌, length, take, drop, Some, None, refl, ap, ◌∙◌, arith, suc}
 use Rattle.std.proofs.Common.{zero, add-one}

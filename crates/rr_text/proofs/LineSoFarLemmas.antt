@@ -1,4 +1,4 @@
--- Lemmas on lines of which a prefix was read.
+-- Lemmas on lines of which a prefix was read: for `line_so_far` and `draft`.
 use Rattle.std.proofs.Common.{◌≡◌, ◌≢◌, ℕ, ◌-◌, ◌<◌, Bool, true, false, not, ◌&&◌, ◌||◌, nat_eq}
 use Rattle.std.proofs.Common.{List, [], ◌∷◌, ◌++◌, length, length-append, get_or, suc, refl, ap}
 use Rattle.std.proofs.Common.{◌∙◌, arith}

@@ -1,4 +1,4 @@
--- Lemmas on what values say.
+-- Lemmas on what values say: for `meaning`.
 use Rattle.std.proofs.Common.{◌≡◌, ℕ, List, [], ◌∷◌}
 use Rattle.rr_text.specs.Meanings.{uncommented, value_meaning}
 use Rattle.rr_text.proofs.SoundLemmas.{trim-trim}

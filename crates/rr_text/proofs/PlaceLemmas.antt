@@ -1,4 +1,4 @@
--- The place after the first block of a text.
+-- The place after the first block of a text: for `block`.
 use Rattle.std.proofs.Common.{◌≡◌, ℕ, ◌-◌, true, false, List, [], ◌∷◌, length, drop, refl, sym, ap}
 use Rattle.std.proofs.Common.{◌∙◌, arith}
 use Rattle.std.specs.List.{concat}

@@ -1,4 +1,4 @@
--- Attributes that are printed with other values.
+-- Attributes that are printed, also with other values: for `printing` and `print_onto_with_values`.
 use Rattle.std.proofs.Common.{◌≡◌, ℕ, ◌≤◌, List, ◌++◌, length, map, take, drop, ap, sym, ◌∙◌}
 use Rattle.std.proofs.Common.{append_assoc}
 use Rattle.std.specs.Io.{StartsWith}

@@ -1,4 +1,8 @@
--- Lemmas on the reading of a text paragraph by paragraph.
+-- Lemmas on the reading of a text paragraph by paragraph: for `paragraphs` and for submissions.
+-- Each call cuts what was held and read into a block and what is held next, and the cuts add up.
+-- The length is in the ends (closed, ended, broken, endless) and in every answer and fault.
+-- Appends and counts that stay at their limit are given by hand. `Paragraphs` and rr_submission's
+-- `Progress` need it.
 use Rattle.std.proofs.Common.{◌≡◌, ℕ, ◌+◌, ◌-◌, ◌*◌, ◌^◌, ◌<◌, ◌≤◌, max, List, [], ◌∷◌, ◌++◌, ◌⊎◌}
 use Rattle.std.proofs.Common.{inl, inr, length, length-append, take, Option, Some, None, Result, Ok}
 use Rattle.std.proofs.Common.{Err, IfOk, IfSome, refl, sym, ap, subst, ◌∙◌, arith, append_assoc}

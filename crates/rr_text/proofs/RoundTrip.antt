@@ -1,4 +1,4 @@
--- Canonical text spells its paragraph again.
+-- Canonical text spells its paragraph again: for `laws`, and for rows and dumps that are read.
 use Rattle.std.proofs.Common.{◌≡◌, ℕ, ◌<◌, ◌≤◌, Bool, true, false, List, [], ◌∷◌, ◌++◌}
 use Rattle.std.proofs.Common.{length, map, refl, sym, ap, ◌∙◌, arith, None, Ok}
 use Rattle.std.proofs.lemmas.List.{append-nil}

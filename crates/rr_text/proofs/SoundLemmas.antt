@@ -1,4 +1,8 @@
--- A block without a fault gives good attributes.
+-- A block without a fault gives well-formed attributes: for `entry`, and for canonical text.
+-- An LF is a line's last byte alone, so that trimming takes it away. Each trim has its inductions
+-- over bytes, and the lines have theirs, split by kind. Tests inside recursive functions have
+-- `_by` lemmas by hand. `entry::read_entry`, `RoundTrip`, `CanonicalLines`, `KeptLemmas` and
+-- `MeaningLemmas` need it.
 use Rattle.std.proofs.Common.{◌≡◌, ◌≢◌, ℕ, ◌<◌, Bool, true, false, not, ◌&&◌, ◌||◌, List, [], ◌∷◌}
 use Rattle.std.proofs.Common.{length, drop, refl, sym, ap, ◌∙◌, arith, Option, Some, None, suc}
 use Rattle.std.proofs.Common.{zero, nat_le, if◌then◌else◌}
@@ -369,7 +373,7 @@ block_good (line ∷ others) h last =
     let none = or_none (line_fault true line) (later_fault others) h in
     (record { last = last.0; fault = (first_good line none.0).0 }, later_good others none.1 last.1)
 
--- a block without a fault gives good attributes
+-- a block without a fault gives well-formed attributes
 pub sound : (block : List ℕ) → block_fault (text_lines block) ≡ None →
     AreFields (block_fields (text_lines block))
 sound block h = fields_good (text_lines block) (block_good (text_lines block) h (last_lines block))

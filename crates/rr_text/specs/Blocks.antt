@@ -1,4 +1,5 @@
--- The blocks of a text: its runs of lines between blank ones (RFC 2622, 2).
+-- The blocks of a text, its runs of lines between blank ones (RFC 2622, 2): for its entries, and
+-- for the place after the first of them.
 use Rattle.std.specs.Prelude.{ℕ, Bool, true, false, ◌-◌, List, [], ◌∷◌, length, drop}
 use Rattle.std.specs.Prelude.{filter, map, if◌then◌else◌}
 use Rattle.std.specs.List.{concat, slice_split}
@@ -15,7 +16,7 @@ abbrev pub has_line : List (List ℕ) → Bool
 has_line [] = false
 has_line (line ∷ others) = true
 
--- a block is a run of lines with no blank one, from its first line that is not skipped on; a run of
+-- a block is a run of lines with no blank one, from its first line that is not skipped on. A run of
 -- skipped lines alone is none (RFC 2622, 2; skipped lines: profile)
 unfoldable pub blocks : List (List ℕ) → List (List (List ℕ))
 blocks lines = filter has_line (map from_unskipped (slice_split is_blank_line lines))

@@ -1,4 +1,4 @@
--- The bytes of RPSL text that have a meaning of their own.
+-- The bytes of RPSL text that have a meaning of their own: for lines, faults and values.
 use Rattle.std.specs.Prelude.{ℕ, Bool, ◌==◌, ◌&&◌, not}
 use Rattle.std.specs.Char.{is_ascii_control}
 use Rattle.rr_bytes.specs.Blanks.{is_blank_or_line_feed}

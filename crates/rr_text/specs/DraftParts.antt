@@ -56,7 +56,7 @@ pub record HasEntry (text : List ℕ) (draft : Draft) : Type 0 where
   pub too_large : size_limit < draft.whole → size_limit < length block
   pub one : entries text ≡ block_entry (text_lines block) ∷ []
 
--- such a text that ends with the blank line after the block
+-- the draft of a text with one block, which ends with the blank line after that block
 pub record IsClosed (text : List ℕ) (draft : Draft) : Type 0 where
   pub entry : HasEntry text draft
   pub apart : whole_part text ≡ text

@@ -1,4 +1,5 @@
--- What a text spells: one entry for each block, a paragraph or a fault (RFC 2622, 2).
+-- What a text spells, one entry for each block, a paragraph or a fault (RFC 2622, 2): for all that
+-- reads paragraphs.
 use Rattle.std.specs.Prelude.{◌≡◌, ℕ, ◌<◌, ◌≤◌, length, drop, nat_lt, List, [], ◌∷◌}
 use Rattle.std.specs.Prelude.{Option, Some, None, Result, Ok, Err, map, if◌then◌else◌}
 use Rattle.std.specs.List.{after_first, concat}
@@ -15,11 +16,13 @@ use Rattle.rr_text.specs.Blocks.{blocks, place_after}
 use Rattle.rr_text.specs.Faults.{written_name, block_fault}
 use Rattle.rr_text.specs.Fields.{Field, AreFields}
 
--- the line of a value that a line opens with: what stands after its first colon (RFC 2622, 2)
+-- the line of a value that a line opens with: what stands after its first colon, less the blanks
+-- round it (RFC 2622, 2)
 abbrev pub opened_value : List ℕ → List ℕ
 opened_value line = trim is_blank_or_line_feed (after_first is_colon line)
 
--- the line that a continuation adds to a value: all but its first byte (RFC 2622, 2)
+-- the line that a continuation adds to a value: all but its first byte, less the blanks round it
+-- (RFC 2622, 2)
 abbrev pub added_value : List ℕ → List ℕ
 added_value line = trim is_blank_or_line_feed (drop 1 line)
 
@@ -74,8 +77,8 @@ block_entry lines =
 unfoldable pub entries : List ℕ → List (Result (List Field) TextFault)
 entries text = map block_entry (blocks (text_lines text))
 
--- the first entry of a text from a place on is this paragraph, which has an attribute and is well
--- formed; the other entries are those from this later place on, which is the one after the
+-- the first entry of a text from a place on is this paragraph, which has at least one attribute,
+-- all well formed. The other entries are those from this later place on, which is the one after the
 -- paragraph and not past the end (RFC 2622, 2)
 pub record IsNext (text : List ℕ) (from : ℕ) (found : List Field × ℕ) : Type 0 where
   pub first : entries (drop from text) ≡ Ok found.0 ∷ entries (drop found.1 text)

@@ -1,4 +1,5 @@
--- What is wrong with a line or a block, the first fault first (RFC 2622, 2; the order: profile).
+-- What is wrong with a line or a block, the first fault first (RFC 2622, 2; the order: profile):
+-- for the entries of a text.
 use Rattle.std.specs.Prelude.{ℕ, Bool, true, false, not, List, [], ◌∷◌, Option, Some, None}
 use Rattle.std.specs.Prelude.{if◌then◌else◌}
 use Rattle.std.specs.List.{list_any, before_first}
@@ -19,17 +20,19 @@ use Rattle.rr_text.specs.Lines.{line_kind}
 abbrev pub written_name : List ℕ → List ℕ
 written_name line = trim_end is_blank_or_line_feed (before_first is_colon line)
 
--- a line that opens an attribute has a colon and a good name before it (RFC 2622, 2)
+-- the fault of a line that opens an attribute: that it has no colon, or else that no attribute's
+-- name stands before the colon; else none (RFC 2622, 2)
 unfoldable pub opening_fault : List ℕ → Option TextFault
 opening_fault line =
     if not (list_any is_colon line) then Some NoColon
     else (if not (is_attribute_name (written_name line)) then Some BadName else None)
 
--- a block does not begin with a continuation (RFC 2622, 2)
+-- a continuation has a fault where it is the first line of a block, and only there (RFC 2622, 2)
 abbrev pub continuation_fault : Bool → Option TextFault
 continuation_fault is_first = if is_first then Some FirstContinues else None
 
--- the first fault of a line of a kind: a refused byte comes before the others (profile)
+-- the first fault of a line of a kind: a refused byte comes before the others, and a blank or
+-- skipped line has none (profile)
 abbrev pub fault_by_kind : Bool → List ℕ → LineKind → Option TextFault
 fault_by_kind is_first line Blank = None
 fault_by_kind is_first line Skipped = None
@@ -38,7 +41,7 @@ fault_by_kind is_first line Continuation =
 fault_by_kind is_first line Opening =
     if list_any is_refused line then Some BadByte else opening_fault line
 
--- the first fault of a line, if it has one
+-- the first fault of a line, which is the first of its block or not; if it has one
 unfoldable pub line_fault : Bool → List ℕ → Option TextFault
 line_fault is_first line = fault_by_kind is_first line (line_kind line)
 

@@ -1,4 +1,4 @@
--- That `==` on attributes is equality.
+-- That `==` on attributes is equality: for `==` on paragraphs.
 use Rattle.std.specs.Prelude.{ℕ, ◌≡◌, List}
 use Rattle.std.specs.Bool.{Decides}
 use Rattle.std.specs.Cmp.{IsPartialEquivalence, decided, partial_equiv_from_equiv}

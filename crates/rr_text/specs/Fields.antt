@@ -1,4 +1,5 @@
--- An attribute as plain data, and what is true of each (RFC 2622, 2).
+-- An attribute as plain data, and what is true of each (RFC 2622, 2): contracts see paragraphs as
+-- lists of these.
 use Rattle.std.specs.Prelude.{ℕ, Bool, true, not, ◌&&◌, ◌≡◌, ◌<◌, length, List, []}
 use Rattle.std.specs.Prelude.{◌∷◌, if◌then◌else◌}
 use Rattle.std.specs.List.{list_any, AllByRecursion}
@@ -19,24 +20,25 @@ pub record Field : Type 0 where
 abbrev pub one_line : List ℕ → List ℕ → Field
 one_line name line = record { name = name; lines = line ∷ [] }
 
--- a line of a value has no blanks round it, no LF and no refused byte
+-- a line of a value is well formed: it has no blanks round it, no LF and no refused byte
 pub record IsLine (line : List ℕ) : Type 0 where
   pub trimmed : trim is_blank_or_line_feed line ≡ line
   pub unbroken : not (list_any is_line_feed line) ≡ true
   pub clean : not (list_any is_refused line) ≡ true
 
--- an attribute's name is a name in lower case, and its value has at least one line
+-- an attribute is well formed: its name is an attribute's name in lower case, and its value has at
+-- least one line, each well formed
 pub record IsField (field : Field) : Type 0 where
   pub named : is_attribute_name field.name ≡ true
   pub lower : lowered field.name ≡ field.name
   pub some : 0 < length field.lines
   pub good : AllByRecursion IsLine field.lines
 
--- each attribute of a list is well formed: a good name in lower case, and at least one good line
+-- each attribute of a list is well formed, in its name and in the lines of its value
 abbrev pub AreFields : List Field → Type 0
 AreFields fields = AllByRecursion IsField fields
 
--- an attribute has this name, in lower case
+-- an attribute has this name, which is given in lower case, as names are kept
 abbrev pub has_name : List ℕ → Field → Bool
 has_name name field = bytes_eq field.name name
 

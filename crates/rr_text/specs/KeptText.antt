@@ -1,4 +1,5 @@
--- The text that a paragraph is kept as, which is its canonical text, and what stands in it.
+-- The text that a paragraph is kept as, which is its canonical text, and what stands in it: for
+-- `Paragraph` and what reads its text.
 use Rattle.std.specs.Prelude.{ℕ, Bool, false, ◌&&◌, ◌≡◌, List, [], ◌∷◌}
 use Rattle.std.specs.List.{flat_map}
 use Rattle.std.specs.Str.{bytes_eq}
@@ -16,7 +17,7 @@ use Rattle.rr_text.specs.CanonicalText.{ended, opening_line, further_line, canon
 abbrev pub kept_field : List ℕ → List (List ℕ) → Field
 kept_field line more = record { name = written_name line; lines = opened_value line ∷ more }
 
--- the attributes from a line on, by its kind
+-- the attributes from a line on, by its kind, with their names as they are written
 abbrev pub kept_by : List ℕ → LineKind → List (List ℕ) → List Field → List Field
 kept_by line Blank more fields = fields
 kept_by line Skipped more fields = fields
@@ -29,11 +30,12 @@ kept_fields [] = []
 kept_fields (line ∷ others) =
     kept_by line (line_kind line) (continued others) (kept_fields others)
 
--- the attributes of a text
+-- the attributes of a text, with their names as they are written
 unfoldable pub fields_in : List ℕ → List Field
 fields_in text = kept_fields (text_lines text)
 
--- a text that a paragraph may be kept as: the canonical text of good attributes
+-- a text that a paragraph may be kept as: the canonical text of its own attributes, which are well
+-- formed
 pub record IsKept (text : List ℕ) : Type 0 where
   pub good : AreFields (fields_in text)
   pub printed : canonical (fields_in text) ≡ text

@@ -1,4 +1,4 @@
--- What is true of texts and their entries.
+-- What is true of texts and their entries: laws of `src/laws.rt`.
 use Rattle.std.specs.Prelude.{ℕ, true, ◌≡◌, ◌↔◌, ◌<◌, ◌≤◌, length, List, []}
 use Rattle.std.specs.Prelude.{◌∷◌, ◌++◌, Ok}
 use Rattle.rr_text.specs.Lines.{are_whole_lines, IsWholeLine, is_blank_line, is_skipped_line}
@@ -7,29 +7,32 @@ use Rattle.rr_text.specs.Entries.{entries, size_limit}
 use Rattle.rr_text.specs.CanonicalText.{canonical}
 use Rattle.rr_text.specs.WholePart.{whole_part, whole_entries}
 
--- two paragraphs with the same canonical text are the same
+-- two paragraphs of well-formed attributes with the same canonical text are the same
 abbrev pub CanonicalDetermines : Type 0
 CanonicalDetermines =
     (a b : List Field) → AreFields a → AreFields b → canonical a ≡ canonical b → a ≡ b
 
--- two paragraphs compare as equal exactly where they have the same canonical text
+-- two paragraphs of well-formed attributes compare as equal exactly where they have the same
+-- canonical text
 abbrev pub EqualAsPrinted : Type 0
 EqualAsPrinted = (a b : List Field) → AreFields a → AreFields b
     → (fields_eq a b ≡ true) ↔ (canonical a ≡ canonical b)
 
--- canonical text that is not too large spells its paragraph and nothing else
+-- canonical text that is not too large, of a paragraph with an attribute, spells this paragraph and
+-- nothing else
 abbrev pub CanonicalSpells : Type 0
 CanonicalSpells = (fields : List Field) → 0 < length fields → AreFields fields
     → length (canonical fields) ≤ size_limit → entries (canonical fields) ≡ Ok fields ∷ []
 
--- whole lines and a blank line keep their entries apart from what follows
+-- whole lines, a blank line with its LF and what follows spell the entries of the lines, and then
+-- those of what follows
 abbrev pub BlankLineJoins : Type 0
 BlankLineJoins = (prefix blank back : List ℕ) → are_whole_lines prefix ≡ true
     → IsWholeLine blank → is_blank_line blank ≡ true
     → entries (prefix ++ (blank ++ back)) ≡ entries prefix ++ entries back
 
--- canonical text that is not too large and an empty line put their paragraph before the entries of
--- what follows
+-- canonical text that is not too large, of a paragraph with an attribute, and an empty line put
+-- this paragraph before the entries of what follows
 abbrev pub CanonicalLeads : Type 0
 CanonicalLeads = (fields : List Field) (rest : List ℕ) → 0 < length fields → AreFields fields
     → length (canonical fields) ≤ size_limit
@@ -40,8 +43,9 @@ abbrev pub SkippedLinePassed : Type 0
 SkippedLinePassed = (line rest : List ℕ) → IsWholeLine line → is_skipped_line line ≡ true
     → entries (line ++ rest) ≡ entries rest
 
--- a text that ends with the LF of a blank line keeps its entries apart from what follows, which may
--- break off
+-- a text that is empty, or ends with the LF of a blank line, and what follows spell the entries of
+-- the text, and then those of what follows. So it is also where what follows breaks off, with those
+-- of its entries that then count
 abbrev pub ClosedTextJoins : Type 0
 ClosedTextJoins = (prefix back : List ℕ) → whole_part prefix ≡ prefix
     → (entries (prefix ++ back) ≡ entries prefix ++ entries back)

@@ -20,9 +20,9 @@ line_with Blank more = if is_blank_line more then Blank else Kept
 line_with Skipped more = Skipped
 line_with Kept more = Kept
 
--- what the end of a line does, by whether the block has begun: a line of blanks alone closes a
--- block that has, a skipped line is a line of such a block, and any other line is one of the block
--- that it may begin
+-- what the end of a line does, by whether the block has begun. A line of blanks alone closes a
+-- block that has, and a skipped line is a line of such a block; before one, both are passed over.
+-- Any other line is one of the block, which it may begin
 abbrev pub end_of_line : Bool → LineSoFar → LineEnd
 end_of_line started Nothing = if started then Closed else Passed
 end_of_line started Blank = if started then Closed else Passed

@@ -1,4 +1,4 @@
--- The lines of a text, and what kind of line each is (RFC 2622, 2).
+-- The lines of a text, and what kind of line each is (RFC 2622, 2): for all that reads text.
 use Rattle.std.specs.Prelude.{ℕ, Bool, true, not, ◌==◌, ◌≡◌, ◌||◌, ◌&&◌, List}
 use Rattle.std.specs.Prelude.{[], ◌∷◌, if◌then◌else◌}
 use Rattle.std.specs.List.{list_all, onto_first}
@@ -13,7 +13,7 @@ text_lines [] = []
 text_lines (b ∷ bs) =
     if is_line_feed b then (b ∷ []) ∷ text_lines bs else onto_first b (text_lines bs)
 
--- a line of blanks alone (RFC 2622, 2)
+-- a line of blanks alone, with its LF or without, or of nothing (RFC 2622, 2)
 abbrev pub is_blank_line : List ℕ → Bool
 is_blank_line line = list_all is_blank_or_line_feed line
 

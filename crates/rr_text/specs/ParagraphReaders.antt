@@ -1,4 +1,5 @@
--- The reading of a text paragraph by paragraph: what was given of it so far (profile).
+-- The reading of a text paragraph by paragraph, what was given of it so far (profile): for
+-- `Paragraphs`, and for all that reads submissions and dumps.
 use Rattle.std.specs.Prelude.{◌≡◌, ℕ, ◌+◌, ◌-◌, ◌*◌, ◌<◌, ◌≤◌, ⊤}
 use Rattle.std.specs.Prelude.{List, [], ◌∷◌, ◌++◌, length, take, drop, Option, Some, None}
 use Rattle.std.specs.Prelude.{Result, Ok, Err, IfOk, IfSome}
@@ -11,7 +12,6 @@ use Rattle.rr_text.specs.declared.text_fault.TextFault.TheVariants as fault
 use Rattle.rr_text.specs.declared.paragraphs.ReaderState.{ReaderState}
 use Rattle.rr_text.specs.declared.paragraphs.ReaderState.TheVariants.{Open, Ended, Broken, Endless}
 use Rattle.rr_text.specs.declared.paragraphs.Paragraphs.{Paragraphs}
-use Rattle.rr_text.specs.declared.paragraph_reader.ParagraphReader.{ParagraphReader}
 use Rattle.rr_text.specs.Fields.{Field, AreFields}
 use Rattle.rr_text.specs.Entries.{entries}
 use Rattle.rr_text.specs.WholePart.{whole_part, whole_entries}
@@ -38,8 +38,9 @@ pub record IsNew (p : Paragraphs) : Type 0 where
   pub no_read : reads_of p ≡ 0
   pub none_held : held p ≡ []
 
--- the prefix whose entries were given is apart from what comes: it ends with a blank line, or
--- nothing comes
+-- the prefix whose entries were given is apart from what comes. While the reading is open it is
+-- empty or ends with the LF of a blank line; at the end nothing is held and nothing comes. After a
+-- failed read, and at the limit of reads, this is said of no prefix
 abbrev pub KeepsApart : ReaderState → Told → List ℕ → List ℕ → Type 0
 KeepsApart Open now prefix left = whole_part prefix ≡ prefix
 KeepsApart Ended now prefix left = (left ≡ []) × IsSpent now
@@ -47,7 +48,9 @@ KeepsApart Broken now prefix left = ⊥
 KeepsApart Endless now prefix left = ⊥
 
 -- of the bytes read from the start on, however they were cut, the entries of a prefix were given,
--- and the others are held; each read that found bytes gave 1 to 4,096
+-- and the other bytes are held. The prefix is apart from what comes, and has no fewer bytes than
+-- entries. The reads are counted: each gave on the average at most 4,096 bytes and, while the
+-- reading is open, at least 1
 pub record HasGiven (start now : Told) (p : Paragraphs) (given : List Entry) : Type 0 where
   pub text : List ℕ
   pub prefix : List ℕ
@@ -67,14 +70,15 @@ entries_by end.Whole text = entries text
 entries_by end.Broken text = whole_entries text
 entries_by end.Endless text = whole_entries text
 
--- all of the text was read, and these are its entries that count
+-- the reading of the text ended so, and these are its entries that count
 pub record HasEnded (start now : Told) (ended : ReadEnd) (given : List Entry) : Type 0 where
   pub text : List ℕ
   pub reads : Reads start now text ended
   pub spelled : entries_by ended text ≡ given
 
--- an answer gives one entry more, or says that these were all; if memory ran out, an entry is
--- passed over, and is not told
+-- an answer gives one entry more. Or it says that the reading ended, by a failed read or not, and
+-- that these were all entries that count. If memory ran out, an entry is passed over, and is not
+-- told
 abbrev pub GivesNext : Told → Told → Paragraphs → List Entry
     → Result (Option (List Field)) TextFault → Type 0
 GivesNext start now p given (Ok None) = (state_of p ≡ Ended) × HasEnded start now end.Whole given
@@ -96,14 +100,14 @@ GivesNext start now p given (Err fault.Read) =
 GivesNext start now p given (Err fault.Endless) =
     (state_of p ≡ Endless) × HasEnded start now end.Endless given
 
--- the answer of a call goes with whatever was given in the calls before
+-- the answer of a call goes with whatever was given in the calls before, from the same reader
 abbrev pub GivesOn : Told → Told → Paragraphs → Paragraphs
     → Result (Option (List Field)) TextFault → Type 0
 GivesOn before after old new answer = (start : Told) (given : List Entry)
     → HasGiven start before old given → GivesNext start after new given answer
 
--- at the end, after a failed read or at the limit of reads the answer is the same for good, and
--- nothing is read
+-- at the end, after a failed read or at the limit of reads the answer is the same for good, nothing
+-- is read, and nothing changes
 abbrev pub Stays : {R : Type 0} → ReaderState → R → R → Paragraphs → Paragraphs
     → Result (Option (List Field)) TextFault → Type 0
 Stays Open before after old new answer = ⊤
@@ -114,7 +118,8 @@ Stays Broken before after old new answer =
 Stays Endless before after old new answer =
     (answer ≡ Err fault.Endless) × (after ≡ before) × (new ≡ old)
 
--- a bound on how many answers are left before the last one
+-- a bound on how many answers are left before the last one: the bytes that are held, and 4,097 for
+-- each read still to come
 abbrev pub left_of : Paragraphs → ℕ
 left_of p = (read_limit - reads_of p) * (read_size + 1) + length (held p)
 
@@ -131,10 +136,10 @@ Nearer before after (Err fault.Memory) = after < before
 Nearer before after (Err fault.Read) = ⊤
 Nearer before after (Err fault.Endless) = ⊤
 
--- what one call for the next paragraph answers: it goes on after all that was given before; once
--- the reading has ended it is the same for good; each answer but the last one leaves fewer to come;
--- a paragraph has at least one attribute, and its attributes are well formed; and of a connection,
--- the other side stays as it was (profile)
+-- what one call for the next paragraph answers: it goes on after all that was given before, and
+-- once the reading has ended it is the same for good. Each answer but the last leaves fewer to
+-- come. A paragraph has at least one attribute, and its attributes are well formed. Of a
+-- connection, the other side stays as it was (profile)
 pub record AnswersNext {R : Type 0} (told : R → Told) (before after : R) (old new : Paragraphs)
     (answer : Result (Option (List Field)) TextFault) : Type 0 where
   pub given : GivesOn (told before) (told after) old new answer
@@ -143,11 +148,3 @@ pub record AnswersNext {R : Type 0} (told : R → Told) (before after : R) (old 
   pub fields : IfOk answer (λ next. IfSome next (λ paragraph. (0 < length paragraph)
       × AreFields paragraph))
   pub aside : (told after).aside ≡ (told before).aside
-
--- the reader from which a reader of paragraphs reads its text
-abbrev pub reader_of : {R : Type 0} → ParagraphReader R → R
-reader_of made = made.reader
-
--- the paragraphs of a reader of paragraphs, with what it has read and not given
-abbrev pub paragraphs_of : {R : Type 0} → ParagraphReader R → Paragraphs
-paragraphs_of reader = reader.paragraphs

@@ -23,14 +23,14 @@ pub record TakesAll (past : List ℕ) (old new : Paragraphs) : Type 0 where
   pub none : held new ≡ []
   pub unclosed : IsUnclosed (past ++ held old) new.draft
 
--- bytes were read by one call
+-- a read gave bytes, which are held
 pub record FillsMore (before after : Told) (old new : Paragraphs) : Type 0 where
   pub gives : Gives before after (held new)
   pub counts : CountsReads before after 1
   pub reads : reads_of new ≡ reads_of old + 1
   pub some : 0 < length (held new)
 
--- no byte was left
+-- a read found no byte left
 pub record FillsNone (before after : Told) (old new : Paragraphs) : Type 0 where
   pub gives : Gives before after []
   pub spent : IsSpent after
@@ -38,7 +38,7 @@ pub record FillsNone (before after : Told) (old new : Paragraphs) : Type 0 where
   pub reads : reads_of new ≡ reads_of old + 1
   pub none : held new ≡ []
 
--- the call failed
+-- a read failed
 pub record FillsNot (before after : Told) (old new : Paragraphs) : Type 0 where
   pub fails : Fails before after
   pub reads : reads_of new ≡ reads_of old

@@ -1,4 +1,4 @@
--- What counts of a text that broke off (profile).
+-- What counts of a text that broke off (profile): for `Paragraphs` after a failed read.
 use Rattle.std.specs.Prelude.{ℕ, Bool, true, false, ◌&&◌, List, [], ◌∷◌, Result}
 use Rattle.std.specs.List.{list_any, concat}
 use Rattle.rr_text.specs.declared.text_fault.TextFault.{TextFault}
@@ -22,7 +22,8 @@ unfoldable pub closed_lines : List (List ℕ) → List (List ℕ)
 closed_lines [] = []
 closed_lines (line ∷ others) = kept_before (closes line) line (closed_lines others)
 
--- the prefix of a text that ends with the last blank line whose LF was read (profile)
+-- the prefix of a text up to its last blank line whose LF was read, this line included; nothing
+-- where there is none (profile)
 unfoldable pub whole_part : List ℕ → List ℕ
 whole_part text = concat (closed_lines (text_lines text))
 

@@ -1,4 +1,4 @@
-//! Attributes: a name, and a value of one line or more.
+//! An attribute of a paragraph, as `attributes` gives it: a name, and a value of one line or more.
 
 ghost use Rattle.std.specs.Prelude.{◌≡◌, ◌∷◌, ◌++◌, [], IfOk, IfSome, OnOk, map};
 ghost use Rattle.std.specs.Prelude.{false};
@@ -12,7 +12,8 @@ use std::alloc::{AllocError, Global};
 use std::marker::Model;
 
 /// An attribute of a paragraph: the line that opens it, and the text after that line, whose first
-/// lines continue the value. It is lent from the text of the paragraph.
+/// lines continue the value. It is lent from the text of the paragraph. Contracts see the name and
+/// the lines of the value.
 #[derive(Debug, Drop)]
 pub struct Attribute<'a> {
     line: &'a [u8],
@@ -43,22 +44,22 @@ impl<'a> Attribute<'a> {
         Attribute { line, after }
     }
 
-    /// The name, in lower case.
+    /// The name as it is kept, which is in lower case in each attribute of a paragraph.
     pub fn name(&self) -> &'a [u8]
         ensures { result.now ≡ self.now.name }
     {
         written_name(self.line)
     }
 
-    /// Whether the name has these bytes, which are given in lower case.
+    /// Whether the name is this one, which is given as names are kept, in lower case.
     pub fn has_name(&self, name: &[u8]) -> bool
         ensures { result ≡ has_name name.now self.now }
     {
         self.name() == name
     }
 
-    /// The lines of the value: at least one, each without the blanks round it. The error is out of
-    /// memory.
+    /// The lines of the value. In each attribute of a paragraph there is at least one, and none has
+    /// blanks round it. The error is that memory ran out.
     pub fn lines(&self, alloc: Global) -> Result<Vec<&'a [u8]>, AllocError>
         ensures { IfOk result (λ lines. map (λ line. line.now) lines.items ≡ self.now.lines) }
     {
@@ -68,7 +69,8 @@ impl<'a> Attribute<'a> {
         Ok(lines)
     }
 
-    /// The line of the value, if it has no further one.
+    /// The only line of the value, where it is seen to have no other; no clause says when the
+    /// answer is `None`.
     pub fn only_line(&self) -> Option<&'a [u8]>
         ensures { IfSome result (λ line. self.now.lines ≡ line.now ∷ []) }
     {

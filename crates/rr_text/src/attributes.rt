@@ -11,7 +11,8 @@ use crate::line::{LineKind, split_line};
 use std::marker::Model;
 
 /// The attributes of a text that are still to come: the line that opens the next one and the text
-/// after it, or nothing.
+/// after it, or nothing. Contracts see the list of these attributes, of which `next` takes the
+/// first.
 #[derive(Debug, Drop)]
 pub struct Attributes<'a> {
     line: &'a [u8],

@@ -1,4 +1,4 @@
-//! Canonical text: printed, and read again.
+//! Canonical text: printed for answers and dumps, and read again from the rows of a database.
 
 ghost use Rattle.std.specs.Prelude.{◌≡◌, ◌<◌, ◌++◌, IfOk, OnOk, IfSome, Some, List};
 ghost use Rattle.std.specs.Prelude.{OnErr, length, map, true};
@@ -16,8 +16,8 @@ use crate::paragraph::Paragraph;
 use crate::text::Text;
 use std::alloc::{AllocError, Global};
 
-/// Appends the canonical text of a paragraph (profile). The error is out of memory: then nothing is
-/// appended.
+/// Appends the canonical text of a paragraph (profile). The error is that memory ran out: then
+/// nothing is appended.
 pub fn print_onto(out: &mut Vec<u8>, paragraph: &Paragraph) -> Result<(), AllocError>
     ensures ok { OnOk result (out.new.items ≡ out.old.items ++ canon.canonical paragraph.now) }
     ensures err { OnErr result (out.new.items ≡ out.old.items) }
@@ -25,9 +25,10 @@ pub fn print_onto(out: &mut Vec<u8>, paragraph: &Paragraph) -> Result<(), AllocE
     out.extend_from_slice(paragraph.text())
 }
 
-/// Appends the canonical text of a paragraph in which each attribute of this name, which is given
-/// in lower case, has this one line as its value. For a good line it is the text of
-/// `Paragraph::with_values`. The error is out of memory: then some bytes may have been appended.
+/// Appends the canonical text of the paragraph (profile) in which each attribute of this name,
+/// which is given in lower case, has this one line as its value. Of a line that
+/// [`Paragraph::with_values`] takes, it is the text of what that gives. The error is that memory
+/// ran out: then bytes may have been appended, and what stood before them stays.
 pub fn print_onto_with_values(
     out: &mut Vec<u8>,
     paragraph: &Paragraph,
@@ -46,15 +47,16 @@ pub fn print_onto_with_values(
     Ok(())
 }
 
-/// The canonical text of a paragraph (profile). The error is out of memory.
+/// The canonical text of a paragraph (profile). The error is that memory ran out.
 pub fn print(alloc: Global, paragraph: &Paragraph) -> Result<Text, AllocError>
     ensures { IfOk result (λ text. text ≡ canon.canonical paragraph.now) }
 {
     Text::from_slice(alloc, paragraph.text())
 }
 
-/// The paragraph whose canonical text this is, or `None` where it is that of no paragraph with
-/// an attribute. There is no bound on the size. The error is out of memory.
+/// The paragraph whose canonical text this is (profile), with at least one attribute, all well
+/// formed. `None` comes exactly where the text is that of no such paragraph. There is no bound on
+/// the size. The error is that memory ran out.
 pub fn read_canonical(alloc: Global, text: &[u8]) -> Result<Option<Paragraph>, AllocError>
     ensures found { IfOk result
         (λ read. IfSome read (λ paragraph. canon.canonical paragraph ≡ text.now)) }

@@ -21,8 +21,8 @@ fn after_bytes<'t>(text: &'t [u8], bytes: &[u8]) -> Option<&'t [u8]>
     text.strip_prefix(bytes)
 }
 
-/// What stands after a line with so many blanks before it, or after nothing where the line is
-/// empty.
+/// What stands after a line with so many spaces before it, where the text begins so; the whole text
+/// where the line is empty.
 fn after_after_blanks<'t>(text: &'t [u8], count: usize, line: &[u8]) -> Option<&'t [u8]>
     requires { count ≤ canon.value_column }
     ensures { option_map (λ left. left.now) result
@@ -35,6 +35,7 @@ fn after_after_blanks<'t>(text: &'t [u8], count: usize, line: &[u8]) -> Option<&
     after_bytes(rest, line)
 }
 
+/// What stands in a text after the printed first line of an attribute, where it begins with that.
 #[tactic(auto, using(crate::proofs::ComparingLemmas::left_joined))]
 fn after_opening<'t>(text: &'t [u8], name: &[u8], line: &[u8]) -> Option<&'t [u8]>
     ensures { option_map (λ left. left.now) result
@@ -46,6 +47,8 @@ fn after_opening<'t>(text: &'t [u8], name: &[u8], line: &[u8]) -> Option<&'t [u8
     after_bytes(rest, b"\n")
 }
 
+/// What stands in a text after a further line of a value as it is printed, where it begins with
+/// that.
 #[tactic(auto, using(crate::proofs::ComparingLemmas::further_left))]
 fn after_further<'t>(text: &'t [u8], line: &[u8]) -> Option<&'t [u8]>
     ensures { option_map (λ left. left.now) result
@@ -58,6 +61,7 @@ fn after_further<'t>(text: &'t [u8], line: &[u8]) -> Option<&'t [u8]>
     after_bytes(rest, b"\n")
 }
 
+/// Whether a text is the printed first line of an attribute of this name and first line.
 fn is_opening(text: &[u8], name: &[u8], line: &[u8]) -> bool
     ensures { result ≡ bytes_eq (canon.ended (canon.opening_line name.now line.now)) text.now }
 {
@@ -67,6 +71,7 @@ fn is_opening(text: &[u8], name: &[u8], line: &[u8]) -> bool
     }
 }
 
+/// Whether a text is this further line of a value as it is printed.
 fn is_further(text: &[u8], line: &[u8]) -> bool
     ensures { result ≡ bytes_eq (canon.ended (canon.further_line line.now)) text.now }
 {
@@ -76,6 +81,7 @@ fn is_further(text: &[u8], line: &[u8]) -> bool
     }
 }
 
+/// Whether a name is in lower case.
 fn is_lower(name: &[u8]) -> bool
     ensures { result ≡ bytes_eq (lowered name.now) name.now }
 {

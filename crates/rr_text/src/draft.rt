@@ -1,4 +1,4 @@
-//! A paragraph that is being read piece by piece.
+//! A paragraph that is being read piece by piece: for `paragraphs`.
 
 ghost use Rattle.std.specs.Prelude.{◌≤◌, length, vec_capacity};
 ghost use Rattle.rr_text.specs.Entries.{size_limit};
@@ -102,7 +102,7 @@ impl Draft {
         self.started
     }
 
-    /// The entry of the text.
+    /// The entry of the text, a paragraph or its fault; or the error is that memory ran out.
     pub(crate) fn entry(&self, alloc: Global) -> Result<Paragraph, TextFault>
         requires { (text : List ℕ) × parts.HasEntry text self.now }
         ensures { (text : List ℕ) → parts.HasEntry text self.now
@@ -115,6 +115,7 @@ impl Draft {
         read_entry(alloc, block)
     }
 
+    /// Keeps a piece, which is of the line that has begun, if there is room for it.
     fn keep(&mut self, piece: &[u8])
         ensures { parts.KeepsPiece self.old self.new piece.now }
     {
@@ -128,6 +129,7 @@ impl Draft {
         }
     }
 
+    /// Ends the line that has begun, and says whether it closes the paragraph.
     fn end_line(&mut self) -> bool
         ensures { parts.EndsLine
             (end_of_line self.old.started self.old.line) self.old self.new result }
@@ -145,6 +147,7 @@ impl Draft {
         }
     }
 
+    /// Makes the line that has begun one of the paragraph.
     fn take_line(&mut self)
         ensures { parts.TakesLine self.old self.new }
     {

@@ -1,4 +1,4 @@
-//! Blocks read as paragraphs.
+//! Blocks read as paragraphs: for `reader`, and for `draft` once it has a whole block.
 
 ghost use Rattle.std.specs.Prelude.{◌≡◌, ◌≢◌, ◌<◌, IfOk, IfErr, Ok, Err};
 ghost use Rattle.std.specs.Prelude.{length, true};
@@ -32,7 +32,8 @@ fn printed(alloc: Global, block: &[u8]) -> Result<Vec<u8>, AllocError>
     Ok(text)
 }
 
-/// The entry of a block.
+/// The entry of a block: its paragraph, which has at least one attribute, or its fault. `Memory`
+/// says that memory ran out.
 pub(crate) fn read_entry(alloc: Global, block: &[u8]) -> Result<Paragraph, TextFault>
     requires { starts_block (text_lines block.now) ≡ true }
     ensures found { IfOk result (λ paragraph. (0 < length paragraph) × AreFields paragraph

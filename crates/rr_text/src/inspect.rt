@@ -8,7 +8,8 @@ use crate::line::{LineKind, has_refused_byte, split_line};
 use crate::text_fault::TextFault;
 use rr_bytes::{ByteSet, is_attribute_name, place_of, trim_end};
 
-/// The fault of a line that opens an attribute and has no refused byte.
+/// The fault of a line that opens an attribute and has no refused byte: that it has no colon, or no
+/// name of an attribute before it.
 fn opening_fault(line: &[u8]) -> Option<TextFault>
     ensures { result ≡ faults.opening_fault line.now }
 {

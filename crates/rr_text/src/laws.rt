@@ -1,4 +1,5 @@
-//! Laws of RPSL text: functions that do nothing, whose contracts are proved.
+//! Laws of RPSL text, for readers and for the proofs of other crates: functions that do nothing,
+//! whose contracts are proved.
 
 ghost use Rattle.rr_text.specs.Laws as laws;
 
@@ -12,27 +13,32 @@ pub fn paragraphs_are_equal_as_printed()
     ensures { laws.EqualAsPrinted }
 {}
 
-/// Canonical text of at most 65,536 bytes spells its paragraph alone.
+/// Canonical text of at most 65,536 bytes, of a paragraph with an attribute, spells this paragraph
+/// alone.
 pub fn canonical_text_spells()
     ensures { laws.CanonicalSpells }
 {}
 
-/// A blank line joins the entries of the texts before and after it.
+/// Whole lines, a blank line with its LF and any text after it spell the entries of the lines, and
+/// then those of that text.
 pub fn blank_line_joins()
     ensures { laws.BlankLineJoins }
 {}
 
-/// Canonical text and a blank line put their paragraph before the entries of what follows.
+/// Canonical text of at most 65,536 bytes, of a paragraph with an attribute, and an empty line put
+/// this paragraph before the entries of what follows.
 pub fn canonical_text_leads()
     ensures { laws.CanonicalLeads }
 {}
 
-/// A skipped line before a text spells nothing.
+/// A skipped line with its LF before a text spells nothing.
 pub fn skipped_line_is_passed()
     ensures { laws.SkippedLinePassed }
 {}
 
-/// A text that ends with the LF of a blank line keeps its entries apart from what follows it.
+/// A text that is empty, or ends with the LF of a blank line, and what follows it spell the entries
+/// of the text, and then those of what follows. So it is also where what follows breaks off, with
+/// those of its entries that then count.
 pub fn closed_text_joins()
     ensures { laws.ClosedTextJoins }
 {}

@@ -1,4 +1,5 @@
-//! RPSL text: paragraphs of attributes, read from text and printed as it (RFC 2622, 2).
+//! RPSL text: paragraphs of attributes, read from text and printed as it (RFC 2622, 2). For all
+//! crates that read objects, keep them or show them.
 #![tactic(auto)]
 
 pub mod attribute;
@@ -14,7 +15,6 @@ mod line;
 pub mod line_attribute;
 mod line_so_far;
 pub mod paragraph;
-pub mod paragraph_reader;
 pub mod paragraphs;
 mod printing;
 pub mod reader;
@@ -28,9 +28,8 @@ pub use canonical::{print, print_onto, print_onto_with_values, read_canonical};
 pub use line::is_refused;
 pub use line_attribute::LineAttribute;
 pub use paragraph::Paragraph;
-pub use paragraph_reader::ParagraphReader;
 pub use paragraphs::{Paragraphs, ReaderState};
-pub use reader::{next_paragraph, skip_paragraph};
+pub use reader::next_paragraph;
 pub use rr_io::{Counted, Cut, Sink, Source};
 pub use text::Text;
 pub use text_fault::TextFault;

@@ -1,4 +1,5 @@
-//! The lines of a text.
+//! The lines of a text, their kinds and what stands in them: for all of this crate that reads text.
+//! By `is_refused` `rr_answer` also refuses queries.
 
 ghost use Rattle.std.specs.Prelude.{◌≡◌, ◌<◌, ◌∷◌, ◌++◌, ◌⊎◌, [], length};
 ghost use Rattle.std.specs.Prelude.{true};
@@ -83,6 +84,7 @@ pub(crate) fn begins_skipped(line: &[u8]) -> bool
     }
 }
 
+/// Whether a line begins with a blank or `+`.
 #[inline]
 fn begins_continuation(line: &[u8]) -> bool
     ensures { result ≡ begins is_continuation_sign line.now }
@@ -113,7 +115,8 @@ pub(crate) fn has_refused_byte(line: &[u8]) -> bool
     found
 }
 
-/// The first line of a text with the LF that ends it, and what follows it.
+/// The first line of a text that is not empty, and what follows it. The line has the LF that ends
+/// it; the last one may have none.
 pub(crate) fn split_line(text: &[u8]) -> (&[u8], &[u8])
     requires { 0 < length text.now }
     ensures whole { text.now ≡ result.0.now ++ result.1.now }

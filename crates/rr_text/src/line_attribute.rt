@@ -1,4 +1,5 @@
-//! Attributes made in memory, of which `Paragraph::new` makes a paragraph.
+//! Attributes made in memory, of which `Paragraph::new` makes a paragraph: for `opening` of
+//! `rr_desk` and `upper` of `rr_store`.
 
 ghost use Rattle.std.specs.Prelude.{◌≡◌, IfOk};
 
@@ -8,6 +9,7 @@ use std::alloc::{AllocError, Global};
 use std::marker::Model;
 
 /// An attribute with a value of one line, in memory of its own. By itself it may have any bytes.
+/// Contracts see the name and the list of this one line.
 #[derive(Debug, Drop)]
 pub struct LineAttribute {
     name: Text,
@@ -28,7 +30,7 @@ impl LineAttribute {
     ghost use Rattle.rr_text.specs.Outputs.{MayAdd};
 
     /// The attribute of this name whose value is this line, which are taken as they are; the error
-    /// is out of memory.
+    /// is that memory ran out.
     pub fn new(alloc: Global, name: &[u8], line: &[u8]) -> Result<LineAttribute, AllocError>
         ensures { IfOk result (λ made. made ≡ one_line name.now line.now) }
     {

@@ -1,4 +1,4 @@
-//! Lines of which a prefix was read.
+//! Lines of which a prefix was read: for `draft`.
 
 ghost use Rattle.std.specs.Prelude.{◌≡◌, ◌<◌, length};
 ghost use Rattle.rr_text.specs.Lines.{are_whole_lines};

@@ -1,4 +1,4 @@
-//! Paragraphs: attributes in order.
+//! Paragraphs, which are attributes in order: texts are read as them, and objects keep them.
 
 ghost use Rattle.std.specs.Prelude.{◌≡◌, ◌↔◌, ◌<◌, ◌^◌, IsTrue, IfOk, length};
 ghost use Rattle.std.specs.Prelude.{not, map, filter};
@@ -34,8 +34,8 @@ impl Model for Paragraph {
 }
 
 impl Paragraph {
-    /// The paragraph of these attributes, each of which has a good name and a good value; the error
-    /// is out of memory.
+    /// The paragraph of these attributes; the error is that memory ran out. Each must have the name
+    /// of an attribute, in lower case, and a line without LFs, refused bytes and blanks round it.
     pub fn new(alloc: Global, attributes: &[LineAttribute]) -> Result<Paragraph, AllocError>
         requires { AreFields attributes.now }
         ensures { IfOk result (λ made. made ≡ attributes.now) }
@@ -53,7 +53,9 @@ impl Paragraph {
         Paragraph { text }
     }
 
-    /// The canonical text of the paragraph (profile), whose attributes have good names and values.
+    /// The canonical text of the paragraph (profile). Its attributes are well formed: each has the
+    /// name of an attribute, in lower case, and at least one line. No line has an LF, a refused
+    /// byte or blanks round it.
     pub fn text(&self) -> &[u8]
         ensures canonical { result.now ≡ canonical self.now }
         ensures fields { AreFields self.now }
@@ -61,7 +63,9 @@ impl Paragraph {
         &self.text
     }
 
-    /// The attributes in order, fewer than 2^63; they have good names and values.
+    /// The attributes in order, fewer than 2^63. They are well formed: each has the name of an
+    /// attribute, in lower case, and at least one line. No line has an LF, a refused byte or blanks
+    /// round it.
     #[tactic(auto, using(crate::proofs::KeptLemmas::fields_few))]
     pub fn attributes(&self) -> Attributes<'_>
         ensures value { result ≡ self.now }
@@ -71,14 +75,14 @@ impl Paragraph {
         Attributes::of(&self.text)
     }
 
-    /// Whether an attribute has this name, which is given in lower case.
+    /// Whether an attribute has this name, which is given as names are kept, in lower case.
     pub fn has(&self, name: &[u8]) -> bool
         ensures { result ≡ list_any (has_name name.now) self.now }
     {
         self.attributes().any(|attribute| attribute.has_name(name))
     }
 
-    /// An equal paragraph; the error is out of memory.
+    /// An equal paragraph; the error is that memory ran out.
     pub fn copy(&self, alloc: Global) -> Result<Paragraph, AllocError>
         ensures { IfOk result (λ copy. copy ≡ self.now) }
     {
@@ -86,8 +90,8 @@ impl Paragraph {
         Ok(Paragraph { text })
     }
 
-    /// The paragraph less its attributes of this name, which is given in lower case; the error is
-    /// out of memory.
+    /// The paragraph less its attributes of this name, which is given in lower case, the others in
+    /// their order. The error is that memory ran out.
     pub fn without(self, alloc: Global, name: &[u8]) -> Result<Paragraph, AllocError>
         ensures { IfOk result
             (λ made. made ≡ filter (λ field. not (has_name name.now field)) self) }
@@ -98,9 +102,9 @@ impl Paragraph {
         Ok(Paragraph::kept(printed_without(alloc, &self, name)?))
     }
 
-    /// A copy in which each attribute of this name, which is given in lower case, has this one
-    /// line as its value. The line has no blanks round it, no LF and no refused byte. The error is
-    /// out of memory.
+    /// A copy in which each attribute of this name, which is given in lower case, has this one line
+    /// as its value; the others are as they were. The line must have no blanks round it, no LF and
+    /// no refused byte. The error is that memory ran out.
     pub fn with_values(
         &self,
         alloc: Global,
@@ -127,7 +131,7 @@ impl PartialEq for Paragraph {
 
     ghost laws = { fields_eq-laws };
 
-    /// Whether the attributes are the same, and so the canonical text.
+    /// Whether the attributes are the same, in the same order.
     fn eq(&self, other: &Paragraph) -> bool
         ensures value { result ≡ fields_eq self.now other.now }
         ensures same { IsTrue result ↔ (self.now ≡ other.now) }
@@ -136,6 +140,7 @@ impl PartialEq for Paragraph {
     }
 }
 
+/// The canonical text of these attributes; the error is that memory ran out.
 #[tactic(auto, unfolding(crate::specs::CanonicalText::canonical))]
 fn printed(alloc: Global, attributes: &[LineAttribute]) -> Result<Vec<u8>, AllocError>
     ensures { IfOk result (λ text. text.items ≡ canonical attributes.now) }
@@ -147,6 +152,8 @@ fn printed(alloc: Global, attributes: &[LineAttribute]) -> Result<Vec<u8>, Alloc
     Ok(text)
 }
 
+/// The canonical text of a paragraph without its attributes of this name; the error is that memory
+/// ran out.
 fn printed_without(alloc: Global, paragraph: &Paragraph, name: &[u8]) -> Result<Vec<u8>, AllocError>
     ensures { IfOk result (λ text. text.items
         ≡ canonical (filter (λ field. not (has_name name.now field)) paragraph.now)) }

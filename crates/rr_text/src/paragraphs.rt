@@ -1,4 +1,5 @@
-//! Paragraphs read piece by piece, from a reader that is lent to each call.
+//! Paragraphs read piece by piece, from a reader that is lent to each call: so submissions and
+//! dumps are read.
 
 ghost use Rattle.std.specs.Prelude.{◌≡◌, ◌≤◌, length, take, drop};
 ghost use Rattle.rr_io.specs.Receiving.{read_limit, read_size};
@@ -22,9 +23,9 @@ pub enum ReaderState {
     Endless,
 }
 
-/// The paragraphs of a text that is read in blocks of 4,096 bytes, with at most 16,777,216 reads.
-/// It keeps one block and one paragraph at most, whatever comes, in memory that is taken as it is
-/// made.
+/// The paragraphs of a text that is read in pieces of at most 4,096 bytes, by at most 16,777,216
+/// reads (profile). It keeps one piece and one paragraph at most, whatever comes, in memory that is
+/// taken as it is made.
 #[derive(Drop)]
 pub struct Paragraphs {
     draft: Draft,
@@ -63,9 +64,12 @@ impl Paragraphs {
         })
     }
 
-    /// The next paragraph of the text that this reader gives; `None` at its end (RFC 2622, 2). The
-    /// reader is the same in each call. After `None`, `Read` and `Endless` the answer is the same
-    /// for good; after another fault the next paragraph follows. `Memory` passes over a paragraph.
+    /// The next paragraph of the text that this reader gives, which has at least one attribute, all
+    /// well formed; `None` at its end (RFC 2622, 2). This holds where the reader is the same in
+    /// each call. `None`, `Read` or `Endless` comes in the end, and is then the answer for good,
+    /// without a read. `Read` says that a read failed, and `Endless` that 16,777,216 reads met no
+    /// end; before either, only what a blank line closes was given. After another fault the next
+    /// paragraph follows; `Memory` passes over one, also one with a fault.
     pub fn next<R: Source>(
         &mut self,
         alloc: Global,
@@ -81,6 +85,7 @@ impl Paragraphs {
         }
     }
 
+    /// The next paragraph, as `next` gives it, while the reading is open.
     fn next_open<R: Source>(
         &mut self,
         alloc: Global,
@@ -165,7 +170,7 @@ impl Paragraphs {
         }
     }
 
-    /// Reads a block, where nothing is held, and says how the text stands if it does not go on.
+    /// Reads a piece, where nothing is held, and says how the text stands if it does not go on.
     fn fill<R: Source>(&mut self, reader: &mut R) -> Option<ReaderState>
         requires reads { reads_of self.old < read_limit }
         requires none { self.old.from ≡ self.old.to }
@@ -189,7 +194,7 @@ impl Paragraphs {
     }
 }
 
-/// What stands between two places of a block.
+/// What stands between two places of a piece.
 fn part(block: &[u8], from: usize, to: usize) -> &[u8]
     requires order { from ≤ to }
     requires room { to ≤ length block.now }

@@ -1,4 +1,5 @@
-//! The lines of canonical text (profile).
+//! The lines of canonical text (profile): for attributes that are printed, and for blocks that are
+//! read. `comparing` takes the columns.
 
 ghost use Rattle.std.specs.Prelude.{◌≡◌, ◌≤◌, ◌<◌, ◌+◌, ◌-◌, ◌^◌};
 ghost use Rattle.std.specs.Prelude.{max, replicate};
@@ -17,7 +18,7 @@ use std::alloc::AllocError;
 /// The column in which values begin.
 pub(crate) const VALUE_COLUMN: usize = 16;
 
-/// So many blanks.
+/// So many spaces.
 #[inline]
 pub(crate) fn blanks(count: usize) -> &'static [u8]
     requires { count ≤ canon.value_column }
@@ -27,7 +28,7 @@ pub(crate) fn blanks(count: usize) -> &'static [u8]
     blanks
 }
 
-/// The blanks between the colon after a name of this length and its value.
+/// How many spaces stand between the colon after a name of this length and its value.
 pub(crate) fn blanks_after(name_len: usize) -> usize
     requires { name_len < 2 ^ 63 }
     ensures bound { result ≤ canon.value_column }
@@ -36,7 +37,7 @@ pub(crate) fn blanks_after(name_len: usize) -> usize
     VALUE_COLUMN.saturating_sub(name_len + 1).max(1)
 }
 
-/// The first line of a value after its blanks, or nothing where it is empty.
+/// Appends the first line of a value after so many spaces, or nothing where it is empty.
 fn push_first_line(out: &mut Vec<u8>, count: usize, line: &[u8]) -> Result<(), AllocError>
     requires { count ≤ canon.value_column }
     ensures { MayAdd (canon.after_blanks count line.now) out.old.items out.new.items result }
@@ -48,7 +49,7 @@ fn push_first_line(out: &mut Vec<u8>, count: usize, line: &[u8]) -> Result<(), A
     out.extend_from_slice(line)
 }
 
-/// The colon after a name, and the first line of its value.
+/// Appends the colon after a name, and the first line of its value with an LF.
 fn push_value(out: &mut Vec<u8>, name: &[u8], line: &[u8]) -> Result<(), AllocError>
     ensures { MayAdd (value_after name.now line.now) out.old.items out.new.items result }
 {
@@ -67,6 +68,7 @@ pub(crate) fn push_opening(out: &mut Vec<u8>, name: &[u8], line: &[u8]) -> Resul
     push_value(out, name, line)
 }
 
+/// Appends a name in lower case.
 fn push_lowered(out: &mut Vec<u8>, name: &[u8]) -> Result<(), AllocError>
     ensures { MayAdd (lowered name.now) out.old.items out.new.items result }
 {
@@ -85,6 +87,7 @@ fn push_lowered_opening(out: &mut Vec<u8>, name: &[u8], line: &[u8]) -> Result<(
     push_value(out, name, line)
 }
 
+/// Appends a further line of a value as it is printed, with its LF.
 fn push_further(out: &mut Vec<u8>, line: &[u8]) -> Result<(), AllocError>
     ensures { MayAdd (canon.ended (canon.further_line line.now))
         out.old.items out.new.items result }
@@ -99,7 +102,7 @@ fn push_further(out: &mut Vec<u8>, line: &[u8]) -> Result<(), AllocError>
     }
 }
 
-/// What a line of a block adds to the canonical text.
+/// Appends what a line of a block adds to the canonical text.
 pub(crate) fn push_line(out: &mut Vec<u8>, line: &[u8], kind: LineKind) -> Result<(), AllocError>
     ensures { MayAdd (printed_by line.now kind) out.old.items out.new.items result }
 {
@@ -110,7 +113,7 @@ pub(crate) fn push_line(out: &mut Vec<u8>, line: &[u8], kind: LineKind) -> Resul
     }
 }
 
-/// What a line adds to the canonical text of the value before it.
+/// Appends what a line adds to the canonical text of the value before it.
 fn push_continuation(out: &mut Vec<u8>, line: &[u8], kind: LineKind) -> Result<(), AllocError>
     ensures { MayAdd
         (flat_map (λ line. canon.ended (canon.further_line line)) (added_lines line.now kind))
@@ -122,7 +125,7 @@ fn push_continuation(out: &mut Vec<u8>, line: &[u8], kind: LineKind) -> Result<(
     }
 }
 
-/// The lines that continue a value.
+/// Appends the canonical text of the lines that continue a value.
 pub(crate) fn push_continuations(out: &mut Vec<u8>, text: &[u8]) -> Result<(), AllocError>
     ensures { MayAdd (flat_map (λ line. canon.ended (canon.further_line line))
         (continued (text_lines text.now)))

@@ -28,25 +28,11 @@ impl Text {
         Ok(Text { bytes })
     }
 
-    /// The bytes, without taking memory.
-    pub fn into_vec(self) -> Vec<u8>
-        ensures { result.items ≡ self }
-    {
-        self.bytes
-    }
-
     /// The bytes.
     pub fn as_slice(&self) -> &[u8]
         ensures { result.now ≡ self.now }
     {
         self.bytes.as_slice()
-    }
-
-    /// An equal text; the error is that memory ran out.
-    pub fn copy(&self, alloc: Global) -> Result<Text, AllocError>
-        ensures { IfOk result (λ text. text ≡ self.now) }
-    {
-        Text::from_slice(alloc, self.as_slice())
     }
 }
 

@@ -8,7 +8,7 @@ use crate::text::Text;
 use rr_bytes::{ByteSet, cut_before, joined_by_space, trim};
 use std::alloc::{AllocError, Global};
 
-/// A line less its comment.
+/// A line less its comment and the blanks round it.
 fn uncommented(line: &[u8]) -> &[u8]
     ensures { result.now ≡ meanings.uncommented line.now }
 {
@@ -16,7 +16,7 @@ fn uncommented(line: &[u8]) -> &[u8]
     trim(text, ByteSet::BlanksAndLineFeeds)
 }
 
-/// Lines less their comments.
+/// Lines less their comments and the blanks round them.
 fn uncommented_lines<'t>(alloc: Global, lines: &[&'t [u8]]) -> Result<Vec<&'t [u8]>, AllocError>
     ensures { IfOk result (λ said. map (λ line. line.now) said.items
         ≡ map meanings.uncommented (map (λ line. line.now) lines.now)) }
@@ -39,8 +39,9 @@ fn lines_meaning(alloc: Global, lines: &[&[u8]]) -> Result<Text, AllocError>
     Text::from_slice(alloc, trim(&joined, ByteSet::BlanksAndLineFeeds))
 }
 
-/// What the value of an attribute says: its lines without their comments, joined by one space
-/// (RFC 2622, 2; the space: profile). The error is out of memory.
+/// What the value of an attribute says: its lines without their comments and the blanks round them,
+/// with one space between each two. Blanks round the whole are left out, too (RFC 2622, 2; the
+/// space: profile). The error is that memory ran out.
 #[tactic(auto, using(crate::proofs::MeaningLemmas::of_one_line))]
 pub fn meaning(alloc: Global, attribute: &Attribute) -> Result<Text, AllocError>
     ensures { IfOk result (λ text. text ≡ meanings.value_meaning attribute.now.lines) }

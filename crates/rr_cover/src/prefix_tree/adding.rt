@@ -1,4 +1,4 @@
-//! Putting values into a tree of prefixes.
+//! Putting values into a tree of prefixes: for `PrefixTree::insert`.
 
 ghost use Rattle.std.specs.Prelude.{◌≡◌, true, false, Some, IfOk, IfSome};
 ghost use Rattle.std.specs.Option.{option_or};

@@ -1,4 +1,4 @@
-//! Taking prefixes out of a tree.
+//! Taking prefixes out of a tree: for `PrefixTree::remove`.
 
 ghost use Rattle.std.specs.Prelude.{◌≡◌, true};
 ghost use Rattle.rr_number.specs.Prefixes.{span_of};

@@ -1,4 +1,4 @@
-//! Listing the prefixes of a tree.
+//! Listing the prefixes of a tree: for `PrefixTree::covering`.
 
 ghost use Rattle.std.specs.Prelude.{◌≡◌, ◌||◌, ◌&&◌, is_some, map, OnOk};
 ghost use Rattle.std.specs.List.Sorted.{IsStrictlySortedBy};
@@ -8,11 +8,11 @@ ghost use Rattle.rr_number.specs.Spans.{Ends, covers, span_cmp};
 ghost use Rattle.rr_cover.specs.PrefixTrees.{IsTree};
 ghost use Rattle.rr_cover.specs.TreeParts.{standing, is_listed};
 
-use super::{Node, Tree};
+use super::Tree;
 use rr_number::{Prefix, Span};
 use std::alloc::AllocError;
 
-/// Puts the prefix at the end of the list, if it is wanted.
+/// Puts the prefix at the end of the list, if it is wanted; the error is that memory ran out.
 fn push_if(wanted: bool, prefix: Prefix, out: &mut Vec<Prefix>) -> Result<(), AllocError>
     ensures ok { OnOk result ((u : Ends) → is_listed out.new.items u
         ≡ (is_listed out.old.items u || (eq_by_cmp span_cmp u (span_of prefix) && wanted))) }
@@ -35,7 +35,7 @@ pub(super) fn put_in_order(prefixes: &mut Vec<Prefix>)
 }
 
 /// Puts the prefixes of a tree that cover the span at the end of the list. A part whose root does
-/// not cover it has none.
+/// not cover it has none. The error is that memory ran out.
 pub(super) fn push_covering<T>(
     tree: &Tree<T>,
     span: Span,
@@ -54,37 +54,6 @@ pub(super) fn push_covering<T>(
             push_if(node.value.is_some(), node.prefix, out)?;
             push_covering(&node.lower, span, out)?;
             push_covering(&node.upper, span, out)
-        }
-    }
-}
-
-/// Whether the node has a value, and its prefix lies inside the span.
-fn has_inside<T>(node: &Node<T>, span: Span) -> bool
-    ensures { result ≡ (is_some node.now.value && covers span (span_of node.now.prefix)) }
-{
-    node.value.is_some() && span.covers(node.prefix.span())
-}
-
-/// Puts the prefixes of a tree that lie inside the span at the end of the list. A part whose root
-/// does not meet it has none.
-pub(super) fn push_inside<T>(
-    tree: &Tree<T>,
-    span: Span,
-    out: &mut Vec<Prefix>,
-) -> Result<(), AllocError>
-    requires { IsTree tree.now }
-    ensures ok { OnOk result ((u : Ends) → is_listed out.new.items u
-        ≡ (is_listed out.old.items u || (is_some (standing tree.now u) && covers span u))) }
-{
-    match tree {
-        Tree::Empty => Ok(()),
-        Tree::Fork(node) => {
-            if !node.prefix.span().meets(span) {
-                return Ok(());
-            }
-            push_if(has_inside(node, span), node.prefix, out)?;
-            push_inside(&node.lower, span, out)?;
-            push_inside(&node.upper, span, out)
         }
     }
 }

@@ -1,4 +1,4 @@
-//! The prefix at which two prefixes part.
+//! The prefix at which two prefixes part: `adding` puts a node there.
 
 ghost use Rattle.std.specs.Prelude.{◌≡◌, ◌<◌, ◌-◌, true, false};
 ghost use Rattle.rr_number.specs.Prefixes.{span_of, masked, IsMasked};

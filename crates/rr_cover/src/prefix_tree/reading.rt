@@ -1,4 +1,4 @@
-//! Looking prefixes up in a tree.
+//! Looking prefixes up in a tree: for `PrefixTree`. Changes compare prefixes by it.
 
 ghost use Rattle.std.specs.Prelude.{◌≡◌, ◌≤◌, IfSome, IfNone};
 ghost use Rattle.std.specs.Option.{option_copied};
@@ -80,7 +80,7 @@ pub(super) fn smallest_cover<T>(tree: &Tree<T>, prefix: Prefix) -> Option<(Prefi
     }
 }
 
-/// How many levels the tree has.
+/// How many levels the tree has: at most one for each length from the root's up to 32.
 pub(super) fn levels<T>(tree: &Tree<T>) -> u32
     requires { IsTree tree.now }
     ensures { result ≤ room tree.now }

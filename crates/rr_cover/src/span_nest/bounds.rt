@@ -1,4 +1,5 @@
-//! Bounds on the last numbers of a part of the search tree.
+//! Bounds on the last numbers of a part of the search tree of a nest: `changes` keeps them, and
+//! `reading` and `lists` pass by parts for them.
 
 ghost use Rattle.std.specs.Prelude.{◌≡◌};
 ghost use Rattle.rr_cover.specs.NestParts.{with_before, with_after};
@@ -7,8 +8,6 @@ ghost use Rattle.rr_cover.specs.NestParts.{with_before, with_after};
 /// search passes by sides that have nothing to find.
 #[derive(Clone, Copy)]
 pub(super) struct Bounds {
-    /// No last number is below this one.
-    pub(super) least: u32,
     /// No last number of the side before, nor the node's own, is above this one.
     pub(super) before: u32,
     /// No last number of the side after is above this one.
@@ -21,7 +20,6 @@ impl Bounds {
         ensures { result ≡ with_before self last }
     {
         Bounds {
-            least: self.least.min(last),
             before: self.before.max(last),
             after: self.after,
         }
@@ -32,7 +30,6 @@ impl Bounds {
         ensures { result ≡ with_after self last }
     {
         Bounds {
-            least: self.least.min(last),
             before: self.before,
             after: self.after.max(last),
         }

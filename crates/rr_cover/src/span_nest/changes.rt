@@ -1,4 +1,5 @@
-//! Changing the search tree of a nest, and keeping it balanced (AVL).
+//! Changing the search tree of a nest, and keeping it balanced (AVL): for what `SpanNest` inserts
+//! and removes.
 
 ghost use Rattle.std.specs.Prelude.{◌≡◌, nat_le, None, Some, is_some, IfOk, IfSome, IfNone};
 ghost use Rattle.std.specs.Prelude.{OnErr};
@@ -21,17 +22,6 @@ fn height<T>(nest: &Nest<T>) -> u8 {
     match nest {
         Nest::Empty => 0,
         Nest::Fork(node) => node.height,
-    }
-}
-
-/// A number that no last number of the tree is below.
-fn least<T>(nest: &Nest<T>) -> u32
-    requires { IsNest nest.now }
-    ensures { Only (λ s. nat_le result s.last) nest.now }
-{
-    match nest {
-        Nest::Empty => u32::MAX,
-        Nest::Fork(node) => node.bounds.least,
     }
 }
 
@@ -69,7 +59,6 @@ fn bounds_over<T>(span: Span, before: &Nest<T>, after: &Nest<T>) -> Bounds
 {
     let last = span.last();
     Bounds {
-        least: least(before).min(last).min(least(after)),
         before: greatest(before).max(last),
         after: greatest(after),
     }
@@ -362,7 +351,6 @@ fn add<T: Drop>(nest: &mut Nest<T>, alloc: Global, span: Span, value: T) -> Resu
         value,
         height: 1,
         bounds: Bounds {
-            least: span.last(),
             before: span.last(),
             after: 0,
         },

@@ -1,4 +1,4 @@
-//! Listing the spans of the search tree of a nest.
+//! Listing the spans of the search tree of a nest: for `SpanNest::covering`.
 
 ghost use Rattle.std.specs.Prelude.{◌≡◌, ◌||◌, ◌&&◌, is_some, OnOk};
 ghost use Rattle.std.specs.List.Sorted.{IsStrictlySortedBy};
@@ -11,7 +11,7 @@ use super::Nest;
 use rr_number::Span;
 use std::alloc::AllocError;
 
-/// Puts the span at the end of the list, if it is wanted.
+/// Puts the span at the end of the list, if it is wanted; the error is that memory ran out.
 fn push_if(wanted: bool, span: Span, out: &mut Vec<Span>) -> Result<(), AllocError>
     ensures ok { OnOk result ((u : Ends) → lists_span out.new.items u
         ≡ (lists_span out.old.items u || (eq_by_cmp span_cmp u span && wanted))) }
@@ -34,7 +34,8 @@ pub(super) fn put_in_order(spans: &mut Vec<Span>)
 }
 
 /// Puts the spans of a tree that cover the span at the end of the list. Parts are passed by if none
-/// of their spans reaches its last number, or all begin after its first.
+/// of their spans reaches its last number, or all begin after its first. The error is that memory
+/// ran out.
 pub(super) fn push_covering<T>(
     nest: &Nest<T>,
     span: Span,
@@ -57,37 +58,6 @@ pub(super) fn push_covering<T>(
             }
             push_if(node.span.covers(span), node.span, out)?;
             push_covering(&node.after, span, out)
-        }
-    }
-}
-
-/// Puts the spans of a tree that lie inside the span at the end of the list. Parts are passed by if
-/// all of their spans end after it, or begin outside it.
-pub(super) fn push_inside<T>(
-    nest: &Nest<T>,
-    span: Span,
-    out: &mut Vec<Span>,
-) -> Result<(), AllocError>
-    requires { IsNest nest.now }
-    ensures ok { OnOk result ((u : Ends) → lists_span out.new.items u
-        ≡ (lists_span out.old.items u
-        || (is_some (standing nest.now u) && covers span u))) }
-{
-    match nest {
-        Nest::Empty => Ok(()),
-        Nest::Fork(node) => {
-            if span.last() < node.bounds.least {
-                return Ok(());
-            }
-            if node.span.first() < span.first() {
-                return push_inside(&node.after, span, out);
-            }
-            push_inside(&node.before, span, out)?;
-            if span.last() < node.span.first() {
-                return Ok(());
-            }
-            push_if(span.covers(node.span), node.span, out)?;
-            push_inside(&node.after, span, out)
         }
     }
 }

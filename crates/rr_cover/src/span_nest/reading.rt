@@ -1,4 +1,4 @@
-//! Looking spans up in the search tree of a nest.
+//! Looking spans up in the search tree of a nest: for `SpanNest`. Changes compare spans by it.
 
 ghost use Rattle.std.specs.Prelude.{◌≡◌, ◌+◌, true, false, nat_le, is_some, IfSome};
 ghost use Rattle.std.specs.Prelude.{IfNone};

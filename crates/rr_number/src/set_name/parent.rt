@@ -1,4 +1,5 @@
-//! What the name of a set says to be above the set, as `AS64496` is above `AS64496:AS-X`.
+//! What the name of a set says to be above the set, as `AS64496` is above `AS64496:AS-X`: for the
+//! verdict on a new set.
 
 ghost use Rattle.std.specs.Prelude.{◌≡◌, IfOk};
 ghost use Rattle.std.specs.List.{list_all};
@@ -24,8 +25,8 @@ pub enum Parent {
 }
 
 impl SetName {
-    /// What the name without its last component names; `None` where it has one component. The error
-    /// is that memory ran out.
+    /// What the name without its last component names; `None` where it has one component
+    /// (RFC 2622, 5; RFC 2725, 9). The error is that memory ran out.
     pub fn parent(&self, alloc: Global) -> Result<Option<Parent>, AllocError>
         ensures { IfOk result (λ parent. parent ≡ parent_of self.now) }
     {
@@ -59,6 +60,7 @@ fn parent_text(bytes: &[u8]) -> Option<&[u8]>
     Some(parent)
 }
 
+/// Whether each component is an AS number.
 fn has_as_numbers_alone(bytes: &[u8]) -> bool
     ensures { result ≡ list_all is_as_number (components bytes.now) }
 {

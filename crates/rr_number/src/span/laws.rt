@@ -10,34 +10,36 @@ ghost use Rattle.rr_number.specs.SpanLaws.{SpansAreOrdered};
 use crate::as_span::AsSpan;
 use crate::span::Span;
 
-/// Covering is inclusion of sets of numbers, and two spans meet where they share one.
+/// Covering is inclusion of sets of numbers, and two spans meet exactly where they share one.
 pub fn spans_are_sets()
     ensures inclusion { CoveringIsInclusion }
     ensures sharing { MeetingIsSharing }
 {}
 
-/// Covering is a partial order.
+/// Covering is a partial order: each span covers itself and what a covered one covers, and only
+/// equal ones cover each other.
 pub fn covering_is_an_order()
     ensures itself { CoversItself }
     ensures further { CoversFurther }
     ensures both { CoversBothWays }
 {}
 
-/// Two spans are apart, nested or crossing, and crossing has no direction.
+/// Two spans that do not cross are apart or nested, and crossing has no direction.
 pub fn spans_are_apart_or_nested_or_cross()
     ensures symmetric { CrossesBothWays }
     ensures nested { ApartOrNested }
 {}
 
-/// The size counts the numbers, and a span is larger than any other that it covers.
+/// The size counts the numbers: it is 1 for one number, and that of the parts together where a span
+/// is cut in two. A span is larger than any other that it covers.
 pub fn size_counts_numbers()
     ensures one { OneNumber }
     ensures add { SizesAdd }
     ensures larger { CoverIsLarger }
 {}
 
-/// Spans, and blocks of AS numbers, are ordered by their first number, then by their last, and only
-/// equal ones tie.
+/// Spans, and blocks of AS numbers, are ordered by their first number, then by their last. The
+/// order is total, and only equal ones tie.
 pub fn spans_are_ordered()
     ensures derived { (s t : Ends) → ⟦<Span as Ord>⟧.cmp s t ≡ span_cmp s t }
     ensures blocks { (s t : Ends) → ⟦<AsSpan as Ord>⟧.cmp s t ≡ span_cmp s t }

@@ -4,7 +4,7 @@ use Rattle.rr_number.specs.Prefixes.{span_of}
 use Rattle.rr_number.specs.Spans.{span_cmp}
 use Rattle.rr_cover.specs.PrefixTrees.{in_upper, IsRootedOn, IsFork, IsTree}
 use Rattle.rr_cover.specs.TreeParts.{standing}
-use Rattle.rr_cover.proofs.Among.{tied_same}
+use Rattle.rr_cover.proofs.Ties.{tied_same}
 use Rattle.rr_cover.proofs.TreeHalves.{ends_ordered}
 use Rattle.rr_cover.proofs.TreeHeld.{stands_root, stands_upper, stands_lower}
 use Rattle.rr_cover.proofs.TreeChanged.{changed_root, changed_upper, changed_lower, fork_upper}

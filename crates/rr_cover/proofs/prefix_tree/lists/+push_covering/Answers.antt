@@ -15,7 +15,7 @@ returns-then-not-covers g t c =
     sym (rw (c.span.ensures, c.deref.ensures) at c.if-not-covers.ensures) in
     record {
       ok = λ u. none_covering c.args.tree.now node.prefix node.value node.lower node.upper
-          (record { all = λ s. ap (λ n. standing n s) c.in-Fork.is }) is c.requires c.args.span u
+          (record { all = λ s. ap (λ n. standing n s) c.in-Fork.is }) is c.args.span u
           (is_listed c.args.out.now.items u) apart;
     }
 

@@ -2,7 +2,7 @@ use Rattle.std.proofs.Common.{◌≡◌, true, false, None, sym, rules}
 use Rattle.std.specs.Ordering.{eq_by_cmp}
 use Rattle.rr_number.specs.Spans.{span_cmp}
 use Rattle.rr_cover.specs.SpanNests.{is_ahead}
-use Rattle.rr_cover.proofs.Among.{tied_same}
+use Rattle.rr_cover.proofs.Ties.{tied_same}
 use Rattle.rr_cover.proofs.NestOrder.{ahead_other}
 use Rattle.rr_cover.proofs.NestTurns.{only_changed, changed_low, changed_high, taken_out}
 use Rattle.rr_cover.proofs.span_nest.changes.+take_out.Goals as goal

@@ -35,7 +35,7 @@ returns-in-Ok-clause-ok c = λ r has free.
       keys = c.in-Ok.ensures.ok r has.keys free;
       namings = namings_added r was has.namings o c.enter_keys.new.self.namings.counts free
           (subst (λ (x : NamingIndex). (n : List ℕ) → count_at x.counts n ≡ count_at was n +
-          namings_by n o) (sym c.enter_keys.ensures.aside) c.in_ok-add.ensures.ok);
+          namings_by n o) (sym c.enter_keys.ensures.namings) c.in_ok-add.ensures.ok);
     }
 
 pub returns-in-Err-clause-err : goal.returns-in-Err-clause-err
@@ -47,6 +47,6 @@ returns-in-Err-clause-err c = λ r has free.
       namings = namings_back r was has.namings o c.enter_keys.new.self.namings.counts
           c.take.new.self.counts
           (subst (λ (x : NamingIndex). (n : List ℕ) → count_at x.counts n ≡ count_at was n +
-          namings_by n o) (sym c.enter_keys.ensures.aside) c.in_ok-add.ensures.ok)
+          namings_by n o) (sym c.enter_keys.ensures.namings) c.in_ok-add.ensures.ok)
           c.take.ensures;
     }

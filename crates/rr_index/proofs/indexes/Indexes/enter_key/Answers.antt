@@ -14,7 +14,7 @@ returns-in-Ok-clause-ok c = λ r places names.
     (c.in_ok-add.ensures.ok r o names) in (
       c.in-Ok.ensures.ok r places,
       subst (λ (x : NameIndex). HasNames (insert r o.key o) x.keys)
-          (sym c.enter_place.ensures.aside.names) named,
+          (sym c.enter_place.ensures.places.names) named,
     )
 
 pub returns-in-Err-clause-err : goal.returns-in-Err-clause-err
@@ -23,7 +23,7 @@ returns-in-Err-clause-err c = λ r places names free.
     let k = c.key-key.result.now in
     let named : HasNames (insert r k o) c.enter_place.new.self.names.keys =
     subst (λ (x : NameIndex). HasNames (insert r k o) x.keys)
-    (sym c.enter_place.ensures.aside.names)
+    (sym c.enter_place.ensures.places.names)
     (c.in_ok-add.ensures.ok r o names) in (
       c.in-Err.ensures.err r places free,
       subst (λ (m : Reg). HasNames m c.take.new.self.keys)

@@ -33,7 +33,7 @@ returns-in-Ok-clause-ok c = λ r has free.
       origins = entered.0.1;
       names = entered.1;
       referrers = subst (λ (s : SetIndex). HasReferrers (insert r o.key o) s.keys)
-          (sym c.enter_key.ensures.aside.referrers)
+          (sym c.enter_key.ensures.own_keys.referrers)
           (referrers_first r c.args.self.now.referrers.keys has.referrers o
           (contains (slice_cmp nat_cmp) c.new-none.result) c.add.new.self.keys free
           (λ n. ap (list_any (is_at (slice_cmp nat_cmp n))) c.new-none.ensures.empty)
@@ -69,7 +69,8 @@ returns-clause-err c = λ r has free.
           c.enter_key.new.self.referrers.keys c.take_all.new.self.keys
           (λ n. empty n ∙ sym (ap (λ v. option_map_or (names_set n) v false) free))
           (λ n. sym (empty n))
-          (λ n k. ap (λ (s : SetIndex). stands_under s.keys n k) c.enter_key.ensures.aside.referrers
+          (λ n k. ap (λ (s : SetIndex). stands_under s.keys n k)
+          c.enter_key.ensures.own_keys.referrers
           ∙ c.in_ok-add.ensures.ok n k)
           c.take_all.ensures;
     }

@@ -52,22 +52,22 @@ WITHOUT_OUTERMOST = text(
     "route: 0.0.0.0/0 | origin: AS3 | delete: x",
     "inetnum: 10.128.0.0/9 | descr: again | mnt-by: ROOT-MNT",
 )
+# The inetnums and the routes in 10.0.0.0/8, as they are listed.
+INETNUMS = (
+    "inetnum:        10.0.0.0/8\n"
+    "inetnum:        10.128.0.0/32\n"
+    "inetnum:        10.128.0.0/9\n"
+)
+ROUTES = (
+    "route:          10.0.0.0/8\n"
+    "route:          10.128.0.0/9\n"
+    "route:          10.128.0.0/32\n"
+)
 CLOSE = (
     ("closest 10.127.255.255", 1, "inetnum:        10.0.0.0/8\nroute:          10.0.0.0/8\n"),
     ("closest 10.128.0.1", 1, "inetnum:        10.128.0.0/9\nroute:          10.128.0.0/9\n"),
     ("closest 10.128.0.0/32", 1, "inetnum:        10.128.0.0/32\nroute:          10.128.0.0/32\n"),
-    (
-        "more 10.0.0.0/8",
-        1,
-        (
-            "inetnum:        10.0.0.0/8\n"
-            "inetnum:        10.128.0.0/32\n"
-            "inetnum:        10.128.0.0/9\n"
-            "route:          10.0.0.0/8\n"
-            "route:          10.128.0.0/9\n"
-            "route:          10.128.0.0/32\n"
-        ),
-    ),
+    ("more 10.0.0.0/8", 1, INETNUMS + ROUTES),
     ("exact 10.128.0.0/10", 1, "% no entries\n"),
 )
 # What names A-MNT for what lies below, for routes and for members; for B-MNT the attribute is text.
@@ -232,14 +232,8 @@ NEAR = (
                 "less 10.128.0.0/32",
                 1,
                 (
-                    "inetnum:        0.0.0.0 - 255.255.255.255\n"
-                    "inetnum:        10.0.0.0/8\n"
-                    "inetnum:        10.128.0.0/32\n"
-                    "inetnum:        10.128.0.0/9\n"
-                    "route:          0.0.0.0/0\n"
-                    "route:          10.0.0.0/8\n"
-                    "route:          10.128.0.0/9\n"
-                    "route:          10.128.0.0/32\n"
+                    f"inetnum:        0.0.0.0 - 255.255.255.255\n{INETNUMS}"
+                    f"route:          0.0.0.0/0\n{ROUTES}"
                 ),
             ),
         ),
@@ -250,18 +244,7 @@ NEAR = (
         (
             *CLOSE,
             ("closest 255.255.255.254", 1, "% no entries\n"),
-            (
-                "less 10.128.0.0/32",
-                1,
-                (
-                    "inetnum:        10.0.0.0/8\n"
-                    "inetnum:        10.128.0.0/32\n"
-                    "inetnum:        10.128.0.0/9\n"
-                    "route:          10.0.0.0/8\n"
-                    "route:          10.128.0.0/9\n"
-                    "route:          10.128.0.0/32\n"
-                ),
-            ),
+            ("less 10.128.0.0/32", 1, INETNUMS + ROUTES),
             (
                 "exact 10.128.0.0/9",
                 1,

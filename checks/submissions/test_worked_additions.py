@@ -305,6 +305,25 @@ ROUTES_ADDED = (
         ),
     ),
     Worked(
+        "mnt-lower of a route is asked for the routes below it",
+        (
+            HOLDERS,
+            text(
+                "password: bc | password: c | password: abc",
+                "inetnum: 10.0.0.0/8 | mnt-by: A-MNT",
+                "aut-num: AS1 | mnt-by: A-MNT",
+                "route: 10.1.0.0/16 | origin: AS1 | mnt-by: A-MNT | mnt-lower: B-MNT",
+            ),
+            text(
+                "password: c",
+                "route: 10.1.5.0/24 | origin: AS1 | mnt-by: A-MNT",
+                "password: abc",
+                "route: 10.1.5.0/24 | origin: AS1 | mnt-by: A-MNT",
+            ),
+        ),
+        ("route 10.1.5.0/24 AS1: refused E13", "route 10.1.5.0/24 AS1: added"),
+    ),
+    Worked(
         "a grant counts from its change on",
         (
             HOLDERS,

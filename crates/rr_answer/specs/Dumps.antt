@@ -12,8 +12,8 @@ use Rattle.rr_answer.specs.declared.dumping.DumpFault.{DumpFault}
 use Rattle.rr_answer.specs.declared.dumping.DumpFault.TheVariants.{Write, Memory}
 use Rattle.rr_answer.specs.Texts.{public_text}
 
--- An object in a dump: in a full one its whole canonical text, in a public one its public text, and
--- an empty line (profile).
+-- An object in a dump: in a full one its whole canonical text, in a public one that of its public
+-- form; and an empty line after it (profile).
 abbrev pub dumped : Bool → Obj → List ℕ
 dumped true o = ended (canonical o.paragraph)
 dumped false o = public_text o

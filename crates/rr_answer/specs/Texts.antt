@@ -1,4 +1,4 @@
--- The texts of objects and of expansions, as answers have them.
+-- The texts of objects and of expansions, as answers and public dumps have them.
 use Rattle.std.specs.Prelude.{ℕ, List, [], ◌∷◌, ◌++◌, codes}
 use Rattle.std.specs.List.{flat_map}
 use Rattle.rr_number.specs.Applied.{range_text}
@@ -25,7 +25,7 @@ no_entries = ended (codes "% no entries")
 unfoldable pub objects_text : List Obj → List ℕ
 objects_text os = or_else no_entries (flat_map public_text os)
 
--- The line of a name that is reached and not registered (profile).
+-- The line of a name that is reached and of which there is no set (profile).
 abbrev pub missing_line : List ℕ → List ℕ
 missing_line name = ended (codes "% missing " ++ name)
 

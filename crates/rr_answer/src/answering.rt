@@ -1,5 +1,4 @@
-//! How a query is answered: what it finds in a registry. A desk answers by `find_for`, and tests
-//! ask by `answer_to`.
+//! How a query is answered: what it finds in a registry. A desk answers by `find_for`.
 
 ghost use Rattle.std.specs.Prelude.{◌≡◌, ◌≢◌, Err, IfErr, IfOk, Ok, true};
 ghost use Rattle.rr_answer.specs.declared.query_fault.QueryFault.TheVariants.{Memory, TooLong};
@@ -20,10 +19,10 @@ use rr_registry::Registry;
 use rr_sets::SetBook;
 use std::alloc::Global;
 
-/// What a query finds: the objects that it asks for, or the members of a set; no object if there is
-/// no such set. The fault is `TooMany` for an expansion over `limit`, counted as `expand_as_set`
-/// and `expand_route_set` of `rr_sets` count it, or that memory ran out.
-pub fn find<'a, B: Keeper>(
+/// What a query finds, whose text is the answer: the objects that it asks for, or the members of a
+/// set and the names that are missing; no object if there is no such set. The fault is `TooMany`
+/// exactly for an expansion over `limit`, or that memory ran out.
+fn find<'a, B: Keeper>(
     alloc: Global,
     registry: &'a Registry<B>,
     limit: usize,
@@ -63,8 +62,10 @@ fn expanded<'a, B: SetBook>(
     }
 }
 
-/// What the text of a query finds. The fault is the first of `TooLong`, `Bad` and `TooMany` that
-/// fits, or, of a text that is not too long, that memory ran out.
+/// What the text of a query finds, which `Found::write` writes as the answer. The fault is the
+/// first of `TooLong`, `Bad` and `TooMany` that fits, or, of a text that is not too long, that
+/// memory ran out. `TooMany` comes exactly for an expansion over `limit`, counted as
+/// `expand_as_set` and `expand_route_set` of `rr_sets` count it.
 pub fn find_for<'a, B: Keeper>(
     alloc: Global,
     registry: &'a Registry<B>,
@@ -79,21 +80,4 @@ pub fn find_for<'a, B: Keeper>(
 {
     let query = read_query(alloc, text)?;
     find(alloc, registry, limit, &query)
-}
-
-/// The answer to the text of a query, in memory: the text of what [`find_for`] finds. The fault is
-/// the first of `TooLong`, `Bad` and `TooMany` that fits, or that memory ran out.
-pub fn answer_to<B: Keeper>(
-    alloc: Global,
-    registry: &Registry<B>,
-    limit: usize,
-    text: &[u8],
-) -> Result<Vec<u8>, QueryFault>
-    ensures ok { IfOk result
-        (λ answered. IsAnswerTo registry.now limit text.now (Ok answered.items)) }
-    ensures fault { IfErr result
-        (λ fault. fault ≢ Memory → IsAnswerTo registry.now limit text.now (Err fault)) }
-{
-    let found = find_for(alloc, registry, limit, text)?;
-    Ok(found.text(alloc)?)
 }

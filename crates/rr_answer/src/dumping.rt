@@ -46,11 +46,11 @@ impl From<AllocError> for DumpFault {
     }
 }
 
-/// Writes the objects by class and key, each with an empty line, and a last line that counts them.
-/// `full` says whether they are written with all their text, or as they are answered (profile). It
-/// gives their number. After a fault the writer has taken the beginning of these bytes, and not all
-/// of them. A call of it failed where the fault is `Write`, and none did where it is `Memory`. Each
-/// object is written by itself, which no clause says.
+/// Writes the objects by class and key, an empty line after each, and a last line that counts them.
+/// `full` says whether they are written with all their text, or as they are answered (profile). The
+/// result is their number. After a fault the writer has taken the beginning of these bytes, and not
+/// all of them. A call of the writer failed where the fault is `Write`, and none did where it is
+/// `Memory`. Each object is written by itself, which no clause says.
 #[tactic(auto, using(crate::proofs::Dumped::dump_has_bytes))]
 pub fn dump<B: Keeper, W: Sink>(
     alloc: Global,
@@ -66,7 +66,8 @@ pub fn dump<B: Keeper, W: Sink>(
     dump_listed(alloc, &objects, writer, full)
 }
 
-/// Writes the objects and the last line.
+/// Writes the objects and the last line, and gives the number of the objects. A fault leaves what
+/// one of `dump` leaves, here and below.
 fn dump_listed<W: Sink>(
     alloc: Global,
     objects: &[&Object],

@@ -1,5 +1,5 @@
-//! What a query finds, and the text of it, which is the answer. `answering` gives it; a desk writes
-//! the text part by part, or it is made whole in memory.
+//! What a query finds, and the text of it, which is the answer. `answering` gives it, and a desk
+//! writes the text part by part.
 
 ghost use Rattle.std.specs.Prelude.{◌≡◌, IfOk};
 ghost use Rattle.rr_io.specs.Sending.{Writes};
@@ -8,7 +8,7 @@ ghost use Rattle.rr_answer.specs.Founds.{found_text};
 ghost use Rattle.rr_answer.specs.Texts as texts;
 
 use crate::place::{Place, places};
-use crate::writing::{members_text, write_members};
+use crate::writing::write_members;
 use rr_io::Sink;
 use rr_number::{AsNumber, Range};
 use rr_object::Object;
@@ -28,9 +28,9 @@ const EMPTY: &[u8] = b"% empty\n";
 pub enum Found<'a> {
     /// Objects, in the order of the answer.
     Objects(Vec<Place<'a>>),
-    /// The AS numbers of an as-set.
+    /// The AS numbers of an as-set, and the names that are missing.
     Numbers(Members<AsNumber>),
-    /// The ranges of a set of either kind.
+    /// The ranges of a set of either kind, and the names that are missing.
     Ranges(Members<Range>),
 }
 
@@ -38,7 +38,7 @@ impl<'a> Found<'a> {
     /// The objects as they are answered: the public canonical text of each and an empty line, or
     /// `% no entries` where there is none (profile). The error is that memory ran out.
     #[tactic(auto, unfolding(crate::specs::Texts::objects_text))]
-    pub fn of(alloc: Global, objects: &[&'a Object]) -> Result<Found<'a>, AllocError>
+    pub(crate) fn of(alloc: Global, objects: &[&'a Object]) -> Result<Found<'a>, AllocError>
         ensures { IfOk result (λ found. found_text found
             ≡ texts.objects_text (lent objects.now)) }
     {
@@ -60,22 +60,6 @@ impl<'a> Found<'a> {
             }
             Found::Ranges(members) => {
                 write_members(alloc, writer, &members.found, &members.missing, EMPTY)
-            }
-        }
-    }
-
-    /// The text in memory. The error is that memory ran out.
-    #[tactic(auto, unfolding(crate::specs::Texts::members_text))]
-    pub fn text(&self, alloc: Global) -> Result<Vec<u8>, AllocError>
-        ensures { IfOk result (λ text. text.items ≡ found_text self.now) }
-    {
-        match self {
-            Found::Objects(places) => members_text(alloc, places, &[], NO_ENTRIES),
-            Found::Numbers(members) => {
-                members_text(alloc, &members.found, &members.missing, EMPTY)
-            }
-            Found::Ranges(members) => {
-                members_text(alloc, &members.found, &members.missing, EMPTY)
             }
         }
     }

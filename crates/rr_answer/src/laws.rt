@@ -10,9 +10,9 @@ pub fn registries_of_a_source_are_read()
 {}
 
 /// Registries that have objects of the same keys, equal in public, answer each query alike, under
-/// the same limit. That is so if the objects stand under their own keys, and are what their
-/// paragraphs read as. So what is hidden can't be asked for. With one registry for both, this says
-/// that a query has one answer.
+/// the same limit and unless memory runs out. That is so if the objects stand under their own keys,
+/// and are what their paragraphs read as. So what is hidden can't be asked for. With one registry
+/// for both, this says that a query has one answer.
 pub fn answers_keep_secrets()
     ensures { AnswersKeepSecrets }
 {}

@@ -15,10 +15,9 @@ mod selection;
 mod text;
 mod writing;
 
-pub use answering::{answer_to, find, find_for};
+pub use answering::find_for;
 pub use dumping::{DumpFault, dump};
 pub use found::Found;
 pub use place::Place;
-pub use query::Query;
 pub use query_fault::QueryFault;
-pub use query_reading::{is_too_long, read_query};
+pub use query_reading::is_too_long;

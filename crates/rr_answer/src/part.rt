@@ -1,5 +1,5 @@
-//! The parts of answers: objects, lines of expansions, and names that are missing. `writing` writes
-//! and appends them.
+//! The parts of answers: lines of expansions, and names that are missing; objects are parts by
+//! `place`. `writing` writes and appends them.
 
 ghost use Rattle.std.specs.Prelude.{◌<◌, length, ℕ, List};
 ghost use Rattle.rr_io.specs.Sending.{Writes};
@@ -26,7 +26,7 @@ pub(crate) trait Part {
     fn write<W: Sink>(&self, writer: &mut W) -> io::Result<()>
         ensures { Writes (W.told writer.old) (W.told writer.new) (bytes self.now) result };
 
-    // It has bytes.
+    // It has bytes: so an answer with a part is never replaced by the line that there is none.
     ghost has_bytes: { (part : Self) → 0 < length (bytes part) };
 }
 

@@ -3,7 +3,7 @@
 ghost use Rattle.std.specs.Prelude.{◌≡◌};
 ghost use Rattle.rr_answer.specs.Faults.{error_line, error_number};
 
-use std::alloc::{AllocError, AllocFailed};
+use std::alloc::AllocError;
 
 /// An error of a query, which is answered as the one line `% error n` (profile).
 #[derive(Clone, Copy, Debug, PartialEq, Eq)]
@@ -22,6 +22,7 @@ pub enum QueryFault {
 
 impl QueryFault {
     /// The number of the error: 1 to 4, or 6. Earlier versions gave 5 for a fault of the database.
+    /// Clients know the numbers.
     pub fn number(self) -> u8
         ensures { result ≡ error_number self }
     {
@@ -55,17 +56,6 @@ impl From<AllocError> for QueryFault {
     ghost from_gives = { λ _ fault. fault ≡ Memory };
 
     fn from(_refused: AllocError) -> QueryFault {
-        QueryFault::Memory
-    }
-}
-
-impl<T: Drop> From<AllocFailed<T>> for QueryFault {
-    ghost use Rattle.std.specs.Prelude.{◌≡◌};
-    ghost use Rattle.rr_answer.specs.declared.query_fault.QueryFault.TheVariants.{Memory};
-
-    ghost from_gives = { λ _ fault. fault ≡ Memory };
-
-    fn from(_refused: AllocFailed<T>) -> QueryFault {
         QueryFault::Memory
     }
 }

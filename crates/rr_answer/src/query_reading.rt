@@ -30,7 +30,7 @@ pub fn is_too_long(text: &[u8]) -> bool
 /// The query that a text is; letter case is ignored (profile). The fault is the first of `TooLong`
 /// and `Bad` that fits, or, of a text that is not too long, that memory ran out.
 #[tactic(auto, unfolding(crate::specs::Queries::query_of))]
-pub fn read_query(alloc: Global, text: &[u8]) -> Result<Query, QueryFault>
+pub(crate) fn read_query(alloc: Global, text: &[u8]) -> Result<Query, QueryFault>
     ensures ok { IfOk result (λ query. queries.query_of text.now ≡ Ok query) }
     ensures fault { IfErr result
         (λ fault. fault ≢ Memory → queries.query_of text.now ≡ Err fault) }

@@ -1,5 +1,6 @@
 //! The texts of objects and of lines, appended to bytes in memory. If memory runs out, bytes may
-//! have been appended, and what stood there still comes first. Answers and dumps are made of these.
+//! have been appended, and what stood there still comes first. Dumps and the parts of answers are
+//! made of these; a part that memory has no room for is written by itself, as `part` says.
 
 ghost use Rattle.rr_text.specs.CanonicalText.{canonical, ended};
 ghost use Rattle.rr_text.specs.Outputs.{MayAdd};
@@ -9,7 +10,7 @@ use rr_object::{Object, print_public};
 use rr_text::{Paragraph, print_onto};
 use std::alloc::AllocError;
 
-/// Appends an object as it is answered.
+/// Appends an object as it is answered: for public dumps. (Answers keep a `Place` of it.)
 pub(crate) fn push_public(text: &mut Vec<u8>, object: &Object) -> Result<(), AllocError>
     ensures { MayAdd (texts.public_text object.now) text.old.items text.new.items result }
 {

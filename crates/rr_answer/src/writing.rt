@@ -1,8 +1,7 @@
-//! Answers written part by part, so that they need not be whole in memory, or made whole there, as
-//! `found` asks for.
+//! Answers written part by part, so that they need not be whole in memory: for `found`.
 
 ghost use Rattle.std.specs.Prelude.{◌≡◌, ◌+◌, ◌≤◌, ◌<◌, ◌++◌, []};
-ghost use Rattle.std.specs.Prelude.{IfOk, OnOk, length, take, true, false};
+ghost use Rattle.std.specs.Prelude.{length, take, true, false};
 ghost use Rattle.std.specs.List.{flat_map};
 ghost use Rattle.rr_io.specs.Sending.{Writes};
 ghost use Rattle.rr_answer.specs.Texts as texts;
@@ -11,13 +10,13 @@ ghost use Rattle.rr_answer.specs.WritingParts.{WritesSome};
 use crate::part::Part;
 use rr_io::{Sink, write_all};
 use rr_number::SetName;
-use std::alloc::{AllocError, Global};
+use std::alloc::Global;
 use std::io;
 
 /// After how many bytes what was gathered is written.
 const CHUNK: usize = 65_536;
 
-/// Appends a part whole, if memory allows.
+/// Appends a part whole, if memory allows, and says whether it did; if not, nothing is appended.
 fn push_whole<T: Part>(out: &mut Vec<u8>, part: &T) -> bool
     ensures pushed { result ≡ true → out.new.items ≡ out.old.items ++ T.bytes part.now }
     ensures refused { result ≡ false → out.new.items ≡ out.old.items }
@@ -71,7 +70,8 @@ fn write_some<T: Part, W: Sink>(
     Ok(count)
 }
 
-/// Writes the parts.
+/// Writes the parts. The error is that a write failed: the writer has then taken the beginning of
+/// them, and not all.
 fn write_parts<T: Part, W: Sink>(
     gathered: &mut Vec<u8>,
     writer: &mut W,
@@ -116,42 +116,4 @@ pub(crate) fn write_members<T: Part, W: Sink>(
     let mut gathered = Vec::new(alloc);
     write_parts(&mut gathered, writer, found)?;
     write_parts(&mut gathered, writer, missing)
-}
-
-/// Appends the parts.
-fn push_parts<T: Part>(out: &mut Vec<u8>, parts: &[T]) -> Result<(), AllocError>
-    ensures { OnOk result (out.new.items ≡ out.old.items ++ flat_map T.bytes parts.now) }
-{
-    'parts: for part in parts {
-        part.push_onto(out)?;
-    }
-    Ok(())
-}
-
-/// The text of what was found and of the names that are missing, or the line that there is nothing.
-/// The error is that memory ran out.
-pub(crate) fn members_text<T: Part>(
-    alloc: Global,
-    found: &[T],
-    missing: &[SetName],
-    nothing: &[u8],
-) -> Result<Vec<u8>, AllocError>
-    ensures { IfOk result (λ text. text.items ≡ texts.or_else nothing.now
-        (flat_map T.bytes found.now ++ flat_map texts.missing_line missing.now)) }
-{
-    let mut text = Vec::new(alloc);
-    push_parts(&mut text, found)?;
-    push_parts(&mut text, missing)?;
-    or_else(text, nothing)
-}
-
-/// The text, or the other where it is empty.
-fn or_else(text: Vec<u8>, other: &[u8]) -> Result<Vec<u8>, AllocError>
-    ensures { IfOk result (λ made. made.items ≡ texts.or_else other.now text.items) }
-{
-    let mut text = text;
-    if text.is_empty() {
-        text.extend_from_slice(other)?;
-    }
-    Ok(text)
 }

@@ -44,7 +44,7 @@ joined words = join_by (λ word. word) (codes " ") words
 
 -- ---- the arguments that a command got
 
--- what is made of the argument of this place; nothing if there is none (profile)
+-- what is made of the first argument of this place; nothing if there is none (profile)
 abbrev pub given : Text → (Text → Invocation) → List Row → Invocation
 given place made rows = option_map_or made (first_of place rows) nothing
 
@@ -53,17 +53,17 @@ given place made rows = option_map_or made (first_of place rows) nothing
 abbrev pub spelled : ℕ → (Text → Invocation) → (ℕ → Invocation) → Text → Invocation
 spelled greatest bad made text = option_map_or made (number_within text greatest) (bad text)
 
--- what is made of the port among the arguments, a number from 1 to 65,535; a bad port if it is none
--- (profile)
+-- what is made of the port among the arguments, a number from 1 to 65,535: a bad port if it is no
+-- such number, and nothing if none is given (profile)
 abbrev pub invoked_port : (ℕ → Invocation) → List Row → Invocation
 invoked_port made rows = given (codes "PORT") (spelled 65535 bad_port made) rows
 
--- what is made of the count among the arguments, a number from 1 to 1,000,000; a bad count if it is
--- none (profile)
+-- what is made of the count among the arguments, a number from 1 to 1,000,000: a bad count if it is
+-- no such number, and nothing if none is given (profile)
 abbrev pub invoked_count : (ℕ → Invocation) → List Row → Invocation
 invoked_count made rows = given (codes "N") (spelled 1000000 bad_count made) rows
 
--- a flag stands among the arguments (profile)
+-- a flag stands among the arguments: it was read as true (profile)
 abbrev pub flag_of : Text → List Row → Bool
 flag_of id rows = option_map_or (bytes_eq (codes "true")) (one_of id rows) false
 
@@ -73,7 +73,8 @@ IsFlag text =
     (text ≡ None) ⊎ ((text ≡ Some (codes "true")) ⊎ (text ≡ Some (codes "false")))
 
 -- what the command of this name asks for over these settings: nothing, if there is no such command,
--- or it lacks a file, a port or a count. A bad port is told before a bad count (profile)
+-- or it lacks a file, a port or a count. A bad port is told before a bad or missing count. A query
+-- without words has an empty text (profile)
 abbrev pub invoked_over : Text → List Row → Text → Invocation
 invoked_over name rows settings =
     if bytes_eq name (codes "init") then init settings
@@ -170,8 +171,8 @@ abbrev pub invoked_unless : Kinds → Option (Text × List Row) → Invocation
 invoked_unless [] stop = invoked_at stop
 invoked_unless (kind ∷ kinds) stop = told (kind ∷ kinds)
 
--- the kinds of refusal, of help or of version text that a parse of the words gives; none if it
--- finds a command (profile)
+-- the kinds of refusal, of help or of version text of which a parse of the words gives one; no kind
+-- if it gives none of these (profile)
 unfoldable pub line_kinds : List Text → Kinds
 line_kinds words = fault_of program_app words
 
@@ -198,7 +199,8 @@ helped first name = invoked_unless (line_kinds (first ∷ name ∷ codes "--help
 abbrev pub asks_help : Text → Text → Bool
 asks_help word name = bytes_eq word (codes "help") && not (bytes_eq name (codes "help"))
 
--- what a command line asks for that is not a query: the help on a command, or what a parse finds
+-- what a command line asks for that is no query with words after its settings. It is the help on a
+-- command, if just two words follow the first and ask for that, and else what a parse finds
 -- (profile)
 abbrev pub parsed_or_helped : List Text → Invocation
 parsed_or_helped (first ∷ word ∷ name ∷ []) =
@@ -214,9 +216,9 @@ begins_with_dash (byte ∷ bytes) = byte == 45
 abbrev pub asks_query : Text → Text → Bool
 asks_query name settings = bytes_eq name (codes "query") && not (begins_with_dash settings)
 
--- what a command line asks for, of which the first word is the program's name. Nothing after it is
--- the plain command. If words follow the settings of a query, all of them are its words; the rest
--- is left to help and a parse (profile)
+-- what a command line asks for, of which the first word is the program's name. No word, or that one
+-- alone, is the plain command. If words follow the settings of a query, whose path begins with no
+-- dash, all of them are its words. The rest is left to help and a parse (profile)
 abbrev pub invoked : List Text → Invocation
 invoked [] = plain
 invoked (first ∷ []) = plain

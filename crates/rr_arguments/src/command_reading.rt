@@ -51,8 +51,9 @@ pub fn read_command<'a>(
     }
 }
 
-/// Whether these are the arguments of a query after its settings. Then each of them is a word of
-/// the query, also one that begins with a dash and would be an option elsewhere (profile).
+/// Whether the command is a query, the path of its settings begins with no dash, and arguments
+/// follow. Then each of these is a word of the query, also one that begins with a dash and would be
+/// an option elsewhere (profile).
 fn is_query(name: &str, settings: &str, query: &[String]) -> bool
     ensures { result ≡ (asks_query name.now settings.now && nat_lt 0 (length query.now)) }
 {
@@ -71,7 +72,8 @@ fn read_query<'a, S: AsStr>(
     Ok(Command::Query { settings, query })
 }
 
-/// The command that the arguments ask for by the rules of command lines.
+/// The command that the arguments ask for, if they are no query with words after its settings. The
+/// faults, here and below, are such as those of `read_command`.
 fn read_arguments<'a>(
     alloc: Global,
     arguments: &'a [String],
@@ -225,7 +227,8 @@ fn read_refusal<'a>(
 }
 
 /// Adds the usage of the command that the arguments name to a refusal without one, as that of an
-/// option without its value is. A command that gets no further word is refused with its usage.
+/// option without its value is. A command that gets no further word is refused with its usage. The
+/// error is that memory ran out; the line may then have a part of it.
 fn push_usage(alloc: Global, arguments: &[String], line: &mut String) -> Result<(), AllocError> {
     if line.contains(USAGE) {
         return Ok(());
@@ -252,7 +255,7 @@ fn push_usage(alloc: Global, arguments: &[String], line: &mut String) -> Result<
 
 /// A refusal as one line: what is wrong, a suggestion if there is one, and the usage, with `;`
 /// between them. It is without the word `error` and without the last paragraph, which points to
-/// `--help`.
+/// `--help`. The error is that memory ran out.
 fn one_line(alloc: Global, text: &str) -> Result<String, AllocError> {
     let told = text.strip_prefix("error: ").unwrap_or(text);
     let told = match told.split_once("\n\nFor more information") {
@@ -276,7 +279,7 @@ fn one_line(alloc: Global, text: &str) -> Result<String, AllocError> {
 }
 
 /// Adds a line of a refusal, which an empty line may part from those before it. The usage gets a
-/// small letter first.
+/// small letter first. The error is that memory ran out; a part may then stay added.
 fn push_part(line: &mut String, part: &str, is_apart: bool) -> Result<(), AllocError> {
     if !line.is_empty() {
         line.push_str(if is_apart { "; " } else { " " })?;

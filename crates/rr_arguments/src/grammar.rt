@@ -12,8 +12,9 @@ use crate::help;
 use clap::{Arg, ArgAction};
 use std::alloc::{AllocError, Global};
 
-/// The version of the program, and that of the tables that it reads.
-const VERSION: &str = "2.7.2 (tables 2)";
+/// The version of the program, and that of the tables that it reads. Checks read it from this line,
+/// which stays one line. `scripts/release` reads it as the second word that `--version` prints.
+const VERSION: &str = "2.7.3 (tables 2)";
 
 /// What the arguments may be. The commands stand in the order in which a registry meets them. The
 /// error is that memory ran out, here and below.

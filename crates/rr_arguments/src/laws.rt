@@ -2,8 +2,8 @@
 
 ghost use Rattle.rr_arguments.specs.Named.{FullIsNamed};
 
-/// Where words ask for a dump, they ask for all of its text exactly if `--full` is among the words
-/// after the command, before any word `--`.
+/// Where words ask for a dump, there are two at least: the program's name and the command. They ask
+/// for it in full exactly if `--full` is among the words after these, before any word `--`.
 pub fn full_is_named()
     ensures { FullIsNamed }
 {}

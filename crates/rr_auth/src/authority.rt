@@ -1,6 +1,6 @@
-//! Which maintainers decide below an object, and whether they pass: for verdicts.
+//! Which maintainers decide below an object, and whether they pass. `judging` asks it for verdicts.
 
-ghost use Rattle.std.specs.Prelude.{◌≡◌, ◌&&◌, map, filter, IfOk};
+ghost use Rattle.std.specs.Prelude.{◌≡◌, ◌&&◌, map, filter};
 ghost use Rattle.std.specs.List.{list_any};
 ghost use Rattle.rr_number.specs.Prefixes.{PrefixParts};
 ghost use Rattle.rr_number.specs.Ranges.{admits};
@@ -14,30 +14,16 @@ use crate::passing::{name_passes, names_pass};
 use crate::secrets::Secrets;
 use rr_number::{Name, Prefix, Range};
 use rr_object::{Grant, Key, Object};
-use std::alloc::{AllocError, Global};
 
 /// The names that decide below the object: its mnt-lower where that has a name, otherwise its
 /// mnt-by (RFC 2725, 9).
-pub fn lower_names(object: &Object) -> &[Name]
+fn lower_names(object: &Object) -> &[Name]
     ensures { result.now ≡ lower_of object.now }
 {
     if object.lower().is_empty() {
         object.maintainers()
     } else {
         object.lower()
-    }
-}
-
-/// The names that decide about a route of the prefix below the object. Where its mnt-routes has
-/// entries, they are those of the entries that grant the prefix, in the order of the entries.
-/// Otherwise they are the mnt-by of an aut-num, and of another object `lower_names` (RFC 2725, 9;
-/// profile). The error is out of memory.
-pub fn route_names(alloc: Global, object: &Object, prefix: Prefix) -> Result<Vec<Name>, AllocError>
-    ensures { IfOk result (λ names. names.items ≡ routes_of object.now prefix) }
-{
-    match names_for_routes(object) {
-        RouteNames::Granted(entries) => granted_names(alloc, entries, prefix),
-        RouteNames::Named(names) => copy_names(alloc, names),
     }
 }
 
@@ -61,33 +47,6 @@ fn names_for_routes(object: &Object) -> RouteNames<'_>
     } else {
         RouteNames::Named(lower_names(object))
     }
-}
-
-/// The names of the entries that grant the prefix; the error is out of memory.
-fn granted_names(alloc: Global, entries: &[Grant], prefix: Prefix) -> Result<Vec<Name>, AllocError>
-    ensures { IfOk result (λ names.
-        names.items ≡ map (λ g. g.name) (filter (grants prefix) entries.now)) }
-{
-    let mut names = Vec::new(alloc);
-    for entry in entries {
-        if grants_prefix(entry, prefix) {
-            let name = entry.name().copy(alloc)?;
-            names.push(name)?;
-        }
-    }
-    Ok(names)
-}
-
-/// Copies of the names; the error is out of memory.
-fn copy_names(alloc: Global, names: &[Name]) -> Result<Vec<Name>, AllocError>
-    ensures { IfOk result (λ copies. copies.items ≡ names.now) }
-{
-    let mut copies = Vec::new(alloc);
-    for name in names {
-        let copy = name.copy(alloc)?;
-        copies.push(copy)?;
-    }
-    Ok(copies)
 }
 
 /// Whether an entry of mnt-routes grants the prefix.

@@ -42,14 +42,14 @@ pub trait Book {
         ensures { result ≡ closest_routes (contents self.now) prefix };
 
     /// The origins of the routes of exactly this prefix, each once, ascending; the error is out of
-    /// memory. With or without it, the registry is sound.
+    /// memory. In either case the registry is sound.
     fn origins(&self, alloc: Global, prefix: Prefix) -> Result<Vec<AsNumber>, AllocError>
         ensures value { IfOk result (λ v. v.items ≡ origins (contents self.now) prefix) }
         ensures ascending { IfOk result (λ v. IsStrictlySortedBy nat_cmp v.items) }
         ensures sound { Sound (contents self.now) };
 
-    /// Whether an inetnum or as-block of the registry crosses the key, being of its class
-    /// (profile).
+    /// Whether the key is that of an inetnum or an as-block, and its span crosses that of a
+    /// registered object of its class (profile).
     fn crosses(&self, key: &Key) -> bool
         ensures { result ≡ crosses_registered (contents self.now) key.now };
 

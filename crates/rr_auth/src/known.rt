@@ -1,5 +1,5 @@
-//! What the objects of a registry are known to answer, as long as the secrets stay: `rr_registry`
-//! keeps it from item to item, and `judging` asks it.
+//! Whether the mnt-by of registered objects passes, remembered as long as the secrets stay.
+//! `rr_registry` keeps it from item to item, and `judging` asks it.
 //!
 //! An object may name 15,000 maintainers, and each of the 3,000 items of a short submission may
 //! ask them. So it is remembered whether the mnt-by of an object passes, with a copy of the

@@ -17,12 +17,9 @@ mod secrets;
 mod tried;
 mod verdict;
 
-pub use authority::{lower_names, route_names};
 pub use book::Book;
 pub use item::Item;
 pub use judging::judge;
 pub use known::Known;
-pub use passing::passes;
-pub use secret::Secret;
 pub use secrets::Secrets;
 pub use verdict::Verdict;

@@ -3,23 +3,13 @@
 ghost use Rattle.std.specs.Prelude.{◌≡◌};
 ghost use Rattle.std.specs.Option.{option_copied};
 ghost use Rattle.rr_object.specs.Objects.{names_of};
-ghost use Rattle.rr_auth.specs.Passing.{Tries, name_passes, names_pass, passes};
+ghost use Rattle.rr_auth.specs.Passing.{Tries, name_passes, names_pass};
 ghost use Rattle.rr_auth.specs.Registries.{maintainer, some_is_unknown, seen_by};
 
 use crate::book::Book;
 use crate::secrets::Secrets;
 use rr_number::Name;
 use rr_object::Object;
-
-/// Whether the maintainer passes: some secret fits one of its lines, so that SHA-256 of the salt
-/// and then the secret is the line's digest (profile; FIPS 180-4). The secrets stay as they were.
-/// No clause says that the answer is remembered: no secret is hashed again for these lines until
-/// memory runs out, or other lines come under the maintainer's name.
-pub fn passes(maintainer: &Object, secrets: &mut Secrets) -> bool
-    ensures { Tries (passes secrets.old maintainer.now) secrets.old secrets.new result }
-{
-    secrets.fit(maintainer)
-}
 
 /// The mntner of the name; the object itself where it is added and is that one.
 #[tactic(auto, using(crate::proofs::Seen::maintainer_seen))]
@@ -54,7 +44,7 @@ pub(crate) fn name_passes<B: Book>(
         secrets.old name.now) secrets.old secrets.new result }
 {
     match maintainer_seen(book, own, name) {
-        Some(maintainer) => passes(maintainer, secrets),
+        Some(maintainer) => secrets.fit(maintainer),
         None => false,
     }
 }

@@ -14,7 +14,7 @@ use std::marker::Model;
 
 /// The bytes of one secret; contracts see them as a list.
 #[derive(Drop)]
-pub struct Secret {
+pub(crate) struct Secret {
     bytes: Vec<u8>,
 }
 
@@ -43,7 +43,7 @@ impl Secret {
     }
 
     /// The bytes of the secret.
-    pub fn as_bytes(&self) -> &[u8]
+    pub(crate) fn as_bytes(&self) -> &[u8]
         ensures { result.now ≡ self.now }
     {
         self.bytes.as_slice()

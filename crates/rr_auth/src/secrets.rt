@@ -41,17 +41,6 @@ impl Secrets {
         }
     }
 
-    /// Adds the secret of these bytes; the error is out of memory and leaves the secrets as
-    /// they were.
-    #[tactic(auto, using(crate::proofs::Remembered::answers_stay))]
-    pub fn add(&mut self, alloc: Global, bytes: &[u8]) -> Result<(), AllocError>
-        ensures { AddsAllOrNone (bytes.now ∷ []) self.old self.new result }
-    {
-        let secret = Secret::new(alloc, bytes)?;
-        self.list.push(secret)?;
-        Ok(())
-    }
-
     /// Adds the secret of these bytes, which it keeps; the error is out of memory and leaves the
     /// secrets as they were.
     #[tactic(auto, using(crate::proofs::Remembered::answers_stay))]
@@ -73,13 +62,16 @@ impl Secrets {
     }
 
     /// The secrets in the order in which they were added.
-    pub fn as_slice(&self) -> &[Secret]
+    pub(crate) fn as_slice(&self) -> &[Secret]
         ensures { result.now ≡ self.now }
     {
         self.list.as_slice()
     }
 
-    /// Whether one of the secrets fits one of the maintainer's lines, which is remembered.
+    /// Whether the maintainer passes: some secret fits one of its lines, so that SHA-256 of the
+    /// salt and then the secret is the line's digest (profile; FIPS 180-4). The secrets stay as
+    /// they were. No clause says that the answer is remembered: no secret is hashed again for these
+    /// lines until memory runs out, or other lines come under the maintainer's name.
     pub(crate) fn fit(&mut self, maintainer: &Object) -> bool
         ensures { Tries (passes self.old maintainer.now) self.old self.new result }
     {

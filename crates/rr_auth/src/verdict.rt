@@ -9,7 +9,7 @@ pub enum Verdict {
     Add,
     /// The object takes the place of the stored one.
     Change,
-    /// The object has the text of the stored one: nothing is to be done.
+    /// The object has the paragraph of the stored one: nothing is to be done.
     Unchanged,
     /// The stored object is deleted.
     Delete,

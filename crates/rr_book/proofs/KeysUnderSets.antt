@@ -1,8 +1,5 @@
--- The keys under the names of sets, and the objects that they lead to.
--- The index is told as one Boolean for each name and key: whether the key stands there. It is long
--- because adding and taking back are loops over names, and each way to put or remove has its own
--- Boolean table. Ties of keys and the order of objects are given by hand. `SetIndex`,
--- `PlainBookKeeper` and rr_index's `Indexes` need it.
+-- The keys under the names of sets, and the objects that they lead to. It is long because adding
+-- and taking back are loops over names, each with its Boolean table. `SetIndex` needs it.
 use Rattle.std.proofs.Common.{◌≡◌, ◌<◌, ◌+◌, ◌&&◌, ◌||◌, length, map, take, T, ℕ, zero, suc, Bool}
 use Rattle.std.proofs.Common.{true, false, cond, not, List, [], ◌∷◌, get_or, IsTrue, Option, None}
 use Rattle.std.proofs.Common.{Some, refl, sym, ap, subst, ◌∙◌}
@@ -29,8 +26,7 @@ use Rattle.rr_object.specs.contracts.key.KeyOrd.TheImpl as derived
 use Rattle.rr_object.specs.declared.key.Key.{Key}
 use Rattle.rr_object.specs.KeyOrders.{key_cmp}
 use Rattle.rr_object.specs.Objects.{Obj}
-use Rattle.rr_book.proofs.Order.{book_others, book_put, empty_is_book, get_of_book, others_are_book}
-use Rattle.rr_book.proofs.Order.{put_is_book}
+use Rattle.rr_book.proofs.Order.{book_others, book_put, get_of_book, others_are_book, put_is_book}
 use Rattle.rr_book.proofs.Places.{T_parts, is_Less}
 use Rattle.rr_book.specs.Books.{IsBook, book_of, entry, put_in}
 use Rattle.rr_book.specs.SetIndexes.{IsIndexed, is_meant, stands_under}
@@ -544,16 +540,6 @@ module _ (os : List Obj) (old : Sets) (indexed : IsIndexed os old) where
   indexed_none after key sound is none = removed_so after key old sound is (λ n k.
       never (eq_by_cmp key_cmp key k) (stands_under old n k) (λ same. at_key n key k same
       ∙ ap (λ y. option_map_or (names_set n) y false) (sym none)))
-
--- nothing is indexed by no keys
-pub indexed_nothing : (os : List Obj) (sets : Sets) → os ≡ [] →
-    ((n : List ℕ) (k : Key) → stands_under sets n k ≡ false) → IsIndexed os sets
-indexed_nothing os sets none empty = subst (λ (xs : List Obj). IsIndexed xs sets) (sym none)
-    (record {
-      book = empty_is_book;
-      referrers = λ n k. empty n k ∙ ap (λ o. option_map_or (names_set n) o false)
-          (sym (get_of_book [] k refl));
-    })
 
 and_false : (b : Bool) → (b && false) ≡ false
 and_false true = refl

@@ -136,25 +136,7 @@ book_others k os e = same_map keys_total keys_exact _ _ (λ q.
     (sym (get-from_sorted key_cmp (map entry os) q (T_of e)))
     ∙ sym (get-remove keys_total (book_of os) k q))
 
--- no objects are a sound registry
-nothing : {A : Type 0} (x : A) → None ≡ Some x → ⊥
-nothing x e = cc
-
-pub empty_is_book : IsBook []
-empty_is_book =
-    let none : (k : Key) → get (book_of []) k ≡ None = λ k. get_of_book [] k refl in
-    let never : (k : Key) (o : Obj) → get (book_of []) k ≡ Some o → ⊥ = λ k o f.
-    nothing o (sym (none k) ∙ f) in
-    record {
-      ordered = refl;
-      sound = record {
-        keyed = λ k o f. absurd (never k o f);
-        formed = λ k o f. absurd (never k o f);
-        named = λ k o f. absurd (never k o f);
-        apart = λ k l o x f g. absurd (never k o f);
-      };
-    }
-
+-- no objects are the registry of none
 pub empty_book : book_of [] ≡ empty
 empty_book = same_map keys_total keys_exact _ _
     (λ q. get_of_book [] q refl ∙ sym (get-empty key_cmp q))

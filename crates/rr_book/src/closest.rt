@@ -10,8 +10,8 @@ ghost use Rattle.rr_book.specs.Private.{span_in};
 use rr_number::{Prefix, Span};
 use rr_object::{Class, Key, Object};
 
-/// The first closest object of the class to the span; none if the class has no spans. Only objects
-/// that cover the span are compared with the others.
+/// The first closest object of the class to the span; none if no object of it covers the span, as
+/// of a class without spans. Only objects that cover the span are compared with the others.
 pub(crate) fn closest<'a>(objects: &'a [Object], class: Class, span: Span) -> Option<&'a Object>
     ensures { option_copied result ≡ closest_of (span_in class) objects.now span }
 {
@@ -88,7 +88,7 @@ fn route_span(key: &Key) -> Option<Span>
     }
 }
 
-/// The prefix of the first closest route to the prefix.
+/// The prefix of the first closest route to the prefix; none if no route covers it.
 pub(crate) fn closest_routes(objects: &[Object], prefix: Prefix) -> Option<Prefix>
     ensures { result ≡ prefix_of_closest objects.now prefix }
 {

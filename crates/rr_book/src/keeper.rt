@@ -2,7 +2,7 @@
 //! `rr_registry` is kept in any book that does this, and `rr_answer` asks it for lists.
 
 ghost use Rattle.std.specs.Prelude.{◌≡◌, IfOk, OnOk, OnErr};
-ghost use Rattle.std.specs.FinMap.{empty, insert, remove, values};
+ghost use Rattle.std.specs.FinMap.{insert, remove, values};
 
 use rr_number::Span;
 use rr_object::{Key, Object};
@@ -15,10 +15,6 @@ pub trait Keeper: SetBook {
     ghost use Rattle.rr_book.specs.Books.{book_of, IsBook};
     ghost use Rattle.rr_book.specs.Listings.{covering, inside};
     ghost use Rattle.rr_sets.specs.Lists.{lent};
-
-    /// A book of no objects.
-    fn new(alloc: Global) -> Self
-        ensures { Self.contents result ≡ empty };
 
     /// The book of these objects. They must stand in the order of class and key, no two of them
     /// under one key, and their registry must be sound.

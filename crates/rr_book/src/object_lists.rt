@@ -1,6 +1,6 @@
 //! The list of a plain book, in the order of the objects' keys. An object is found, put in and
 //! taken out by its key, or found by the name of a mntner, in a binary search. What crosses a key,
-//! names a maintainer or originates a prefix is found by a scan.
+//! names a maintainer or originates a prefix is found by a scan. The indexed book asks `origin_at`.
 
 ghost use Rattle.std.specs.Prelude.{◌≡◌, ◌<◌, ◌≤◌, true, find, length};
 ghost use Rattle.std.specs.Prelude.{OnOk, OnErr, IfOk, IfErr, IsTrue};

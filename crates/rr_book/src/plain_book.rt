@@ -107,14 +107,6 @@ impl Book for PlainBook {
 }
 
 impl Keeper for PlainBook {
-    #[tactic(auto, using(crate::proofs::Order::empty_is_book, crate::proofs::Order::empty_book))]
-    fn new(alloc: Global) -> PlainBook {
-        PlainBook {
-            objects: Vec::new(alloc),
-            referrers: SetIndex::new(alloc),
-        }
-    }
-
     fn of(alloc: Global, objects: Vec<Object>) -> Result<PlainBook, AllocError> {
         let referrers = SetIndex::of(alloc, &objects)?;
         Ok(PlainBook { objects, referrers })

@@ -50,8 +50,8 @@ impl SetIndex {
         }
     }
 
-    /// Under each set the keys of exactly the objects that name it in their `member-of`. The error
-    /// is that memory ran out.
+    /// The index that has under each set the keys of exactly those of the objects that name it in
+    /// their `member-of`. The error is that memory ran out.
     pub fn of(alloc: Global, objects: &[Object]) -> Result<SetIndex, AllocError>
         ensures { IfOk result (λ referrers. (name : List ℕ) (key : Key)
             → stands_under referrers.keys name key ≡
@@ -255,8 +255,8 @@ fn sets_among(alloc: Global, names: &[SetName]) -> Result<BTreeSet<SetName>, All
     Ok(sets)
 }
 
-/// Those of the objects that have one of the keys, among objects in the order of their keys. The
-/// error is that memory ran out.
+/// Those of the objects that have one of the keys, in the order of the keys, which strictly rise.
+/// The objects stand in the order of theirs. The error is that memory ran out.
 pub(crate) fn objects_of<'a>(
     alloc: Global,
     objects: &'a [Object],

@@ -1,4 +1,5 @@
 //! Texts cut at a byte, as lines, keys, prefixes, names of sets and heads of requests are read.
+//! `rr_text` finds the ends of all lines by `place_of`, whose cost no contract states.
 
 ghost use Rattle.std.specs.Prelude.{◌≡◌, ◌==◌, ◌≤◌, length, position};
 ghost use Rattle.std.specs.List.{after_first, before_first, position_or_len};

@@ -1,4 +1,5 @@
-//! Texts in parts, and parts as one text: for lists, words of queries, and values of several lines.
+//! Texts in parts, and parts as one text: for lists, the words of queries, of keys and of `auth`,
+//! passwords, and values of several lines.
 
 ghost use Rattle.std.specs.Prelude.{◌≡◌, ◌<◌, ◌∷◌, [], IfNone, IfOk, IfSome};
 ghost use Rattle.std.specs.Prelude.{length, map, position};

@@ -1,4 +1,5 @@
-//! Texts less the blanks round them, as lines, names, values and ends of spans are read.
+//! Texts less the blanks round them, as lines, names, values, ends of spans and heads of requests
+//! are read.
 
 ghost use Rattle.std.specs.Prelude.{◌≡◌};
 ghost use Rattle.rr_bytes.specs.ByteSets.{is_in};

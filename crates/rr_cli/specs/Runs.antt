@@ -71,7 +71,8 @@ DoesAsInvoked by means invocation done =
     InvokesCommand by means invocation done ⊎ InvokesNothing invocation done
 
 -- the status of a program that ends so: a fault has its status, and its one line on standard error,
--- less its end if a write fails. Without a fault nothing is written there (profile).
+-- which shows legibly what it is about, less its end if a write fails. Without a fault nothing is
+-- written there (profile).
 abbrev pub EndsRun : ProgramEnd → Told → Told → ℕ → Type 0
 EndsRun (Ok given) errors_old errors_new status = (status ≡ given) × (errors_new ≡ errors_old)
 EndsRun (Err fault) errors_old errors_new status = (status ≡ trouble_status fault.trouble)

@@ -27,12 +27,16 @@ use std::io::{ErrorKind, Read};
 const ERROR: u8 = 1;
 
 /// Asks the registry that the settings name for its root maintainer, and prints the reply. It asks
-/// by whois, over a connection to a listener of its own, of which it takes one turn. The status is
-/// 0, or 1 if the reply is an error. The fault is why there are no settings, no desk, no listener
-/// or no reply, and then nothing is printed; or that the reply was not printed whole. There is no
-/// reply if nobody could ask, if the turn or a read failed, if none was given or told, or if memory
-/// ran out. Whose connection the turn serves, no clause says. It leaves the settings as they are.
-/// Until a fault of the store stops the desk, its rows are those of its registry.
+/// by whois, over a connection to a listener of its own on any free port, of which it takes one
+/// turn. The status is 0, or 1 if the reply is an error. The fault is why there are no settings, no
+/// desk (as `open_desk` of `rr_commands` tells it), no listener or no reply, and then nothing is
+/// printed; or that the reply was not printed whole. There is no reply if nobody could ask, if the
+/// turn or a read failed, if none was given or told, or if memory ran out. Whose connection the
+/// turn serves, no clause says.
+///
+/// Where there is no database, none is made. Without a listener, or if nobody could ask, the desk
+/// stays as it is. After a turn its settings are as they were, its database lasts, and until a
+/// fault of the store stops it, its rows are those of its registry.
 pub fn probe<'a, D: Databases, F: Files, N: Network, W: Output>(
     host: &mut Host<'_, D, W>,
     files: &F,

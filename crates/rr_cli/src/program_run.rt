@@ -39,6 +39,7 @@ pub struct Streams<R, E> {
 
 /// Does what the arguments ask for, the first of which is the program's own name, and gives the
 /// status. It is 0 if that is done, and 1 if an item was refused or an answer was an error.
+/// A command without settings uses no database, and the plain command alone reads standard input.
 /// Arguments that ask for no command, or for which memory runs out, are a fault: then no database,
 /// standard input or standard output is used.
 ///

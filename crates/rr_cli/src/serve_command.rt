@@ -1,4 +1,5 @@
-//! `irrdesk serve`: serving connections, of a registry in a database.
+//! `irrdesk serve`: serving connections, of a registry in a database. The tool `irr` waits for the
+//! line that begins with `listening`, and connects then.
 
 ghost use Rattle.std.specs.Prelude.{◌≡◌, ◌+◌, ◌<◌, ◌^◌, IfErr, IfOk, string_bytes};
 ghost use Rattle.rr_io.specs.Sending.{Writes};
@@ -37,11 +38,15 @@ pub struct Listening {
 /// Takes so many turns of a listener on this port of 127.0.0.1, and serves each connection by whois
 /// and HTTP, from the registry that the settings name. Prints where it listens, and at the end how
 /// many turns were served and how many failed. The status is 0. The fault is why there are no
-/// settings, no desk or no listener, or that a line was not printed whole. If no turn was served
-/// and no connection could be accepted in the last one, that is the fault; clauses say so where
-/// turns are told. Trouble with the listener shows its address. The settings stay, and until a
-/// fault of the store stops the desk, its rows are those of its registry. If the database fails
-/// meanwhile, that is said once on standard error, of which no clause speaks.
+/// settings, no desk (as `open_desk` of `rr_commands` tells it) or no listener, or that a line was
+/// not printed whole. If both lines were, but no turn was served and no connection accepted in the
+/// last one, that is the fault; clauses say so where turns are told. Trouble with the listener
+/// shows its address, unless memory runs out.
+///
+/// Where there is no database, none is made. Without a listener, or if where it listens is not
+/// printed whole, no turn is taken, and the desk stays as it is. The settings of the desk stay, its
+/// database lasts, and until a fault of the store stops it, its rows are those of its registry. If
+/// the database fails meanwhile, that is said once on standard error, of which no clause speaks.
 pub fn serve<'a, D: Databases, F: Files, N: Network, W: Output>(
     host: &mut Host<'_, D, W>,
     files: &F,

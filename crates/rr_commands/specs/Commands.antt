@@ -62,12 +62,14 @@ EndsAs (Err trouble) (Ok ended) = ⊥
 abbrev pub cause_of : Error → Cause
 cause_of error = system_cause (error_kind error) (raw_os_error error)
 
--- what is told of settings that cannot be read for this cause (profile)
+-- what is told of settings that cannot be read: that memory ran out if it is that, and else this
+-- cause (profile)
 abbrev pub unread_trouble : Cause → Trouble
 unread_trouble cause.Memory = trouble.Memory
 unread_trouble cause = trouble.SettingsUnread cause
 
--- what is told of a file that cannot be opened for this cause (profile)
+-- what is told of a file that cannot be opened: that memory ran out if it is that, and else this
+-- cause (profile)
 abbrev pub unopened_trouble : Cause → Trouble
 unopened_trouble cause.Memory = trouble.Memory
 unopened_trouble cause = trouble.FileUnopened cause
@@ -85,8 +87,8 @@ pub record RefusesFile (files : FileCalls) (file : List ℕ) (trouble : Trouble)
   pub read : ReadsFile files file text
   pub why : AreNoSettings text trouble
 
--- the file at this path was opened, and was closed after a read that failed, or memory ran out
--- (profile)
+-- the file at this path was opened, and was closed after a read that failed, or the error is that
+-- memory ran out (profile)
 pub record BreaksFile (files : FileCalls) (file : List ℕ) (error : Error) : Type 0 where
   pub given : Option (List ℕ)
   pub opened : files.opens file (Ok given)
@@ -192,7 +194,7 @@ OpensNoDesk by names start end trouble =
     IsNotGiven by.databases names.path Refused start end trouble
     ⊎ IsRefused by names start end trouble
 
--- nothing was done but what this says of the trouble, and nothing was printed (profile)
+-- a command ended by trouble of which this is true, and printed nothing (profile)
 pub record FailsSilently {X : Type 0} (why : Trouble → Type 0) (done : Deed X CommandEnd)
     : Type 0 where
   pub trouble : Trouble

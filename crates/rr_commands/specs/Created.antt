@@ -21,16 +21,17 @@ abbrev pub created_line : List ℕ
 created_line = codes "created 4 objects\n"
 
 module _ {S : Type 0} (g : Ghosts S) (settings : SettingsParts) where
-  -- no registry was made, and the fault says why: what there was stands, and a stop of the process
-  -- may still leave the tables that were to be made. Nothing was printed (profile)
+  -- no registry was made, and the fault says why. What there was stands while the connection is
+  -- open, and a stop of the process may still leave the tables that were to be made. Nothing was
+  -- printed (profile)
   pub record IsUncreated (done : Deed (Held S) CommandEnd) : Type 0 where
     pub fault : CreateFault
     pub told : done.ended ≡ Err (Creating fault)
     pub fails : FailsToMakeTables g (HasOpeningRows settings) done.before.has done.after.has fault
     pub silent : done.after.output ≡ done.before.output
 
-  -- the registry that opens with the settings was made, and the connection is given back; the line
-  -- that says so was printed, or not whole (profile)
+  -- the registry that opens with the settings was made, at a desk that runs with them, and the
+  -- connection is given back. The line that says so was printed, or not whole (profile)
   pub record IsCreated (done : Deed (Held S) CommandEnd) : Type 0 where
     pub desk : Desk S
     pub runs : IsRunning g settings desk

@@ -84,7 +84,7 @@ pub record ShowsFile (file : List ℕ) (fault : ProgramFault) : Type 0 where
   pub names : NamesPath file found text
   pub shows : ShowsOnLine (place_on_line place.File text []) fault
 
--- a fault of what a file has shows the file, and may show where in it (profile)
+-- a fault with trouble that is about a file shows this file, and may show where in it (profile)
 abbrev pub IsInFile : List ℕ → ProgramFault → Type 0
 IsInFile file fault = (place_of fault.trouble ≡ place.File) × ShowsFile file fault
 

@@ -11,6 +11,7 @@ use Rattle.rr_desk.specs.Opened.{IsRunning, MakesTables}
 use Rattle.rr_desk.specs.Settings.{SettingsParts}
 use Rattle.rr_desk.specs.declared.desk.Desk.{Desk}
 use Rattle.rr_desk.specs.declared.loading.DeskLoadFault.{DeskLoadFault}
+use Rattle.rr_desk.specs.declared.loading.DeskLoadFault.TheVariants.{Unread, Untaken, Unmade}
 use Rattle.rr_commands.specs.Commands.{Act, ActsBySettings, CommandEnd, FailsSilently}
 use Rattle.rr_commands.specs.Commands.{InDatabase, IsUnopenedFile, ProgramEnd}
 use Rattle.rr_commands.specs.Faults.{IsAboutDump}
@@ -18,7 +19,15 @@ use Rattle.rr_commands.specs.Files.{FileCalls}
 use Rattle.rr_commands.specs.Printed.{Tells}
 use Rattle.rr_commands.specs.Worlds.{Deed, Ports}
 use Rattle.rr_commands.specs.declared.registry_databases.Absent.TheVariants.{Made}
-use Rattle.rr_commands.specs.declared.trouble.Trouble.TheVariants.{Loading}
+use Rattle.rr_commands.specs.declared.trouble.Trouble.{Trouble}
+use Rattle.rr_commands.specs.declared.trouble.Trouble.TheVariants.{Creating, DumpUnread}
+use Rattle.rr_commands.specs.declared.trouble.Trouble.TheVariants.{DumpUntaken}
+
+-- what is told of a dump that was not loaded (profile)
+abbrev pub loading_trouble : DeskLoadFault → Trouble
+loading_trouble (Unread fault) = DumpUnread fault
+loading_trouble (Untaken fault) = DumpUntaken fault
+loading_trouble (Unmade fault) = Creating fault
 
 -- the line that says how many objects were loaded (profile)
 abbrev pub loaded_line : ℕ → List ℕ
@@ -35,16 +44,16 @@ TellsLoaded count old new ended =
     Tells (loaded_line count) old new ended ⊎ Tells uncounted_line old new ended
 
 module _ {S : Type 0} (g : Ghosts S) (settings : SettingsParts) (reader_old reader_new : Told) where
-  -- no registry was made of what was read, and nothing was printed (profile)
+  -- no registry was made of what was read, the fault says why, and nothing was printed (profile)
   pub record IsUnloaded (done : Deed (Held S) CommandEnd) : Type 0 where
     pub fault : DeskLoadFault
-    pub told : done.ended ≡ Err (Loading fault)
+    pub told : done.ended ≡ Err (loading_trouble fault)
     pub fails : FailsToLoadTables g settings.source reader_old reader_new
         done.before.has done.after.has fault
     pub silent : done.after.output ≡ done.before.output
 
-  -- a dump was read to its end, its registry was made, and the connection is given back; the line
-  -- that says so was printed, or not whole (profile)
+  -- a dump was read to its end, its registry was made, at a desk that runs with the settings, and
+  -- the connection is given back. The line that says so was printed, or not whole (profile)
   pub record HasLoaded (done : Deed (Held S) CommandEnd) : Type 0 where
     pub desk : Desk S
     pub runs : IsRunning g settings desk

@@ -24,7 +24,7 @@ abbrev pub migrated_line : List ℕ
 migrated_line = codes "migrated to version 2\n"
 
 module _ {S : Type 0} (g : Ghosts S) (settings : SettingsParts) where
-  -- the tables were not migrated, and nothing was printed (profile)
+  -- the tables were not migrated, the fault says why, and nothing was printed (profile)
   pub record IsUnmigrated (done : Deed (Held S) CommandEnd) : Type 0 where
     pub fault : MigrateFault
     pub told : done.ended ≡ Err (Migrating fault)
@@ -32,8 +32,8 @@ module _ {S : Type 0} (g : Ghosts S) (settings : SettingsParts) where
     pub silent : done.after.output ≡ done.before.output
 
   -- the rows of a registry of version 1 were made those of version 2, with the block of the other
-  -- AS numbers, and the line that says so was written, or could not be written whole (RFC 6793;
-  -- profile)
+  -- AS numbers, at a desk that runs with the settings. The connection is given back, and the line
+  -- that says so was written, or could not be written whole (RFC 6793; profile)
   pub record HasMigrated (done : Deed (Held S) CommandEnd) : Type 0 where
     pub desk : Desk S
     pub runs : IsRunning g settings desk

@@ -43,23 +43,24 @@ pub record HasSubmitted {S : Type 0} (g : Ghosts S) (reader_old reader_new : Tol
   pub told : done.ended ≡ submission_end result (stop_cause done.after.has.stored.cause)
   pub leaves : LeavesDesk g done.before.has done.after.has result
 
--- what went wrong without arguments: a database in memory fails only because memory ran out
--- (profile)
+-- what is told of trouble without arguments: a database in memory fails only because memory ran
+-- out, so that is told of its faults (profile)
 abbrev pub plain_trouble : Trouble → Trouble
 plain_trouble (Creating fault) = Memory
 plain_trouble (Submission (desk.StoreFault items) cause) = Memory
 plain_trouble (Submission desk.Stopped cause) = Memory
 plain_trouble trouble = trouble
 
--- there is no desk, because memory ran out, and nothing was read or printed (profile)
+-- there is no desk, by trouble that is told as lack of memory, and nothing was read or printed
+-- (profile)
 pub record HasNoDesk (done : Deed Told CommandEnd) : Type 0 where
   pub trouble : Trouble
   pub told : done.ended ≡ Err trouble
   pub cause : plain_trouble trouble ≡ Memory
   pub unread : done.after ≡ done.before
 
--- a submission was made to a registry with the opening objects of the built-in settings and no
--- others (profile)
+-- a submission was made to a desk with the built-in settings, whose registry had their opening
+-- objects and no others (profile)
 pub record HasSubmittedPlain {S : Type 0} (g : Ghosts S) (done : Deed Told CommandEnd)
     : Type 0 where
   pub before : Desk S

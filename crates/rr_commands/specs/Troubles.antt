@@ -1,13 +1,13 @@
 -- What goes wrong, the status that it ends the program with, and what it is about, for the
 -- contracts of `Trouble` (profile).
 use Rattle.std.specs.Prelude.{ℕ, List, [], Option, None, Some}
+use Rattle.rr_registry.specs.declared.load.LoadFault.TheVariants as list
 use Rattle.rr_store.specs.declared.store_fault.CreateFault.TheVariants as creating
 use Rattle.rr_store.specs.declared.store_fault.MigrateFault.TheVariants as migrating
 use Rattle.rr_store.specs.declared.store_fault.OpenFault.TheVariants as opening
 use Rattle.rr_submission.specs.declared.submission.DeskFault.TheVariants as desk
 use Rattle.rr_desk.specs.declared.desk_dumping.DeskDumpFault.TheVariants as dumping
-use Rattle.rr_desk.specs.declared.loading.DeskLoadFault.{DeskLoadFault}
-use Rattle.rr_desk.specs.declared.loading.DeskLoadFault.TheVariants as loading
+use Rattle.rr_desk.specs.declared.dump_read_fault.DumpReadFault.TheVariants as dump
 use Rattle.rr_commands.specs.Causes.{cause_text, database_cause_text}
 use Rattle.rr_commands.specs.declared.cause.Cause.{Cause}
 use Rattle.rr_commands.specs.declared.cause.Cause.TheVariants as cause
@@ -24,8 +24,10 @@ ends_with status place = record { status = status; place = place }
 
 -- how the program ends by each trouble: what its line is about, and its status. The status is 2 at
 -- wrong arguments, and 3 at wrong settings. It is 4 at trouble with the database, also if SQLite
--- lacks memory once it is open, or at a stopped desk. It is else 5, also if other memory ran out
--- (profile).
+-- lacks memory once it is open, or at a stopped desk. It is else 5, also if other memory ran out.
+-- The line is about the database at status 4, and if memory ran out as that or its registry was
+-- opened. It is about the settings file at status 3, about another file at trouble with that or
+-- with what it has, about standard output if a write failed, and else about nothing (profile).
 abbrev pub trouble_end : Trouble → Ending
 trouble_end trouble.BadArguments = ends_with 2 place.Nothing
 trouble_end trouble.BadPort = ends_with 2 place.Nothing
@@ -69,16 +71,10 @@ trouble_end (trouble.Submission desk.Stopped cause) = ends_with 4 place.Database
 trouble_end (trouble.Dumping dumping.Write) = ends_with 5 place.Output
 trouble_end (trouble.Dumping dumping.Memory) = ends_with 5 place.Nothing
 trouble_end (trouble.Dumping dumping.Stopped) = ends_with 4 place.Database
-trouble_end (trouble.Loading loading.NotEmpty) = ends_with 4 place.Database
-trouble_end (trouble.Loading loading.Read) = ends_with 5 place.File
-trouble_end (trouble.Loading loading.Endless) = ends_with 5 place.File
-trouble_end (trouble.Loading (loading.Text number)) = ends_with 5 place.File
-trouble_end (trouble.Loading (loading.Object number code)) = ends_with 5 place.File
-trouble_end (trouble.Loading (loading.Duplicate number)) = ends_with 5 place.File
-trouble_end (trouble.Loading (loading.Overlap number)) = ends_with 5 place.File
-trouble_end (trouble.Loading (loading.Unnamed number)) = ends_with 5 place.File
-trouble_end (trouble.Loading (loading.Store error)) = ends_with 4 place.Database
-trouble_end (trouble.Loading loading.Memory) = ends_with 5 place.Nothing
+trouble_end (trouble.DumpUnread dump.Memory) = ends_with 5 place.Nothing
+trouble_end (trouble.DumpUnread fault) = ends_with 5 place.File
+trouble_end (trouble.DumpUntaken list.Memory) = ends_with 5 place.Nothing
+trouble_end (trouble.DumpUntaken fault) = ends_with 5 place.File
 trouble_end (trouble.Migrating (migrating.WrongVersion version)) = ends_with 4 place.Database
 trouble_end (trouble.Migrating migrating.BadRow) = ends_with 4 place.Database
 trouble_end (trouble.Migrating migrating.NoRoot) = ends_with 4 place.Database
@@ -99,13 +95,13 @@ abbrev pub place_of : Trouble → Place
 place_of trouble = (trouble_end trouble).place
 
 -- the paragraph of a dump, from 1, that is the matter (profile)
-abbrev pub paragraph_of : DeskLoadFault → Option ℕ
-paragraph_of (loading.Text number) = Some number
-paragraph_of (loading.Object number code) = Some number
-paragraph_of (loading.Duplicate number) = Some number
-paragraph_of (loading.Overlap number) = Some number
-paragraph_of (loading.Unnamed number) = Some number
-paragraph_of _ = None
+abbrev pub paragraph_in : Trouble → Option ℕ
+paragraph_in (trouble.DumpUnread (dump.Text number)) = Some number
+paragraph_in (trouble.DumpUnread (dump.Object number code)) = Some number
+paragraph_in (trouble.DumpUntaken (list.Duplicate number)) = Some number
+paragraph_in (trouble.DumpUntaken (list.Overlap number)) = Some number
+paragraph_in (trouble.DumpUntaken (list.Unnamed number)) = Some number
+paragraph_in _ = None
 
 -- the cause that the system gave, if it gave one: `stream` is that of reading or printing (profile)
 abbrev pub trouble_cause : Trouble → Cause → Option Cause
@@ -119,7 +115,7 @@ trouble_cause trouble.Unwritten stream = Some stream
 trouble_cause (trouble.Dumping dumping.Write) stream = Some stream
 trouble_cause (trouble.Submission (desk.ReadFault items) cause) stream = Some stream
 trouble_cause (trouble.Submission (desk.WriteFault items) cause) stream = Some stream
-trouble_cause (trouble.Loading loading.Read) stream = Some stream
+trouble_cause (trouble.DumpUnread dump.Read) stream = Some stream
 trouble_cause _ stream = None
 
 -- a cause in words, or nothing: why the database failed in a submission or while it was served,
@@ -135,13 +131,9 @@ abbrev pub trouble_number : Trouble → Option ℕ
 trouble_number (trouble.SettingsNotToml line) = Some line
 trouble_number (trouble.Opening (opening.WrongVersion version)) = Some version
 trouble_number (trouble.Migrating (migrating.WrongVersion version)) = Some version
-trouble_number (trouble.Loading fault) = paragraph_of fault
+trouble_number (trouble.DumpUnread fault) = paragraph_in (trouble.DumpUnread fault)
+trouble_number (trouble.DumpUntaken fault) = paragraph_in (trouble.DumpUntaken fault)
 trouble_number (trouble.Submission (desk.ReadFault items) cause) = Some items
 trouble_number (trouble.Submission (desk.WriteFault items) cause) = Some items
 trouble_number (trouble.Submission (desk.StoreFault items) cause) = Some items
 trouble_number _ = None
-
--- the paragraph of a dump, from 1, that is the matter (profile)
-abbrev pub paragraph_in : Trouble → Option ℕ
-paragraph_in (trouble.Loading fault) = paragraph_of fault
-paragraph_in _ = None

@@ -4,6 +4,7 @@ use Rattle.std.specs.Prelude.{ℕ, ◌==◌, nat_lt, List, [], ◌++◌, codes, 
 use Rattle.sqlite.specs.declared.error.Error.{Error}
 use Rattle.rr_object.specs.declared.code.Code.{Code}
 use Rattle.rr_object.specs.declared.code.Code.TheVariants.{E02, E03, E04, E05, E06}
+use Rattle.rr_registry.specs.declared.load.LoadFault.TheVariants as list
 use Rattle.rr_store.specs.declared.store_fault.CreateFault.{CreateFault}
 use Rattle.rr_store.specs.declared.store_fault.CreateFault.TheVariants as creating
 use Rattle.rr_store.specs.declared.store_fault.MigrateFault.{MigrateFault}
@@ -15,8 +16,7 @@ use Rattle.rr_submission.specs.declared.submission.DeskFault.{DeskFault}
 use Rattle.rr_submission.specs.declared.submission.DeskFault.TheVariants as desk
 use Rattle.rr_desk.specs.declared.desk_dumping.DeskDumpFault.{DeskDumpFault}
 use Rattle.rr_desk.specs.declared.desk_dumping.DeskDumpFault.TheVariants as dumping
-use Rattle.rr_desk.specs.declared.loading.DeskLoadFault.{DeskLoadFault}
-use Rattle.rr_desk.specs.declared.loading.DeskLoadFault.TheVariants as loading
+use Rattle.rr_desk.specs.declared.dump_read_fault.DumpReadFault.TheVariants as dump
 use Rattle.rr_commands.specs.Causes.{database_cause, database_cause_text, text_or}
 use Rattle.rr_commands.specs.declared.settings_file.SettingKey.{SettingKey}
 use Rattle.rr_commands.specs.declared.settings_file.SettingKey.TheVariants as key
@@ -26,15 +26,6 @@ use Rattle.rr_commands.specs.declared.trouble.Trouble.TheVariants as trouble
 -- the words for memory that ran out (profile)
 abbrev pub out_of_memory : List ℕ
 out_of_memory = codes "out of memory: give the program more"
-
--- the words for a registry that is to be made where one is (profile)
-abbrev pub not_empty : List ℕ
-not_empty = codes "the database has a registry already: take a new one"
-
--- the words for tables that the database refused, if its cause tells no more (profile)
-abbrev pub no_tables_made : List ℕ
-no_tables_made =
-    codes "the database has other tables, or refuses those of a registry: take a new one"
 
 -- the words for tables of another version, before its number (profile)
 abbrev pub of_version : List ℕ
@@ -64,8 +55,9 @@ refused_words error words = text_or (database_cause error) words
 
 -- the words for a registry that was not made (profile)
 abbrev pub creating_words : CreateFault → List ℕ
-creating_words creating.NotEmpty = not_empty
-creating_words (creating.Store error) = refused_words error no_tables_made
+creating_words creating.NotEmpty = codes "the database has a registry already: take a new one"
+creating_words (creating.Store error) = refused_words error
+    (codes "the database has other tables, or refuses those of a registry: take a new one")
 creating_words creating.Memory = out_of_memory
 
 -- the words for a registry that was not opened (profile)
@@ -96,21 +88,6 @@ dumping_words dumping.Write = codes "the dump is not whole, so dump again: "
 dumping_words dumping.Memory =
     codes "out of memory, and the dump is not whole: give the program more, and dump again"
 dumping_words dumping.Stopped = stopped
-
--- the words for a dump that was not loaded (profile)
-abbrev pub loading_words : DeskLoadFault → List ℕ
-loading_words loading.NotEmpty = not_empty
-loading_words loading.Read =
-    codes "the dump could not be read to its end, and nothing is loaded: "
-loading_words loading.Endless =
-    codes "the dump has no end within 16777216 reads: name a whole dump"
-loading_words (loading.Text number) = codes "nothing is loaded, because paragraph "
-loading_words (loading.Object number code) = codes "nothing is loaded, because paragraph "
-loading_words (loading.Duplicate number) = codes "nothing is loaded, because paragraph "
-loading_words (loading.Overlap number) = codes "nothing is loaded, because paragraph "
-loading_words (loading.Unnamed number) = codes "nothing is loaded, because paragraph "
-loading_words (loading.Store error) = refused_words error no_tables_made
-loading_words loading.Memory = out_of_memory
 
 -- the words for tables that were not migrated (profile)
 abbrev pub migrating_words : MigrateFault → List ℕ
@@ -178,7 +155,14 @@ before_cause trouble.Obstacle =
 before_cause (trouble.FileUnopened cause) = codes "the file cannot be opened: "
 before_cause (trouble.Submission fault cause) = submission_words fault
 before_cause (trouble.Dumping fault) = dumping_words fault
-before_cause (trouble.Loading fault) = loading_words fault
+before_cause (trouble.DumpUnread dump.Read) =
+    codes "the dump could not be read to its end, and nothing is loaded: "
+before_cause (trouble.DumpUnread dump.Endless) =
+    codes "the dump has no end within 16777216 reads: name a whole dump"
+before_cause (trouble.DumpUnread dump.Memory) = out_of_memory
+before_cause (trouble.DumpUnread fault) = codes "nothing is loaded, because paragraph "
+before_cause (trouble.DumpUntaken list.Memory) = out_of_memory
+before_cause (trouble.DumpUntaken fault) = codes "nothing is loaded, because paragraph "
 before_cause (trouble.Migrating fault) = migrating_words fault
 before_cause (trouble.ListenerUnopened cause) = codes "it cannot listen: "
 before_cause (trouble.Unaccepted cause) = codes "no connection could be accepted: "
@@ -233,21 +217,17 @@ reason E06 =
     codes " is not an object: E06, its `source` is not that of the settings: let both be the same"
 reason _ = []
 
--- what is the matter with a paragraph of a dump, after its number (profile)
-abbrev pub after_paragraph : DeskLoadFault → List ℕ
-after_paragraph (loading.Text number) = codes " is not RPSL, or over 65536 bytes: mend it"
-after_paragraph (loading.Object number code) = reason code
-after_paragraph (loading.Duplicate number) =
-    codes " has the key of one before it: take one of the two out"
-after_paragraph (loading.Overlap number) =
-    codes " has a range that overlaps one before it: mend one of the two"
-after_paragraph (loading.Unnamed number) =
-    codes " names a maintainer who is not in the dump: add its mntner, or take the name out"
-after_paragraph _ = []
-
 -- the words after the number (profile)
 abbrev pub after_number : Trouble → List ℕ
 after_number (trouble.Opening (opening.WrongVersion version)) = after_opened version
 after_number (trouble.Migrating (migrating.WrongVersion version)) = after_migrated version
-after_number (trouble.Loading fault) = after_paragraph fault
+after_number (trouble.DumpUnread (dump.Text number)) =
+    codes " is not RPSL, or over 65536 bytes: mend it"
+after_number (trouble.DumpUnread (dump.Object number code)) = reason code
+after_number (trouble.DumpUntaken (list.Duplicate number)) =
+    codes " has the key of one before it: take one of the two out"
+after_number (trouble.DumpUntaken (list.Overlap number)) =
+    codes " has a range that overlaps one before it: mend one of the two"
+after_number (trouble.DumpUntaken (list.Unnamed number)) =
+    codes " names a maintainer who is not in the dump: add its mntner, or take the name out"
 after_number _ = []

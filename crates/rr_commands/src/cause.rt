@@ -1,5 +1,5 @@
-//! Why a file, a socket or a database could not be used, in words of the program's own: for
-//! `trouble`, whose line `command_fault` writes, and for `rr_cli`.
+//! Why a file, a socket or a database could not be used, in words of the program's own: commands
+//! and `rr_cli` put it into a trouble or a fault, and `command_fault` writes it.
 
 ghost use Rattle.std.specs.Prelude.{◌≡◌, Option};
 ghost use Rattle.std.specs.IoError.{error_kind, raw_os_error};
@@ -98,7 +98,7 @@ pub enum Cause {
 
 impl Cause {
     /// The cause of an error of the system, by its kind, and by its number where the kind tells
-    /// none, or only that input does not fit (profile).
+    /// none, or only that input does not fit; without a number the latter is `BadName` (profile).
     pub fn of(error: &io::Error) -> Cause
         ensures { result ≡ system_cause (error_kind error.now) (raw_os_error error.now) }
     {

@@ -54,8 +54,8 @@ impl<'a> ProgramFault<'a> {
         }
     }
 
-    /// A fault that is about a word, or about a file that it names, with `Unnumbered` for why
-    /// reading failed.
+    /// A fault with this trouble that is about a word, or about a file that it names. It has
+    /// `Unnumbered` for why reading or printing failed.
     pub fn of(word: &'a str, trouble: Trouble) -> ProgramFault<'a>
         ensures { result ≡ fault_about (abouts.Word word.entry) trouble Cause.Unnumbered }
     {
@@ -66,8 +66,8 @@ impl<'a> ProgramFault<'a> {
         }
     }
 
-    /// A fault of a file that a word names, with this trouble; `stream` is why reading failed, if
-    /// it is that.
+    /// A fault with this trouble that is about a file, which a word names. It keeps `stream`: why
+    /// reading failed, if it is that.
     pub fn of_file(word: &'a str, trouble: Trouble, stream: Cause) -> ProgramFault<'a>
         ensures { result ≡ fault_about (abouts.Word word.entry) trouble stream }
     {
@@ -78,8 +78,9 @@ impl<'a> ProgramFault<'a> {
         }
     }
 
-    /// A fault that is about what has this name, with `Unnumbered` for why reading failed. The name
-    /// is to be as a line shows it: `legible` leaves it as it is.
+    /// A fault with this trouble that is about what has this name. It has `Unnumbered` for why
+    /// reading or printing failed. The name is to be as a line shows it, which no clause asks:
+    /// `legible` leaves it as it is.
     pub fn named(name: String, trouble: Trouble) -> ProgramFault<'a>
         ensures { result ≡ fault_about (abouts.Named name) trouble Cause.Unnumbered }
     {
@@ -90,7 +91,8 @@ impl<'a> ProgramFault<'a> {
         }
     }
 
-    /// A fault of standard output, which took no more for this cause.
+    /// A fault with this trouble, whose line names standard output. It keeps `stream`: why that
+    /// took no more.
     pub fn of_output(trouble: Trouble, stream: Cause) -> ProgramFault<'a>
         ensures shows { IsFaultOf trouble (ShowsOnLine (place_on_line place.Output [] [])) result }
         ensures stream { result.stream ≡ stream }
@@ -151,8 +153,8 @@ impl<'a> ProgramFault<'a> {
         }
     }
 
-    /// Says the fault in one line on standard error, less its end if a write fails. Gives the
-    /// status of its trouble, which a failed write does not change.
+    /// Says the fault in one line to `errors`, as standard error: all of it or, if a write fails,
+    /// its beginning and not all. Gives the status of its trouble in either case.
     pub fn tell<E: Sink>(self, errors: &mut E) -> u8
         ensures says { TakesSome (E.told errors.old) (E.told errors.new)
             (fault_line self.entry.about self.entry.trouble self.entry.stream) }

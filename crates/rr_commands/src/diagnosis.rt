@@ -41,9 +41,9 @@ const OBJECTS: &str = "SELECT class, okey, body FROM object ORDER BY class, okey
 const NAMES_ALONE: &str = "SELECT class, okey FROM named EXCEPT SELECT class, okey FROM object \
     ORDER BY class, okey LIMIT 1";
 
-/// What is the matter with a database whose registry was not opened for this reason. If a row of an
-/// object is, its class and key are put into `found`, if another row is, its table, and if it is
-/// what was added to a table, that. Its rows are looked at if a copy of the source was made.
+/// What is the matter with a database whose registry was not opened for this reason. Where that is
+/// to be seen is added to `found`: the class and key of a row, a table, or what was added to one.
+/// Its rows are looked at if a copy of the source was made.
 #[tactic(auto, using(crate::proofs::FoundLemmas::tables_unopened))]
 pub(crate) fn trouble_with<S: Alter>(
     alloc: Global,
@@ -312,7 +312,7 @@ fn judge_rows<S: Alter>(
             push_meta(found);
             return Some(keys_beside(wanted.version));
         }
-        // Without memory for the row, the message names the database alone.
+        // Without memory, the message has a part of the row, or names the database alone.
         let _ = push_row(found, row);
         return Some(Trouble::BadObject);
     }
@@ -373,7 +373,7 @@ fn judge_names<S: Alter>(conn: &mut IdleConnection<S>, found: &mut String) -> Tr
 {
     if let Ok(rows) = conn.ask(NAMES_ALONE) {
         if let Some(row) = rows.as_slice().first() {
-            // Without memory for the row, the message names the database alone.
+            // Without memory, the message has a part of the row, or names the database alone.
             let _ = push_row(found, row);
             return Trouble::NoObject;
         }

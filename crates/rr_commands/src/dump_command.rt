@@ -20,9 +20,10 @@ use sqlite::Alter;
 use std::alloc::Global;
 
 /// Prints the dump of the registry that the settings name, with all of each object if it is to be
-/// full, and else with their public forms. The status is 0. The fault is why there are no settings
-/// or no desk, and then nothing is printed. Or it is that a write failed or memory ran out, and the
-/// beginning of the dump is printed, not all.
+/// full, and else with their public forms. The status is 0. The desk stays as it was, and a
+/// missing database is not made. The fault is why there are no settings or no desk, the latter as
+/// [`open_desk`] tells it, and then nothing is printed. Or it is that a write failed or memory ran
+/// out, and the beginning of the dump is printed, not all.
 pub fn dump<'a, D: Databases, F: Files, W: Output>(
     host: &mut Host<'_, D, W>,
     files: &F,

@@ -1,5 +1,6 @@
 //! Standard error, for what is not a result: how far a command is, a hint, and why a database
-//! failed. `rr_cli` makes it, and `meter` and `progress` draw on it.
+//! failed. `rr_cli` makes it and writes to it, as `meter` and `progress` do. Without a terminal
+//! only the last is written: the tool `irr` takes all that stands there for the line of a fault.
 
 use rr_io::Counted;
 use std::io::{IsTerminal, Stderr, Write};

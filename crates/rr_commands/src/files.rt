@@ -32,7 +32,8 @@ pub trait Files {
     /// for a message, and no clause says which.
     fn is_kept(&self, path: &str) -> bool;
 
-    /// Closes a file that was opened at a path, with its failed reads counted.
+    /// Closes a file that was opened at a path. `calls` says what is true then, by the count of its
+    /// failed reads.
     fn close(&self, path: &str, file: Counted<Self::File>)
         ensures { (calls self.now).closes path.now (counted_failed_reads file) };
 }
@@ -93,7 +94,8 @@ pub(crate) fn open_file<F: Files>(files: &F, path: &str) -> Result<F::File, Trou
     }
 }
 
-/// What is told of a file that cannot be opened for this cause.
+/// What is told of a file that cannot be opened: that memory ran out if it is that, and else this
+/// cause.
 fn unopened_trouble(cause: Cause) -> Trouble
     ensures { result ≡ unopened_trouble cause }
 {

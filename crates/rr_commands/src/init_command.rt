@@ -18,9 +18,10 @@ use sqlite::Alter;
 use std::alloc::Global;
 
 /// Makes the registry that opens with the settings of a file, in the database that they name, and
-/// says so; a missing database is made. The status is 0. The fault is why there are no settings, no
-/// database or no registry, and then nothing is printed. Or it is that the line was not printed
-/// whole, and then the registry is made.
+/// says so. A missing database is made; one that exists is to have nothing in it, or the three
+/// tables and no row. The status is 0. The fault is why there are no settings, no database or no
+/// registry, and then nothing is printed. Or it is that the line was not printed whole, and then
+/// the registry is made.
 pub fn init<'a, D: Databases, F: Files, W: Output>(
     host: &mut Host<'_, D, W>,
     files: &F,

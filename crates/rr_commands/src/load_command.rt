@@ -5,6 +5,7 @@ ghost use Rattle.std.specs.FinMap.{values};
 ghost use Rattle.rr_commands.specs.Commands.{EndsAs, InDatabase};
 ghost use Rattle.rr_commands.specs.Faults.{IsAboutDump};
 ghost use Rattle.rr_commands.specs.Loaded.{Loads, LoadsBy, LoadsIn, TellsLoaded, loaded_line};
+ghost use Rattle.rr_commands.specs.Loaded.{loading_trouble};
 ghost use Rattle.rr_commands.specs.Printed.{Tells};
 ghost use Rattle.rr_commands.specs.Worlds.{at, deed, done_by, named, ports};
 
@@ -18,7 +19,7 @@ use crate::registry_databases::{Absent, Databases, close};
 use crate::settings_reading::read_settings_file;
 use crate::trouble::Trouble;
 use itoa::Buffer;
-use rr_desk::{Desk, Settings};
+use rr_desk::{Desk, DeskLoadFault, Settings};
 use rr_index::IndexedBook;
 use rr_io::{Counted, Sink, Source, write_pieces};
 use rr_registry::Registry;
@@ -26,11 +27,12 @@ use rr_store::IdleConnection;
 use sqlite::Alter;
 use std::alloc::{AllocError, Global};
 
-/// Makes the registry of a dump in the database that the settings name, which is made if it is
-/// missing, and else is to be without rows. Says how many objects it has or, without memory to
-/// count them, that it was loaded: no clause says which. The status is 0. The fault is why there
-/// are no settings, no database, no file or no registry, and then nothing is printed. Or it is that
-/// the line was not printed whole, and then the registry is made.
+/// Makes the registry of a dump in the database that the settings name. A missing database is made,
+/// even if the dump then cannot be opened. One that exists is to have nothing in it, or the three
+/// tables and no row. Says how many objects the registry has or, without memory to count them, that
+/// it was loaded: no clause says which. The status is 0. The fault is why there are no settings, no
+/// database, no file or no registry, and then nothing is printed. Or it is that the line was not
+/// printed whole, and then the registry is made.
 pub fn load<'a, D: Databases, F: Files, W: Output>(
     host: &mut Host<'_, D, W>,
     files: &F,
@@ -135,7 +137,18 @@ pub fn load_to<S: Alter, R: Source, W: Sink>(
             let told = tell_loaded(alloc, desk.registry(), writer);
             (desk.close(), told)
         }
-        Err((fault, conn)) => (conn, Err(Trouble::Loading(fault))),
+        Err((fault, conn)) => (conn, Err(loading_trouble(fault))),
+    }
+}
+
+/// What is told of a dump that was not loaded.
+fn loading_trouble(fault: DeskLoadFault) -> Trouble
+    ensures { result ≡ loading_trouble fault }
+{
+    match fault {
+        DeskLoadFault::Unread(fault) => Trouble::DumpUnread(fault),
+        DeskLoadFault::Untaken(fault) => Trouble::DumpUntaken(fault),
+        DeskLoadFault::Unmade(fault) => Trouble::Creating(fault),
     }
 }
 

@@ -36,7 +36,7 @@ pub(crate) enum RowFault {
 /// Adds the row of this number, from 1.
 pub(crate) fn push_numbered(found: &mut String, rows: &[Row], number: u64) {
     if let Some(row) = row_at(rows, number) {
-        // Without memory for the row, the message names the database alone.
+        // Without memory, the message has a part of the row, or names the database alone.
         let _ = push_row(found, row);
     }
 }
@@ -108,7 +108,7 @@ fn good_count(alloc: Global, rows: &[Row], source: &Name, version: Version) -> u
         .count()
 }
 
-/// The objects of rows.
+/// The objects of rows; `None` if one of them has none, or if memory ran out.
 pub(crate) fn objects_of(
     alloc: Global,
     rows: &[Row],
@@ -190,7 +190,8 @@ fn has_key(alloc: Global, row: &Row, key: &Key, version: Version) -> bool {
     }
 }
 
-/// Adds the class and the key of a row, as the tables have them.
+/// Adds the class and the key of a row, as the tables have them; nothing if these are no integer
+/// and no text. The error is that memory ran out: what was added by then stays.
 pub(crate) fn push_row(found: &mut String, row: &Row) -> Result<(), AllocError> {
     match (row.get_ref(0), row.get_ref(1)) {
         (Ok(ValueRef::Int(class)), Ok(ValueRef::Text(key))) => {

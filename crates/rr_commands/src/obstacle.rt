@@ -1,5 +1,6 @@
 //! How the tables of a registry were made otherwise than irrdesk makes them, for messages of
-//! `diagnosis` alone: in another order, or with what keeps them from being read.
+//! `diagnosis` alone: in another order, or with what keeps them from being read. `meta_rows` takes
+//! `text_at`, the one function here of which a clause speaks.
 
 ghost use Rattle.std.specs.Prelude.{◌≡◌, ◌≢◌, []};
 ghost use Rattle.sqlite_value.specs.Order.{column};
@@ -22,7 +23,8 @@ struct Obstacle<'a> {
 }
 
 /// Adds what keeps the three tables of a schema from being read, if it is found; says whether. The
-/// rows list the schema as name, kind, table and text.
+/// rows list the schema as name, kind, table and text. If memory runs out, the answer is `false`,
+/// and the beginning may stay added.
 pub(crate) fn push_obstacle(schema: &Schema, rows: &[Row], found: &mut String) -> bool {
     match obstacle_in(schema, rows) {
         Some(obstacle) if !has_tables(schema) => push_found(found, &obstacle).is_ok(),
@@ -55,7 +57,8 @@ fn has_columns(table: &Table) -> bool {
     }
 }
 
-/// Adds what was found: its kind, its name and its table. The error is that memory ran out.
+/// Adds what was found: its kind, its name and its table. The error is that memory ran out: what
+/// was added by then stays.
 fn push_found(found: &mut String, obstacle: &Obstacle<'_>) -> Result<(), AllocError> {
     let kind = obstacle.kind;
     write!(found, ", {kind} ")?;
@@ -144,8 +147,8 @@ fn has_more(table: &Table) -> bool {
     column_of(table).is_some()
 }
 
-/// The first further column of a table that is one of the three and has its own: one that is
-/// spelled otherwise is needed.
+/// The first further column of a table that is one of the three and has all of its own. If one of
+/// these is missing, a further column may be that one, spelled otherwise, and so none is told.
 fn column_of(table: &Table) -> Option<Obstacle<'_>> {
     let wanted = columns_of(table.name.as_slice())?;
     if !has_columns(table) {
@@ -199,7 +202,8 @@ fn rule_of(table: &Table) -> Option<Obstacle<'_>> {
     })
 }
 
-/// The first column with a default: a literal, an expression, or the time.
+/// The first column with a literal as its default. If there is none, the first with an expression,
+/// or else the first with the time.
 fn column_with_default(table: &Table) -> Option<&Column> {
     let columns = table.columns.as_slice();
     if let Some(column) = columns
@@ -259,7 +263,8 @@ pub(crate) fn has_other_order(rows: &[Row]) -> bool {
     are_plain && found != trees && found.iter().all(Option::is_some)
 }
 
-/// The tree of a table among these rows. A table that was dropped before it leaves a gap.
+/// The tree of a table among these rows, whose fifth value is the number of the tree and one more.
+/// A table that was dropped before it leaves a gap.
 fn tree_of(name: &str, rows: &[Row]) -> Option<u64> {
     let row = rows.iter().find(|row| text_at(row, 0) == name.as_bytes()
         && text_at(row, 1) == b"table".as_slice())?;

@@ -20,7 +20,8 @@ pub(crate) const STANDARD_OUTPUT: &str = "standard output";
 
 /// What commands print to, which may show on a terminal how far they are.
 pub trait Output: Sink {
-    /// Shows this from now on, on a terminal alone: what it tells of its bytes stays.
+    /// Shows this from now on, on a terminal alone; no clause says what is shown. All that it tells
+    /// as a writer stays: its bytes, and the count of its failed writes.
     fn show(&mut self, shown: Shown)
         ensures told { Self.told self.new ≡ Self.told self.old };
 
@@ -28,7 +29,9 @@ pub trait Output: Sink {
     /// contract says which it is.
     fn cause(&self) -> Cause;
 
-    /// Keeps this as the cause; what it tells of its bytes stays.
+    /// Keeps this as the cause, which [`ended`] shows: so a command that reads a file keeps what
+    /// [`cause_of`] gives. All that it tells as a writer stays: its bytes, and the count of its
+    /// failed writes.
     fn keep(&mut self, cause: Cause)
         ensures told { Self.told self.new ≡ Self.told self.old };
 }

@@ -17,7 +17,8 @@ use std::io;
 use std::io::{BufRead, BufReader, Read};
 
 /// A fault about the paragraph of this number, from 1, of a file. If the file can be read again, it
-/// names the line and, where they can be read, the class and the key; otherwise the file alone.
+/// names the line and, where they can be read, the class and the key. Otherwise, and if memory runs
+/// out, it names the file alone.
 pub(crate) fn about_paragraph<'a, F: Files>(
     alloc: Global,
     files: &F,
@@ -33,7 +34,8 @@ pub(crate) fn about_paragraph<'a, F: Files>(
     }
 }
 
-/// The name of a file as a line shows it, with the line, class and key of a paragraph.
+/// The name of a file as a line shows it, with the line, class and key of a paragraph. `None` if
+/// the file cannot be read again, or if memory ran out.
 fn named_place<F: Files>(alloc: Global, files: &F, file: &str, number: u64) -> Option<String>
     ensures { IfSome result (λ name. (found : List ℕ)
         × NamesPath file.now found (string_bytes name)) }
@@ -45,7 +47,7 @@ fn named_place<F: Files>(alloc: Global, files: &F, file: &str, number: u64) -> O
     }
 }
 
-/// The line, class and key of a paragraph in a file, as they stand after its name.
+/// The line, class and key of a paragraph in a file, as they stand after its name; `None` as above.
 fn place_in<F: Files>(alloc: Global, files: &F, file: &str, number: u64) -> Option<String> {
     if !files.is_kept(file) {
         return None;
@@ -64,7 +66,7 @@ fn place_in<F: Files>(alloc: Global, files: &F, file: &str, number: u64) -> Opti
     }
 }
 
-/// The key as reports print it, cut if it is long.
+/// The key as reports print it, cut if it is long; `None` if memory ran out.
 fn key_text(alloc: Global, key: &Key) -> Option<String> {
     let mut text = Counted::new(Vec::new(alloc));
     key.print_to(&mut text).ok()?;
@@ -73,7 +75,8 @@ fn key_text(alloc: Global, key: &Key) -> Option<String> {
     Some(shown)
 }
 
-/// Reads up to the paragraph of this number, and gives its key, if it has one.
+/// Reads up to the paragraph of this number, and gives its key, if it has one. `None` if the file
+/// ends before it or cannot be read, or if memory ran out.
 fn find_paragraph<R: Read>(
     alloc: Global,
     lines: &mut Lines<R>,

@@ -21,7 +21,8 @@ use std::alloc::Global;
 const ERROR: u8 = 1;
 
 /// Asks the registry that the settings name, and prints the answer: the status is 0, or 1 if the
-/// answer is an error. The fault is why there are no settings or no desk, and then nothing is
+/// answer is an error. The desk stays as it was, and a missing database is not made. The fault is
+/// why there are no settings or no desk, the latter as [`open_desk`] tells it, and then nothing is
 /// printed. Or it is that a write failed, and the beginning of the answer is printed, not all.
 pub fn query<'a, D: Databases, F: Files, W: Output>(
     host: &mut Host<'_, D, W>,
@@ -57,9 +58,9 @@ fn query_at<D: Databases, W: Output>(
 }
 
 /// Asks a desk that runs, and writes the answer: the status is 0, or 1 if the answer is an error.
-/// The trouble is that a write failed, and the beginning of the answer is written, not all. The
-/// desk keeps its rows, which a stop of the process leaves, where the disk gives back what was
-/// written.
+/// The trouble is that a write failed, and the beginning of the answer is written, not all. Where
+/// the disk gives back what was written, the desk keeps its rows while its database is open, and a
+/// stop of the process leaves them.
 pub fn answer_to<S: Alter, W: Sink>(
     alloc: Global,
     desk: &Desk<S>,

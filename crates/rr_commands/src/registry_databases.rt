@@ -71,9 +71,10 @@ pub trait Databases {
     /// on a terminal as a large one is opened, and no clause says which it is.
     fn size(&self, path: &str) -> u64;
 
-    /// Closes the database of this connection, if there is one. Call the function `close` of this
-    /// module, which takes the connection by value: an impl of a method that takes a connection of
-    /// a named store by value cannot be proved.
+    /// Closes the database of this connection. No clause says what is done if there is none, or
+    /// what `conn` is after. Call the function `close` of this module, which takes the connection
+    /// by value: an impl of a method that takes a connection of a named store by value cannot be
+    /// proved.
     fn close(&mut self, conn: &mut Option<IdleConnection<Self::Disk>>)
         ensures { (held : Held Self.Disk) → conn.old ≡ Some held
             → calls.closes held self.old self.new };
@@ -342,10 +343,12 @@ fn make_file(rt: &HostRuntime, path: &str) -> Result<(), DatabaseCause> {
 }
 
 /// Opens the desk of the registry in the database at a path; if there is none, none is made. The
-/// trouble is why there is no desk: no database was given, or the registry of these settings was
-/// not opened in it, and it is closed. The trouble may then be one that a look at the database may
-/// find, which commits nothing; no clause says that it is so. `found` is for the message, as a line
-/// on a terminal is while a large one is opened, and no clause speaks of these.
+/// desk runs with these settings, and nothing was committed; where the disk gives back what was
+/// written, the connection was open and the registry's rows are those of the database. The trouble
+/// is why there is no desk: no database was given, or the registry of these settings was not opened
+/// in it, and it is closed. The trouble may then be one that a look at the database may find, which
+/// commits nothing; no clause says that it is so. `found` is for the message, as a line on a
+/// terminal is while a large one is opened, and no clause speaks of these.
 pub fn open_desk<D: Databases>(
     tools: Tools<'_>,
     databases: &mut D,

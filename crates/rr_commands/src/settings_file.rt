@@ -25,8 +25,8 @@ pub enum SettingKey {
     Root,
     /// The `auth` of the root maintainer.
     Auth,
-    /// The most names, or sets and ASes, or pairs of one of these and a range, that an expansion
-    /// may reach.
+    /// The most names that an expansion may reach, and for a route-set the most pairs of a set or
+    /// an AS and a range.
     Limit,
     /// The path of the database.
     Store,
@@ -93,7 +93,7 @@ pub fn read_settings(alloc: Global, text: &str) -> Result<(Settings, String), Se
     Ok((settings, store))
 }
 
-/// The table that the text is.
+/// The table that the text is; the fault is that it is no TOML, or that memory ran out.
 fn read_table(alloc: Global, text: &str) -> Result<Table, SettingsFault>
     ensures ok { IfOk result (λ table. parse_document text.now ≡ Some (table_view table)) }
     ensures fault { IfErr result (λ fault. fault ≢ Memory
@@ -111,7 +111,8 @@ fn read_table(alloc: Global, text: &str) -> Result<Table, SettingsFault>
     }
 }
 
-/// The settings of a registry.
+/// The settings of a registry; the fault is the first key that is missing or bad, or that memory
+/// ran out.
 fn read_parts(alloc: Global, table: &Table) -> Result<Settings, SettingsFault>
     ensures ok { IfOk result (λ settings. parts_of (table_view table.now) ≡ Ok settings) }
     ensures fault { IfErr result (λ fault. fault ≢ Memory
@@ -127,7 +128,7 @@ fn read_parts(alloc: Global, table: &Table) -> Result<Settings, SettingsFault>
     }
 }
 
-/// The path of the database.
+/// The path of the database; the fault is that its key is missing or bad, or that memory ran out.
 fn read_store(alloc: Global, table: &Table) -> Result<String, SettingsFault>
     ensures ok { IfOk result
         (λ store. store_of (table_view table.now) ≡ Ok (string_bytes store)) }

@@ -84,7 +84,8 @@ fn read_bytes<F: Files>(alloc: Global, files: &F, file: &str) -> io::Result<Vec<
     }
 }
 
-/// What is told of settings that cannot be read for this cause.
+/// What is told of settings that cannot be read: that memory ran out if it is that, and else this
+/// cause.
 fn unread_trouble(cause: Cause) -> Trouble
     ensures { result ≡ unread_trouble cause }
 {

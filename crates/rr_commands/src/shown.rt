@@ -1,6 +1,6 @@
 //! What strangers wrote, as lines for a terminal show it. Keys and names in a database are for
 //! `places`, `object_rows` and `obstacle`; names of files and arguments for `output`,
-//! `command_fault` and `rr_cli`.
+//! `command_fault` and `rr_cli`. The errors are that memory ran out: what was added by then stays.
 
 ghost use Rattle.std.specs.Prelude.{◌≡◌, IfOk, string_bytes};
 ghost use Rattle.std.specs.List.{list_all};

@@ -30,8 +30,9 @@ use std::alloc::Global;
 const REFUSED: u8 = 1;
 
 /// Submits `input` to a registry in memory, which opens with the built-in settings, and prints the
-/// report: the status is 0, or 1 if an item was refused. The fault is that memory ran out, or how
-/// the submission was cut short; it names standard input, standard output or nothing.
+/// report: the status is 0, or 1 if an item was refused. The fault is that memory ran out, which is
+/// told of faults of the database too, or how the submission was cut short. It names standard
+/// input, standard output or nothing. If no registry was made, nothing is read or printed.
 pub fn plain<'a, R: Input, W: Output>(
     alloc: Global,
     input: &mut R,
@@ -59,7 +60,8 @@ pub fn plain<'a, R: Input, W: Output>(
     }
 }
 
-/// What went wrong without arguments: a database in memory fails only because memory ran out.
+/// What is told of trouble without arguments: a database in memory fails only because memory ran
+/// out, so that is told of its faults.
 fn plain_trouble(trouble: Trouble) -> Trouble
     ensures { result ≡ plain_trouble trouble }
 {
@@ -73,8 +75,9 @@ fn plain_trouble(trouble: Trouble) -> Trouble
 }
 
 /// Submits a file to the registry that the settings name, and prints the report: the status is 0,
-/// or 1 if an item was refused. The fault is why there are no settings, no desk or no file, and
-/// then nothing is printed, or how the submission was cut short.
+/// or 1 if an item was refused. A missing database is not made. The fault is why there are no
+/// settings, no desk (as [`open_desk`] tells it) or no file, and then nothing is printed; without
+/// the file the desk stays as it was. Or it is how the submission was cut short.
 pub fn submit<'a, D: Databases, F: Files, W: Output>(
     host: &mut Host<'_, D, W>,
     files: &F,
@@ -134,7 +137,7 @@ fn submit_file<S: Alter, F: Files, W: Output>(
 /// Submits `input` to a new desk with the built-in settings over a database in memory, and prints
 /// the report. The status is 0, or 1 if an item was refused. The trouble is that there is no desk,
 /// which stands for lack of memory, and then nothing is read or printed. Or it is how the
-/// submission was cut short.
+/// submission was cut short; of a fault of the database [`plain`] tells that memory ran out.
 pub fn submit_plain<R: Source, W: Sink>(
     alloc: Global,
     input: &mut R,

@@ -2,12 +2,13 @@
 //! `rr_cli` end by one, `words` has the words of each, and `command_fault` writes its line.
 
 ghost use Rattle.std.specs.Prelude.{◌≡◌};
-ghost use Rattle.rr_commands.specs.Troubles.{cause_words, paragraph_in, paragraph_of};
-ghost use Rattle.rr_commands.specs.Troubles.{trouble_cause, trouble_end, trouble_number};
+ghost use Rattle.rr_commands.specs.Troubles.{cause_words, paragraph_in, trouble_cause};
+ghost use Rattle.rr_commands.specs.Troubles.{trouble_end, trouble_number};
 
 use crate::cause::{Cause, DatabaseCause};
 use crate::settings_file::SettingKey;
-use rr_desk::{CreateFault, DeskDumpFault, DeskFault, DeskLoadFault, MigrateFault, OpenFault};
+use rr_desk::{CreateFault, DeskDumpFault, DeskFault, DumpReadFault, MigrateFault, OpenFault};
+use rr_registry::LoadFault;
 
 /// The status at wrong arguments.
 const WRONG_ARGUMENTS: u8 = 2;
@@ -83,8 +84,10 @@ pub enum Trouble {
     Submission(DeskFault, DatabaseCause),
     /// A dump was cut short.
     Dumping(DeskDumpFault),
-    /// No registry was made of a dump.
-    Loading(DeskLoadFault),
+    /// A dump was not read.
+    DumpUnread(DumpReadFault),
+    /// The objects of a dump are not a registry.
+    DumpUntaken(LoadFault),
     /// The tables of the database were not migrated.
     Migrating(MigrateFault),
     /// No listener was opened.
@@ -167,7 +170,6 @@ impl Trouble {
             | Trouble::Obstacle
             | Trouble::ServedInVain(_)
             | Trouble::Creating(CreateFault::NotEmpty | CreateFault::Store(_))
-            | Trouble::Loading(DeskLoadFault::NotEmpty | DeskLoadFault::Store(_))
             | Trouble::Submission(DeskFault::StoreFault { .. } | DeskFault::Stopped, _)
             | Trouble::Dumping(DeskDumpFault::Stopped)
             | Trouble::Migrating(
@@ -187,14 +189,14 @@ impl Trouble {
             },
             Trouble::FileUnopened(_)
             | Trouble::Submission(DeskFault::ReadFault { .. }, _)
-            | Trouble::Loading(
-                DeskLoadFault::Read
-                | DeskLoadFault::Endless
-                | DeskLoadFault::Text(_)
-                | DeskLoadFault::Object(_, _)
-                | DeskLoadFault::Duplicate(_)
-                | DeskLoadFault::Overlap(_)
-                | DeskLoadFault::Unnamed(_),
+            | Trouble::DumpUnread(
+                DumpReadFault::Read
+                | DumpReadFault::Endless
+                | DumpReadFault::Text(_)
+                | DumpReadFault::Object(_, _),
+            )
+            | Trouble::DumpUntaken(
+                LoadFault::Duplicate(_) | LoadFault::Overlap(_) | LoadFault::Unnamed(_),
             ) => Ending {
                 status: FAILED,
                 place: Place::File,
@@ -202,7 +204,8 @@ impl Trouble {
             Trouble::Creating(CreateFault::Memory)
             | Trouble::Submission(DeskFault::Memory, _)
             | Trouble::Dumping(DeskDumpFault::Memory)
-            | Trouble::Loading(DeskLoadFault::Memory)
+            | Trouble::DumpUnread(DumpReadFault::Memory)
+            | Trouble::DumpUntaken(LoadFault::Memory)
             | Trouble::Migrating(MigrateFault::Memory)
             | Trouble::ListenerUnopened(_)
             | Trouble::Unaccepted(_)
@@ -231,7 +234,7 @@ impl Trouble {
             }
             Trouble::Unwritten
             | Trouble::Dumping(DeskDumpFault::Write)
-            | Trouble::Loading(DeskLoadFault::Read) => Some(stream),
+            | Trouble::DumpUnread(DumpReadFault::Read) => Some(stream),
             _ => None,
         }
     }
@@ -259,7 +262,7 @@ impl Trouble {
             Trouble::SettingsNotToml(line) => Some(line),
             Trouble::Opening(OpenFault::WrongVersion(version)) => Some(u64::from(version)),
             Trouble::Migrating(MigrateFault::WrongVersion(version)) => Some(u64::from(version)),
-            Trouble::Loading(fault) => paragraph_of(fault),
+            Trouble::DumpUnread(_) | Trouble::DumpUntaken(_) => self.paragraph(),
             Trouble::Submission(
                 DeskFault::ReadFault { items }
                 | DeskFault::WriteFault { items }
@@ -275,7 +278,12 @@ impl Trouble {
         ensures { result ≡ paragraph_in self }
     {
         match self {
-            Trouble::Loading(fault) => paragraph_of(fault),
+            Trouble::DumpUnread(DumpReadFault::Text(number) | DumpReadFault::Object(number, _))
+            | Trouble::DumpUntaken(
+                LoadFault::Duplicate(number)
+                | LoadFault::Overlap(number)
+                | LoadFault::Unnamed(number),
+            ) => Some(number),
             _ => None,
         }
     }
@@ -294,23 +302,5 @@ fn database_end(cause: DatabaseCause) -> Ending
             status: DATABASE_TROUBLE,
             place: Place::Database,
         },
-    }
-}
-
-/// The paragraph of a dump, from 1, that is the matter, if one is.
-fn paragraph_of(fault: DeskLoadFault) -> Option<u64>
-    ensures { result ≡ paragraph_of fault }
-{
-    match fault {
-        DeskLoadFault::Text(number)
-        | DeskLoadFault::Object(number, _)
-        | DeskLoadFault::Duplicate(number)
-        | DeskLoadFault::Overlap(number)
-        | DeskLoadFault::Unnamed(number) => Some(number),
-        DeskLoadFault::NotEmpty
-        | DeskLoadFault::Read
-        | DeskLoadFault::Endless
-        | DeskLoadFault::Store(_)
-        | DeskLoadFault::Memory => None,
     }
 }

@@ -3,25 +3,20 @@
 
 ghost use Rattle.std.specs.Prelude.{◌≡◌};
 ghost use Rattle.rr_commands.specs.Words.{after_migrated, after_number, after_opened};
-ghost use Rattle.rr_commands.specs.Words.{after_paragraph, before_cause, before_number};
-ghost use Rattle.rr_commands.specs.Words.{creating_words, dumping_words, loading_words};
-ghost use Rattle.rr_commands.specs.Words.{migrating_words, opening_words, reason, refused_words};
-ghost use Rattle.rr_commands.specs.Words.{setting_words, submission_words};
+ghost use Rattle.rr_commands.specs.Words.{before_cause, before_number, creating_words};
+ghost use Rattle.rr_commands.specs.Words.{dumping_words, migrating_words, opening_words, reason};
+ghost use Rattle.rr_commands.specs.Words.{refused_words, setting_words, submission_words};
 
 use crate::cause::DatabaseCause;
 use crate::settings_file::SettingKey;
 use crate::trouble::Trouble;
-use rr_desk::{CreateFault, DeskDumpFault, DeskFault, DeskLoadFault, MigrateFault, OpenFault};
+use rr_desk::{CreateFault, DeskDumpFault, DeskFault, DumpReadFault, MigrateFault, OpenFault};
 use rr_object::Code;
+use rr_registry::LoadFault;
 use rr_store::{OLD_VERSION, VERSION};
 use sqlite::Error;
 
 const OUT_OF_MEMORY: &str = "out of memory: give the program more";
-
-const NOT_EMPTY: &str = "the database has a registry already: take a new one";
-
-const NO_TABLES_MADE: &str =
-    "the database has other tables, or refuses those of a registry: take a new one";
 
 const OF_VERSION: &str = "the tables of the database are of version ";
 
@@ -81,7 +76,16 @@ pub(crate) fn before_cause(trouble: Trouble) -> &'static str
         Trouble::FileUnopened(_) => "the file cannot be opened: ",
         Trouble::Submission(fault, _) => submission_words(fault),
         Trouble::Dumping(fault) => dumping_words(fault),
-        Trouble::Loading(fault) => loading_words(fault),
+        Trouble::DumpUnread(DumpReadFault::Read) => {
+            "the dump could not be read to its end, and nothing is loaded: "
+        }
+        Trouble::DumpUnread(DumpReadFault::Endless) => {
+            "the dump has no end within 16777216 reads: name a whole dump"
+        }
+        Trouble::DumpUnread(DumpReadFault::Text(_) | DumpReadFault::Object(_, _))
+        | Trouble::DumpUntaken(
+            LoadFault::Duplicate(_) | LoadFault::Overlap(_) | LoadFault::Unnamed(_),
+        ) => "nothing is loaded, because paragraph ",
         Trouble::Migrating(fault) => migrating_words(fault),
         Trouble::ListenerUnopened(_) => "it cannot listen: ",
         Trouble::Unaccepted(_) => "no connection could be accepted: ",
@@ -89,7 +93,9 @@ pub(crate) fn before_cause(trouble: Trouble) -> &'static str
         Trouble::ServedInVain(_) =>
             "the database failed, and each request is refused until the server is started again: ",
         Trouble::Unwritten => "the write failed: ",
-        Trouble::Memory => OUT_OF_MEMORY,
+        Trouble::DumpUnread(DumpReadFault::Memory)
+        | Trouble::DumpUntaken(LoadFault::Memory)
+        | Trouble::Memory => OUT_OF_MEMORY,
     }
 }
 
@@ -115,7 +121,18 @@ pub(crate) fn after_number(trouble: Trouble) -> &'static str
     match trouble {
         Trouble::Opening(OpenFault::WrongVersion(version)) => after_opened(version),
         Trouble::Migrating(MigrateFault::WrongVersion(version)) => after_migrated(version),
-        Trouble::Loading(fault) => after_paragraph(fault),
+        Trouble::DumpUnread(DumpReadFault::Text(_)) => {
+            " is not RPSL, or over 65536 bytes: mend it"
+        }
+        Trouble::DumpUnread(DumpReadFault::Object(_, code)) => reason(code),
+        Trouble::DumpUntaken(LoadFault::Duplicate(_)) => {
+            " has the key of one before it: take one of the two out"
+        }
+        Trouble::DumpUntaken(LoadFault::Overlap(_)) => {
+            " has a range that overlaps one before it: mend one of the two"
+        }
+        Trouble::DumpUntaken(LoadFault::Unnamed(_)) =>
+            " names a maintainer who is not in the dump: add its mntner, or take the name out",
         _ => "",
     }
 }
@@ -145,8 +162,11 @@ fn creating_words(fault: CreateFault) -> &'static str
     ensures { result.now ≡ creating_words fault }
 {
     match fault {
-        CreateFault::NotEmpty => NOT_EMPTY,
-        CreateFault::Store(error) => refused_words(error, NO_TABLES_MADE),
+        CreateFault::NotEmpty => "the database has a registry already: take a new one",
+        CreateFault::Store(error) => refused_words(
+            error,
+            "the database has other tables, or refuses those of a registry: take a new one",
+        ),
         CreateFault::Memory => OUT_OF_MEMORY,
     }
 }
@@ -194,23 +214,6 @@ fn dumping_words(fault: DeskDumpFault) -> &'static str
     }
 }
 
-fn loading_words(fault: DeskLoadFault) -> &'static str
-    ensures { result.now ≡ loading_words fault }
-{
-    match fault {
-        DeskLoadFault::NotEmpty => NOT_EMPTY,
-        DeskLoadFault::Read => "the dump could not be read to its end, and nothing is loaded: ",
-        DeskLoadFault::Endless => "the dump has no end within 16777216 reads: name a whole dump",
-        DeskLoadFault::Text(_)
-        | DeskLoadFault::Object(_, _)
-        | DeskLoadFault::Duplicate(_)
-        | DeskLoadFault::Overlap(_)
-        | DeskLoadFault::Unnamed(_) => "nothing is loaded, because paragraph ",
-        DeskLoadFault::Store(error) => refused_words(error, NO_TABLES_MADE),
-        DeskLoadFault::Memory => OUT_OF_MEMORY,
-    }
-}
-
 fn migrating_words(fault: MigrateFault) -> &'static str
     ensures { result.now ≡ migrating_words fault }
 {
@@ -253,27 +256,6 @@ fn after_migrated(version: u32) -> &'static str
         ", and what is migrated is version 1: take a newer irrdesk, which wrote them"
     } else {
         ", and what is migrated is version 1: no irrdesk wrote them, so correct `store`"
-    }
-}
-
-/// What is the matter with a paragraph of a dump, after its number.
-fn after_paragraph(fault: DeskLoadFault) -> &'static str
-    ensures { result.now ≡ after_paragraph fault }
-{
-    match fault {
-        DeskLoadFault::Text(_) => " is not RPSL, or over 65536 bytes: mend it",
-        DeskLoadFault::Object(_, code) => reason(code),
-        DeskLoadFault::Duplicate(_) => " has the key of one before it: take one of the two out",
-        DeskLoadFault::Overlap(_) => {
-            " has a range that overlaps one before it: mend one of the two"
-        }
-        DeskLoadFault::Unnamed(_) =>
-            " names a maintainer who is not in the dump: add its mntner, or take the name out",
-        DeskLoadFault::NotEmpty
-        | DeskLoadFault::Read
-        | DeskLoadFault::Endless
-        | DeskLoadFault::Store(_)
-        | DeskLoadFault::Memory => "",
     }
 }
 

@@ -6,7 +6,7 @@ use Rattle.std.specs.Ordering.{eq_by_cmp}
 use Rattle.rr_number.specs.Spans.{Ends, span_cmp}
 use Rattle.rr_cover.specs.SpanNests.{is_ahead, at_span, standing, Only, IsNest}
 use Rattle.rr_cover.specs.NestParts.{count, with_before, with_after, IsTakenApart}
-use Rattle.rr_cover.specs.declared.span_nest.bounds.Bounds.{Bounds}
+use Rattle.rr_cover.specs.declared.span_nest.bounds.Lasts.{Lasts}
 use Rattle.rr_cover.specs.declared.span_nest.Nest.{Nest}
 use Rattle.rr_cover.proofs.NestHeld.{Made}
 use Rattle.rr_cover.proofs.NestTurns.{Changed, IsNode, only_changed, low_case, high_case}
@@ -26,7 +26,7 @@ module _ {T : Type 0} where
   }
 
   -- a node whose bounds let a span in, with that span put in on a side
-  pub node_low : (span : Ends) (bounds : Bounds) (before after new : Nest T) (k : Ends) (v : T) →
+  pub node_low : (span : Ends) (bounds : Lasts) (before after new : Nest T) (k : Ends) (v : T) →
       IsNode span bounds before after → is_ahead k span ≡ true → Changed before new k (Some v) →
       IsNest new → IsNode span (with_before bounds k.last) new after
   node_low span bounds before after new k v is ahead changed order =
@@ -49,7 +49,7 @@ module _ {T : Type 0} where
         (order, is.1.1),
       )
 
-  pub node_high : (span : Ends) (bounds : Bounds) (before after new : Nest T) (k : Ends) (v : T) →
+  pub node_high : (span : Ends) (bounds : Lasts) (before after new : Nest T) (k : Ends) (v : T) →
       IsNode span bounds before after → is_ahead span k ≡ true → Changed after new k (Some v) →
       IsNest new → IsNode span (with_after bounds k.last) before new
   node_high span bounds before after new k v is later changed order = (
@@ -72,7 +72,7 @@ module _ {T : Type 0} where
   )
 
   -- a tree seen at its root
-  pub opened_of : (nest : Nest T) (span : Ends) (value : T) (bounds : Bounds)
+  pub opened_of : (nest : Nest T) (span : Ends) (value : T) (bounds : Lasts)
       (before after : Nest T) → Made nest span value before after → IsNode span bounds before after
       → count nest ≡ count before + count after + 1 → IsTakenApart nest span value before after
   opened_of nest span value bounds before after made is counted = record {

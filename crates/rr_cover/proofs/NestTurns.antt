@@ -10,7 +10,7 @@ use Rattle.std.specs.Ordering.{eq_by_cmp}
 use Rattle.rr_number.specs.Spans.{Ends, span_cmp}
 use Rattle.rr_cover.specs.SpanNests.{is_ahead, at_span, standing, Only, Fits, IsBound, IsNest}
 use Rattle.rr_cover.specs.NestParts.{IsTakenApart}
-use Rattle.rr_cover.specs.declared.span_nest.bounds.Bounds.{Bounds}
+use Rattle.rr_cover.specs.declared.span_nest.bounds.Lasts.{Lasts}
 use Rattle.rr_cover.specs.declared.span_nest.Nest.{Nest}
 use Rattle.rr_cover.proofs.Ties.{tied_same, same_tied, contradicted}
 use Rattle.rr_cover.proofs.NestOrder.{ahead_itself, ahead_back, ahead_chain}
@@ -348,11 +348,11 @@ module _ {T : Type 0} where
   only_kept p old new kept only = record { each = λ s held. only.each s (sym (kept.all s) ∙ held) }
 
   -- what a node knows of its sides, and that both are in order
-  abbrev pub IsNode : Ends → Bounds → Nest T → Nest T → Type 0
+  abbrev pub IsNode : Ends → Lasts → Nest T → Nest T → Type 0
   IsNode span bounds before after =
       (Fits span before after × IsBound bounds span before after) × (IsNest before × IsNest after)
 
-  pub kept_low : (span : Ends) (bounds : Bounds) (before after new : Nest T) →
+  pub kept_low : (span : Ends) (bounds : Lasts) (before after new : Nest T) →
       IsNode span bounds before after → Kept before new → IsNest new → IsNode span bounds new after
   kept_low span bounds before after new is kept order = (
     (
@@ -371,7 +371,7 @@ module _ {T : Type 0} where
     (order, is.1.1),
   )
 
-  pub kept_high : (span : Ends) (bounds : Bounds) (before after new : Nest T) →
+  pub kept_high : (span : Ends) (bounds : Lasts) (before after new : Nest T) →
       IsNode span bounds before after → Kept after new → IsNest new → IsNode span bounds before new
   kept_high span bounds before after new is kept order = (
     (

@@ -192,7 +192,7 @@ module _ {T : Type 0} where
         ap (option_or (standing lower s)) (none_upper s lies) ∙ or_none (standing lower s)
 
     -- another span than the root's stands on its side, or nowhere
-    pub stands_aside : (s : Ends) → s.first ≤ s.last → eq_by_cmp span_cmp s (span_of prefix)
+    stands_aside : (s : Ends) → s.first ≤ s.last → eq_by_cmp span_cmp s (span_of prefix)
         ≡ false → standing tree s ≡ standing (side_of prefix lower upper s) s
     stands_aside s some apart =
         made.all s

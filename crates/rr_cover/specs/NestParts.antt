@@ -8,7 +8,7 @@ use Rattle.std.specs.Ordering.{eq_by_cmp}
 use Rattle.rr_number.specs.Spans.{Ends, IsSpan, crosses, span_cmp}
 use Rattle.rr_cover.specs.SpanNests.{is_ahead, at_span, standing, Fits, IsNest, HoldsAll}
 use Rattle.rr_cover.specs.SpanNests.{HoldsWith, HoldsWithout}
-use Rattle.rr_cover.specs.declared.span_nest.bounds.Bounds.{Bounds}
+use Rattle.rr_cover.specs.declared.span_nest.bounds.Lasts.{Lasts}
 use Rattle.rr_cover.specs.declared.span_nest.Nest.{Nest}
 use Rattle.rr_cover.specs.declared.span_nest.Nest.TheVariants.{Empty, Fork'}
 
@@ -22,11 +22,11 @@ count Empty = 0
 count (Fork' p span value height bounds before after) = count before + count after + 1
 
 -- The bounds of a node, widened so that its side before may have a last number.
-abbrev pub with_before : Bounds → ℕ → Bounds
+abbrev pub with_before : Lasts → ℕ → Lasts
 with_before bounds last = record bounds { before = max bounds.before last }
 
 -- The bounds of a node, widened so that its side after may have a last number.
-abbrev pub with_after : Bounds → ℕ → Bounds
+abbrev pub with_after : Lasts → ℕ → Lasts
 with_after bounds last = record bounds { after = max bounds.after last }
 
 -- The last span in a tree's order of those that begin below a number and reach another one, with

@@ -5,7 +5,7 @@ use Rattle.std.specs.List.Sorted.{IsStrictlySortedBy}
 use Rattle.rr_number.specs.Spans.{Ends, IsSpan, covers, span_cmp}
 use Rattle.rr_cover.specs.SpanMaps.{SpanMap, NoneCross, IsClosest, covering}
 
--- If no two spans of a map cross, at most one of them is closest to a span.
+-- If no two spans of a map cross, at most one of them, with one value, is closest to a span.
 abbrev pub ClosestIsOne : Type 0 → Type 0
 ClosestIsOne T =
     (m : SpanMap T) (s t u : Ends) (v w : T) → NoneCross m → IsSpan s
@@ -18,6 +18,6 @@ CoveringIsWhole T =
     (m : SpanMap T) (s t : Ends)
     → Contains (covering m s) t ↔ ((contains_key m t ≡ true) × (covers t s ≡ true))
 
--- The spans of a map that cover a span are listed in ascending order, each once.
+-- The spans of a map that cover a span are listed in order of first, then last number, each once.
 abbrev pub ListsRise : Type 0 → Type 0
 ListsRise T = (m : SpanMap T) (s : Ends) → IsStrictlySortedBy span_cmp (covering m s)

@@ -7,7 +7,7 @@ use Rattle.std.specs.Option.{option_or}
 use Rattle.std.specs.Ordering.{eq_by_cmp}
 use Rattle.rr_number.specs.Spans.{Ends, IsSpan, crosses, span_cmp}
 use Rattle.rr_cover.specs.SpanMaps.{SpanMap}
-use Rattle.rr_cover.specs.declared.span_nest.bounds.Bounds.{Bounds}
+use Rattle.rr_cover.specs.declared.span_nest.bounds.Lasts.{Lasts}
 use Rattle.rr_cover.specs.declared.span_nest.Nest.{Nest}
 use Rattle.rr_cover.specs.declared.span_nest.Nest.TheVariants.{Empty, Fork'}
 
@@ -66,7 +66,7 @@ pub record Fits {T : Type 0} (span : Ends) (low high : Nest T) : Type 0 where
 
 -- Bounds on the last numbers of a node's span and two sides: none of the span and the side before
 -- is above one, and none of the side after above another.
-pub record IsBound {T : Type 0} (bounds : Bounds) (span : Ends)
+pub record IsBound {T : Type 0} (bounds : Lasts) (span : Ends)
     (before after : Nest T) : Type 0 where
   pub before_own : span.last ≤ bounds.before
   pub before_low : Only (λ s. nat_le s.last bounds.before) before

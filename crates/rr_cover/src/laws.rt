@@ -3,13 +3,13 @@
 
 ghost use Rattle.rr_cover.specs.SpanMapLaws.{ClosestIsOne, CoveringIsWhole, ListsRise};
 
-/// Where no two spans held cross, at most one is closest to a span (RFC 2725, 9).
+/// Where no two spans held cross, at most one, with one value, is closest to a span (RFC 2725, 9).
 pub fn closest_is_one<T>()
     ensures { ClosestIsOne T }
 {}
 
-/// The list of the spans that cover a span has exactly these, in order of first, then last number,
-/// without repeats (profile).
+/// The list of the spans held that cover a span has exactly these, in order of first, then last
+/// number, without repeats (profile).
 pub fn lists_are_whole<T>()
     ensures covering { CoveringIsWhole T }
     ensures rise { ListsRise T }

@@ -1,7 +1,6 @@
 //! Prefixes in a binary tree: those of routes, which `rr_index` keeps.
 
 ghost use Rattle.std.specs.Prelude.{◌≡◌, ◌≤◌, map, IfOk, IfErr, MatchOption};
-ghost use Rattle.std.specs.Option.{option_copied};
 ghost use Rattle.std.specs.FinMap as span_map;
 ghost use Rattle.rr_number.specs.Prefixes.{span_of};
 ghost use Rattle.rr_cover.specs.SpanMaps.{covering, IsClosest, NoneCovers};
@@ -18,7 +17,7 @@ use crate::insert_fault::InsertFault;
 use adding::set;
 use changes::take;
 use lists::{push_covering, put_in_order};
-use reading::{find, levels, smallest_cover};
+use reading::{levels, smallest_cover};
 use rr_number::{Prefix, Span};
 use std::alloc::{AllocError, Global};
 use std::marker::Model;
@@ -79,13 +78,6 @@ impl<T> PrefixTree<T> {
         }
     }
 
-    /// The value that stands at the prefix, if it is held.
-    pub fn get(&self, prefix: Prefix) -> Option<&T>
-        ensures { option_copied result ≡ span_map.get self.now (span_of prefix) }
-    {
-        find(&self.root, prefix)
-    }
-
     /// The longest prefix held that covers the prefix, with its value, if any covers it. An equal
     /// one counts (RFC 2725, 9).
     pub fn closest(&self, prefix: Prefix) -> Option<(Prefix, &T)>
@@ -116,8 +108,9 @@ impl<T> PrefixTree<T> {
 }
 
 impl<T: Drop> PrefixTree<T> {
-    /// Puts the value at the prefix, and gives back the value that stood there (profile). If memory
-    /// runs out, nothing changes, and the value comes back with the fault, which is `Memory`.
+    /// Puts the value at the prefix, and gives back the value that stood there, if any did
+    /// (profile). If memory runs out, nothing changes, and the value comes back with the fault,
+    /// which is `Memory`.
     pub fn insert(&mut self, prefix: Prefix, value: T) -> Result<Option<T>, InsertFault<T>>
         ensures inserts { Inserts self.old (span_of prefix) value self.new result }
         ensures back { IfErr result (λ fault. fault ≡ Memory value) }
@@ -131,8 +124,8 @@ impl<T: Drop> PrefixTree<T> {
         }
     }
 
-    /// Takes the prefix out, and gives back the value that stood there, if it was held. The
-    /// prefixes inside it stay (profile).
+    /// Takes the prefix out, and gives back the value that stood there, if it was held. All others
+    /// stay, those inside it too (profile).
     pub fn remove(&mut self, prefix: Prefix) -> Option<T>
         ensures { Removes self.old (span_of prefix) self.new result }
     {

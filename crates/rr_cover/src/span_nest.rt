@@ -2,7 +2,6 @@
 //! `rr_index` keeps, and `rr_registry` while it loads.
 
 ghost use Rattle.std.specs.Prelude.{◌≡◌, false, IfOk, IfErr, MatchOption};
-ghost use Rattle.std.specs.Option.{option_copied};
 ghost use Rattle.std.specs.FinMap as span_map;
 ghost use Rattle.rr_number.specs.Spans.{IsSpan};
 ghost use Rattle.rr_cover.specs.SpanMaps.{crosses_some, covering, IsClosest};
@@ -14,10 +13,10 @@ mod lists;
 mod reading;
 
 use crate::insert_fault::InsertFault;
-use bounds::Bounds;
+use bounds::Lasts;
 use changes::{set, take};
 use lists::{push_covering, put_in_order};
-use reading::{crosses_any, find, levels, smallest_cover};
+use reading::{crosses_any, levels, smallest_cover};
 use rr_number::Span;
 use std::alloc::{AllocError, AllocFailed, Global};
 use std::marker::Model;
@@ -50,7 +49,7 @@ struct Node<T> {
     value: T,
     /// How many levels the tree has from this node down.
     height: u8,
-    bounds: Bounds,
+    bounds: Lasts,
     before: Nest<T>,
     after: Nest<T>,
 }
@@ -82,13 +81,6 @@ impl<T> SpanNest<T> {
         }
     }
 
-    /// The value that stands at the span, if it is held.
-    pub fn get(&self, span: Span) -> Option<&T>
-        ensures { option_copied result ≡ span_map.get self.now span }
-    {
-        find(&self.root, span)
-    }
-
     /// Whether the span crosses one that is held (profile).
     pub fn crosses(&self, span: Span) -> bool
         ensures { result ≡ crosses_some self.now span }
@@ -97,7 +89,8 @@ impl<T> SpanNest<T> {
     }
 
     /// The smallest span held that covers the span, with its value, if any covers it. An equal one
-    /// counts (RFC 2725, 9). The last number of the span is not below its first, and below 2^32.
+    /// counts (RFC 2725, 9). The last number of the span asked for is not below its first, and is
+    /// below 2^32.
     pub fn closest(&self, span: Span) -> Option<(Span, &T)>
         ensures closest { MatchOption result (NoneCovers self.now span)
             (λ p. IsClosest self.now span p.0 p.1.now) }
@@ -125,9 +118,10 @@ impl<T> SpanNest<T> {
 }
 
 impl<T: Drop> SpanNest<T> {
-    /// Puts the value at the span, and gives back the value that stood there (profile). The span is
-    /// refused with `Overlap` exactly if it crosses one that is held; any other fault is `Memory`,
-    /// that memory ran out. Then nothing changes, and the value comes back with the fault.
+    /// Puts the value at the span, and gives back the value that stood there, if any did (profile).
+    /// The span is refused with `Overlap` exactly if it crosses one that is held; any other fault
+    /// is `Memory`, that memory ran out. After either fault nothing is changed, and the value comes
+    /// back with it.
     pub fn insert(&mut self, span: Span, value: T) -> Result<Option<T>, InsertFault<T>>
         ensures { InsertsApart self.old span value self.new result }
     {
@@ -140,9 +134,9 @@ impl<T: Drop> SpanNest<T> {
         }
     }
 
-    /// Puts the value at the span, and gives back the value that stood there (profile). The span
-    /// must cross none that is held: unlike [`SpanNest::insert`], this does not look. If memory
-    /// runs out, nothing changes, and the value comes back with the fault.
+    /// Puts the value at the span, and gives back the value that stood there, if any did (profile).
+    /// The span must cross none that is held: unlike [`SpanNest::insert`], this does not look. If
+    /// memory runs out, nothing changes, and the value comes back with the fault.
     pub fn insert_uncrossed(&mut self, span: Span, value: T) -> Result<Option<T>, AllocFailed<T>>
         requires { crosses_some self.old span ≡ false }
         ensures inserts { Inserts self.old span value self.new result }
@@ -155,8 +149,8 @@ impl<T: Drop> SpanNest<T> {
         }
     }
 
-    /// Takes the span out, and gives back the value that stood there, if it was held. The spans
-    /// inside it stay (profile).
+    /// Takes the span out, and gives back the value that stood there, if it was held. All others
+    /// stay, those inside it too (profile).
     pub fn remove(&mut self, span: Span) -> Option<T>
         ensures { Removes self.old span self.new result }
     {

@@ -10,9 +10,8 @@ use Rattle.rr_auth.specs.Registries.{Reg}
 use Rattle.rr_auth.specs.Sources.{IsReadIn}
 use Rattle.rr_auth.proofs.Steps.{read_item}
 use Rattle.rr_registry.specs.RunLaws.{AreFormed, AreReadIn}
-use Rattle.rr_registry.specs.Runs.{Run}
+use Rattle.rr_registry.specs.Runs.{Run, Submitted}
 use Rattle.rr_registry.specs.declared.outcome.Outcome.{Outcome}
-use Rattle.rr_registry.specs.declared.run.Submitted.{Submitted}
 use Rattle.rr_registry.proofs.Confined.{runs_confine}
 use Rattle.rr_registry.proofs.Running.{run_append}
 use Rattle.rr_submission.proofs.Asking.{AreItems-read}

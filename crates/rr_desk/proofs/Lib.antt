@@ -16,7 +16,6 @@ pub mod HistorySecrets
 pub mod ListRows
 pub mod Listed
 pub mod Loads
-pub mod MemoryLemmas
 pub mod Migrated
 pub mod OpeningLines
 pub mod OpeningRegistry

@@ -23,7 +23,9 @@ use Rattle.rr_desk.proofs.DumpSources.{one_found}
 use Rattle.sqlite_trees.specs.declared.store.Store.{Ghosts}
 use Rattle.sqlite.specs.Held.{Held, state}
 use Rattle.rr_store.specs.Calls.{database}
-use Rattle.rr_desk.specs.Opened.{CommitsTables, GivesBack, MakesNone, MakesTables}
+use Rattle.rr_store.specs.declared.store_fault.CreateFault.{CreateFault}
+use Rattle.rr_desk.specs.Opened.{CommitsTables, FailsToMakeTables, GivesBack, MakesNone}
+use Rattle.rr_desk.specs.Opened.{MakesTables}
 use Rattle.rr_desk.proofs.Following.{trees_of}
 
 -- a list that is gathered is put in one by one
@@ -120,4 +122,14 @@ module _ {S : Type 0} (g : Ghosts S) where
     was_open = none.was_open;
     kept = none.kept;
     crash = left_as conn left f none.crash;
+  }
+
+  pub fails_as : {P Q : Database → Type 0} (conn left : Held S) (fault : CreateFault) →
+      ((db : Database) → P db → Q db) → FailsToMakeTables g P conn left fault →
+      FailsToMakeTables g Q conn left fault
+  fails_as conn left fault f fails = record {
+    none = none_as conn left f fails.none;
+    not_empty = fails.not_empty;
+    store = fails.store;
+    untabled = fails.untabled;
   }

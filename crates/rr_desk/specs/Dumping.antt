@@ -14,7 +14,7 @@ fault_of_cut cut.Write = Write
 fault_of_cut cut.Memory = Memory
 
 -- a dump of a desk that runs was cut short: a write failed, or memory ran out and none failed; what
--- was written is a beginning of it, and not all (profile)
+-- was written is a beginning of it, and not all. Such a desk never answers `Stopped` (profile)
 abbrev pub IsCutShort : List ℕ → Told → Told → DeskDumpFault → Type 0
 IsCutShort bytes before after Write = TakesPrefix before after bytes
 IsCutShort bytes before after Memory = TakesPart before after bytes

@@ -10,9 +10,8 @@ use Rattle.rr_text.specs.WholePart.{whole_entries}
 use Rattle.rr_text.specs.declared.text_fault.TextFault.{TextFault}
 use Rattle.rr_auth.specs.Registries.{Reg, Sound}
 use Rattle.rr_registry.specs.Confined.{Confines}
-use Rattle.rr_registry.specs.Runs.{Run}
+use Rattle.rr_registry.specs.Runs.{Run, Submitted}
 use Rattle.rr_registry.specs.declared.outcome.Outcome.{Outcome}
-use Rattle.rr_registry.specs.declared.run.Submitted.{Submitted}
 use Rattle.rr_answer.specs.Answers.{answer_bytes}
 use Rattle.rr_answer.specs.Secrecy.{IsRead, LookAlike}
 use Rattle.rr_answer.specs.declared.query_fault.QueryFault.TheVariants as query_fault

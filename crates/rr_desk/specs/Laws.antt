@@ -12,32 +12,32 @@ use Rattle.rr_object.specs.declared.key.Key.{Key}
 use Rattle.rr_object.specs.Objects.{Obj}
 use Rattle.rr_auth.specs.Registries.{Reg}
 use Rattle.rr_auth.specs.Sources.{IsRegistryOf}
+use Rattle.rr_registry.specs.declared.load.LoadFault.TheVariants as list_fault
 use Rattle.rr_store.specs.Maps.{HasRows}
 use Rattle.rr_answer.specs.Dumps.{dump}
 use Rattle.rr_answer.specs.Secrecy.{IsRead, LookAlike}
 use Rattle.rr_answer.specs.declared.query_fault.QueryFault.{QueryFault}
 use Rattle.rr_answer.specs.declared.query_fault.QueryFault.TheVariants as query_fault
 use Rattle.rr_desk.specs.DumpLaws.{IsDumpable}
+use Rattle.rr_desk.specs.declared.dump_read_fault.DumpReadFault.TheVariants as read_fault
 use Rattle.rr_desk.specs.declared.loading.DeskLoadFault.{DeskLoadFault}
-use Rattle.rr_desk.specs.declared.loading.DeskLoadFault.TheVariants.{NotEmpty, Read, Endless, Text}
-use Rattle.rr_desk.specs.declared.loading.DeskLoadFault.TheVariants.{Object, Duplicate, Overlap}
-use Rattle.rr_desk.specs.declared.loading.DeskLoadFault.TheVariants.{Unnamed, Store, Memory}
+use Rattle.rr_desk.specs.declared.loading.DeskLoadFault.TheVariants.{Unread, Untaken, Unmade}
 use Rattle.rr_desk.specs.Answering.{IsAnswered}
 use Rattle.rr_desk.specs.Loaded.{FailsToLoad, IsLoaded}
 use Rattle.rr_desk.specs.Turns.{InOrder, IsGivenAt, Visit}
 
 -- a fault is of the reader, of the tables or of memory, and not of the text (profile)
 abbrev pub IsNotOfText : DeskLoadFault → Type 0
-IsNotOfText NotEmpty = Unit {0}
-IsNotOfText Read = Unit {0}
-IsNotOfText Endless = Unit {0}
-IsNotOfText (Text n) = ⊥
-IsNotOfText (Object n code) = ⊥
-IsNotOfText (Duplicate n) = ⊥
-IsNotOfText (Overlap n) = ⊥
-IsNotOfText (Unnamed n) = ⊥
-IsNotOfText (Store error) = Unit {0}
-IsNotOfText Memory = Unit {0}
+IsNotOfText (Unread read_fault.Read) = Unit {0}
+IsNotOfText (Unread read_fault.Endless) = Unit {0}
+IsNotOfText (Unread (read_fault.Text n)) = ⊥
+IsNotOfText (Unread (read_fault.Object n code)) = ⊥
+IsNotOfText (Unread read_fault.Memory) = Unit {0}
+IsNotOfText (Untaken (list_fault.Duplicate n)) = ⊥
+IsNotOfText (Untaken (list_fault.Overlap n)) = ⊥
+IsNotOfText (Untaken (list_fault.Unnamed n)) = ⊥
+IsNotOfText (Untaken list_fault.Memory) = Unit {0}
+IsNotOfText (Unmade fault) = Unit {0}
 
 -- what is loaded from a reader is this registry, and where nothing is, it is for no fault of the
 -- text (profile)

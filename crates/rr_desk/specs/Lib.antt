@@ -10,10 +10,7 @@ pub mod Histories
 pub mod HistoryLaws
 pub mod Lasting
 pub mod Laws
-pub mod LoadFaults
 pub mod Loaded
-pub mod MemoryTold
-pub mod MemoryTurns
 pub mod Migrating
 pub mod MigratingParts
 pub mod Modes

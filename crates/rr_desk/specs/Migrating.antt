@@ -111,8 +111,9 @@ pub record MigratesTables {S : Type 0} (g : Ghosts S) (settings : SettingsParts)
       (IsMigratedBy settings (database g conn) (database g stored.store))
   pub crash : Survives (state g conn) (state g stored.store) (CommitsMigrated g settings conn)
 
--- where the rows have numbers of their own, an error of the database has a cause outside them, or
--- there is a registry as which they are to be written anew (profile)
+-- where the rows have numbers of their own and the disk gives back what was written, an error of
+-- the database has a cause outside them, or there is a registry as which they are to be written
+-- anew (profile)
 abbrev pub FailsMigrating : {S : Type 0} → Ghosts S → SettingsParts → Held S → Held S
     → MigrateFault → Type 0
 FailsMigrating g settings conn left fault =
@@ -120,7 +121,8 @@ FailsMigrating g settings conn left fault =
     (IsCaused (state g conn) (state g left) error ⊎ CanGrow settings (database g conn))
 
 -- the tables were not migrated, and the fault says why: what there was stands, and a stop of the
--- process leaves that or, where they could be migrated, the new ones (profile)
+-- process leaves that or, where they could be migrated, the new ones. This holds where the disk
+-- gives back what was written (profile)
 pub record FailsToMigrateTables {S : Type 0} (g : Ghosts S) (settings : SettingsParts)
     (conn left : Held S) (fault : MigrateFault) : Type 0 where
   pub none : GivesBack g (CommitsMigrated g settings conn) conn left

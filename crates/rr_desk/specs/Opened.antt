@@ -79,8 +79,9 @@ module _ {S : Type 0} (g : Ghosts S) where
   abbrev pub CommitsTables : (Database → Type 0) → Held S → Trees → Type 0
   CommitsTables rows conn = WhereOpen g conn (TreesOf (IsMadeWith rows (database g conn)))
 
-  -- tables were made in a database that had room for them, over a connection that was open, and a
-  -- stop of the process leaves what there was or tables with these rows (profile)
+  -- tables were made, those of a new store, in a database that had room for them, over a connection
+  -- that was open, and all else stays. A stop of the process leaves what there was or tables with
+  -- these rows (profile)
   pub record MakesTables (rows : Database → Type 0) (conn made : Held S) : Type 0 where
     pub was_open : OnCleanDisk g made (IsTrue (state g conn).is_open)
     pub vacant : OnCleanDisk g made (IsVacant (database g conn))
@@ -112,9 +113,9 @@ module _ {S : Type 0} (g : Ghosts S) where
     pub why : OnCleanDisk g left (RefusesRegistry source (database g conn) fault)
     pub store : IfStore (FailsOverTidy g conn left) fault
 
-  -- no tables with these rows were made; that there is a row is told where one of the three tables
-  -- has one, and where one has, an error of the database has a cause outside the rows; where other
-  -- tables stand in place of the three, the error says that (profile)
+  -- no tables with these rows were made; that there is a row is told only where one of the three
+  -- tables has one, and where one has, an error of the database has a cause outside the rows; where
+  -- other tables stand in place of the three, the error says that (profile)
   pub record FailsToMakeTables (rows : Database → Type 0) (conn left : Held S) (fault : CreateFault)
       : Type 0 where
     pub none : MakesNone rows conn left

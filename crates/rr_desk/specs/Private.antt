@@ -121,6 +121,6 @@ pub record HasObject (source : List ℕ) (fields : List Field) : Type 0 where
 
 -- the fault of a load is not of the store
 abbrev pub IsNotOfStore : DeskLoadFault → Type 0
-IsNotOfStore load.NotEmpty = ⊥
-IsNotOfStore (load.Store error) = ⊥
-IsNotOfStore _ = Unit {0}
+IsNotOfStore (load.Unread fault) = Unit {0}
+IsNotOfStore (load.Untaken fault) = Unit {0}
+IsNotOfStore (load.Unmade fault) = ⊥

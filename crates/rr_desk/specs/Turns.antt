@@ -70,8 +70,8 @@ pub record IsUnaccepted (before after : Tally) : Type 0 where
   pub counts : CountsTurn unaccepted before after
   pub is_next : IsNext None before.waiting after.waiting
 
--- a connection was closed, which is a turn, told with the bytes that it gave and those that it was
--- answered; the connections that are to come stay
+-- a connection was closed, which is a turn, told where turns are told with the bytes that are noted
+-- as given and those that it was answered; the connections that are to come stay
 pub record IsClosed (given answered : Option (List ℕ)) (before after : Tally) : Type 0 where
   pub counts : CountsTurn (closed given answered) before after
   pub waiting : after.waiting ≡ before.waiting

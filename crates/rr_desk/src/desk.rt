@@ -25,11 +25,13 @@ use sqlite::{Alter, Error};
 use std::alloc::Global;
 
 /// A registry by its settings, kept in tables. A fault of the store stops it until it is opened
-/// again. What its functions say of rows, and of the rest of the file, holds where the disk gives
-/// back what was written. Where they say that its rows are those of its registry, a stop of the
-/// process leaves these rows too. That a fault leaves the rows as they were holds while also the
-/// connection is open. What a call did, or why it did nothing, is also an event of the history of
-/// its database, as its clause `event` says.
+/// again. What its functions say of rows, of the rest of the file, and of a connection that was
+/// open, holds where the disk gives back what was written. Where they say that its rows are those
+/// of its registry, the connection is open, and a stop of the process leaves these rows too. That a
+/// fault leaves rows or tables as they were holds while also the connection is open, and then it
+/// was open before. No call forgets a fault of the disk, and nothing but such a fault shuts the
+/// connection. What a call did, or why it did nothing, is also an event of the history of its
+/// database, as its clause `event` says.
 #[derive(Drop)]
 pub struct Desk<S: Alter> {
     pub(crate) settings: Settings,
@@ -37,12 +39,15 @@ pub struct Desk<S: Alter> {
 }
 
 impl<S: Alter> Desk<S> {
-    /// The desk of the registry that opens with these settings, in a database with nothing in it or
-    /// with the three tables and no row. Its rows are written whole or not at all. After a fault
-    /// the connection is given back, with the rows as they were; a stop of the process leaves these
-    /// or, where there was room for them, the new ones whole. `NotEmpty` says that one of the three
-    /// tables has a row. Where other tables stand in their place, the error of the database says
-    /// that. Where one of the three has a row, that error has a cause outside the rows.
+    /// The desk of the registry that opens with these settings, and runs with them, in a database
+    /// with nothing in it or with the three tables and no row. The connection was open then. In a
+    /// database with nothing in it, the tables of a new store are made; in another, all beside the
+    /// rows of the three stays. The rows are written whole or not at all. After a fault the
+    /// connection is given back, in no transaction and with all tables as they were. A stop of the
+    /// process leaves these or, where there was room for them, the new ones whole. `NotEmpty` says
+    /// that the three tables are there, and one of them has a row. Where other tables stand in
+    /// their place, the error of the database says that. Where one of the three has a row, that
+    /// error has a cause outside the rows.
     pub fn create(
         alloc: Global,
         conn: IdleConnection<S>,
@@ -66,10 +71,11 @@ impl<S: Alter> Desk<S> {
         }
     }
 
-    /// The desk of the registry of the settings' source whose rows the tables hold; no row is
-    /// changed. After a fault the connection is given back, with the rows as they were, and nothing
-    /// was committed. The fault is that the tables are of another version, which comes first, or
-    /// that their rows are those of no registry of the source. Or the database refused, for a cause
+    /// The desk of the registry of the settings' source whose rows the tables hold; it runs with
+    /// these settings. The connection was open then, and nothing is changed or committed. After a
+    /// fault it is given back, in no transaction and with all tables as they were, and nothing was
+    /// committed. The fault is that the tables are of another version, which comes first, or that
+    /// their rows are those of no registry of the source. Or the database refused, for a cause
     /// outside the rows if each row has its own number; or memory ran out. Of a database without
     /// the three tables, that and nothing else is told.
     pub fn open(
@@ -90,7 +96,8 @@ impl<S: Alter> Desk<S> {
     }
 
     /// Submits what the reader gives, and writes the report. The items are decided one by one, in
-    /// order, each before its line is written, and its rows are written whole or not at all. A
+    /// order, each before its line is written, and its rows are written whole or not at all. `Done`
+    /// counts the items and those refused; a fault, where it counts, the items that stand. A
     /// stopped desk answers `Stopped`, stays as it is, and reads and writes nothing.
     ///
     /// If a read fails, or the text has no end within 16,777,216 reads, the items that came whole
@@ -101,11 +108,12 @@ impl<S: Alter> Desk<S> {
     /// Later it refuses the item, or counts as a fault of the store; no clause says when.
     ///
     /// Only a fault of the store stops the desk, at an item that was to add, change or delete an
-    /// object. The items before it stand. A stop of the process or machine leaves their rows, or
-    /// these with that item whole, and the rest of the file as it was. At that item a line with E91
-    /// and a last line are written as far as they can be. The items after it are not decided,
-    /// though up to 4,096 bytes after it may have been read. Until the desk is stopped, its rows
-    /// are those of the registry, which stays one of its source.
+    /// object. The items before it stand. The registry in memory has that item too, and the rows do
+    /// not while the connection is open. A stop of the process or machine leaves the rows of those
+    /// before it, or these with that item whole, and the rest of the file as it was. At that item a
+    /// line with E91 and a last line are written as far as they can be. The items after it are not
+    /// decided, though up to 4,096 bytes after it may have been read. Until the desk is stopped,
+    /// its rows are those of the registry, which stays one of its source.
     ///
     /// Where a prefix is held, and each item is foreign to its holders or their own, those not
     /// foreign are answered as if nobody else had submitted anything. What the holders hold ends as

@@ -19,7 +19,7 @@ use std::alloc::Global;
 pub enum DeskDumpFault {
     /// A write failed.
     Write,
-    /// Memory ran out.
+    /// Memory ran out, and no write failed.
     Memory,
     /// The desk is stopped.
     Stopped,
@@ -43,7 +43,7 @@ impl<S: Alter> Desk<S> {
     /// Writes a dump of the registry: its objects by class and key, each with an empty line, and a
     /// last line that counts them. `full` prints all their text, otherwise their public forms
     /// (profile). It answers how many there are. After `Write` or `Memory` the writer has taken the
-    /// beginning of the dump, and not all of it. A stopped desk answers `Stopped` and writes
+    /// beginning of the dump, and not all of it. A stopped desk alone answers `Stopped`, and writes
     /// nothing. The event of a desk that runs has the whole dump, also where not all was written.
     pub fn dump<W: Sink>(
         &self,

@@ -25,17 +25,18 @@ use std::alloc::{AllocError, Global};
 
 impl<S: Alter> Desk<S> {
     /// The desk of the registry of the objects of tables of version 1, and of the block of the AS
-    /// numbers of more than 16 bits. The root maintains the block (RFC 6793). All rows are written
-    /// anew as those of version 2, and all else in the file stays. The connection was open then.
-    /// The settings say the source and the root, and the desk runs with them.
+    /// numbers of more than 16 bits. The root, whose mntner is one of these objects, maintains the
+    /// block (RFC 6793). All rows are written anew as those of version 2, whole or not at all, and
+    /// all else in the file stays. The connection was open then. The settings say the source and
+    /// the root, and the desk runs with them.
     ///
-    /// After a fault the connection is given back, with the rows as they were. A stop of the
-    /// process leaves these or, where they could be migrated, the new ones whole. That the tables
-    /// are of another version comes first, then that their rows are those of no registry of the
-    /// source, then that the root is not registered. Of a database without the three tables, that
-    /// and nothing else is told. Where they are there, and each row has its own number, an error of
-    /// the database has a cause outside the rows. But where they could be migrated, no clause says
-    /// why it failed.
+    /// After a fault the connection is given back, in no transaction and with all tables as they
+    /// were. A stop of the process leaves these or, where they could be migrated, the new ones
+    /// whole. That the tables are of another version comes first, then that their rows are those of
+    /// no registry of the source, then that the root is not registered. Of a database without the
+    /// three tables, that and nothing else is told. Where they are there, and each row has its own
+    /// number, an error of the database has a cause outside the rows. But where they could be
+    /// migrated, no clause says why it failed.
     pub fn migrate(
         alloc: Global,
         conn: IdleConnection<S>,

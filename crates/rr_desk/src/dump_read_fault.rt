@@ -4,7 +4,7 @@ ghost use Rattle.std.specs.Prelude.{◌≡◌};
 ghost use Rattle.rr_desk.specs.declared.dump_read_fault.DumpReadFault.TheVariants.{Memory};
 
 use rr_object::Code;
-use std::alloc::{AllocError, AllocFailed};
+use std::alloc::AllocError;
 
 /// Why a dump was not read. Entries are counted from 1; those before the one that is told are
 /// objects of the source.
@@ -26,14 +26,6 @@ impl From<AllocError> for DumpReadFault {
     ghost from_gives = { λ _ fault. fault ≡ Memory };
 
     fn from(_refused: AllocError) -> DumpReadFault {
-        DumpReadFault::Memory
-    }
-}
-
-impl<T: Drop> From<AllocFailed<T>> for DumpReadFault {
-    ghost from_gives = { λ _ fault. fault ≡ Memory };
-
-    fn from(_refused: AllocFailed<T>) -> DumpReadFault {
         DumpReadFault::Memory
     }
 }

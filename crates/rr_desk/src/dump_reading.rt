@@ -11,6 +11,7 @@ ghost use Rattle.rr_desk.specs.DumpReadings.{ReadsDump};
 ghost use Rattle.rr_desk.specs.declared.dump_read_fault.DumpReadFault.TheVariants.{Memory};
 
 use crate::dump_read_fault::DumpReadFault;
+use crate::opening::with_object;
 use rr_io::Source;
 use rr_number::Name;
 use rr_object::{Object, ObjectFault};
@@ -30,10 +31,8 @@ pub fn read_dump<R: Source>(
     ensures { ReadsDump result (λ objects. objects.items) source.now (R.told reader.old)
         (R.told reader.new) }
 {
-    match Paragraphs::new(alloc) {
-        Ok(mut paragraphs) => read_entries(alloc, &mut paragraphs, reader, source),
-        Err(_) => Err(DumpReadFault::Memory),
-    }
+    let mut paragraphs = Paragraphs::new(alloc)?;
+    read_entries(alloc, &mut paragraphs, reader, source)
 }
 
 /// The objects of a dump of which nothing was read.
@@ -100,10 +99,9 @@ fn with_entry(
         → MatchResult result (λ objects. objects_from source.now 1 (given ++ next ∷ [])
         ≡ Ok objects.items) (IsFaultSoFar source.now (given ++ next ∷ [])) }
 {
-    let mut objects = read?;
+    let objects = read?;
     let object = entry_object(alloc, n, entry, source)?;
-    objects.push(object)?;
-    Ok(objects)
+    Ok(with_object(objects, object)?)
 }
 
 /// The object that the n-th entry of a dump is, or its fault, unless memory ran out.

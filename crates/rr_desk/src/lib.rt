@@ -2,7 +2,7 @@
 //! dumped and loaded.
 //!
 //! The commands of the program make, open and close a [`Desk`], and [`serve_all`] serves its
-//! connections. [`MemoryPeers`] is there for tests.
+//! connections.
 #![tactic(auto)]
 
 mod desk;
@@ -14,7 +14,6 @@ mod dump_read_fault;
 mod dump_reading;
 pub mod laws;
 mod loading;
-mod memory_peers;
 mod opened;
 mod opening;
 mod peers;
@@ -29,7 +28,6 @@ pub use desk_dumping::DeskDumpFault;
 pub use dump_read_fault::DumpReadFault;
 pub use dump_reading::read_dump;
 pub use loading::DeskLoadFault;
-pub use memory_peers::{MemoryInput, MemoryPeers, MemoryTurn};
 pub use peers::{AcceptFault, ConnFault, Peers};
 pub use rr_store::{CreateFault, MigrateFault, OpenFault};
 pub use rr_submission::{DeskFault, Done};

@@ -17,7 +17,8 @@ use rr_store::{CreateFault, IdleConnection, OpenFault, Store};
 use sqlite::Alter;
 use std::alloc::Global;
 
-/// The registry of this source whose rows the tables hold, with its store.
+/// The registry of this source whose rows the tables hold, with its store. A fault gives the
+/// connection back, and says why there is none.
 pub(crate) fn open_stored<S: Alter>(
     alloc: Global,
     conn: IdleConnection<S>,
@@ -48,7 +49,8 @@ fn refused(fault: LoadFault) -> OpenFault
     }
 }
 
-/// A registry with a new store, in tables that hold the rows of its objects.
+/// A registry with a new store, in tables that hold the rows of its objects. A fault gives the
+/// connection back, and says why there is none.
 pub(crate) fn create_stored<S: Alter>(
     alloc: Global,
     conn: IdleConnection<S>,
@@ -66,7 +68,8 @@ pub(crate) fn create_stored<S: Alter>(
     }
 }
 
-/// The store of the rows of a registry, in new tables.
+/// The store of the rows of a registry, in new tables. It is open, and a stop leaves these rows. A
+/// fault gives the connection back, and says why there is none.
 fn create_store<S: Alter>(
     alloc: Global,
     conn: IdleConnection<S>,

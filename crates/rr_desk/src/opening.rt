@@ -1,5 +1,5 @@
 //! The objects that a new registry opens with, for `Desk::create`. `desk_migrating` adds one of
-//! them, the block of 32-bit AS numbers, too.
+//! them, the block of 32-bit AS numbers, too. Each error here is that memory ran out.
 
 ghost use Rattle.std.specs.Prelude.{◌≡◌, [], ◌∷◌, ◌++◌, IfOk, OnOk};
 ghost use Rattle.rr_text.specs.Fields.{AreFields, IsField, one_line};
@@ -93,6 +93,7 @@ pub(crate) fn upper_object(alloc: Global, settings: &Settings) -> Result<Object,
         (upper_block settings.now.root settings.now.source)) }
 {
     let object = rr_store::upper_object(alloc, settings.root(), settings.source())?;
+    // (good settings give a block that is read)
     Ok(object.unwrap())
 }
 

@@ -1,4 +1,5 @@
-//! Where connections come from, one after the other: sockets, by `rr_listener`, or memory.
+//! Where connections come from, one after the other: sockets, by `rr_listener`, or, in tests,
+//! memory. `serve_all` takes them.
 
 ghost use Rattle.std.specs.Prelude.{◌≡◌, ◌+◌, ◌<◌, ◌^◌, ℕ, List, Option, Some};
 ghost use Rattle.std.specs.Prelude.{length, IfOk, OnErr};
@@ -35,9 +36,10 @@ pub trait Peers {
     // The bytes that the reader of that connection told when it was accepted, where it tells them.
     ghost given: { Self → Option (List ℕ) };
 
-    /// The next connection, of which no call has failed and to which nothing was written. The
-    /// allocator is for what keeps the connection. An error is a turn; where connections to come
-    /// are told, none is to come then. The turns there were and this one are within `u64`.
+    /// The next connection, of which no call has failed and to which nothing was written. It is
+    /// open then, and no turn yet; what its reader tells is kept as `given`. The allocator is for
+    /// what keeps the connection. An error is a turn; where connections to come are told, none is
+    /// to come then. The turns there were and this one are within `u64`.
     fn accept(&mut self, alloc: Global) -> Result<Self::Conn, AcceptFault>
         requires { (tally self.old).turns + 1 < 2 ^ 64 }
         ensures accepted { IfOk result (λ conn. IsAccepted (tally self.old) (tally self.new)
@@ -45,8 +47,9 @@ pub trait Peers {
         ensures open { IfOk result (λ conn. IsOpen self.new) }
         ensures refused { OnErr result (IsUnaccepted (tally self.old) (tally self.new)) };
 
-    /// Closes the connection that was accepted last and is open, which is a turn. The turns there
-    /// were and this one are within `u64`.
+    /// Closes the connection that was accepted last and is open, which is a turn. Where turns are
+    /// told, it is told with `given`, what the connection had to give, and with the bytes written
+    /// to it. The connections to come stay. The turns there were and this one are within `u64`.
     fn close(&mut self, conn: Self::Conn)
         requires open { IsOpen self.old }
         requires room { (tally self.old).turns + 1 < 2 ^ 64 }

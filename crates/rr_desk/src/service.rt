@@ -16,10 +16,10 @@ pub trait Service {
     // What serving a connection does.
     ghost serves: { Serving };
 
-    /// Serves a connection, as `serves` says: reads what it asks, asks the desk, and writes the
-    /// reply. The error is that a read or a write of the connection failed. The settings of the
-    /// desk stay, its database lasts, and unless a fault of the store stopped it, its rows are
-    /// those of its registry.
+    /// Serves a connection. What that does, and what the result says, `serves` says: of `Both` that
+    /// it reads what is asked, asks the desk and writes the reply, and that the error is a failed
+    /// read or write. The settings of the desk stay, its database lasts, and unless a fault of the
+    /// store stopped it, its rows are those of its registry.
     fn serve<S: Alter, C: Connection>(
         &self,
         alloc: Global,

@@ -1,5 +1,5 @@
 //! Settings: what a registry opens with, and how far expansions of sets go (profile). `rr_commands`
-//! reads them from a file for each desk, and the plain command has those that are built in.
+//! reads them from a file for each desk, and the program without arguments has built-in ones.
 
 ghost use Rattle.std.specs.Prelude.{◌≡◌, ◌≢◌, IfErr, IfOk, None, Ok, Some};
 ghost use Rattle.std.specs.Option.{option_copied};
@@ -127,6 +127,7 @@ impl Settings {
         ensures { IfOk result (λ settings. settings ≡ built_in) }
     {
         let settings = Settings::new(alloc, "TEST", "ROOT-MNT", BUILT_IN_AUTH, 10_000)?;
+        // (these are good, as a lemma shows)
         Ok(settings.unwrap())
     }
 
@@ -155,7 +156,7 @@ impl Settings {
 
     /// The most names that an expansion may reach, and for a route-set the most pairs of a set and
     /// a range, 1 to [`GREATEST_LIMIT`]; the settings are good.
-    pub fn limit(&self) -> u64
+    pub(crate) fn limit(&self) -> u64
         ensures limit { result ≡ self.now.limit }
         ensures good { IsSettings self.now }
     {

@@ -44,7 +44,8 @@ impl<S: Alter> Model for Stored<S> {
 }
 
 impl<S: Alter> Stored<S> {
-    /// A registry with a store that holds its rows.
+    /// A registry with a store that is open and holds its rows, which a stop leaves. No fault has
+    /// stopped it.
     pub(crate) fn of(registry: Registry<IndexedBook>, store: Store<S>) -> Stored<S>
         requires is_open { IsOpen S.Store store }
         requires settled { IsSettled S.Store store }
@@ -195,7 +196,7 @@ fn follow<S: Alter>(
     }
 }
 
-/// The object that stands under the key.
+/// The object that stands under the key, which has one: so `unwrap` meets no `None`.
 fn standing<'a>(registry: &'a Registry<IndexedBook>, key: &Key) -> &'a Object
     requires { is_some (get registry.now key.now) ≡ true }
     ensures { get registry.now key.now ≡ Some result.now }

@@ -21,9 +21,11 @@ pub struct Served {
 }
 
 /// Takes so many turns of the listener, one after the other: accepts a connection, serves it, and
-/// closes it. A turn that fails is counted, and the next one follows. The settings of the desk
-/// stay, its database lasts, and until a fault of the store stops it, its rows are those of its
-/// registry. The turns there were and these are within `u64`.
+/// closes it. A turn that fails is counted, and the next one follows. It gives how many were served
+/// and how many failed. Where connections to come are told, they are accepted in their order; where
+/// turns are told, each is. A turn without a connection leaves the desk as it is. The settings of
+/// the desk stay, its database lasts, and until a fault of the store stops it, its rows are those
+/// of its registry. The turns there were and these are within `u64`.
 pub fn serve_all<S: Alter, P: Peers, V: Service>(
     alloc: Global,
     desk: &mut Desk<S>,

@@ -1,4 +1,5 @@
--- What a search with a limit answers, and lists in ascending order.
+-- What a search with a limit answers, and lists in ascending order: for `reach`, `gather` and
+-- `put_in_order`, and for the expansions of `rr_sets`.
 use Rattle.std.specs.Prelude.{◌≡◌, ◌↔◌, List, Contains, IfOk, OnOk, Err, Result}
 use Rattle.std.specs.List.Sorted.{IsStrictlySortedBy}
 use Rattle.std.specs.declared.cmp.Ordering.{Ordering}
@@ -15,7 +16,7 @@ pub record FindsWithin {X : Type 0} (IsWhole : X → Type 0) (GoesOver : Type 0)
   pub few : OnOk result (¬ GoesOver)
   pub many : result ≡ Err TooMany → GoesOver
 
--- The list has exactly the things that have the property, in ascending order (profile).
+-- The list has exactly the things that have the property, each once, in ascending order (profile).
 pub record ListsInOrder {X : Type 0} (cmp : X → X → Ordering) (P : X → Type 0) (list : List X)
     : Type 0 where
   pub all : (x : X) → Contains list x ↔ P x

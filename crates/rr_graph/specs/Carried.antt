@@ -62,8 +62,9 @@ module _ {N L V : Type 0} (edge : N → N → L → Type 0) (own : N → V → T
   abbrev pub IsTooMany : ℕ → N → Type 0
   IsTooMany limit start = MoreThan limit (IsReachedFrom edge start) ⊎ HasManyPairs limit start
 
-  -- What is gathered at the start: the nodes to which chains of edges lead from it, each listed
-  -- once, and the values that are found at it, in ascending order. (profile)
+  -- What is gathered at the start: the nodes to which chains of edges lead from it, itself among
+  -- them, each listed once; and the values that are found at it, each once, in ascending order.
+  -- (profile)
   pub record IsGathered (cmp : V → V → Ordering) (start : N) (gathered : Gathered N V)
       : Type 0 where
     pub nodes : AreMetFrom edge start gathered.nodes.items

@@ -1,4 +1,5 @@
-//! What edges make of values, where many edges do the same: for `settling` and `pairs`.
+//! What edges make of values, where many edges do the same: for `settling` and `pairs`. After
+//! memory ran out, no clause but `marks` and `map` says what is left of `Effects`.
 
 ghost use Rattle.std.specs.Prelude.{◌≡◌, [], ◌∷◌, ◌++◌, List, None};
 ghost use Rattle.std.specs.Prelude.{IfOk, IfSome, IsTrue, OnOk, false, filter, not};
@@ -23,8 +24,9 @@ pub(crate) struct Head<'a, N, L> {
 
 /// For each node and each kind of values the edges that are enough for values of that kind, and
 /// which kinds and groups of values were put through those that change values. Many references
-/// between two sets do the same to most values: 35 operators make one range of a /32, and no
-/// operator but none tells `10.0.0.0/8^8-9` from `10.0.0.0/8^8-10`. So each effect is used once.
+/// between two sets do the same to most values: 35 operators (none, `^+`, and `^n-32` for each n)
+/// make one range of a /32, and no operator but none tells `10.0.0.0/8^8-9` from
+/// `10.0.0.0/8^8-10`. So each effect is used once.
 /// The first group of a kind goes through all edges: mostly there is no second one.
 #[derive(Drop)]
 pub(crate) struct Effects<'a, G: Labelled> {
@@ -97,7 +99,7 @@ impl<'a, G: Labelled> Effects<'a, G> {
     }
 
     /// Notes of the node and the value's kind what the value needs, unless that is known: which of
-    /// the edges keep values, and at a second group, which of the others are enough.
+    /// the edges keep values, and at a second group, which of the others are enough. Marks stay.
     fn note(
         &mut self,
         alloc: Global,
@@ -142,7 +144,8 @@ impl<'a, G: Labelled> Effects<'a, G> {
         }
     }
 
-    /// Marks the kind and group of the value at the node, and tells whether they were not yet.
+    /// Marks the kind and group of the value at the node, and tells whether they were not yet. What
+    /// is known of kinds stays.
     fn mark(&mut self, alloc: Global, node: &G::Node, value: G::Value) -> Result<bool, AllocError>
         ensures marked { IfOk result (SetsMark
             (contains ⟦<((G::Node, G::Kind), G::Group) as Ord>⟧.cmp self.old.marks)

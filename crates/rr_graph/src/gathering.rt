@@ -67,7 +67,7 @@ fn reached_from<G: Labelled>(
 pub struct Gathered<N, V> {
     /// The nodes that are reached, each once, in no promised order.
     pub nodes: Vec<N>,
-    /// The values that are found at the node, in ascending order.
+    /// The values that are found at the node, each once, in ascending order.
     pub values: Vec<V>,
 }
 

@@ -55,7 +55,8 @@ pub trait Labelled {
     ghost group_of: { Self.Value → Self.Group };
 
     /// Lists the edges that leave the node, in any order, where one may come twice; the error is
-    /// that memory ran out.
+    /// that memory ran out. `gather` keeps to the steps that it states if those to one node stand
+    /// side by side.
     fn edges(
         &self,
         alloc: Global,

@@ -7,7 +7,7 @@ ghost use Rattle.rr_graph.specs.Answered.{PutsInOrder};
 use std::alloc::{AllocError, Global};
 use std::collections::BTreeSet;
 
-/// Lists what the set has, in ascending order; the error is that memory ran out.
+/// Lists what the set has, each thing once, in ascending order; the error is that memory ran out.
 pub fn ascending<T: Ord + Drop>(alloc: Global, set: BTreeSet<T>) -> Result<Vec<T>, AllocError>
     ensures same { IfOk result (λ list. list.items ≡ set.keys) }
     ensures sorted { IfOk result (λ list. IsStrictlySortedBy T.cmp list.items) }

@@ -130,7 +130,7 @@ pub(crate) fn own_pairs<G: Labelled>(
     Ok(pairs)
 }
 
-/// Adds the pairs of the node and each of the values.
+/// Adds the pairs of the node and each of the values. If memory runs out, some may be added.
 fn add_own<G: Labelled>(
     alloc: Global,
     graph: &G,

@@ -1,5 +1,5 @@
 //! Settles the nodes of a labelled graph from the ends of its chains back to their start, as far as
-//! there are no rings: for `gathering`.
+//! there are no rings: for `gathering`. After a fault no clause says what is settled or added.
 
 ghost use Rattle.std.specs.Prelude.{◌≡◌, ◌≤◌, ◌↔◌, ◌⊎◌, ◌++◌, [], true};
 ghost use Rattle.std.specs.Prelude.{Contains, IfOk, IfSome, IsTrue, OnOk, is_some, length, map};

@@ -84,7 +84,7 @@ pub enum Refusal {
     /// 8,192 bytes have no empty line: 431.
     HeadTooLarge,
     /// There is no head of a request, it has more than 64 fields, or the length of the body is bad
-    /// or given twice: 400.
+    /// or given more than once: 400.
     BadRequest,
     /// The body has a transfer coding: 501.
     NotImplemented,

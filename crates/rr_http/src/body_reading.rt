@@ -19,10 +19,10 @@ pub enum BodyEnd {
     Broken,
 }
 
-/// Reads the body of a request, of this size, the first bytes of which are those that came with its
-/// head: gives its bytes, or those that came of it, and how the reading ended. No byte after the
-/// body is read. The error is that memory ran out for a body that is not empty, and nothing is
-/// read then.
+/// Reads the body of a request, of this size, the first bytes of which came with its head: they are
+/// `buffered`, up to that size. Gives its bytes, or those that came of it, and how the reading
+/// ended. No byte after the body is read. The error is that memory ran out for a body that is not
+/// empty, and nothing is read then.
 pub fn read_body<R: Source>(
     alloc: Global,
     reader: &mut R,
@@ -41,7 +41,8 @@ pub fn read_body<R: Source>(
     Ok((body, end))
 }
 
-/// Reads on until the body has `size` bytes, for which there is room.
+/// Reads on until the body has `size` bytes, for which there is room, the input ends, or a read
+/// fails.
 fn read_rest<R: Source>(reader: &mut R, body: &mut Vec<u8>, size: usize) -> BodyEnd
     requires within { length body.old.items ≤ size }
     requires room { size ≤ vec_capacity body.old }

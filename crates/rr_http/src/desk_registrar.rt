@@ -33,17 +33,13 @@ impl<S: Alter> Registrar for Desk<S> {
         query: &[u8],
         writer: &mut W,
     ) -> Result<(), WriteFault> {
-        match Desk::answer(self, alloc, query, writer) {
-            Ok(_) => Ok(()),
-            Err(fault) => Err(fault),
-        }
+        Desk::answer(self, alloc, query, writer)?;
+        Ok(())
     }
 
     fn dump<W: Sink>(&self, alloc: Global, writer: &mut W) -> Result<(), DeskDumpFault> {
-        match Desk::dump(self, alloc, writer, false) {
-            Ok(_) => Ok(()),
-            Err(fault) => Err(fault),
-        }
+        Desk::dump(self, alloc, writer, false)?;
+        Ok(())
     }
 
     fn submit<R: Source, W: Sink>(

@@ -27,7 +27,8 @@ pub enum Head {
 }
 
 /// Reads the head of a connection into `buf`, which has 8,192 bytes, until it is known what the
-/// connection wants. Gives what stands there, and how many bytes were read, which `buf` then begins
+/// connection wants: its first line or the head of its request is whole, `buf` is full, or the
+/// input ended. Gives what stands there, and how many bytes were read, which `buf` then begins
 /// with. The error is a failed read before that is known.
 pub fn read_head<R: Source>(reader: &mut R, buf: &mut [u8]) -> io::Result<(Head, usize)>
     requires { length buf.old ≡ HEAD_LIMIT }

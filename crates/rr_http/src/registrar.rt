@@ -30,8 +30,8 @@ pub trait Registrar {
     fn stopped(&self) -> bool
         ensures { result ≡ ledger.is_stopped self.now };
 
-    /// Answers a query. After a failed write the writer has taken the beginning of the answer, and
-    /// not all of it.
+    /// Answers a query in a text, and is then in a state, as `Answers` says. After a failed write
+    /// the writer has taken the beginning of the text, and not all of it.
     fn answer<W: Sink>(
         &mut self,
         alloc: Global,

@@ -32,9 +32,10 @@ use std::alloc::Global;
 /// else changes what they hold.
 ///
 /// By HTTP a stopped desk is not asked, and the reply is 503, unless the request is refused anyway.
-/// The reply is 503, too, where memory runs out for a body, of which nothing is read then. Where
-/// memory runs out for a dump, the reply ends early, which is no error. However it ends, what is to
-/// last of the desk lasts, and its settings stay.
+/// The reply is 503, too, where memory runs out for a body, of which nothing more is read then.
+/// Where not even the head of a reply can be written, the desk is not asked. Where memory runs out
+/// for a dump, the reply ends early, which is no error. However it ends, what is to last of the
+/// desk lasts, and its settings stay.
 pub fn serve_one<D: Registrar, C: Connection>(
     alloc: Global,
     desk: &mut D,

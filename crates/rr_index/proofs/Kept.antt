@@ -5,9 +5,9 @@ use Rattle.std.specs.Prelude.{Option, None, Some, ◌&&◌}
 use Rattle.std.specs.BTreeMap.{BTreeMap, Updates, get as at_key, is_at}
 use Rattle.std.specs.BTreeMap.Range.{entries_between}
 use Rattle.std.specs.declared.ops.Bound.TheVariants.{Included}
-use Rattle.std.specs.FinMap.{empty, entries, get, insert, remove, values, from_sorted, is_sorted}
+use Rattle.std.specs.FinMap.{entries, get, insert, remove, values, from_sorted, is_sorted}
 use Rattle.std.specs.FinMap.{entries-from_sorted, get-from_sorted, get-insert, get-remove}
-use Rattle.std.specs.FinMap.{get-empty, same_map, find as find_entry}
+use Rattle.std.specs.FinMap.{same_map, find as find_entry}
 use Rattle.std.specs.FinMap.Entries.{below_all}
 use Rattle.std.specs.List.{AllByRecursion, filter}
 use Rattle.std.specs.List.Sorted.{IsStrictlySortedBy}
@@ -114,13 +114,6 @@ registry_replaced old new given k placed o before after same_key same_object upd
 pub registry_values : (m : BTreeMap Key Obj) → IsRising m → values (registry_of m) ≡ values_of
     m.entries
 registry_values m rise = ap values_of (entries-from_sorted key_cmp m.entries (T_of rise))
-
--- no entries
-pub registry_empty : (m : BTreeMap Key Obj) → m.entries ≡ [] → registry_of m ≡ empty
-registry_empty m e =
-    ap (λ (es : List (Key × Obj)). from_sorted {R = key_cmp} es) e
-    ∙ same_map keys_total keys_exact _ _ (λ q. get-from_sorted key_cmp [] q tt
-    ∙ sym (get-empty key_cmp q))
 
 abbrev or_else : Option Obj → Option Obj → Option Obj
 or_else None other = other

@@ -18,6 +18,7 @@ abbrev pub routes_start : Bool → ℕ → Key
 routes_start true address = Route (masked 0 0) 0
 routes_start false address = Route (masked (address - 1) 32) greatest_as_number
 
+-- What `routes_start` gives for an address, which it is told to be 0 or not.
 abbrev pub routes_from : ℕ → Key
 routes_from address = routes_start (address == 0) address
 

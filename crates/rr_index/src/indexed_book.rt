@@ -156,13 +156,6 @@ impl SetBook for IndexedBook {
 }
 
 impl Keeper for IndexedBook {
-    fn new(alloc: Global) -> IndexedBook {
-        IndexedBook {
-            objects: ObjectMap::new(alloc),
-            indexes: Indexes::new(alloc),
-        }
-    }
-
     fn of(alloc: Global, objects: Vec<Object>) -> Result<IndexedBook, AllocError> {
         let indexes = Indexes::of(alloc, &objects)?;
         let objects = ObjectMap::of(alloc, objects)?;

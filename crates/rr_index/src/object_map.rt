@@ -3,7 +3,7 @@
 ghost use Rattle.std.specs.Prelude.{◌≡◌, ◌&&◌, ◌||◌, [], ◌∷◌, None, Some};
 ghost use Rattle.std.specs.Prelude.{false, true, filter, is_some, map, IfErr, IfOk, OnErr, OnOk};
 ghost use Rattle.std.specs.BTreeSet.{contains};
-ghost use Rattle.std.specs.FinMap.{contains_key, empty, entries, get, remove, values};
+ghost use Rattle.std.specs.FinMap.{contains_key, entries, get, remove, values};
 ghost use Rattle.std.specs.List.{filter_map, list_any};
 ghost use Rattle.std.specs.List.Sorted.{IsStrictlySortedBy};
 ghost use Rattle.std.specs.Map.{values_of};
@@ -63,15 +63,6 @@ impl Model for ObjectMap {
 }
 
 impl ObjectMap {
-    /// A map without objects.
-    pub(crate) fn new(alloc: Global) -> ObjectMap
-        ensures { result ≡ empty }
-    {
-        ObjectMap {
-            entries: BTreeMap::new(alloc),
-        }
-    }
-
     /// The map of objects that stand in the order of class and key; it compares each only with the
     /// next. The error is that memory ran out.
     pub(crate) fn of(alloc: Global, objects: Vec<Object>) -> Result<ObjectMap, AllocError>

@@ -127,8 +127,8 @@ impl SpanIndex {
         }
     }
 
-    /// Whether an inetnum or an as-block of the sound registry whose spans these are crosses the
-    /// key, being of its class.
+    /// Whether the key is that of an inetnum or an as-block, and its span crosses that of an object
+    /// of its class in the sound registry whose spans these are.
     pub(crate) fn crosses(&self, key: &Key) -> bool
         ensures { (r : Reg) → Sound r → HasSpans r self.now.inetnums self.now.blocks
             self.now.routes → result ≡ crosses_key r key.now }

@@ -35,7 +35,7 @@ cut_told told own c = record {
 }
 
 -- a call before the cut did not fail, and passed so many bytes, at most a step: so many fewer may
--- still pass
+-- still pass. The step, and the count of calls that failed at the cut, stay
 pub record Passes {T : Type 0} (own : Cut T → ℕ) (old new : Cut T) (count : ℕ) : Type 0 where
   pub uncut : 0 < cut_left old
   pub step : count ≤ cut_step old

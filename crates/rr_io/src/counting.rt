@@ -9,7 +9,7 @@ use std::io::{ErrorKind, Read, Write};
 
 /// A reader or a writer of std. Its failed reads are counted, its failed writes apart from them,
 /// and its reads that do not fail, each up to `u64::MAX`. It tells its bytes where std does: over
-/// memory, and not over files, sockets and standard streams.
+/// memory, and not over files, sockets and standard streams. Nothing stands beside it.
 #[derive(Drop)]
 pub struct Counted<T> {
     inner: T,
@@ -35,13 +35,6 @@ impl<T> Counted<T> {
             failed_writes: 0,
             reads: 0,
         }
-    }
-
-    /// How many reads did not fail, up to `u64::MAX`.
-    pub fn reads(&self) -> u64
-        ensures { result ≡ counted_reads self.now }
-    {
-        self.reads
     }
 
     /// The reader or writer inside, whose calls were counted.

@@ -1,4 +1,4 @@
-//! A reader or a writer that is cut short, for tests and for `MemoryPeers` of `rr_desk`.
+//! A reader or a writer that is cut short, for tests.
 ghost use Rattle.std.specs.Prelude.{◌≡◌, ◌<◌, min};
 ghost use Rattle.rr_io.specs.Sending.{WritesOnce};
 ghost use Rattle.rr_io.specs.Receiving.{ReadsOnce};
@@ -50,7 +50,7 @@ impl<T> Cut<T> {
         inner
     }
 
-    /// How many bytes a call over `room` bytes may pass.
+    /// How many bytes a call over `room` bytes may pass: none only where `room` or `left` is 0.
     fn passing(&self, room: usize) -> usize
         ensures value { result ≡ min (min room self.now.step) self.now.left }
         ensures some { 0 < self.now.left → 0 < room → 0 < result }

@@ -1,6 +1,6 @@
 //! The limits on the reading of a text, and how a reading ends: for `Paragraphs` of `rr_text`, and
-//! for `rr_submission`. `rr_http` reads bodies by `READ_SIZE`. `rr_listener` takes in by it what a
-//! peer sends after its reply, at most 512 reads: no proof notes if that limit of bytes changes.
+//! for `rr_submission`. `rr_http` reads bodies by `READ_SIZE`. After a reply `rr_listener` makes at
+//! most 512 reads of that size, which are 2 MiB: no proof notes it if this limit changes.
 ghost use Rattle.std.specs.Prelude.{◌≡◌, IsTrue, ◌↔◌};
 
 /// How many reads the reading of a text makes at most (profile). Messages of `rr_commands` have the

@@ -17,9 +17,9 @@ pub record SpendsTime {E : Type 0} (room : ℕ) (before after : Deadline) (resul
   pub bound : IfOk result (λ count. count ≤ room)
   pub spends : as_nanos before.taken ≤ as_nanos after.taken
 
--- one call to a peer that is given so many seconds in all: if these were over, it failed and took
--- no time; otherwise its timeout is `next_wait`. If it did not fail, at most so many bytes passed;
--- in any case none of the time that was taken is given back (profile).
+-- one call to a peer that is given so many seconds in all: if these were over, it failed and the
+-- deadline stayed; otherwise its timeout is `next_wait`. If it did not fail, at most so many bytes
+-- passed; in any case none of the time that was taken is given back (profile)
 pub record SpendsCall {E : Type 0} (seconds room : ℕ) (before after : Deadline)
     (result : Result ℕ E) : Type 0 where
   pub over : next_wait seconds (as_nanos before.taken) ≡ None → IsErr result × (after ≡ before)

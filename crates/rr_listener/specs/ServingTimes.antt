@@ -19,7 +19,7 @@ abbrev pub wait_of : ℕ → Option ℕ
 wait_of left = if left == 0 then None else Some (min left (LONGEST_WAIT * second))
 
 -- how many nanoseconds the next call may wait for a peer that has so many seconds in all and took
--- so many nanoseconds; `None` if its time is over
+-- so many nanoseconds; `None` if its time is over (profile)
 abbrev pub next_wait : ℕ → ℕ → Option ℕ
 next_wait seconds taken = wait_of (seconds * second - taken)
 

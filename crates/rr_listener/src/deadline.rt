@@ -1,4 +1,5 @@
-//! How long a peer is waited for: `peer_reader` and `peer_writer` keep a deadline each.
+//! How long a peer is waited for: `peer_reader` and `peer_writer` keep a deadline each, and
+//! `socket` reads and writes only in a wait.
 
 ghost use Rattle.std.specs.Prelude.{◌≡◌, ◌+◌, ◌-◌, ◌≤◌, min, IfOk, None, OnErr, Some};
 ghost use Rattle.std.specs.Duration.{as_nanos, max_nanos};
@@ -88,9 +89,10 @@ impl Deadline {
         self.taken = Duration::MAX;
     }
 
-    /// The timeout to set before the next call, if the peer is given so many seconds in all; none
-    /// only if the one that was set last is the same. It then stands as the one set last. No time
-    /// is taken. The error is that the time is over; then the deadline stays.
+    /// The timeout to set before the next call, if the peer is given so many seconds in all: at
+    /// most 10 seconds, and not past the end. None only if the one that was set last is the same.
+    /// In both cases it then stands as the one set last. No time is taken. The error is that the
+    /// time is over; then the deadline stays.
     pub fn next_timeout(&mut self, seconds: u64) -> io::Result<Option<Duration>>
         ensures sets { IfOk result
             (λ set. SetsTimeout (next_wait seconds (as_nanos self.old.taken))

@@ -50,7 +50,8 @@ impl<'a> Listener<'a> {
     }
 
     /// The connection of an accept that ended so, or that it failed. An error is kept, and counted
-    /// as a turn; a connection is no turn yet, and no error is kept then.
+    /// as a turn; a connection is no turn yet, and no error is kept then. One turn more is within
+    /// `u64`.
     fn keep(&mut self, accepted: io::Result<Stream<'a>>) -> Result<Stream<'a>, AcceptFault>
         requires { self.old.turns + 1 < 2 ^ 64 }
         ensures kept { self.new.accept_error ≡ result_err accepted.entry }
@@ -85,9 +86,9 @@ impl<'a> Peers for Listener<'a> {
 
     ghost given = { λ _. None };
 
-    /// The next connection to the port, of which no call has failed; its bytes are not told. An
-    /// error is a turn, and the system's is then kept for `accept_error`, otherwise none. The turns
-    /// there were and this one are within `u64`.
+    /// The next connection to the port, of which no call has failed; its bytes are not told, and it
+    /// is no turn yet. An error is a turn. Exactly then an error is kept for `accept_error`: the
+    /// system's, though no clause says which. The turns there were and this one are within `u64`.
     fn accept(&mut self, _alloc: Global) -> Result<Stream<'a>, AcceptFault>
         requires { self.old.turns + 1 < 2 ^ 64 }
         ensures accepted { IfOk result (λ conn. IsAccepted

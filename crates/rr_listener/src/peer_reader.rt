@@ -51,7 +51,8 @@ impl<'a> PeerReader<'a> {
         self.skip_rest()
     }
 
-    /// Takes in what the peer still sends, of whose time for that none is taken yet.
+    /// Takes in what the peer still sends, of whose time for that none is taken yet. The bounds and
+    /// the error are those of `drain`.
     fn skip_rest(&mut self) -> io::Result<()>
         requires { as_nanos self.old.deadline.taken ≡ 0 }
     {

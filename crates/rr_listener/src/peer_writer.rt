@@ -16,14 +16,14 @@ const MOST_CALLS: u32 = 9;
 /// How many seconds a peer is given to take a reply (profile).
 pub const REPLY_TIME: u64 = 60;
 
-/// For how many bytes that went out it is given one more (profile).
+/// For how many bytes that went out it is given a second more (profile).
 pub const BYTES_A_SECOND: u64 = 16_384;
 
 /// The bytes that a peer is sent. It has to take them within 60 seconds and one more for each 16
-/// KiB that went out. A call waits for 10 seconds at most. It is made again if its time is over
-/// before that of the reply, up to 90 seconds in which no byte passes. For the system lets a writer
-/// go on only once a good part of its buffer is free, which takes a slow and steady reader longer
-/// than 10.
+/// KiB that went out. A call waits for 10 seconds at most. It is made again if the system
+/// interrupts it, or if its time is over before that of the reply, up to 90 seconds in which no
+/// byte passes. For the system lets a writer go on only once a good part of its buffer is free,
+/// which takes a slow and steady reader longer than 10.
 #[derive(Drop)]
 pub struct PeerWriter<'a> {
     rt: &'a HostRuntime,

@@ -1,4 +1,4 @@
-//! Connections over TCP: how one is accepted, and how it is ended.
+//! Connections over TCP, for `listener`: how one is accepted, and how it is ended.
 
 ghost use Rattle.std.specs.Prelude.{◌≡◌, ◌<◌, IfOk, None};
 ghost use Rattle.rr_desk.specs.Turns.{IsFresh};
@@ -13,8 +13,8 @@ use std::net::TcpListener;
 /// A connection over TCP: what the peer sends, and what it is sent.
 pub type Stream<'a> = Joined<Counted<PeerReader<'a>>, Counted<PeerWriter<'a>>>;
 
-/// Waits for the next connection to a socket. No call of it has failed, nothing was written to it,
-/// and what its peer sends is not told. The error is the system's.
+/// Waits for the next connection to a socket. No call of it has failed, nothing was written to it
+/// where that is told, and what its peer sends is not told. The error is the system's.
 pub(crate) fn accept_stream<'a>(rt: &'a HostRuntime, socket: &TcpListener) -> io::Result<Stream<'a>>
     ensures fresh { IfOk result (λ stream. IsFresh
         (⟦<Stream<'static> as Source>⟧.told stream)

@@ -11,8 +11,8 @@ use Rattle.rr_bytes.specs.Trims.{trim_end, trim_start}
 abbrev pub dash : ℕ
 dash = 45
 
--- Two texts stand with a dash between them, which may have blanks, but no LF, on either side
--- (profile).
+-- Two texts stand with a dash between them, which may have blanks (spaces, tabs, CRs) on either
+-- side (profile).
 pub record IsDashed (text first last : List ℕ) : Type 0 where
   pub before : List ℕ
   pub after : List ℕ
@@ -20,7 +20,8 @@ pub record IsDashed (text first last : List ℕ) : Type 0 where
   pub after_blank : list_all is_blank after ≡ true
   pub spelled : text ≡ first ++ (before ++ (dash ∷ (after ++ last)))
 
--- the texts round the first dash, without the blanks beside it, if there is a dash
+-- the texts round the first dash, without the blanks (spaces, tabs, CRs) beside it, if there is a
+-- dash
 unfoldable pub dashed_of : List ℕ → Option (List ℕ × List ℕ)
 dashed_of text = option_map (λ parts. (trim_end is_blank parts.0, trim_start is_blank parts.1))
     (cut_at dash text)

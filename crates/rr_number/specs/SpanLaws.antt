@@ -6,7 +6,7 @@ use Rattle.std.specs.Cmp.{IsTotalOrder}
 use Rattle.std.specs.FinMap.{IsAntisymmetric}
 use Rattle.rr_number.specs.Spans.{Ends, IsSpan, IsIn, covers, meets, crosses, size, span_cmp}
 
--- Covering is inclusion of sets of numbers.
+-- A span covers another exactly where each number of the other lies in it.
 abbrev pub CoveringIsInclusion : Type 0
 CoveringIsInclusion =
     (s t : Ends) → IsSpan t → (covers s t ≡ true) ↔ ((n : ℕ) → IsIn n t → IsIn n s)

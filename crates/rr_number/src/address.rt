@@ -1,4 +1,5 @@
-//! IPv4 addresses, which are read, printed and ordered here: parts of prefixes, and ends of spans.
+//! IPv4 addresses, which are read, printed and ordered here: parts of prefixes, ends of spans, and
+//! what queries ask for.
 ghost use Rattle.std.specs.Prelude.{◌≡◌, ◌<◌, ◌^◌, Some};
 ghost use Rattle.rr_number.specs.Addresses.{IsAddress, address_of, address_text, joined_of};
 ghost use Rattle.rr_number.specs.Addresses.{octet_of};

@@ -1,7 +1,7 @@
 //! The names `AS-ANY` and `RS-ANY`, which are spelled here alone: for `name` and `set_name`.
 
 /// The name of the set of all ASes (RFC 2622, 5).
-pub const AS_ANY: &[u8] = b"AS-ANY";
+pub(crate) const AS_ANY: &[u8] = b"AS-ANY";
 
 /// The name of the set of all routes (RFC 2622, 5).
-pub const RS_ANY: &[u8] = b"RS-ANY";
+pub(crate) const RS_ANY: &[u8] = b"RS-ANY";

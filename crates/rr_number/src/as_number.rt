@@ -1,4 +1,5 @@
-//! AS numbers, which are read, printed and ordered here: keys of aut-nums, and ends of as-blocks.
+//! AS numbers, which are read, printed and ordered here: keys of aut-nums, origins of routes, ends
+//! of as-blocks, members of sets, and components of their names.
 ghost use Rattle.std.specs.Prelude.{◌≡◌, length, ◌+◌, ◌≤◌};
 ghost use Rattle.std.specs.Prelude.{Some};
 ghost use Rattle.rr_io.specs.Sending.{Writes};

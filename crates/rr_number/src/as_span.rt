@@ -52,8 +52,8 @@ impl AsSpan {
     }
 
     /// The block that the whole text spells: two AS numbers with `-` between them, the first not
-    /// above the last; blanks, but no LF, may stand beside the `-`. `None` where it spells none
-    /// (profile).
+    /// above the last; blanks (spaces, tabs, CRs) may stand beside the `-`. `None` where it spells
+    /// none (profile).
     pub fn read(text: &[u8]) -> Option<Self>
         ensures { ReadsExactly IsAsSpanText as_span_of text.now result }
     {

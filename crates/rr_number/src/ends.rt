@@ -1,4 +1,5 @@
-//! Spans as texts, two ends with a dash between them: for `span` and `as_span`.
+//! Spans as texts, two ends with a dash between them: for `span` and `as_span`. What an end is,
+//! `address` and `as_number` say; `prefix` also prints its address as an end.
 
 ghost use Rattle.std.specs.Prelude.{◌≡◌, ◌+◌, ◌≤◌, List, Option, length};
 ghost use Rattle.std.specs.Prelude.{ℕ};
@@ -20,7 +21,7 @@ pub(crate) trait End {
     fn read_end(text: &[u8]) -> Option<u32>
         ensures { result ≡ end_of text.now };
 
-    /// Appends the number's text: at most 15 bytes, as an address has.
+    /// Appends the number's text: at most 15 bytes, as an address has. The text has room for 15.
     fn push_end(number: u32, text: &mut NumberText)
         requires { length text.old + 15 ≤ NUMBER_SIZE }
         ensures { Appends 15 (end_text number) text.old text.new };

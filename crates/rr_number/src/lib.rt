@@ -1,7 +1,7 @@
 //! The numbers and names of routing: addresses, prefixes, ranges of prefixes with their operators,
-//! AS numbers, spans, names. They are for all crates that speak of objects. Each is read from
-//! exactly the texts that spell it, a range as a prefix and an operator, and printed as one of
-//! them.
+//! AS numbers, spans, names. They are for all crates that speak of objects, and for `rr_cover`.
+//! Each is read from exactly the texts that spell it, a range as a prefix and an operator, and
+//! printed as one of them.
 #![tactic(auto)]
 
 mod address;
@@ -23,7 +23,6 @@ mod set_name;
 pub mod span;
 
 pub use address::Address;
-pub use any_set::{AS_ANY, RS_ANY};
 pub use as_number::AsNumber;
 pub use as_span::AsSpan;
 pub use name::Name;
@@ -31,7 +30,6 @@ pub use number_text::{NUMBER_SIZE, NumberText};
 pub use operator::{LengthBounds, Operator};
 pub use prefix::Prefix;
 pub use range::{Range, read_ranged};
-pub use rr_io::Sink;
 pub use set_kind::SetKind;
 pub use set_name::{Parent, SetName};
 pub use span::Span;

@@ -76,8 +76,9 @@ impl Name {
         Ok(Some(Name { text }))
     }
 
-    /// The maintainer's name that the bytes spell, in any letter case; `None` where they spell
-    /// none, as `AS-X` or a reserved word (RFC 2622, 2). The error is that memory ran out.
+    /// The maintainer's name that the bytes spell, in any letter case; it is in upper case. `None`
+    /// where they spell no name, a reserved word, or a name that begins with `AS-` or `RS-`
+    /// (RFC 2622, 2). The error is that memory ran out.
     pub fn read_maintainer(alloc: Global, bytes: &[u8]) -> Result<Option<Self>, AllocError>
         ensures { IfOk result (λ name. name ≡ maintainer_name_of bytes.now) }
     {
@@ -96,7 +97,7 @@ impl Name {
     }
 
     /// Whether the name is a word that RPSL keeps for itself (RFC 2622, 2).
-    pub fn is_reserved(&self) -> bool
+    fn is_reserved(&self) -> bool
         ensures { result ≡ is_reserved self.now }
     {
         is_reserved(self.as_bytes())
@@ -104,7 +105,7 @@ impl Name {
 
     /// Whether a maintainer may have this name: it is not reserved, and does not begin with `AS-`
     /// or `RS-` (RFC 2622, 2).
-    pub fn is_maintainer(&self) -> bool
+    fn is_maintainer(&self) -> bool
         ensures { result ≡ is_maintainer_name self.now }
     {
         let bytes = self.as_bytes();

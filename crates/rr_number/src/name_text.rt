@@ -1,4 +1,5 @@
-//! What the names of maintainers and of sets have in common: bytes, which are compared and printed.
+//! What names, of maintainers, sources and sets, have in common: bytes, which are compared and
+//! printed.
 
 ghost use Rattle.std.specs.Prelude.{nat_eq, Some};
 ghost use Rattle.std.proofs.Common.{rules};

@@ -1,4 +1,5 @@
-//! The printed text of an address, an AS number, or a value made of them, which lies on the stack.
+//! The printed text of an address, an AS number, an operator, or a value made of them, which lies
+//! on the stack.
 ghost use Rattle.std.specs.Prelude.{◌≡◌, ◌+◌, ◌≤◌, [], ◌++◌, length};
 ghost use Rattle.std.specs.Fmt.{decimal};
 ghost use Rattle.rr_number.specs.NumberTextParts.{Appends};
@@ -11,8 +12,8 @@ use std::marker::Model;
 /// The most bytes that a `NumberText` has. The longest, of a span of addresses, has 33 at most.
 pub const NUMBER_SIZE: usize = 40;
 
-/// The printed text of an address, an AS number, or a prefix, span, operator or range. It has at
-/// most 40 bytes, which lie in the value itself, so printing takes no memory.
+/// The printed text of an address, an AS number, or a prefix, span, block, operator or range. It
+/// has at most 40 bytes, which lie in the value itself, so printing takes no memory.
 #[derive(Clone, Drop)]
 pub struct NumberText {
     text: ArrayString<NUMBER_SIZE>,

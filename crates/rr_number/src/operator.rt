@@ -1,7 +1,6 @@
 //! Range operators, as `^24-32`: read after prefixes and names of sets in `members` and
 //! `mnt-routes`, printed, and applied to ranges when these are read or sets are expanded.
-ghost use Rattle.std.specs.Prelude.{◌≡◌, ◌+◌, ◌<◌, ◌≤◌, ◌↔◌};
-ghost use Rattle.std.specs.Prelude.{IsSome, IfSome, length, Some};
+ghost use Rattle.std.specs.Prelude.{◌≡◌, ◌+◌, ◌<◌, ◌≤◌, length, Some};
 ghost use Rattle.rr_number.specs.Applied.{applied};
 ghost use Rattle.rr_number.specs.Bounds.{IsBounds};
 ghost use Rattle.rr_bytes.specs.Cuts.{cut_at};
@@ -20,21 +19,23 @@ use rr_bytes::cut_at;
 use std::fmt;
 use std::marker::Model;
 
-/// What a range operator says of a prefix's length (RFC 2622, 2). A prefix carries at most one.
+/// What a range operator makes of the lengths of a prefix or a range (RFC 2622, 2). A prefix or a
+/// name carries at most one. Operators are ordered as they stand here, `Lengths` by their bounds
+/// (profile).
 #[derive(Clone, Copy, Debug, PartialEq, Eq, PartialOrd, Ord)]
 pub enum Operator {
     /// No operator: the lengths as they are.
     Plain,
     /// `^+`: also each greater length, up to 32.
     Plus,
-    /// `^-`: only the greater lengths, up to 32.
+    /// `^-`: only the lengths above the least, up to 32.
     Minus,
-    /// `^n-m`, or `^n` where the two are equal: the lengths from n to m.
+    /// `^n-m`, or `^n` where the two are equal: the lengths from n to m, but none below the least.
     Lengths(LengthBounds),
 }
 
 /// A least and a greatest length of prefixes, the least not above the greatest, and this not above
-/// 32.
+/// 32. Bounds are ordered by the least length, then by the greatest (profile).
 #[derive(Clone, Copy, Debug, PartialEq, Eq, PartialOrd, Ord)]
 pub struct LengthBounds {
     low: u8,
@@ -54,18 +55,6 @@ impl Model for LengthBounds {
 }
 
 impl LengthBounds {
-    /// The bounds of these two; none exactly where `low` is above `high`, or `high` above 32.
-    pub fn new(low: u8, high: u8) -> Option<Self>
-        ensures within { IsSome result ↔ ((low ≤ high) × (high ≤ 32)) }
-        ensures value { IfSome result (λ bounds. bounds ≡ record { low = low; high = high }) }
-    {
-        if low <= high && high <= 32 {
-            Some(LengthBounds { low, high })
-        } else {
-            None
-        }
-    }
-
     /// The bounds that these two are.
     pub(crate) fn between(low: u8, high: u8) -> Self
         requires { IsBounds (record { low = low; high = high }) }
@@ -74,15 +63,15 @@ impl LengthBounds {
         LengthBounds { low, high }
     }
 
-    /// The least length, not above the greatest.
-    pub fn low(self) -> u8
+    /// The least length, not above the greatest, which is at most 32.
+    pub(crate) fn low(self) -> u8
         ensures { Shows IsBounds self self.low result }
     {
         self.low
     }
 
-    /// The greatest length, at most 32.
-    pub fn high(self) -> u8
+    /// The greatest length, at most 32, and not below the least.
+    pub(crate) fn high(self) -> u8
         ensures { Shows IsBounds self self.high result }
     {
         self.high
@@ -100,7 +89,8 @@ impl Operator {
     }
 
     /// What the operator makes of the range: the same prefix, with the lengths that it makes of the
-    /// range's. None where it drops the range, as `^8` drops one of lengths from 16 (RFC 2622, 2).
+    /// range's, as `tabled` says. None where the least of these would be above the greatest: so
+    /// `^8` drops a range of lengths from 16 (RFC 2622, 2).
     #[tactic(auto, unfolding(crate::specs::Applied::applied, crate::specs::Applied::lengths_under))]
     pub fn apply(self, range: Range) -> Option<Range>
         ensures { result ≡ applied self range }

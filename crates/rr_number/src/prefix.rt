@@ -1,4 +1,5 @@
-//! Prefixes, as `192.0.2.0/24`, which are read, printed and compared here: keys of routes.
+//! Prefixes, as `192.0.2.0/24`, which are read, printed and compared here: keys of routes, what
+//! ranges begin with, and one way to spell a span of addresses.
 ghost use Rattle.std.specs.Prelude.{◌≡◌, ◌+◌, ◌<◌, ◌≤◌, IfSome};
 ghost use Rattle.std.specs.Prelude.{length, Some};
 ghost use Rattle.rr_number.specs.ExactReads.{ReadsExactly};

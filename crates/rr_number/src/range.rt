@@ -98,7 +98,7 @@ impl Range {
 
     /// The first of none, `^+` and `^-` that gives the range where it is applied to the range's own
     /// prefix alone. If none of these does, it is the operator of the range's lengths (profile).
-    pub fn operator(self) -> Operator
+    fn operator(self) -> Operator
         ensures { result ≡ operator_for self }
     {
         let length = self.prefix.length();

@@ -15,7 +15,7 @@ pub enum SetKind {
 
 impl SetKind {
     /// What the words of sets of the kind begin with: `AS-` or `RS-` (RFC 2622, 2).
-    pub fn word_start(self) -> &'static [u8]
+    pub(crate) fn word_start(self) -> &'static [u8]
         ensures { result.now ≡ word_start self }
     {
         match self {

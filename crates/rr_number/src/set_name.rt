@@ -230,7 +230,8 @@ fn printed(alloc: Global, bytes: &[u8]) -> Result<Vec<u8>, AllocError>
     Ok(text)
 }
 
-/// Puts a component at the end, as it is printed; the error is that memory ran out.
+/// Puts a component at the end, as it is printed; the error is that memory ran out, and then no
+/// clause says what stands there.
 fn push_component(alloc: Global, text: &mut Vec<u8>, component: &[u8]) -> Result<(), AllocError>
     ensures { IfOk result
         (λ _. text.new.items ≡ text.old.items ++ component_text component.now) }

@@ -77,7 +77,7 @@ impl Span {
     }
 
     /// Whether some number lies in both spans.
-    pub fn meets(self, other: Span) -> bool
+    fn meets(self, other: Span) -> bool
         ensures { result ≡ meets self other }
     {
         self.first <= other.last && other.first <= self.last
@@ -91,8 +91,8 @@ impl Span {
     }
 
     /// The span of addresses that the whole text spells: two addresses with a dash between them, or
-    /// a prefix. The first address is not above the last; blanks, but no LF, may stand beside the
-    /// dash. There is none where the text is spelled otherwise (profile).
+    /// a prefix. The first address is not above the last; blanks (spaces, tabs, CRs) may stand
+    /// beside the dash. There is none where the text is spelled otherwise (profile).
     pub fn read(text: &[u8]) -> Option<Span>
         ensures { ReadsExactly IsSpanText spelled_span text.now result }
     {

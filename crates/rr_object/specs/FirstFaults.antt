@@ -15,7 +15,7 @@ use Rattle.rr_object.specs.KeySpellings.{key_of}
 use Rattle.rr_object.specs.Objects.{Obj}
 use Rattle.rr_object.specs.Readings.{has_bad_value, is_from, is_miscounted, obj_at, object_of}
 
--- the class that the first attribute names (RFC 2622, 2)
+-- the class that the first attribute names, if there is one and it names a class (RFC 2622, 2)
 abbrev pub class_in : List Field → Option Class
 class_in [] = None
 class_in (first ∷ others) = class_named first.name
@@ -24,10 +24,10 @@ class_in (first ∷ others) = class_named first.name
 abbrev pub in_its_class : (Class → List Field → Bool) → List Field → Bool
 in_its_class fact fields = option_map_or (λ class. fact class fields) (class_in fields) false
 
--- a paragraph has a fault: its first attribute names no class; it has no key of a class; an
--- attribute is missing, has no item or is repeated. Or a value is bad, or it has a
--- pseudo-attribute; or its source is not the registry's. That memory ran out is no fault of it
--- (profile)
+-- a paragraph has a fault: it has no first attribute that names a class; it has no key. Of a known
+-- class a needed attribute is missing or has no item, or one that stands once is repeated; or a
+-- value is bad, or it has a pseudo-attribute. Or its source is not the registry's. That memory ran
+-- out is no fault of it (profile)
 abbrev pub has_fault : List ℕ → List Field → ObjectFault → Bool
 has_fault source fields UnknownClass = is_none (class_in fields)
 has_fault source fields BadKey = is_none (result_ok (key_of fields))

@@ -120,7 +120,8 @@ maintainers_of kind class fields = meant maintainer_item (items_read kind class 
 abbrev pub are_maintainers : Kind → Class → List Field → Bool
 are_maintainers kind class fields = are_good maintainer_item (items_read kind class fields)
 
--- a paragraph has a pseudo-attribute, or a source that is not a name (profile; RFC 2622, 2)
+-- a paragraph has a pseudo-attribute, or has not exactly one `source`, or that is not a name
+-- (profile; RFC 2622, 2)
 unfoldable pub has_bad_text : List Field → Bool
 has_bad_text fields = list_any is_pseudo_attribute fields || is_none (source_of fields)
 
@@ -181,7 +182,7 @@ abbrev pub result_and_then : {X Y : Type 0} → (X → Result Y ObjectFault)
 result_and_then next (Ok x) = next x
 result_and_then next (Err fault) = Err fault
 
--- the object that a paragraph is in a registry of any source, or the first of its faults (RFC 2622,
+-- the object that a paragraph is, whichever source it names, or the first of its faults (RFC 2622,
 -- 2 to 6; RFC 2725, 10)
 unfoldable pub obj_of : List Field → Result Obj ObjectFault
 obj_of fields = result_and_then (obj_of_key fields) (key_of fields)

@@ -21,7 +21,7 @@ impl Model for ByRef {
 }
 
 impl ByRef {
-    /// These maintainers' objects, or anybody's.
+    /// These maintainers' objects, and anybody's if `any`.
     pub(crate) fn new(any: bool, names: Vec<Name>) -> ByRef
         ensures { result ≡ record { any = any; names = names.items } }
     {

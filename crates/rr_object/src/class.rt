@@ -1,5 +1,5 @@
 //! The seven classes of objects, with their names and numbers. They say how a paragraph is read,
-//! and queries and books list objects by them.
+//! and queries and books list objects by them. Rows of databases have the numbers, which stay.
 
 ghost use Rattle.std.specs.Prelude.{◌≡◌, ◌<◌, ◌≤◌};
 ghost use Rattle.rr_object.specs.Classes.{class_name, class_named, class_number};

@@ -24,11 +24,11 @@ pub enum Code {
     E07,
     /// A maintainer that the object names is not registered.
     E10,
-    /// The deciding `mnt-by` does not pass.
+    /// The `mnt-by` does not pass: that of the new object, or of the stored one if there is one.
     E11,
     /// No object covers the new one, or the parent of a set is not registered.
     E12,
-    /// The covering object, or the parent of a set, does not authorise it.
+    /// No closest object that covers the new one authorises it, or the parent of a set does not.
     E13,
     /// The origin has no aut-num.
     E14,

@@ -62,8 +62,8 @@ impl Grant {
         self.any
     }
 
-    /// The ranges of the entry, which is for the prefixes that one of them admits, unless it is for
-    /// each. Reading an entry leaves out dropped ranges.
+    /// The ranges of the entry. Unless it is for each prefix, it is for those that one of them
+    /// admits. Reading leaves out a range that its operator drops.
     pub fn ranges(&self) -> &[Range]
         ensures { result.now ≡ self.now.ranges }
     {

@@ -47,7 +47,7 @@ pub(crate) fn read_grants(alloc: Global, listed: &[&[u8]]) -> Result<Vec<Grant>,
     Ok(read)
 }
 
-/// Adds an entry that was ended, if one was.
+/// Adds an entry that was ended, if one was. No clause says what the list has after memory ran out.
 fn push_ended(read: &mut Vec<Grant>, ended: Option<Grant>) -> Result<(), AllocError>
     ensures { OnOk result (read.new.items ≡ read.old.items ++ option_to_list ended) }
 {

@@ -1,5 +1,6 @@
-//! Keys as texts. As reports print them, here for messages about dumps; and as the bytes in rows
-//! of `rr_store`, whose order is that of the keys of a class.
+//! Keys as texts. `print_to` writes them as reports do, for messages about dumps; reports have
+//! `report_keys` of `rr_submission`. The bytes are those in rows of `rr_store`, and their order is
+//! that of the keys of a class. Databases have them: other bytes need other versions of tables.
 
 ghost use Rattle.std.specs.Prelude.{◌≡◌, ◌∷◌, ◌++◌, IfOk, OnOk};
 ghost use Rattle.std.specs.List.{list_all};
@@ -170,7 +171,8 @@ fn eight_digits(number: u32) -> [u8; 8]
     }
 }
 
-/// Appends a number in so many digits.
+/// Appends a number in so many digits. No clause says what the text has after memory ran out, here
+/// and below.
 fn push_digits(text: &mut Vec<u8>, digits: Digits, number: u32) -> Result<(), AllocError>
     ensures { OnOk result (text.new.items ≡ text.old.items ++ digits_of digits number) }
 {

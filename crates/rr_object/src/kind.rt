@@ -6,7 +6,7 @@ ghost use Rattle.rr_object.specs.Kinds.{is_read, kind_name, occurs};
 
 use crate::class::Class;
 
-/// An attribute that is read, and not only kept as text.
+/// An attribute that is read in objects of some class, and not only kept as text.
 #[derive(Clone, Copy, Debug, PartialEq, Eq)]
 pub enum Kind {
     /// The maintainers whose secrets a change needs (RFC 2622, 3).
@@ -62,7 +62,7 @@ impl Kind {
 
     /// How often the attribute stands in an object of a class.
     #[tactic(auto, unfolding(crate::specs::Kinds::occurs))]
-    pub fn occurs(self, class: Class) -> Occurs
+    pub(crate) fn occurs(self, class: Class) -> Occurs
         ensures { result ≡ occurs self class }
     {
         match (self, class) {
@@ -78,7 +78,7 @@ impl Kind {
     }
 
     /// Whether the attribute is read in an object of a class, and not only kept as text.
-    pub fn is_read(self, class: Class) -> bool
+    pub(crate) fn is_read(self, class: Class) -> bool
         ensures { result ≡ is_read self class }
     {
         match self.occurs(class) {

@@ -23,8 +23,8 @@ pub fn the_first_fault_is_told()
     ensures says { ObjectsSayTheirParagraphs }
 {}
 
-/// The object that a paragraph is in a registry of a source is the one that it is in a registry of
-/// any source.
+/// A paragraph that is an object in a registry of a source is the same object where its source is
+/// not compared.
 pub fn an_object_is_of_its_paragraph()
     ensures { (fields : List Field) (source : List ℕ) (object : Obj)
         → object_of fields source ≡ Ok object

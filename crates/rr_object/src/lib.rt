@@ -33,7 +33,7 @@ pub use class::Class;
 pub use code::Code;
 pub use grant::Grant;
 pub use key::Key;
-pub use kind::{Kind, Occurs};
+pub use kind::Kind;
 pub use maintainers_named::MaintainersNamed;
 pub use member::{Member, MemberSet};
 pub use object::Object;

@@ -1,5 +1,5 @@
 //! The maintainers that an object names: for verdicts and loads, which look whether they are
-//! registered, and for books and rows, which keep who is named.
+//! registered, and for books and rows, which keep who is named. A query asks who names one.
 
 ghost use Rattle.std.specs.Prelude.{◌≡◌};
 ghost use Rattle.std.specs.Iterator.{YieldsFirstRef, item_count};

@@ -11,7 +11,7 @@ pub enum MemberSet {
     Set(SetName),
 }
 
-/// An item of a set's `members` (RFC 2622, 5). A dropped range is none.
+/// An item of a set's `members` (RFC 2622, 5). A range that its operator drops is none.
 #[derive(Debug, PartialEq, Eq, PartialOrd, Ord, Drop)]
 pub enum Member {
     /// A range of prefixes, its operator applied.

@@ -113,7 +113,7 @@ impl Object {
         &self.kept.key
     }
 
-    /// The whole paragraph. The object is the one that this is in a registry of any source.
+    /// The whole paragraph. Read again, whichever source it names, it is this object.
     pub fn paragraph(&self) -> &Paragraph
         ensures value { result.now ≡ self.now.paragraph }
         ensures read { obj_of self.now.paragraph ≡ Ok self.now }
@@ -158,7 +158,7 @@ impl Object {
         }
     }
 
-    /// The items of `members`, without dropped ranges.
+    /// The items of `members`, without the ranges that their operators drop.
     pub fn members(&self) -> &[Member]
         ensures { result.now ≡ self.now.members }
     {
@@ -199,15 +199,15 @@ impl Object {
     }
 }
 
-/// What a paragraph is in a registry of any source, and the source that it names.
+/// The object that a paragraph is, whichever source it names, and that source.
 #[derive(Debug, Drop)]
 struct Sourced {
     object: Object,
     source: Name,
 }
 
-/// The object that a paragraph of this key is in a registry of any source, and the source that it
-/// names. The error is its first fault, or that memory ran out.
+/// The object that a paragraph of this key is, whichever source it names, and that source. The
+/// error is its first fault, or that memory ran out.
 fn read_of_any_source(alloc: Global, key: Key, paragraph: Paragraph) -> Result<Sourced, ObjectFault>
     requires { key_of paragraph ≡ Ok key }
     ensures ok { IfOk result (λ read. obj_of paragraph ≡ Ok read.object) }

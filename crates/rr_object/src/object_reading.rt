@@ -73,6 +73,7 @@ pub(crate) fn read_source(
     }
 }
 
+/// Whether there is an attribute that stands in submissions and in no object.
 fn has_pseudo_attribute(paragraph: &Paragraph) -> bool
     ensures { result ≡ list_any is_pseudo_attribute paragraph.now }
 {
@@ -158,7 +159,8 @@ pub(crate) fn read_membership(
     })
 }
 
-/// The text in which the items of an attribute stand, empty where the class does not read it.
+/// The text in which the items of an attribute other than `auth` stand, empty where the class does
+/// not read it.
 pub(crate) fn text_read(
     alloc: Global,
     class: Class,
@@ -175,7 +177,7 @@ pub(crate) fn text_read(
     list_text(alloc, kind, &values)
 }
 
-/// What the items of an attribute stand for.
+/// What the items of an attribute other than `auth` stand for.
 fn read_listed<R: ReadItem>(
     alloc: Global,
     class: Class,
@@ -196,6 +198,7 @@ fn read_listed<R: ReadItem>(
     read_items::<R>(alloc, &listed)
 }
 
+/// The entries of `mnt-routes`.
 fn read_routes(
     alloc: Global,
     class: Class,
@@ -212,6 +215,7 @@ fn read_routes(
     read_grants(alloc, &listed)
 }
 
+/// The salts and digests in `auth`, each value of which is one item.
 #[tactic(auto, unfolding(crate::specs::Readings::items_read, crate::specs::Readings::items_of))]
 fn read_auths(alloc: Global, class: Class, paragraph: &Paragraph) -> Result<Vec<Auth>, ObjectFault>
     ensures good { IfOk result
@@ -240,6 +244,7 @@ fn as_slices(alloc: Global, values: &[Text]) -> Result<Vec<&[u8]>, AllocError>
     Ok(listed)
 }
 
+/// The items of `members`: as-sets have their own rule. The classes besides sets do not read them.
 fn read_members(
     alloc: Global,
     class: Class,
@@ -259,6 +264,7 @@ fn read_members(
     }
 }
 
+/// What `mbrs-by-ref` says.
 fn read_by_ref(alloc: Global, class: Class, paragraph: &Paragraph) -> Result<ByRef, ObjectFault>
     ensures good { IfOk result
         (λ _. are_good by_ref_item (items_read kinds.MbrsByRef class paragraph.now) ≡ true) }

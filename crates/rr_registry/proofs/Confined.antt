@@ -1,7 +1,7 @@
 -- A run beside the run of the holders' own items: both keep what is held, and agree on it.
 use Rattle.std.proofs.Common.{◌≡◌, ℕ, Bool, true, false, not, ◌||◌, inl, inr, List, [], ◌∷◌, Ok}
 use Rattle.std.proofs.Common.{Err, refl, sym, ap, subst, ◌∙◌}
-use Rattle.std.specs.Prelude.{Result, IfOk, OnOk, if◌then◌else◌}
+use Rattle.std.specs.Prelude.{Result, IfOk, if◌then◌else◌}
 use Rattle.std.specs.FinMap.{get}
 use Rattle.std.proofs.lemmas.Bool.{and_parts}
 use Rattle.rr_object.specs.declared.code.Code.{Code}
@@ -17,13 +17,12 @@ use Rattle.rr_registry.proofs.Foreign.{foreign_items_leave}
 use Rattle.rr_registry.proofs.Holders.{foreign_alike}
 use Rattle.rr_registry.proofs.Kept.{maintainer_after}
 use Rattle.rr_registry.proofs.Own.{own_items_are_alike}
-use Rattle.rr_registry.specs.Confined.{Confines, IsConfined, are_foreign_or_own, is_own_action}
+use Rattle.rr_registry.specs.Confined.{IsConfined, are_foreign_or_own, is_own_action}
 use Rattle.rr_registry.specs.Confined.{own_outcomes, own_submitted}
 use Rattle.rr_auth.specs.Laws.{IsItem}
 use Rattle.rr_registry.specs.RunLaws.{AreFormed}
-use Rattle.rr_registry.specs.Runs.{Decides, IsStep, Run, outcome_of}
+use Rattle.rr_registry.specs.Runs.{Decides, IsStep, Run, Submitted, outcome_of}
 use Rattle.rr_registry.specs.declared.outcome.Outcome.{Outcome}
-use Rattle.rr_registry.specs.declared.run.Submitted.{Submitted}
 
 -- two registries in which the prefix is held, which agree on it, and the first of which has the
 -- mntners of the one in
@@ -258,13 +257,3 @@ step_leaves_others r secrets item outcome s sound formed (inl done) h held forei
     formed foreign)
 step_leaves_others r secrets item outcome s sound formed (inr out) h held foreign =
     subst (λ t. IsLeft h r t) (sym out.effect) (record { agree = λ k e. refl; held = held })
-
--- what a run that was done confines
-pub confined_result : {V E : Type 0} (r s : Reg) (submitted : List Submitted)
-    (outcomes_of : V → List Outcome) (result : Result V E) → Sound r →
-    OnOk result (AreFormed submitted)
-    → IfOk result (λ v. Run r submitted (outcomes_of v) s) →
-    IfOk result (λ v. Confines r submitted (outcomes_of v) s)
-confined_result r s submitted outcomes_of (Ok v) sound formed run = λ h held listed.
-    runs_confine r s submitted (outcomes_of v) sound formed run h held listed
-confined_result r s submitted outcomes_of (Err e) sound formed run = tt

@@ -10,13 +10,13 @@ use Rattle.rr_object.specs.Objects.{Obj}
 use Rattle.rr_auth.specs.declared.known.Known.{Known}
 use Rattle.rr_auth.specs.Known.{IsKnown, IsSameBut}
 use Rattle.rr_auth.specs.Registries.{Reg, Sound}
-use Rattle.rr_registry.specs.Private.{IsKept}
+use Rattle.rr_registry.specs.Private.{IsKeptRegistry}
 
-module _ (r s : Reg) (k : Key) (old new : Known) (was : IsKept r old)
+module _ (r s : Reg) (k : Key) (old new : Known) (was : IsKeptRegistry r old)
     (forgets : (before after : Reg) → IsSameBut k before after → IsKnown before old →
     IsKnown after new) where
   -- nothing changes
-  pub kept_still : s ≡ r → IsKept s new
+  pub kept_still : s ≡ r → IsKeptRegistry s new
   kept_still is = record {
     sound = subst Sound (sym is) was.sound;
     remembered = forgets r s (λ l apart. ap (λ (t : Reg). get t l) is) was.remembered;
@@ -24,7 +24,7 @@ module _ (r s : Reg) (k : Key) (old new : Known) (was : IsKept r old)
 
   -- an object is put under its key
   pub kept_put : (o : Obj) → k ≡ o.key → s ≡ insert r o.key o → Sound (insert r o.key o) →
-      IsKept s new
+      IsKeptRegistry s new
   kept_put o own is sound = record {
     sound = subst Sound (sym is) sound;
     remembered = forgets r s
@@ -34,7 +34,7 @@ module _ (r s : Reg) (k : Key) (old new : Known) (was : IsKept r old)
   }
 
   -- the object of the key is taken out
-  pub kept_without : s ≡ remove r k → Sound (remove r k) → IsKept s new
+  pub kept_without : s ≡ remove r k → Sound (remove r k) → IsKeptRegistry s new
   kept_without is sound = record {
     sound = subst Sound (sym is) sound;
     remembered = forgets r s

@@ -1,6 +1,5 @@
 pub mod Agreeing
 pub mod Confined
-pub mod Empty
 pub mod Foreign
 pub mod Forgetting
 pub mod Gathering

@@ -10,17 +10,18 @@ use Rattle.std.proofs.lemmas.Bool.Decides.{nat_tests}
 use Rattle.std.proofs.lemmas.List.{append-nil, reverse-append}
 use Rattle.rr_number.specs.Spans.{Ends, crosses}
 use Rattle.rr_auth.specs.Elements.{IsIn}
-use Rattle.rr_registry.specs.OpenSpanParts.{NeverRises, IsWithinFirsts, IsJoined, IsKept}
+use Rattle.rr_registry.specs.OpenSpanParts.{NeverRises, IsWithinFirsts, IsJoined, AreKeptSpans}
 use Rattle.rr_registry.specs.OpenSpanParts.{NeverFalls}
 use Rattle.rr_registry.specs.OpenSpanParts.{IsShortened, ComesAfter, ends_below}
 
 -- before any span
 pub none_kept : (gone : Ends → Bool) (first : ℕ) (outer level : List ℕ) → first ≡ 0 → outer ≡ [] →
-    level ≡ [] → ((t : Ends) → gone t ≡ false) → IsKept gone first outer level × IsWithinFirsts
+    level ≡ [] → ((t : Ends) → gone t ≡ false) → AreKeptSpans gone first outer level
+    × IsWithinFirsts
     gone first
 none_kept gone first outer level begins no_outer no_level none = (
-  subst (λ (xs : List ℕ). IsKept gone first xs level) (sym no_outer)
-      (subst (λ (xs : List ℕ). IsKept gone first [] xs) (sym no_level) (record {
+  subst (λ (xs : List ℕ). AreKeptSpans gone first xs level) (sym no_outer)
+      (subst (λ (xs : List ℕ). AreKeptSpans gone first [] xs) (sym no_level) (record {
         falling = tt;
         rising = tt;
         within = λ x y i j. absurd i;
@@ -129,8 +130,8 @@ falling_last (y ∷ z ∷ zs) i d f e x at =
 -- spans that go on to a first number: the level's are put after the outer ones, and those that end
 -- below it are dropped
 pub moved_on : (gone : Ends → Bool) (old first : ℕ) (outer level left : List ℕ) → old ≤ first →
-    IsKept gone old outer level → IsShortened first (outer ++ reverse level) left →
-    IsKept gone first left []
+    AreKeptSpans gone old outer level → IsShortened first (outer ++ reverse level) left →
+    AreKeptSpans gone first left []
 moved_on gone old first outer level left up held short = record {
   falling = falling_prefix left short.taken
       (subst NeverRises short.cut (falling_on outer level held.falling held.rising held.within));
@@ -164,12 +165,12 @@ covered_free t s same low = grind (arith, nat_tests, same, low)
 pub record IsPassing (gone : Ends → Bool) (s : Ends) (more : Ends → Bool) (first : ℕ)
     (outer level : List ℕ) : Type 0 where
   pub free : (t : Ends) → gone t ≡ true → crosses t s ≡ false
-  pub kept : IsKept more first outer level
+  pub kept : AreKeptSpans more first outer level
   pub within : IsWithinFirsts more first
 
 -- a span after spans of its first number that the outer ones all reach
 pub passed : (gone more : Ends → Bool) (s : Ends) (first : ℕ) (outer level : List ℕ) →
-    s.first ≡ first → IsKept gone first outer level → ComesAfter gone s → IsJoined gone s more
+    s.first ≡ first → AreKeptSpans gone first outer level → ComesAfter gone s → IsJoined gone s more
     → ((x : ℕ) → IsIn x outer → s.last ≤ x) → IsPassing gone s more first outer
     (level ++ s.last ∷ [])
 passed gone more s first outer level here held rises joined reached = record {

@@ -8,9 +8,8 @@ use Rattle.rr_auth.specs.Laws.{IsItem}
 use Rattle.rr_auth.specs.Sources.{IsReadIn, IsRegistryOf}
 use Rattle.rr_auth.proofs.Steps.{stays_of_source, stays_sound}
 use Rattle.rr_registry.specs.RunLaws.{AreFormed, AreReadIn, IsSplit}
-use Rattle.rr_registry.specs.Runs.{Decides, Run}
+use Rattle.rr_registry.specs.Runs.{Decides, Run, Submitted}
 use Rattle.rr_registry.specs.declared.outcome.Outcome.{Outcome}
-use Rattle.rr_registry.specs.declared.run.Submitted.{Submitted}
 
 pub run_append : (r s t : Reg) (first later : List Submitted) (outcomes others : List Outcome)
     → Run r first outcomes s → Run s later others t → Run r (first ++ later) (outcomes ++ others) t
@@ -91,9 +90,3 @@ run_stays_of_source source r s (i ∷ is) [] of read run = absurd run
 run_stays_of_source source r s (i ∷ is) (o ∷ os) of read run =
     run_stays_of_source source run.0 s is os (decided_of_source source r run.0 i.secrets i.action o
     of read.0 run.1) read.1 run.2
-
--- one more well formed item
-pub formed_more : (submitted : List Submitted) (more : Submitted) → AreFormed submitted →
-    IfOk more.action IsItem → AreFormed (submitted ++ more ∷ [])
-formed_more [] more formed last = (last, tt)
-formed_more (i ∷ is) more formed last = (formed.0, formed_more is more formed.1 last)

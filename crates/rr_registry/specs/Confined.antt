@@ -1,5 +1,5 @@
--- What a run does to what the holders of a prefix hold: for `Registry::run_items`, a law of
--- `src/laws.rt`, and submissions.
+-- What a run does to what the holders of a prefix hold: for a law of `src/laws.rt`, and for
+-- submissions.
 use Rattle.std.specs.Prelude.{◌≡◌, Bool, true, not, ◌||◌, List, [], ◌∷◌, filter}
 use Rattle.std.specs.Prelude.{Result, Ok, Err, if◌then◌else◌}
 use Rattle.std.specs.List.{list_all}
@@ -8,9 +8,8 @@ use Rattle.rr_auth.specs.declared.item.Item.{Item}
 use Rattle.rr_auth.specs.Registries.{Reg, Sound}
 use Rattle.rr_registry.specs.Holdings.{Agree, Holding, IsHeld, is_foreign, is_own}
 use Rattle.rr_registry.specs.RunLaws.{AreFormed}
-use Rattle.rr_registry.specs.Runs.{Run}
+use Rattle.rr_registry.specs.Runs.{Run, Submitted}
 use Rattle.rr_registry.specs.declared.outcome.Outcome.{Outcome}
-use Rattle.rr_registry.specs.declared.run.Submitted.{Submitted}
 
 -- What is submitted is the holders' own where it was refused as it was read, or is an own item.
 abbrev pub is_own_action : Holding → Result Item Code → Bool

@@ -32,7 +32,7 @@ digest_of_abc =
     176 ∷ (3 ∷ (97 ∷ (163 ∷ (150 ∷ (23 ∷ (122 ∷ (156 ∷ (180
     ∷ (16 ∷ (255 ∷ (97 ∷ (242 ∷ (0 ∷ (21 ∷ (173 ∷ [])))))))))))))))))))))))))))))))
 
--- An object of this key, these lines of `auth` and this one name in mnt-by.
+-- An object of this key, these lines of `auth` and this one name in mnt-by, and nothing else.
 abbrev pub object_of_maintainer : Key → List AuthParts → List ℕ → Obj
 object_of_maintainer key auths name = record {
   key = key;
@@ -46,7 +46,8 @@ object_of_maintainer key auths name = record {
   member_of = [];
 }
 
--- A maintainer that is its own mnt-by, with a line of this salt, which fits the rest of `abc`.
+-- A maintainer that is its own mnt-by, with a line of this salt, which fits the rest of `abc` after
+-- the salt.
 abbrev pub maintainer_with : List ℕ → List ℕ → Obj
 maintainer_with name salt =
     object_of_maintainer (Mntner name) (record { salt = salt; digest = digest_of_abc } ∷ []) name
@@ -59,8 +60,9 @@ object_by name key = object_of_maintainer key [] name
 abbrev pub ends : ℕ → ℕ → Ends
 ends first last = record { first = first; last = last }
 
--- The three maintainers. ROOT-MNT has all AS numbers and all addresses, A-MNT has AS1, and B-MNT
--- has AS2 and 10.0.0.0/8. In it A-MNT has 10.1.0.0/16, as an inetnum and as a route of AS1.
+-- The three maintainers. ROOT-MNT has all AS numbers, in two as-blocks, and all addresses, A-MNT
+-- has AS1, and B-MNT has AS2 and the inetnum 10.0.0.0/8. In it A-MNT has 10.1.0.0/16, as an inetnum
+-- and as a route of AS1.
 abbrev pub example_objects : List Obj
 example_objects =
     maintainer_with a_mnt (codes "ab")

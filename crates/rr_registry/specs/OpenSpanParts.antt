@@ -37,7 +37,7 @@ pub record IsShortened (first : ℕ) (whole left : List ℕ) : Type 0 where
 -- level, or ends at one of the outer ones. Each number of the level ends a span that begins there.
 -- The outer numbers never rise, the level's never fall, and none of the level is above an outer
 -- one.
-pub record IsKept (gone : Ends → Bool) (first : ℕ) (outer level : List ℕ) : Type 0 where
+pub record AreKeptSpans (gone : Ends → Bool) (first : ℕ) (outer level : List ℕ) : Type 0 where
   pub falling : NeverRises outer
   pub rising : NeverFalls level
   pub within : (x y : ℕ) → IsIn x outer → IsIn y level → y ≤ x
@@ -66,7 +66,7 @@ pub record IsJoined (gone : Ends → Bool) (s : Ends) (more : Ends → Bool) : T
 -- Open spans are what is kept of spans that were gone over, at a number that is not above the
 -- greatest at which one of these begins.
 pub record HasGoneOver (gone : Ends → Bool) (open_spans : OpenSpans) : Type 0 where
-  pub kept : IsKept gone open_spans.first open_spans.outer.items open_spans.level.items
+  pub kept : AreKeptSpans gone open_spans.first open_spans.outer.items open_spans.level.items
   pub within : IsWithinFirsts gone open_spans.first
 
 -- Open spans are what is kept before any span was gone over.

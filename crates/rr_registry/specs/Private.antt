@@ -84,7 +84,7 @@ pub record IsConsistent (g : Gathered) : Type 0 where
   pub spans : HoldsSpans (values g.objects) g.spans.inetnums g.spans.blocks
 
 -- A registry is sound, and what is known of it holds.
-pub record IsKept (r : Reg) (known : Known) : Type 0 where
+pub record IsKeptRegistry (r : Reg) (known : Known) : Type 0 where
   pub sound : Sound r
   pub remembered : IsKnown r known
 

@@ -3,9 +3,8 @@ use Rattle.std.specs.Prelude.{◌≡◌, ℕ, List, [], ◌∷◌, ◌++◌, IfO
 use Rattle.rr_auth.specs.Laws.{IsItem}
 use Rattle.rr_auth.specs.Registries.{Reg, Sound}
 use Rattle.rr_auth.specs.Sources.{IsReadIn, IsRegistryOf}
-use Rattle.rr_registry.specs.Runs.{Run}
+use Rattle.rr_registry.specs.Runs.{Run, Submitted}
 use Rattle.rr_registry.specs.declared.outcome.Outcome.{Outcome}
-use Rattle.rr_registry.specs.declared.run.Submitted.{Submitted}
 
 -- A run of a list and then a run of another are one run of both lists.
 abbrev pub RunsJoin : Type 0

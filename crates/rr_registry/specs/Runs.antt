@@ -1,7 +1,6 @@
 -- What becomes of what is submitted: the outcome of each, and the registry after it. For
--- `Registry::apply` and `run_items`, and for submissions.
-use Rattle.std.specs.Prelude.{◌≡◌, ℕ, ◌⊎◌, List, [], ◌∷◌, IfOk, OnErr, Result, Ok, Err}
-use Rattle.std.specs.Global.{Vec}
+-- `Registry::apply`, for submissions, and for laws of `src/laws.rt`.
+use Rattle.std.specs.Prelude.{◌≡◌, ℕ, ◌⊎◌, List, [], ◌∷◌, Result, Ok, Err}
 use Rattle.rr_object.specs.declared.code.Code.{Code}
 use Rattle.rr_object.specs.declared.code.Code.TheVariants.{E90}
 use Rattle.rr_auth.specs.declared.item.Item.{Item}
@@ -11,7 +10,6 @@ use Rattle.rr_auth.specs.declared.verdict.Verdict.TheVariants as verdicts
 use Rattle.rr_auth.specs.Registries.{Reg}
 use Rattle.rr_auth.specs.Verdicts.{verdict, after}
 use Rattle.rr_registry.specs.declared.outcome.Outcome.{Outcome}
-use Rattle.rr_registry.specs.declared.run.Submitted.{Submitted}
 use Rattle.rr_registry.specs.declared.outcome.Outcome.TheVariants.{Added, Changed}
 use Rattle.rr_registry.specs.declared.outcome.Outcome.TheVariants.{Unchanged, Deleted}
 use Rattle.rr_registry.specs.declared.outcome.Outcome.TheVariants.{Refused}
@@ -47,6 +45,12 @@ abbrev pub IsStep : Reg → List (List ℕ) → Item → Outcome → Reg → Typ
 IsStep before secrets item outcome then =
     IsCarriedOut before (verdict before secrets item) item outcome then
 
+-- What was submitted: an item, or the code with which it was refused as it was read; and the
+-- secrets given with it.
+pub record Submitted : Type 0 where
+  pub secrets : List (List ℕ)
+  pub action : Result Item Code
+
 -- What was refused as it was read keeps its code and leaves the registry as it was; an item is a
 -- step (profile).
 abbrev pub Decides : Reg → List (List ℕ) → Result Item Code → Outcome → Reg → Type 0
@@ -62,10 +66,3 @@ Run before (submitted ∷ later) [] then = ⊥
 Run before (submitted ∷ later) (outcome ∷ outcomes) then =
     (between : Reg) × Decides before submitted.secrets submitted.action outcome between
     × Run between later outcomes then
-
--- All that is submitted is run, in order; or nothing changes, where memory runs out for the
--- outcomes (profile).
-pub record MayRun {E : Type 0} (before : Reg) (submitted : List Submitted) (then : Reg)
-    (result : Result (Vec Outcome) E) : Type 0 where
-  pub run : IfOk result (λ outcomes. Run before submitted outcomes.items then)
-  pub err : OnErr result (then ≡ before)

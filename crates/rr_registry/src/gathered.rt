@@ -49,7 +49,8 @@ impl Gathered {
     }
 
     /// Puts the n-th object among those before it. The fault is that one before it has its key, or
-    /// else that its span crosses one of those, or that memory ran out.
+    /// else that its span crosses one of those, or that memory ran out. What a fault leaves, no
+    /// clause says.
     pub(crate) fn take_in(&mut self, alloc: Global, n: u64, object: Object) -> Result<(), LoadFault>
         requires { IsConsistent self.old }
         ensures ok { OnOk result (IsTakenIn (objects_of self.old) n object (objects_of self.new)) }
@@ -57,10 +58,9 @@ impl Gathered {
         ensures err { IfErr result (λ fault. (fault ≡ LoadFault.Memory)
             ⊎ (clash_of (objects_of self.old) n object ≡ Some fault)) }
     {
-        match self.enter(alloc, n, object.key()) {
-            Ok(key) => put(&mut self.objects, key, object),
-            Err(fault) => Err(fault),
-        }
+        let key = self.enter(alloc, n, object.key())?;
+        put(&mut self.objects, key, object)?;
+        Ok(())
     }
 
     /// Enters the span of the n-th object, and copies its key. The fault is that one before it has
@@ -109,10 +109,9 @@ impl Spans {
 }
 
 /// Puts the object under the key; the error is that memory ran out.
-fn put(objects: &mut BTreeMap<Key, Object>, key: Key, object: Object) -> Result<(), LoadFault>
-    ensures ok { OnOk result (objects.new.entries
+fn put(objects: &mut BTreeMap<Key, Object>, key: Key, object: Object) -> Result<(), AllocError>
+    ensures { OnOk result (objects.new.entries
         ≡ insert_entry ⟦<Key as Ord>⟧.cmp objects.old.entries key object) }
-    ensures err { IfErr result (λ fault. fault ≡ LoadFault.Memory) }
 {
     objects.insert(key, object)?;
     Ok(())

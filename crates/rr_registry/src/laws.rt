@@ -9,7 +9,8 @@ pub fn runs_join()
     ensures { RunsJoin }
 {}
 
-/// A run of both lists is a run of the first and then a run of the second from where that led.
+/// A run of two lists, one after the other, is a run of the first and then a run of the second from
+/// where that led.
 #[tactic(auto, using(crate::proofs::Running::run_split))]
 pub fn runs_part()
     ensures { RunsPart }

@@ -10,10 +10,8 @@ mod load;
 mod open_spans;
 mod outcome;
 mod registry;
-mod run;
 
 pub use load::LoadFault;
 pub use outcome::Outcome;
 pub use registry::Registry;
 pub use rr_book::{Keeper, PlainBook};
-pub use run::Submitted;

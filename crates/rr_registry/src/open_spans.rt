@@ -5,7 +5,8 @@
 ghost use Rattle.std.specs.Prelude.{◌≡◌, ◌≤◌, ℕ, Bool, IfOk, IsTrue, OnOk};
 ghost use Rattle.rr_number.specs.Spans.{Ends};
 ghost use Rattle.rr_auth.specs.Elements.{IsIn};
-ghost use Rattle.rr_registry.specs.OpenSpanParts.{HasGoneOverNone, IsKept, IsShortened, MayGoOver};
+ghost use Rattle.rr_registry.specs.OpenSpanParts.{AreKeptSpans, HasGoneOverNone, IsShortened};
+ghost use Rattle.rr_registry.specs.OpenSpanParts.{MayGoOver};
 ghost use Rattle.rr_registry.specs.OpenSpanParts.{NeverRises, ends_below};
 
 use rr_number::Span;
@@ -52,8 +53,8 @@ impl OpenSpans {
     /// Goes on to spans that begin at this number; the error is that memory ran out.
     fn move_on(&mut self, first: u32) -> Result<(), AllocError>
         ensures kept { OnOk result ((gone : Ends → Bool) → self.old.first ≤ first
-            → IsKept gone self.old.first self.old.outer.items self.old.level.items
-            → IsKept gone first self.new.outer.items self.new.level.items) }
+            → AreKeptSpans gone self.old.first self.old.outer.items self.old.level.items
+            → AreKeptSpans gone first self.new.outer.items self.new.level.items) }
         ensures first { OnOk result (self.new.first ≡ first) }
     {
         if first == self.first {

@@ -7,9 +7,9 @@ use rr_object::Code;
 pub enum Outcome {
     /// The object was added.
     Added,
-    /// The object took the place of the stored one.
+    /// The object took the place of the registered one with its key.
     Changed,
-    /// The object has the text of the stored one; nothing changed.
+    /// The object has the text of the registered one; nothing changed.
     Unchanged,
     /// The object was deleted.
     Deleted,

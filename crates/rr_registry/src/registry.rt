@@ -2,7 +2,7 @@
 //! and dumps read the lists, and `rr_answer` asks the book as well.
 
 ghost use Rattle.std.specs.Prelude.{◌≡◌, ◌⊎◌, true, IfOk};
-ghost use Rattle.std.specs.FinMap.{empty, insert, remove, values};
+ghost use Rattle.std.specs.FinMap.{insert, remove, values};
 ghost use Rattle.rr_auth.specs.declared.verdict.Verdict.TheVariants.{Add, Change, Delete};
 ghost use Rattle.rr_auth.specs.Verdicts.{fits_item};
 ghost use Rattle.rr_auth.specs.Laws.{IsItem};
@@ -19,10 +19,11 @@ use std::alloc::{AllocError, Global};
 use std::marker::Model;
 
 /// A registry, kept in a book; contracts see the finite map from keys to objects. It is always
-/// sound. What its objects answered the secrets of the last item is remembered.
+/// sound. It remembers whether the secrets tried last passed the `mnt-by` of objects, which spares
+/// trying them again and changes no verdict.
 #[derive(Drop)]
 pub struct Registry<B: Keeper> {
-    pub(crate) book: B,
+    book: B,
     known: Known,
 }
 
@@ -38,25 +39,15 @@ impl<B: Keeper> Model for Registry<B> {
 
     ghost view = { λ a. B.contents a.book };
 
-    ghost use Rattle.rr_registry.specs.Private.{IsKept};
+    ghost use Rattle.rr_registry.specs.Private.{IsKeptRegistry};
 
-    ghost invariant = { λ a. IsKept (B.contents a.book) a.known };
+    ghost invariant = { λ a. IsKeptRegistry (B.contents a.book) a.known };
 }
 
 impl<B: Keeper> Registry<B> {
     ghost use Rattle.rr_auth.specs.Registries.{ListsOf, Sound};
     ghost use Rattle.rr_book.specs.Listings.{covering, inside};
     ghost use Rattle.rr_sets.specs.Lists.{lent};
-
-    /// A registry of no objects.
-    pub fn new(alloc: Global) -> Registry<B>
-        ensures { result ≡ empty }
-    {
-        Registry {
-            book: B::new(alloc),
-            known: Known::new(alloc),
-        }
-    }
 
     /// The registry of this book, which has to be sound.
     pub(crate) fn of(alloc: Global, book: B) -> Registry<B>

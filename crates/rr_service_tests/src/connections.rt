@@ -1,6 +1,7 @@
 //! Connections to desks, and their replies.
 use crate::desks::{Office, expect_text};
-use rr_desk::{ConnFault, MemoryInput};
+use crate::memory_peers::MemoryInput;
+use rr_desk::ConnFault;
 use std::alloc::{AllocError, Global};
 use std::process::Abort;
 use std::test::Fail;

@@ -3,7 +3,7 @@
 use rr_number::Name;
 use rr_object::Object;
 use rr_store::{CreateFault, IdleConnection, MigrateFault, OpenFault, Store};
-use rr_text::{next_paragraph, print};
+use rr_text::{next_paragraph, print_onto};
 use sqlite::{Alter, Connection, Error};
 use sqlite_value::value::ValueRef;
 use std::alloc::Global;
@@ -276,7 +276,7 @@ fn four(alloc: Global) -> Result<Vec<Object>, Fail> {
 fn text_of(alloc: Global, objects: &[Object]) -> Result<Vec<u8>, Fail> {
     let mut text = Vec::new(alloc);
     for object in objects {
-        text.extend_from_slice(print(alloc, object.paragraph())?.as_slice())?;
+        print_onto(&mut text, object.paragraph())?;
     }
     Ok(text)
 }

@@ -1,24 +1,26 @@
 //! What the tests do with a desk, and desks over databases in memory.
 
+use crate::memory_peers::{MemoryInput, MemoryPeers};
 use crate::texts::full_dump;
 use rr_desk::{
-    ConnFault, CreateFault, Desk, DeskDumpFault, DeskFault, Done, MemoryInput, MemoryPeers, Served,
-    Settings, WriteFault, serve_all,
+    ConnFault, CreateFault, Desk, DeskDumpFault, DeskFault, Done, Served, Settings, WriteFault,
+    serve_all,
 };
 use rr_http::{Both, Registrar, serve_one};
-use rr_io::{Counted, Cut, Joined, Sink, Source};
+use rr_io::{Counted, Cut, Sink, Source};
 use rr_store::IdleConnection;
 use sqlite::{Alter, Connection, Error};
 use std::alloc::{AllocError, Global};
 use std::process::Abort;
 use std::test::Fail;
 
-/// What comes of a submission: the answer, the bytes of the report, and how many reads there were.
+/// What comes of a submission: the answer, the bytes of the report, and how many bytes of the text
+/// were not read.
 #[derive(Drop)]
 pub struct Submitted {
     pub answer: Result<Done, DeskFault>,
     pub report: Vec<u8>,
-    pub reads: u64,
+    pub left: usize,
 }
 
 /// What the tests do with a desk. No call promises anything, so what uses a desk by this trait is
@@ -73,12 +75,12 @@ impl<S: Alter + Drop> Office for Desk<S> {
         let mut reader = Cut::new(Counted::new(text.as_bytes()), 7, given);
         let mut writer = Cut::new(Counted::new(Vec::new(alloc)), 5, room);
         let answer = submit(alloc, self, &mut reader, &mut writer);
-        let reads = reader.into_inner().reads();
+        let left = reader.into_inner().into_inner().len();
         let report = writer.into_inner().into_inner();
         Submitted {
             answer,
             report,
-            reads,
+            left,
         }
     }
 
@@ -170,10 +172,7 @@ fn connected<D: Registrar>(
     desk: &mut D,
     input: MemoryInput<'_>,
 ) -> (Result<(), ConnFault>, Vec<u8>) {
-    let step = input.step.max(1);
-    let reader = Cut::new(Counted::new(input.bytes), step, input.reads_end);
-    let writer = Cut::new(Counted::new(Vec::new(alloc)), step, input.writes_end);
-    let mut connection = Joined::new(reader, writer);
+    let mut connection = input.connection(alloc);
     let end = serve(alloc, desk, &mut connection);
     let (_, writer) = connection.into_parts();
     (end, writer.into_inner().into_inner())

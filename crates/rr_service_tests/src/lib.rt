@@ -12,6 +12,7 @@ mod databases;
 mod desk_tests;
 #[cfg(test)]
 mod desks;
+pub mod memory_peers;
 #[cfg(test)]
 mod migration_tests;
 #[cfg(test)]

@@ -2,9 +2,10 @@
 //! by hand.
 use crate::connections::{Reply, ending, expect_replies, expect_reply, expect_served};
 use crate::desks::{Office, Trial, try_new};
+use crate::memory_peers::MemoryInput;
 use crate::stopped::{stop, try_fused};
 use crate::texts::{EXACT, POSTED, POSTED_REPORT, TEN};
-use rr_desk::{ConnFault, MemoryInput};
+use rr_desk::ConnFault;
 use std::process::Abort;
 use std::test::Fail;
 

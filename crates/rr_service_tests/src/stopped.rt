@@ -53,7 +53,7 @@ fn expect_unread<D: Office, R: Abort + AllocGlobal>(rt: &R, desk: &mut D) {
     assert!(rt; desk.stopped());
     let found = desk.submitted(rt.alloc(), THREE, usize::MAX, usize::MAX);
     assert_eq!(rt; found.answer, Err(DeskFault::Stopped));
-    assert_eq!(rt; (found.report.len(), found.reads), (0, 0));
+    assert_eq!(rt; (found.report.len(), found.left), (0, THREE.len()));
 }
 
 /// Asserts that a desk which is stopped gives no dump.

@@ -1,8 +1,9 @@
 //! Connections in turn: what each gave and was answered, and how many are served and fail.
 use crate::connections::{Reply, ending};
 use crate::desks::{Office, Trial, expect_text, try_new};
+use crate::memory_peers::{MemoryInput, MemoryTurn};
 use crate::texts::{EXACT, POSTED, POSTED_REPORT, TEN};
-use rr_desk::{MemoryInput, MemoryTurn, Peers, Served};
+use rr_desk::{Peers, Served};
 use std::process::Abort;
 use std::test::Fail;
 

@@ -1,4 +1,4 @@
--- Which AS numbers an as-set stands for.
+-- Which AS numbers an as-set stands for: for `expand_as_set`, and as-sets in `RouteSets`.
 use Rattle.std.specs.Prelude.{◌≡◌, ℕ, Bool, ◌||◌, List, [], ◌∷◌, Contains, IsTrue}
 use Rattle.std.specs.Prelude.{Some, false, is_some}
 use Rattle.std.specs.FinMap.{get}
@@ -33,7 +33,7 @@ abbrev pub IsAnyNumber : Reg → List ℕ → ℕ → Type 0
 IsAnyNumber r name n = IsTrue (bytes_eq name as_any) × ((a : Obj) × (get r (AutNum n) ≡ Some a))
 
 -- An AS number is in the set of this name itself: it is listed there, belongs to it by its
--- aut-num's word, or the set is `AS-ANY` (RFC 2622, 5).
+-- aut-num's word, or the set is `AS-ANY` and the number has an aut-num (RFC 2622, 5).
 abbrev pub IsDirect : Reg → List ℕ → ℕ → Type 0
 IsDirect r name n = ListsNumber r name n ⊎ (BelongsTo r name n ⊎ IsAnyNumber r name n)
 

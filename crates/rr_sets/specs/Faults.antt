@@ -4,7 +4,7 @@ use Rattle.rr_graph.specs.declared.ReachFault.TheVariants as reach
 use Rattle.rr_sets.specs.declared.members.ExpandFault.{ExpandFault}
 use Rattle.rr_sets.specs.declared.members.ExpandFault.TheVariants as expand
 
--- too many nodes are too many members, and memory that ran out stays so (profile)
+-- a walk over its limit is an expansion over its limit, and memory that ran out stays so (profile)
 abbrev pub expand_fault_of : ReachFault → ExpandFault
 expand_fault_of reach.TooMany = expand.TooMany
 expand_fault_of reach.Memory = expand.Memory

@@ -1,4 +1,4 @@
--- What the lists of a registry's objects have.
+-- What the lists of a registry's objects have: for `SetBook`.
 use Rattle.std.specs.Prelude.{◌≡◌, ◌↔◌, ◌==◌, ℕ, Bool, false, List, Contains}
 use Rattle.std.specs.Prelude.{Some}
 use Rattle.std.proofs.Common.{Bor}

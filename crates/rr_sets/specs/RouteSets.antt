@@ -1,4 +1,4 @@
--- Which ranges of prefixes a set stands for.
+-- Which ranges of prefixes a set stands for: for `expand_route_set`.
 use Rattle.std.specs.Prelude.{◌≡◌, ℕ, ◌⊎◌, ◌↔◌, Bool, false, ◌||◌, List, Contains}
 use Rattle.std.specs.Prelude.{IsTrue, Option, Some, is_some}
 use Rattle.std.specs.FinMap.{get}
@@ -88,9 +88,9 @@ IsByReference r name range =
 abbrev pub IsAnyRange : Reg → List ℕ → RangeParts → Type 0
 IsAnyRange r name range = IsTrue (bytes_eq name rs_any) × ((n : ℕ) × IsOriginated r n range)
 
--- An AS or a set has a range itself: a route of the AS has its prefix, the set lists it, a route of
--- its prefix belongs to the set by its own word, or the set is `RS-ANY` and some route has its
--- prefix (RFC 2622, 5).
+-- A set has the ranges itself that it lists. It has those of the prefixes alone of the routes that
+-- belong to it by their own word, and `RS-ANY` those of all routes. An AS has those of its routes
+-- (RFC 2622, 5).
 abbrev pub HasRange : Reg → MemberSet → RangeParts → Type 0
 HasRange r (AutNum n) range = IsOriginated r n range
 HasRange r (Set name) range =

@@ -1,4 +1,5 @@
--- What a set stands for, and what its expansion answers.
+-- What a set stands for, and what its expansion answers: for `expand_as_set` and
+-- `expand_route_set`.
 use Rattle.std.specs.Prelude.{◌≡◌, ℕ, Bool, true, false, List, IfOk, OnOk, Err, Result}
 use Rattle.std.specs.declared.cmp.Ordering.{Ordering}
 use Rattle.std.specs.Cmp.Lexicographic.{slice_cmp}

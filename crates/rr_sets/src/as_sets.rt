@@ -28,15 +28,15 @@ use rr_object::{Member, MemberSet, Object};
 use std::alloc::{AllocError, Global};
 use std::collections::BTreeSet;
 
-/// Lists the AS numbers that an as-set stands for: those that are in it or in a set that it
+/// Lists exactly the AS numbers that an as-set stands for: those that are in it or in a set that it
 /// reaches, by names in `members`. In a set are the numbers that it lists or has by `mbrs-by-ref`;
-/// in `AS-ANY` are all that have an aut-num (RFC 2622, 5). The names reached that are those of no
-/// registered as-set, nor `AS-ANY`, are missing. Both lists are in ascending order, without
-/// repeats.
+/// in `AS-ANY` are all that have an aut-num (RFC 2622, 5). A name that is reached is missing if no
+/// as-set of this name is registered and it is not `AS-ANY`. Both lists are in ascending order,
+/// without repeats.
 ///
-/// The fault is `NoSuchSet` exactly where the name itself is such a one. For any other name it is
-/// `TooMany` exactly where more than `limit` names are reached, itself among them. In either case
-/// memory may run out instead.
+/// The fault is `NoSuchSet` exactly where the name asked for is missing itself. For any other name
+/// it is `TooMany` exactly where more than `limit` names are reached, itself among them. In either
+/// case memory may run out instead.
 ///
 /// The steps outside the book are O(n log n), where n counts the names reached, the members of
 /// each, listed or by reference, and the names in its `mbrs-by-ref` and in `mnt-by` of its

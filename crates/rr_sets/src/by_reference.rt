@@ -20,7 +20,8 @@ use std::collections::BTreeSet;
 
 /// The objects that belong to the set of the name by their own word, where `set` is its object. The
 /// registry is not asked where its `mbrs-by-ref` is empty, and else once for `referrers`. The steps
-/// outside the book are O(n log n) for n names there and in `mnt-by` of the referrers.
+/// outside the book are O(n log n) for n names there and in `mnt-by` of the referrers. No clause
+/// says either.
 pub(crate) fn belonging<'a, B: SetBook>(
     alloc: Global,
     book: &'a B,

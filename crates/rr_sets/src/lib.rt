@@ -15,4 +15,3 @@ pub use as_sets::expand_as_set;
 pub use book::SetBook;
 pub use members::{ExpandFault, Members};
 pub use route_sets::expand_route_set;
-pub use rr_graph::{Graph, ReachFault, reach};

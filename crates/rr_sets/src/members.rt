@@ -2,7 +2,7 @@
 
 use rr_graph::ReachFault;
 use rr_number::SetName;
-use std::alloc::{AllocError, AllocFailed};
+use std::alloc::AllocError;
 
 /// What a set stands for, and the names of sets that it reaches and that are missing.
 #[derive(Drop)]
@@ -10,7 +10,7 @@ pub struct Members<T> {
     /// What is in the set, in ascending order, without repeats.
     pub found: Vec<T>,
     /// The names that are reached and of which there is no set, in ascending order, without
-    /// repeats. There is a set `AS-ANY` and, where the set stands for ranges, `RS-ANY`.
+    /// repeats. `AS-ANY` is never among them and, where the set stands for ranges, nor is `RS-ANY`.
     pub missing: Vec<SetName>,
 }
 
@@ -46,17 +46,6 @@ impl From<AllocError> for ExpandFault {
     ghost from_gives = { λ _ fault. fault ≡ Memory };
 
     fn from(_refused: AllocError) -> ExpandFault {
-        ExpandFault::Memory
-    }
-}
-
-impl<T: Drop> From<AllocFailed<T>> for ExpandFault {
-    ghost use Rattle.std.specs.Prelude.{◌≡◌};
-    ghost use Rattle.rr_sets.specs.declared.members.ExpandFault.TheVariants.{Memory};
-
-    ghost from_gives = { λ _ fault. fault ≡ Memory };
-
-    fn from(_refused: AllocFailed<T>) -> ExpandFault {
         ExpandFault::Memory
     }
 }

@@ -21,30 +21,33 @@ use rr_number::{Operator, Prefix, Range, SetName};
 use rr_object::MemberSet;
 use std::alloc::{AllocError, Global};
 
-/// Lists the ranges of prefixes that a set stands for, of either kind, `AS-ANY` and `RS-ANY` among
-/// them. They are those that it lists, those of the routes that it has by `mbrs-by-ref`, and those
-/// of the sets and ASes to which it refers. Each of the last is put through the operator of the
-/// reference, unless this drops it (RFC 2622, 5). The ranges of an AS are those of its routes. An
-/// as-set refers also to the ASes that it has by `mbrs-by-ref`, and `AS-ANY` to all that have an
-/// aut-num; the ranges of `RS-ANY` are those of all routes. The names of sets reached that are
-/// neither registered nor `AS-ANY` or `RS-ANY` are missing. Both lists are in ascending order,
-/// without repeats.
+/// Lists exactly the ranges of prefixes that a set stands for, of either kind, `AS-ANY` and
+/// `RS-ANY` among them. They are those that it lists, those of the routes that it has by
+/// `mbrs-by-ref`, and those of the sets and ASes to which it refers. Each of the last is put
+/// through the operator of the reference, unless this drops it (RFC 2622, 5). The range of a route
+/// is that of its prefix alone, and the ranges of an AS are those of its routes. An as-set refers
+/// also to the ASes that it has by `mbrs-by-ref`, and `AS-ANY` to all that have an aut-num; the
+/// ranges of `RS-ANY` are those of all routes. A set's name that is reached is missing if no set of
+/// this name is registered and it is neither `AS-ANY` nor `RS-ANY`. Both lists are in ascending
+/// order, without repeats.
 ///
-/// The fault is `NoSuchSet` exactly where the name itself is such a one. For any other name it is
-/// `TooMany` exactly where more than `limit` sets and ASes are reached, itself among them, or there
-/// are more than `limit` pairs of one and a range that it stands for. In either case memory may run
-/// out instead.
+/// The fault is `NoSuchSet` exactly where the name asked for is missing itself. For any other name
+/// it is `TooMany` exactly where more than `limit` sets and ASes are reached, itself among them, or
+/// there are more than `limit` pairs of one and a range that it stands for. In either case memory
+/// may run out instead.
 ///
-/// The steps outside the book are O((P + KR + F) log P). P counts the sets reached, the members of
-/// each, listed or by reference, the routes of each AS reached, the names in its `mbrs-by-ref` and
-/// in `mnt-by` of its referrers, and those pairs; R the references of the sets reached; K the least
-/// lengths that ranges of one set have, at most 33; and F what references make in each set that
-/// refers to another: one without operator, of each range of the other, and those with operators,
-/// each range once, however many references make it, of each prefix and least length of these. The
-/// m route-sets that each list all the others under all operators, and `0.0.0.0/0`, have 561m
-/// pairs, and F is about 7,100m². The book is asked at most three times for the `referrers` of each
-/// set reached that has `mbrs-by-ref`, and once for the prefixes of each AS reached; if sets refer
-/// to each other in a ring, at most four times and twice. No clause counts steps or questions.
+/// The steps outside the book are O((P + KR + F) log P). P counts those pairs, the sets reached,
+/// the members of each, listed or by reference, the names in its `mbrs-by-ref` and in `mnt-by` of
+/// its referrers, and the routes of each AS reached. R counts the references of the sets reached,
+/// and K the least lengths that ranges of one set have, at most 33. F counts, of each set and each
+/// other to which it refers, the ranges that the references make. One without operator makes each
+/// range of the other. Those with operators together make, of each prefix and least length there,
+/// each range once. The m route-sets that each list all the others under all operators, and
+/// `0.0.0.0/0`, have 561m pairs, as that prefix has 561 ranges. F is about 7,100m²: 561 without
+/// operator and 6,545 with, for each two sets. The book is asked at most three times for the
+/// `referrers` of each set reached that has `mbrs-by-ref`, and once for the prefixes of each AS
+/// reached; if sets refer to each other in a ring, at most four times and twice. No clause counts
+/// steps or questions.
 pub fn expand_route_set<B: SetBook>(
     alloc: Global,
     book: &B,

@@ -26,7 +26,7 @@ use Rattle.sqlite.specs.State.{State, Fails, FailsToQuery, HasCause, HasCleanDis
 use Rattle.sqlite.specs.State.{IsUnchanged, Survives}
 use Rattle.sqlite.proofs.Callers.{IsPlain, command_of}
 use Rattle.rr_store.specs.Contents.{IsTidy}
-use Rattle.rr_store.specs.Queries.{Means, alone, rows_of}
+use Rattle.rr_store.specs.Queries.{IsSqlOf, alone, rows_of}
 use Rattle.rr_store.specs.Tables.{HasTables, Layout, laid}
 use Rattle.rr_store.specs.Texts.{select_meta, select_object, select_named}
 use Rattle.rr_store.specs.Texts.{select_sorted_named, meta_numbers, object_numbers, named_numbers}
@@ -126,7 +126,7 @@ module _ (sql : List ℕ) (params : Row) (old new : State) (schema : Schema)
 
 -- a text whose query every schema with the three tables accepts, and which sums nothing
 module _ (query : Query) (sql : List ℕ) (params : Row) (names : List (List ℕ))
-    (means : (l : Layout) → Means l sql (Select (alone query) names)) (asked : (l : Layout) →
+    (means : (l : Layout) → IsSqlOf l sql (Select (alone query) names)) (asked : (l : Layout) →
     IsAsked sql params (understood (laid l) sql))
     (typed : (l : Layout) → accepts_program (laid l) [] query params ≡ true) (sums : (db : Trees) →
     QueryOverflows query db params → ⊥) where
@@ -138,7 +138,7 @@ module _ (query : Query) (sql : List ℕ) (params : Row) (names : List (List ℕ
 
 -- and here of all rows of one table
 module _ (tree : ℕ) (shown order : List Term) (sql : List ℕ) (names : List (List ℕ))
-    (means : (l : Layout) → Means l sql (Select (alone (rows_of tree [] shown order)) names))
+    (means : (l : Layout) → IsSqlOf l sql (Select (alone (rows_of tree [] shown order)) names))
     (asked : (l : Layout) → IsAsked sql [] (understood (laid l) sql)) (typed : (l : Layout) →
     accepts_program (laid l) [] (rows_of tree [] shown order) [] ≡ true) where
   sums_nothing : (db : Trees) → QueryOverflows (rows_of tree [] shown order) db [] → ⊥

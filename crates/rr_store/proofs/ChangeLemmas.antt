@@ -25,7 +25,7 @@ use Rattle.sqlite.specs.State.{State, mode_of, Executes}
 use Rattle.sqlite.specs.Listing.{understood}
 use Rattle.sqlite.proofs.Callers.{runs_as, statement_of}
 use Rattle.rr_store.specs.Tables.{Layout, Rules, laid, table_with, stands_apart}
-use Rattle.rr_store.specs.Queries.{Means, alone}
+use Rattle.rr_store.specs.Queries.{IsSqlOf, alone}
 use Rattle.rr_store.proofs.SchemaLemmas.{one_step_of}
 
 -- one tree has these rows, and the schema and the other trees stay
@@ -55,7 +55,7 @@ module _ (l : Layout) (apart : list_all stands_apart l.others ≡ true) (at tree
   abbrev before : Trees
   before = old.now.trees
 
-  module _ (from : List Term) (width : ℕ) (means : Means l text (Insert at (Values from width)))
+  module _ (from : List Term) (width : ℕ) (means : IsSqlOf l text (Insert at (Values from width)))
       (values : Row)
       (given : value_rows (stamped the_table params) width (length from / width) from
       ≡ (Null ∷ values) ∷ []) (fits : cast_row the_table (Null ∷ values) ≡ Null ∷ values) where
@@ -115,7 +115,7 @@ module _ (l : Layout) (apart : list_all stands_apart l.others ≡ true) (at tree
           },
         )
 
-  module _ (query : Query) (means : Means l text (Delete at (alone query))) where
+  module _ (query : Query) (means : IsSqlOf l text (Delete at (alone query))) where
     -- the rows whose numbers the query gives are taken out
     pub deleted : (count : ℕ) → Executes text params old new (Ok count)
         → (rows : List Row) × IsSureAnswer query (overlay before []) params rows × Sets l tree

@@ -19,7 +19,7 @@ use Rattle.sqlite.specs.State.{State, FailsToQuery, HasCleanDisk, IsUnchanged, S
 use Rattle.sqlite.proofs.Callers.{unchanged_then}
 use Rattle.sqlite.proofs.StateLemmas.{survives_then}
 use Rattle.rr_store.specs.Contents.{AreNumbered, IsInRank, IsTidy, by_one, number}
-use Rattle.rr_store.specs.Queries.{Means}
+use Rattle.rr_store.specs.Queries.{IsSqlOf}
 use Rattle.rr_store.specs.Tables.{HasTables, Layout}
 use Rattle.rr_store.proofs.NumberLemmas.{keyed_by}
 use Rattle.rr_store.specs.Calls.{FailsFor, FailsOverTidy, IsCaused}
@@ -100,7 +100,7 @@ module _ {S : Type 0} (g : Ghosts S) where
 
     -- and so does a count, where rows have numbers of their own
     pub count_caused : (query : Program) (names : List (List ℕ)) →
-        ((l : Layout) → Means l text (Select query names)) → lets_of query ≡ [] → (tree : ℕ)
+        ((l : Layout) → IsSqlOf l text (Select query names)) → lets_of query ≡ [] → (tree : ℕ)
         → ((a b : State) → HasTables a.now.schema → (rows : List Row) → Shown text params a b rows
         → IsInRank by_one (map number (a.now.trees tree)) rows)
         → AreNumbered ((state g old).now.trees tree) → FailsToCount g now new error →
@@ -141,7 +141,7 @@ module _ {S : Type 0} (g : Ghosts S) where
           b (omega (arith, clean, then.clean)) tidy.has error (h clean error is)
 
       pub counts_fail : {X : Type 0} (r : Result X Error) (query : Program) (names : List (List ℕ))
-          → ((l : Layout) → Means l text (Select query names)) → lets_of query ≡ [] → (tree : ℕ)
+          → ((l : Layout) → IsSqlOf l text (Select query names)) → lets_of query ≡ [] → (tree : ℕ)
           → ((a b : State) → HasTables a.now.schema → (rows : List Row) → Shown text params a b
           rows → IsInRank by_one (map number (a.now.trees tree)) rows)
           → (IsTidy (state g old).now → AreNumbered ((state g old).now.trees tree)) →

@@ -16,7 +16,7 @@ use Rattle.sqlite.specs.State.{State, CommitsShowing, FailsToQuery, HasCleanDisk
 use Rattle.sqlite.specs.State.{Shown, Survives}
 use Rattle.sqlite.proofs.Callers.{IsPlain}
 use Rattle.rr_store.specs.Contents.{AreNumbered, IsInRank, IsTidy, by_one, number}
-use Rattle.rr_store.specs.Queries.{Means}
+use Rattle.rr_store.specs.Queries.{IsSqlOf}
 use Rattle.rr_store.specs.Tables.{HasTables, Layout, meta_tree, named_tree, object_tree}
 use Rattle.rr_store.specs.VacancyParts.{SaysBare, SaysEmpty}
 use Rattle.rr_store.specs.Calls.{FailsOverTidy, Rests, database}
@@ -287,7 +287,7 @@ module _ {S : Type 0} (g : Ghosts S) (text : List ℕ) (params : Row) (told : Is
 
     module _ (tabled : HasCleanDisk (state g old) → HasTables old.schema) (r : Result ℕ Error)
         (streams : HasStreamed g begun new r) (query : Program) (names : List (List ℕ))
-        (means : (l : Layout) → Means l text (Select query names)) (none : lets_of query ≡ [])
+        (means : (l : Layout) → IsSqlOf l text (Select query names)) (none : lets_of query ≡ [])
         (tree : ℕ)
         (tells : (a b : State) → HasTables a.now.schema → (rows : List Row) →
         Shown text params a b rows → IsInRank by_one (map number (a.now.trees tree)) rows)

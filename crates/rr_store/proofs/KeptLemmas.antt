@@ -8,7 +8,7 @@ use Rattle.rr_store.specs.Entries.{Entry, IsAdded, IsPut, entry_of}
 use Rattle.rr_store.specs.Maps.{AreOfObjects, IsObject}
 use Rattle.rr_store.proofs.ObjectRows.{put_held}
 use Rattle.rr_store.specs.Calls.{Transacts}
-use Rattle.rr_store.specs.Kept.{IsKept}
+use Rattle.rr_store.specs.Kept.{IsKeptConnection}
 use Rattle.rr_store.proofs.AddLemmas.{added_held}
 use Rattle.rr_store.proofs.BodyLemmas.{then_ok}
 use Rattle.rr_store.proofs.LookLemmas.{of_both, on_err_as}
@@ -26,9 +26,9 @@ put_told object entry same is old new held put = put_held object is old new held
 
 -- a call that changes rows, or fails and changes none, leaves those of some objects
 pub kept_by : {S X E : Type 0} (g : Ghosts S) (Change : Database → Database → Type 0)
-    (old new : Held S) (r : Result X E) → IsKept g old → Transacts g Change old new r
+    (old new : Held S) (r : Result X E) → IsKeptConnection g old → Transacts g Change old new r
     → (AreOfObjects (state g old).now → Change (state g old).now (state g new).now →
-    AreOfObjects (state g new).now) → IsKept g new
+    AreOfObjects (state g new).now) → IsKeptConnection g new
 kept_by g Change old new r kept w follows = record {
   autocommit = w.autocommit;
   held = λ clean on.

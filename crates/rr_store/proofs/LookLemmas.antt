@@ -10,7 +10,7 @@ use Rattle.sqlite.specs.Listing.{understood}
 use Rattle.sqlite_schema.specs.declared.command.Command.{Command}
 use Rattle.sqlite_schema.specs.declared.schema.Schema.{Schema}
 use Rattle.rr_store.specs.Tables.{Layout, HasTables}
-use Rattle.rr_store.specs.Queries.{Means}
+use Rattle.rr_store.specs.Queries.{IsSqlOf}
 use Rattle.rr_store.specs.Entries.{TreesOf}
 use Rattle.sqlite.specs.Effect.{Database}
 use Rattle.rr_store.specs.Contents.{RunsOn}
@@ -158,7 +158,8 @@ module _ {X : Type 0} (items : X → List Row) (sql : List ℕ) (params : Row) (
 
 -- a text on the tables is plain under each schema that has them
 pub plain_of : (schema : Schema) (text : List ℕ) (command : Layout → Command) →
-    ((l : Layout) → Means l text (command l)) → HasTables schema → IsPlain (understood schema text)
+    ((l : Layout) → IsSqlOf l text (command l)) → HasTables schema →
+    IsPlain (understood schema text)
 plain_of schema text command means has = subst (λ s. IsPlain (understood s text)) (sym has.is)
     (means has.layout).plain
 

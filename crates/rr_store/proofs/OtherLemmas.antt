@@ -12,13 +12,13 @@ use Rattle.rr_store.specs.Made.{HasItsTables, no_schema, with_named}
 use Rattle.rr_store.specs.Maps.{IsFilled}
 use Rattle.rr_store.specs.Tables.{HasTables, laid}
 
-abbrev IsKept : Database → Database → Table → Type 0
-IsKept old new t = IsOfOther t.tree → new.trees t.tree ≡ old.trees t.tree
+abbrev StaysAs : Database → Database → Table → Type 0
+StaysAs old new t = IsOfOther t.tree → new.trees t.tree ≡ old.trees t.tree
 
 pub others_itself : (db : Database) → KeepsOthers db db
 others_itself db = record {
   schema = refl;
-  tables = all_of (IsKept db db) (λ t other. refl)
+  tables = all_of (StaysAs db db) (λ t other. refl)
       db.schema.tables;
   trees = λ tree other none. refl;
 }
@@ -26,9 +26,9 @@ others_itself db = record {
 pub others_then : (a b c : Database) → KeepsOthers a b → KeepsOthers b c → KeepsOthers a c
 others_then a b c first second = record {
   schema = second.schema ∙ first.schema;
-  tables = all_both (IsKept a b) (IsKept b c) (IsKept a c) (λ t one two other. two other
+  tables = all_both (StaysAs a b) (StaysAs b c) (StaysAs a c) (λ t one two other. two other
       ∙ one other) a.schema.tables first.tables
-      (subst (λ (s : Schema). AllByRecursion (IsKept b c) s.tables) first.schema second.tables);
+      (subst (λ (s : Schema). AllByRecursion (StaysAs b c) s.tables) first.schema second.tables);
   trees = λ tree other none. second.trees tree other
       (subst (λ s. IsNoIndex s tree) (sym first.schema) none) ∙ first.trees tree other none;
 }

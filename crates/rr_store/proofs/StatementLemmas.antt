@@ -35,7 +35,7 @@ use Rattle.rr_store.specs.Texts.{clear_meta, clear_named, clear_object, delete_n
 use Rattle.rr_store.specs.Texts.{insert_meta, insert_named, insert_object, meta_numbers}
 use Rattle.rr_store.specs.Texts.{named_numbers, object_numbers, select_meta, select_named}
 use Rattle.rr_store.specs.Texts.{select_object, select_of_key, select_sorted_named}
-use Rattle.rr_store.specs.Queries.{Means, alone, rowids_of, rows_of, object_tests, name_tests}
+use Rattle.rr_store.specs.Queries.{IsSqlOf, alone, rowids_of, rows_of, object_tests, name_tests}
 use Rattle.rr_store.specs.Contents.{AreNumbered, IsTidy, IsOfOther, Alters, Adds, RemovesRows}
 use Rattle.rr_store.specs.Contents.{IsInRank}
 use Rattle.rr_store.specs.Contents.{columns, contents, number, numbered, meta_values, object_values}
@@ -111,7 +111,7 @@ module _ (at tree : ℕ) (ours : IsOurs tree) (name : List ℕ) (cols : List Col
     ≡ Some (table_with name tree cols (r l)))
     (text : List ℕ) (params : Row) (old new : State) (tidy : IsTidy old.now) where
   module _ (from : List Term) (width : ℕ) (means : (l : Layout) →
-      Means l text (Insert at (Values from width))) (values held : Row)
+      IsSqlOf l text (Insert at (Values from width))) (values held : Row)
       (given : (l : Layout) → value_rows (stamped (table_with name tree cols (r l)) params) width
       (length from / width) from ≡ (Null ∷ values) ∷ [])
       (fits : (l : Layout) → cast_row (table_with name tree cols (r l)) (Null ∷ values) ≡ Null
@@ -135,7 +135,7 @@ module _ (at tree : ℕ) (ours : IsOurs tree) (name : List ℕ) (cols : List Col
         did.0)))
 
   module _ (tests : List Term) (means : (l : Layout) →
-      Means l text (Delete at (alone (rowids_of tree tests)))) (seen : (db : Trees) →
+      IsSqlOf l text (Delete at (alone (rowids_of tree tests)))) (seen : (db : Trees) →
       overlay db [] tree ≡ db tree)
       (same : (row : Row) → list_all (holds (params ∷ row ∷ [])) tests ≡ meets_tests tests params
       (columns row)) where
@@ -170,7 +170,7 @@ module _ (at tree : ℕ) (ours : IsOurs tree) (name : List ℕ) (cols : List Col
         columns rows))
 
   -- every row goes
-  clears : (means : (l : Layout) → Means l text (Delete at (alone (rowids_of tree [])))) →
+  clears : (means : (l : Layout) → IsSqlOf l text (Delete at (alone (rowids_of tree [])))) →
       (seen : (db : Trees) → overlay db [] tree ≡ db tree) → (count : ℕ) → Executes text params old
       new (Ok count)
       → Alters old.now new.now tree (RemovesRows (λ row. true))
@@ -258,22 +258,23 @@ module _ (tree : ℕ) (seen : (db : Trees) → overlay db [] tree ≡ db tree) (
     (ranks : (a b : Env) → output_cmp (rows_of tree [] shown order)
     (output (rows_of tree [] shown order) a) (output (rows_of tree [] shown order) b)
     ≡ rank (eval_all shown a) (eval_all shown b))
-    (means : (l : Layout) → Means l text (Select (alone (rows_of tree [] shown order)) names)) where
-  selects : (old new : State) → HasTables old.now.schema → (rows : List Row) →
-      Shown text [] old new rows → IsInRank rank (map (λ row. eval_all shown ([] ∷ row ∷ []))
-      (old.now.trees tree)) rows
-  selects old new has rows h =
-      let l = has.layout in
-      let sure = (reads_as text [] old new (laid l) has.is _ (means l).is (means l).plain
-      (means l).unlisted rows h).answer in
-      let list = answers (inner tree end) [] shown order [] (overlay old.now.trees []) rank ranks
-      rows sure in
-      subst (λ xs. IsInRank rank xs rows)
-      (ap (map (eval_all shown)) (matches_of tree [] [] (overlay old.now.trees [])
-      ∙ ap (λ xs. map (λ row. [] ∷ row ∷ []) (filter (λ row. true) xs)) (seen old.now.trees)
-      ∙ ap (map (λ row. [] ∷ row ∷ [])) (filter_true (old.now.trees tree))) ∙ map-map _ _
-      (old.now.trees tree))
-      list
+    (means : (l : Layout) → IsSqlOf l text (Select (alone (rows_of tree [] shown order)) names))
+  where
+    selects : (old new : State) → HasTables old.now.schema → (rows : List Row) →
+        Shown text [] old new rows → IsInRank rank (map (λ row. eval_all shown ([] ∷ row ∷ []))
+        (old.now.trees tree)) rows
+    selects old new has rows h =
+        let l = has.layout in
+        let sure = (reads_as text [] old new (laid l) has.is _ (means l).is (means l).plain
+        (means l).unlisted rows h).answer in
+        let list = answers (inner tree end) [] shown order [] (overlay old.now.trees []) rank ranks
+        rows sure in
+        subst (λ xs. IsInRank rank xs rows)
+        (ap (map (eval_all shown)) (matches_of tree [] [] (overlay old.now.trees [])
+        ∙ ap (λ xs. map (λ row. [] ∷ row ∷ []) (filter (λ row. true) xs)) (seen old.now.trees)
+        ∙ ap (map (λ row. [] ∷ row ∷ [])) (filter_true (old.now.trees tree))) ∙ map-map _ _
+        (old.now.trees tree))
+        list
 
 pub selects_meta : (old new : State) → HasTables old.now.schema → (rows : List Row) →
     Shown select_meta [] old new rows →

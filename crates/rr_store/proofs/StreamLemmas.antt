@@ -22,7 +22,7 @@ use Rattle.sqlite.specs.State.{IsStatement, IsUnchanged, Shown, Survives}
 use Rattle.sqlite.proofs.Callers.{EndsIn, IsPlain, begins_shown, begun_plain, command_of}
 use Rattle.sqlite.proofs.Callers.{given_begin, unchanged_then}
 use Rattle.sqlite.proofs.StateLemmas.{survives_then}
-use Rattle.rr_store.specs.Queries.{Means}
+use Rattle.rr_store.specs.Queries.{IsSqlOf}
 use Rattle.rr_store.specs.Tables.{HasTables, Layout}
 use Rattle.rr_store.specs.Calls.{Looks}
 use Rattle.rr_store.specs.StreamParts.{GivesMore, GivesRest, HasStreamed}
@@ -270,7 +270,7 @@ module _ {S : Type 0} (g : Ghosts S) (text : List ℕ) (params : Row) (old now :
 
 -- The rows that a query without a recursion has given begin an answer.
 pub rest_of_given : {S : Type 0} (g : Ghosts S) (text : List ℕ) (params : Row) (query : Program)
-    (names : List (List ℕ)) → ((l : Layout) → Means l text (Select query names)) → lets_of query
+    (names : List (List ℕ)) → ((l : Layout) → IsSqlOf l text (Select query names)) → lets_of query
     ≡ []
     → (h : Held S) (given : List Row) → HasTables h.schema → IsUnchanged (state g h) (state g h) →
     HasGiven g text params h given → (tail : List Row) × Shown text params (state g h)
@@ -291,7 +291,7 @@ rest_of_given g text params query names means none h given has same it =
 
 -- and with others say what that says
 pub begun_answer : {S : Type 0} (g : Ghosts S) (text : List ℕ) (params : Row) (query : Program)
-    (names : List (List ℕ)) → ((l : Layout) → Means l text (Select query names)) → lets_of query
+    (names : List (List ℕ)) → ((l : Layout) → IsSqlOf l text (Select query names)) → lets_of query
     ≡ []
     → (old now new : Held S) → Begins g text params old now → HasCleanDisk (state g now) →
     HasTables old.schema → IsUnchanged (state g now) (state g new) →

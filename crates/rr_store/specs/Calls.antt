@@ -54,15 +54,17 @@ module _ {S : Type 0} (g : Ghosts S) where
   abbrev pub WhereOpen : Held S → (Trees → Type 0) → Trees → Type 0
   WhereOpen conn Commits trees = IsTrue (state g conn).is_open × Commits trees
 
-  -- nothing changes while the connection is open, one that was shut stays shut, a stop leaves what
-  -- it left before, and no transaction is under way
+  -- no transaction is under way. Where the disk has returned what was written, nothing changes
+  -- while the connection is open, one that was shut stays shut, and a stop leaves what it left
+  -- before
   pub record Rests (old new : Held S) : Type 0 where
     pub autocommit : new.in_transaction ≡ false
     pub opened : WhileOpen new (IsTrue (state g old).is_open)
     pub same : WhileOpen new (database new ≡ database old)
     pub crash : Survives (state g old) (state g new) (λ _. ⊥)
 
-  -- rows are read, and nothing changes; if that does not fail, the connection was open and is
+  -- rows are read, and nothing changes, as `Rests` has it. If that does not fail, and the disk has
+  -- returned what was written, the connection was open and is
   pub record Looks {X E : Type 0} (old new : Held S) (result : Result X E) : Type 0 where
     pub rests : Rests old new
     pub same : OnCleanDisk new (OnOk result (IsUnchanged (state g old) (state g new)))
@@ -70,7 +72,8 @@ module _ {S : Type 0} (g : Ghosts S) where
   -- one transaction makes this change over an open connection, which stays open, or fails and
   -- leaves the rows as they were, while the connection is open. A stop leaves what it left before
   -- or the change, and this only where the connection was open before. In any case no transaction
-  -- is under way then, and a connection that was shut stays shut
+  -- is under way then, and a connection that was shut stays shut. But for the transaction, all this
+  -- is so where the disk has returned what was written
   pub record Transacts {X E : Type 0} (Change : Database → Database → Type 0) (old new : Held S)
       (result : Result X E) : Type 0 where
     pub autocommit : new.in_transaction ≡ false

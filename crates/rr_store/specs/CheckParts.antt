@@ -24,7 +24,8 @@ pub record IsBadVersion (version : Version) (rows : List Row) : Type 0 where
   pub no_other : (n : ℕ) → n < 2 ^ 32 → SaysVersion n rows → n ≡ version_number version
   pub bad : rows ≢ meta_row (codes "version") (version_text version) ∷ []
 
--- a fault of the version is told where the rows of `meta` have it
+-- what a fault of the version says of the rows of `meta`: some row says this other version, or they
+-- are as `IsBadVersion` has it. One of the database or of memory says nothing of them
 abbrev pub IsVersionFault : Version → List Row → OpenFault → Type 0
 IsVersionFault version rows (WrongVersion n) = (n ≢ version_number version) × SaysVersion n rows
 IsVersionFault version rows BadRow = IsBadVersion version rows

@@ -50,9 +50,8 @@ module _ {S : Type 0} (g : Ghosts S) (objects : List Obj) (conn : Held S) where
 
   -- no transaction is under way, and tables and rows are as they were, while the connection is
   -- open, which it then was before. Where the three tables had a row, and only there, that is the
-  -- fault, unless the database failed for a cause outside the rows. Where something stood other
-  -- than the three, that is the fault. A stop leaves what it may leave after a call that makes the
-  -- store
+  -- fault, unless the database failed for a cause outside the rows. Where something stood, but not
+  -- the three, that is the fault. A stop leaves what it may leave after a call that makes the store
   pub record FailsToMake (left : Held S) (fault : CreateFault) : Type 0 where
     pub autocommit : left.in_transaction ≡ false
     pub was_open : WhileOpen g left (IsTrue (state g conn).is_open)

@@ -7,6 +7,6 @@ use Rattle.rr_store.specs.Calls.{WhileOpen, database}
 
 -- no transaction is under way; while the connection is open and the disk has returned what was
 -- written, the tables hold the rows of some objects and no others (profile)
-pub record IsKept {S : Type 0} (g : Ghosts S) (conn : Held S) : Type 0 where
+pub record IsKeptConnection {S : Type 0} (g : Ghosts S) (conn : Held S) : Type 0 where
   pub autocommit : conn.in_transaction ≡ false
   pub held : WhileOpen g conn (AreOfObjects (database g conn))

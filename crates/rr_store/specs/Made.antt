@@ -25,7 +25,7 @@ abbrev pub keyed_at : List ℕ → List Term → Rules
 keyed_at places checks =
     record { primary = places; uniques = places ∷ []; orders = plain ∷ []; checks = checks }
 
--- the class of an object is one of seven (profile)
+-- the number of an object's class is 1 to 7 (profile)
 abbrev pub is_a_class : Term
 is_a_class = op2 And (op2 (Compare Ge Binary) (col 1 1) (lit (Int (pos 1))))
     (op2 (Compare Le Binary) (col 1 1) (lit (Int (pos 7))))

@@ -39,7 +39,7 @@ pub record IsFilled (entries : List Entry) (db : Database) : Type 0 where
   pub version : HasVersion current_version db
 
 -- an object as readers make it: its attributes are well formed, and it is what they read as,
--- whatever the source (RFC 2622, 2 to 6; RFC 2725, 10)
+-- whichever source they name (RFC 2622, 2 to 6; RFC 2725, 10)
 pub record IsObject (object : Obj) : Type 0 where
   pub fields : AreFields object.paragraph
   pub read : obj_of object.paragraph ≡ Ok object
@@ -68,8 +68,8 @@ pub record IsKeyed (objects : FinMap key_cmp Obj) : Type 0 where
   pub formed : (k : Key) (o : Obj) → get objects k ≡ Some o → IsKeyValue k
   pub read : (k : Key) (o : Obj) → get objects k ≡ Some o → IsObject o
 
--- the tables hold the rows of the objects of a finite map and no others, and are of version 2
--- (profile)
+-- the tables hold the rows of the objects of a finite map and no others, and are of version 2. Each
+-- object stands under its own key, and both are such as readers make (profile)
 pub record HasRows (objects : FinMap key_cmp Obj) (db : Database) : Type 0 where
   pub keyed : IsKeyed objects
   pub rows : AreRowsOf (map entry_of (values objects)) db
@@ -91,7 +91,8 @@ TakesOut key old new =
 abbrev pub AreApart : List Obj → Type 0
 AreApart = IsAscending (λ a b. a.key ≢ b.key)
 
--- the objects of a list stand in the order of their classes, then of their keys (profile)
+-- the objects of a list stand in the order of their classes, then of their keys, and no two have
+-- the same key (profile)
 abbrev pub AreInOrder : List Obj → Type 0
 AreInOrder = IsAscending (λ a b. key_cmp a.key b.key ≡ Less)
 
@@ -114,7 +115,7 @@ pub record AreStoredIn (form : KeyForm) (text : List ℕ) (source : List ℕ) (o
   pub of_source : AllByRecursion (IsObjectOf source) objects
   pub apart : AreApart objects
 
--- every key has a text in tables of version 2 (profile)
+-- the text of a key in tables of version 2, which every key has (profile)
 abbrev pub current_form : KeyForm
 current_form key = Some (key_bytes key)
 

@@ -35,8 +35,8 @@ pub record SaysNoOther (version : Version) (db : Database) : Type 0 where
 abbrev pub AreObjectsOf : List ℕ → List Obj → Type 0
 AreObjectsOf source = AllByRecursion (IsObjectOf source)
 
--- the objects stand in the order of class and key, and each is such as readers make in a registry
--- of the source
+-- the objects stand in the order of class and key, no two have the same key, and each is such as
+-- readers make in a registry of the source
 pub record AreListed (source : List ℕ) (objects : List Obj) : Type 0 where
   pub in_order : AreInOrder objects
   pub of_source : AreObjectsOf source objects

@@ -90,7 +90,7 @@ insert_into at width =
 
 -- a text is this command under the schema, with no RETURNING and no time, and reads no list of
 -- tables
-pub record Means (l : Layout) (text : List ℕ) (command : Command) : Type 0 where
+pub record IsSqlOf (l : Layout) (text : List ℕ) (command : Command) : Type 0 where
   pub is : command_of (understood (laid l) text) ≡ command
   pub plain : IsPlain (understood (laid l) text)
   pub unlisted : reads_listing (laid l) text ≡ false

@@ -52,7 +52,9 @@ module _ {S : Type 0} (g : Ghosts S) where
     pub step : StepWhereOpen Seen Change old.conn.now new.conn.now result
 
   -- the end of a transaction: where its work was done and the database did not fail, that is
-  -- committed. Else the rows are those last committed, while the connection is open
+  -- committed, and the connection was open and is. Else the rows are those last committed, while it
+  -- is open. A stop leaves what it left before or, only where the work was done, that. No
+  -- transaction is under way then
   pub record EndsWork {X E Y F : Type 0} (old new : Held S) (work : Result X E)
       (result : Result Y F) : Type 0 where
     pub autocommit : new.in_transaction ≡ false

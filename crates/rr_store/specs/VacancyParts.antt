@@ -4,7 +4,7 @@ use Rattle.sqlite_value.specs.Order.{Row}
 use Rattle.sqlite.specs.Effect.{Database}
 use Rattle.rr_store.specs.Made.{HasSomeRow, IsBare}
 
--- an answer says whether there is a row
+-- an answer says whether there is no row
 pub record SaysEmpty (rows : List Row) (is : Bool) : Type 0 where
   pub empty : IsTrue is → rows ≡ []
   pub filled : is ≡ false → rows ≢ []

@@ -1,5 +1,6 @@
 //! What a transaction that adds, puts or takes out one object does before its commit, for `writes`
-//! and `filling`.
+//! and `filling`. It fails by SQLite, for want of memory, or as `leaving_names` finds a row that is
+//! none of an object; no clause says which.
 
 ghost use Rattle.std.specs.Prelude.{[], ◌∷◌, map};
 ghost use Rattle.rr_store.specs.Contents.{Adds, Alters, IsTidy, RemovesRows, is_name_among};

@@ -64,7 +64,8 @@ pub(crate) fn check_version<S: Alter>(
 }
 
 /// The objects that `object` holds, in the order of the numbers of its rows, which have numbers of
-/// their own.
+/// their own. `BadRow` says that it holds the rows of no objects of the source. Otherwise the query
+/// failed, or memory ran out.
 pub(crate) fn check_objects<S: Alter>(
     conn: &mut IdleConnection<S>,
     alloc: Global,
@@ -83,7 +84,8 @@ pub(crate) fn check_objects<S: Alter>(
 }
 
 /// Checks that the rows of `named`, by maintainer, class and key, are those of the maintainers that
-/// the objects name.
+/// the objects name. The fault is `BadRow`, which says of sorted rows that they are not, or that
+/// memory ran out.
 fn judge_names(
     alloc: Global,
     rows: &[Row],
@@ -103,7 +105,8 @@ fn judge_names(
 }
 
 /// Checks that the rows of `named` are those that the objects name, asked for in order of
-/// maintainer, class and key.
+/// maintainer, class and key. `BadRow` says that they are not. Otherwise the query failed, or
+/// memory ran out. So it is below.
 fn check_sorted_names<S: Alter>(
     conn: &mut IdleConnection<S>,
     alloc: Global,

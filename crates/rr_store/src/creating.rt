@@ -22,7 +22,8 @@ use rr_object::Object;
 use sqlite::Alter;
 use std::alloc::Global;
 
-/// Makes a store in a database with nothing in it.
+/// Makes a store in a database with nothing in it. No clause says why it fails, here and in the
+/// next function.
 fn create_in_blank<S: Alter>(
     conn: &mut IdleConnection<S>,
     alloc: Global,
@@ -54,7 +55,8 @@ fn create_in_bare<S: Alter>(
     end(tx, work)
 }
 
-/// Makes a store in a database that has the three tables.
+/// Makes a store in a database that has the three tables. `NotEmpty` says that one of them has a
+/// row. Where one has, it is the fault, or the database's error has a cause outside the rows.
 fn create_in_tables<S: Alter>(
     conn: &mut IdleConnection<S>,
     alloc: Global,

@@ -9,7 +9,8 @@ use crate::store_fault::StoreFault;
 use sqlite::{Alter, Transaction};
 
 /// Ends a transaction: commits it where its work was done, and else lets it go, which rolls it
-/// back.
+/// back. It is under way where its work was done. The fault is that of the work or of the commit,
+/// though no clause says which.
 pub(crate) fn end<S: Alter>(
     tx: Transaction<'_, S>,
     work: Result<(), StoreFault>,

@@ -1,5 +1,5 @@
 //! The rows of a list of objects, as a transaction of `creating` or `migrating` adds them to tables
-//! without a row.
+//! without a row. A fault is SQLite's, or that memory ran out; no clause says which.
 
 ghost use Rattle.std.specs.Prelude.{map, OnOk};
 ghost use Rattle.std.specs.List.{AllByRecursion};

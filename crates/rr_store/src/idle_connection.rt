@@ -1,5 +1,5 @@
-//! A connection in no transaction: what the calls that make or open a store take, and a closed
-//! store gives back. The diagnosis of `rr_commands` asks it why a database is refused.
+//! A connection in no transaction: what the calls that make, open or migrate a store take, and a
+//! closed store gives back. The diagnosis of `rr_commands` asks it why a database is refused.
 
 ghost use Rattle.std.specs.Prelude.{◌≡◌, false, IfErr, IfOk, IsTrue};
 ghost use Rattle.sqlite.specs.Held.{state};
@@ -11,8 +11,9 @@ use sqlite::{Alter, Connection, Error, Row};
 use sqlite_schema::schema::Schema;
 use std::marker::Model;
 
-/// A connection to SQLite in no transaction; a contract sees the connection. A call opens none, and
-/// shuts one only where the disk failed or refused.
+/// A connection to SQLite in no transaction; a contract sees the connection. Where the disk has
+/// returned what was written, one that is shut stays so, and a call shuts one only where the disk
+/// failed or refused.
 #[derive(Drop)]
 pub struct IdleConnection<S: Alter> {
     pub(crate) inner: Connection<S>,
@@ -59,8 +60,8 @@ impl<S: Alter> IdleConnection<S> {
     /// The rows that a query without parameters shows of what stands, or why SQLite shows none. It
     /// is asked in a transaction of its own. That is then rolled back, of which clauses speak only
     /// after an error. The connection is in no transaction then, and a stop leaves what one before
-    /// the call left. What is said of rows and errors is true where the disk has returned what was
-    /// written.
+    /// the call left. What is said of rows, errors and a stop is true where the disk has returned
+    /// what was written.
     pub fn ask(&mut self, query: &str) -> Result<Vec<Row>, Error>
         ensures autocommit { self.new.in_transaction ≡ false }
         ensures crash { Survives (state S.Store self.old) (state S.Store self.new) (λ _. ⊥) }
@@ -82,7 +83,8 @@ impl<S: Alter> IdleConnection<S> {
         let _ = &self.inner;
     }
 
-    /// Tells the caller's proof that the rows are those last committed, and what a stop leaves.
+    /// Tells the caller's proof that, while the connection is open, the rows are those last
+    /// committed, and a stop leaves no others.
     pub(crate) fn note_committed(&self)
         ensures committed { IsTrue (state S.Store self.now).is_open
             → (state S.Store self.now).now ≡ (state S.Store self.now).committed }

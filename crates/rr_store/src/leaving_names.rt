@@ -21,14 +21,15 @@ use rr_text::{Attribute, Paragraph, meaning, read_canonical};
 use sqlite::Row;
 use std::alloc::{AllocError, Global};
 
-/// The first attribute `source`.
+/// The first attribute `source`, if there is one.
 fn first_source_attribute(paragraph: &Paragraph) -> Option<Attribute<'_>>
     ensures { result ≡ find (has_name (kind_name Source)) paragraph.now }
 {
     paragraph.attributes().find(|attribute| attribute.has_name(Kind::Source.name().as_bytes()))
 }
 
-/// The source that the first attribute `source` names, if it names one.
+/// The source that the first attribute `source` names, if it names one. The error is that memory
+/// ran out, here and below.
 fn first_source(alloc: Global, paragraph: &Paragraph) -> Result<Option<Name>, AllocError>
     ensures { IfOk result (λ source. source ≡ first_source paragraph.now) }
 {
@@ -38,7 +39,7 @@ fn first_source(alloc: Global, paragraph: &Paragraph) -> Result<Option<Name>, Al
     }
 }
 
-/// The object whose canonical text this is, if it is that of one of any source.
+/// The object whose canonical text this is, if it is that of one, whichever source it names.
 fn read_any(alloc: Global, text: &[u8]) -> Result<Option<Object>, AllocError>
     ensures found { IfOk result (λ read. IfSome read (λ object.
         IsObject object × (canonical object.paragraph ≡ text.now))) }
@@ -54,8 +55,8 @@ fn read_any(alloc: Global, text: &[u8]) -> Result<Option<Object>, AllocError>
     }
 }
 
-/// The maintainers that the object of a row names, each once. A row that is none of an object is a
-/// fault of the store.
+/// The maintainers that the object of a row names, each once. A fault of the store, which is any
+/// but lack of memory, says that the row is none of an object.
 fn names_of_row(alloc: Global, row: &Row) -> Result<Vec<Name>, StoreFault>
     ensures names { IfOk result (λ names. AreNamesOf names.items row.now) }
     ensures refused { IfErr result (λ fault. fault ≢ Memory → (object : _) → IsObject object →
@@ -71,8 +72,8 @@ fn names_of_row(alloc: Global, row: &Row) -> Result<Vec<Name>, StoreFault>
 }
 
 /// The maintainers that the object names, each once, whose row is the one row of a class and a key;
-/// no maintainers if there is no row. A fault of the store says that these rows are not the one of
-/// an object.
+/// no maintainers if there is no row. A fault of the store, which is any but lack of memory, says
+/// that these rows are not the one of an object.
 pub(crate) fn names_of_rows(alloc: Global, rows: &[Row]) -> Result<Vec<Name>, StoreFault>
     ensures names { IfOk result (λ names. AllByRecursion (AreNamesOf names.items) rows.now) }
     ensures refused { IfErr result (λ fault. fault ≢ Memory → (object : _) → IsObject object →

@@ -1,6 +1,7 @@
 //! The store: objects kept in SQLite, and whom they name, in three tables that hold exactly their
 //! rows. A desk keeps the objects of its registry in it, and commands ask here why a database is
-//! refused.
+//! refused. `tools/irr/local` writes such tables itself, and reads and changes their rows: whoever
+//! changes columns, keys or the order of rows here changes them there too.
 #![tactic(auto)]
 
 mod bodies;
@@ -33,7 +34,6 @@ mod writes;
 
 pub use idle_connection::IdleConnection;
 pub use meta::is_version_row_alone;
-pub use objects::lent;
 pub use schema::{META_TREE, NAMED_TREE, OBJECT_TREE, has_tables};
 pub use store::Store;
 pub use store_fault::{CreateFault, MigrateFault, OpenFault, StoreFault};

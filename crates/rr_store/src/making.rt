@@ -1,4 +1,5 @@
-//! The three tables of a new store, made in a transaction before `filling` adds their rows.
+//! The three tables of a new store, made in a transaction before `filling` adds their rows. An
+//! error is SQLite's. `tools/irr/local/tables.py` has the same tables.
 
 ghost use Rattle.std.specs.Prelude.{◌≡◌, []};
 ghost use Rattle.rr_store.specs.FillingParts.{HasNewTables, IsBlank};

@@ -13,7 +13,9 @@ use crate::schema::has_tables;
 use crate::store_fault::NO_TABLES;
 use sqlite::{Alter, Error};
 
-/// Checks that the three tables are there, and the rows of `meta` have numbers of their own.
+/// Checks that the three tables are there, and the rows of `meta` have numbers of their own. If the
+/// tables are not there, the error says so. If each of their rows has its own number, it has a
+/// cause outside the rows.
 pub(crate) fn check_meta<S: Alter>(conn: &mut IdleConnection<S>) -> Result<(), Error>
     ensures looks { Looks S.Store conn.old conn.new result }
     ensures meta { OnCleanDisk S.Store conn.new (OnOk result

@@ -27,7 +27,7 @@ use rr_object::Object;
 use sqlite::{Alter, Error, Transaction};
 use std::alloc::{AllocError, Global};
 
-/// Takes out all rows of the three tables, and no others.
+/// Takes out all rows of the three tables, and no others. The error is SQLite's.
 fn clear_rows<S: Alter>(tx: &mut Transaction<'_, S>) -> Result<(), Error>
     ensures { Steps S.Store IsTidy IsCleared tx.old tx.new result }
 {
@@ -38,7 +38,8 @@ fn clear_rows<S: Alter>(tx: &mut Transaction<'_, S>) -> Result<(), Error>
     Ok(())
 }
 
-/// Puts the rows of the objects in place of all rows.
+/// Puts the rows of the objects in place of all rows. No clause says why that fails, here and in
+/// the next function.
 fn refill<S: Alter>(
     tx: &mut Transaction<'_, S>,
     alloc: Global,
@@ -67,7 +68,7 @@ fn replace<S: Alter>(
     end(tx, work)
 }
 
-/// The objects and the block.
+/// The objects and the block. The error is that memory ran out.
 fn with_upper(mut objects: Vec<Object>, upper: Object) -> Result<Vec<Object>, AllocError>
     ensures { IfOk result (λ all. all.items ≡ objects.items ++ upper ∷ []) }
 {
@@ -76,7 +77,8 @@ fn with_upper(mut objects: Vec<Object>, upper: Object) -> Result<Vec<Object>, Al
 }
 
 /// Puts the rows of the objects and of the block of the AS numbers of more than 16 bits in place of
-/// all rows, in one transaction.
+/// all rows, in one transaction. It also fails if the block is no object of the source; no clause
+/// says why it fails.
 fn rewrite<S: Alter>(
     conn: &mut IdleConnection<S>,
     alloc: Global,

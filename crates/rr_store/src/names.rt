@@ -1,4 +1,6 @@
-//! The maintainers that an object names, each once: `named` has a row for each.
+//! The maintainers that an object names, each once: `named` has a row for each. `entry`, `namings`,
+//! `leaving_names` and `row_streams` ask for them. `tools/irr/local/tables.py` adds rows in the
+//! same order: rows in another order are sorted each time that the database is opened.
 
 ghost use Rattle.std.specs.Prelude.{◌≡◌, IfOk};
 ghost use Rattle.rr_object.specs.Objects.{names_of};

@@ -40,7 +40,8 @@ pub(crate) fn key_text(alloc: Global, key: &Key, version: Version) -> Result<Vec
     }
 }
 
-/// Takes in that the object with this class and key names each of the maintainers.
+/// Takes in that the object with this class and key names each of the maintainers. The error is
+/// that memory ran out; what was taken in then, no clause says. So it is below.
 fn push_namings(
     all: &mut Vec<Naming>,
     alloc: Global,

@@ -1,4 +1,5 @@
-//! Objects read from rows, and put in the order of their keys, for what opens tables.
+//! Objects read from rows, and put in the order of their keys, for what opens or migrates tables.
+//! `leaving_names` and `upper` take `read_paragraph`, and `migrating` takes `lent`.
 
 ghost use Rattle.std.specs.Prelude.{◌≡◌, ◌++◌, [], ◌∷◌, IfErr, IfOk, IfSome};
 ghost use Rattle.std.specs.Prelude.{IsPermutation, IsSome};
@@ -26,7 +27,8 @@ use sqlite::Row;
 use std::alloc::{AllocError, Global};
 use std::cmp::Ordering;
 
-/// The object of the source that a paragraph is, if it is one. The error is that memory ran out.
+/// The object of the source that a paragraph is, if it is one. The error is that memory ran out,
+/// here and below.
 pub(crate) fn read_paragraph(
     alloc: Global,
     paragraph: Paragraph,
@@ -105,7 +107,7 @@ fn read_object(
 }
 
 /// Takes in the object of the source whose row, with its number, this is. The fault is `BadRow`,
-/// which says that there is none, or that memory ran out.
+/// which says that there is none, or that memory ran out. What was taken in then, no clause says.
 pub(crate) fn take_object(
     objects: &mut Vec<Object>,
     alloc: Global,
@@ -131,7 +133,7 @@ pub(crate) fn take_object(
 }
 
 /// References to the objects, in their order. The error is that memory ran out.
-pub fn lent(alloc: Global, objects: &[Object]) -> Result<Vec<&Object>, AllocError>
+pub(crate) fn lent(alloc: Global, objects: &[Object]) -> Result<Vec<&Object>, AllocError>
     ensures { IfOk result (λ found. lent found.items ≡ objects.now) }
 {
     objects.iter().collect(alloc)

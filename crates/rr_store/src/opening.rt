@@ -21,7 +21,8 @@ use rr_object::Object;
 use sqlite::Alter;
 use std::alloc::Global;
 
-/// The objects whose rows `object` and `named` hold, whatever the version that `meta` says.
+/// The objects whose rows `object` and `named` hold, whatever the version that `meta` says. The
+/// fault is `BadRow`, or of a query, or that memory ran out.
 fn checked_objects<S: Alter>(
     conn: &mut IdleConnection<S>,
     alloc: Global,
@@ -55,7 +56,8 @@ fn read_tables<S: Alter>(
     checked_objects(conn, alloc, source, version)
 }
 
-/// The objects of the source that tables of this version hold, in order of class and key.
+/// The objects of the source that tables of this version hold, in order of class and key. What the
+/// faults say is as at `Store::old_objects`, for this version.
 pub(crate) fn stored_objects<S: Alter>(
     conn: &mut IdleConnection<S>,
     alloc: Global,

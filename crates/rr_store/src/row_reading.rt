@@ -1,4 +1,6 @@
-//! Queries on the three tables, asked by the checks of `checks`, `meta_check` and `vacancy`.
+//! Queries on the three tables, asked by the checks of `checks`, `meta_check` and `vacancy`. Of
+//! those that give rows, the database's error has a cause outside the rows. Of those that count,
+//! read objects or compare names, it has one where each row has its own number.
 
 ghost use Rattle.std.specs.Prelude.{[], map, IfErr, IfOk};
 ghost use Rattle.std.specs.Prelude.{IsTrue};
@@ -28,7 +30,8 @@ use sqlite::{Alter, Error, Row};
 use sqlite_value::value::ValueRef;
 use std::alloc::Global;
 
-/// The answer of a query, which changes nothing and commits nothing.
+/// The answer of a query, which changes nothing and commits nothing if its text is plain, or why
+/// the query failed.
 fn look<S: Alter>(
     conn: &mut IdleConnection<S>,
     sql: &str,
@@ -158,7 +161,7 @@ pub(crate) fn read_objects<S: Alter>(
 }
 
 /// True only if the rows of `named`, in their order, are those of the maintainers that the objects
-/// name.
+/// name. No fault is `BadRow`.
 pub(crate) fn names_in_turn<S: Alter>(
     conn: &mut IdleConnection<S>,
     alloc: Global,

@@ -103,7 +103,8 @@ pub(crate) fn take_objects<S: Alter>(
     Err(OpenFault::Memory)
 }
 
-/// True only if the next rows are those of these names, for an object of this class and key.
+/// True only if the next rows are those of these names, for an object of this class and key. The
+/// error is that the query failed.
 fn take_names<S: Alter>(
     rows: &mut Rows<'_, S>,
     names: &[Name],
@@ -130,7 +131,8 @@ fn take_names<S: Alter>(
     Ok(true)
 }
 
-/// True only if the next rows are those of the maintainers that the object names.
+/// True only if the next rows are those of the maintainers that the object names. The fault, here
+/// and below, is that the query failed, or that memory ran out.
 fn take_names_of<S: Alter>(
     rows: &mut Rows<'_, S>,
     alloc: Global,

@@ -1,5 +1,5 @@
 //! The three tables in a schema: whether they are there, and which trees are theirs. Calls that
-//! make or open a store ask this first, and so do messages of `rr_commands` about refused
+//! make, open or migrate a store ask this first, and so do messages of `rr_commands` about refused
 //! databases.
 
 ghost use Rattle.std.specs.Prelude.{◌≡◌, [], ◌∷◌, true, false, codes, IsTrue};
@@ -163,7 +163,7 @@ fn are_ours(first: &Table, second: &Table, third: &Table, others: &[Table]) -> b
 /// Whether the schema begins with the three tables, and each other table has a later tree than
 /// `named` and no foreign key to the three. Each of the three must have its tree and its columns,
 /// and no foreign key, INTEGER PRIMARY KEY, AUTOINCREMENT or default. Its other keys and its checks
-/// are free.
+/// are free, and so are the indexes and views of the schema.
 pub fn has_tables(schema: &Schema) -> bool
     ensures is { IsTrue result → HasTables schema.now }
     ensures only { HasTables schema.now → IsTrue result }

@@ -1,5 +1,6 @@
 //! The statements of a transaction that add, take out or read rows, one in each function, for
-//! `bodies`, `filling` and `migrating`.
+//! `bodies`, `filling` and `migrating`. An error is SQLite's. The number is how many rows changed,
+//! which no clause says.
 
 ghost use Rattle.std.specs.Prelude.{◌≡◌, [], ◌∷◌, filter, true, IfOk};
 ghost use Rattle.std.specs.Prelude.{IsPermutation};

@@ -32,9 +32,10 @@ use std::alloc::Global;
 use std::marker::Model;
 
 /// A connection in no transaction whose tables, while it is open, hold the rows of some objects and
-/// no others; a contract sees the connection. What the calls say of rows, of why SQLite failed, and
-/// of whether the connection is open is true where the disk has returned what was written. A call
-/// opens no connection, and shuts one only where the disk failed or refused.
+/// no others; a contract sees the connection. What the calls say of rows and of why SQLite failed
+/// is true where the disk has returned what was written. So is what they say of an open connection,
+/// and of a stop during the call. A connection that is shut stays so, and a call shuts one only
+/// where the disk failed or refused.
 #[derive(Drop)]
 pub struct Store<S: Alter> {
     conn: IdleConnection<S>,
@@ -47,11 +48,11 @@ impl<S: Alter> Model for Store<S> {
 
     ghost coded = { held_code S.code };
 
-    ghost use Rattle.rr_store.specs.Kept.{IsKept};
+    ghost use Rattle.rr_store.specs.Kept.{IsKeptConnection};
 
     ghost view = { λ s. s.conn };
 
-    ghost invariant = { λ s. IsKept S.Store s.conn };
+    ghost invariant = { λ s. IsKeptConnection S.Store s.conn };
 }
 
 impl<S: Alter> Store<S> {
@@ -62,9 +63,9 @@ impl<S: Alter> Store<S> {
     ///
     /// After a fault the connection is given back, and tables and rows are as they were, while it
     /// is open. Where one of the three tables has a row, the fault is `NotEmpty`, or an error of
-    /// SQLite with a cause outside the rows. `NotEmpty` comes only there. Where something else
-    /// stands than the three, the fault is `Store`, of a table that is not there. Otherwise no
-    /// clause says why the call fails.
+    /// SQLite with a cause outside the rows. `NotEmpty` comes only there. Where something stands,
+    /// but not the three (`has_tables`), the fault is `Store`, of a table that is not there.
+    /// Otherwise no clause says why the call fails.
     ///
     /// A stop during the call leaves what one before it left or, where the connection was open and
     /// there was room, the tables and rows of the store. One after it, while the connection is
@@ -86,13 +87,13 @@ impl<S: Alter> Store<S> {
     }
 
     /// Opens the store of the objects of the source that the tables of version 2 hold, and gives
-    /// these. In any case those given are of the source, in order of class and key, and no two have
-    /// one key. The connection was open then, and stays so.
+    /// these. Whatever the disk returned, those given are of the source, in order of class and key,
+    /// and no two have one key. The connection was open then, and stays so.
     ///
-    /// After a fault it is given back; `WrongVersion` and `BadRow` say why the tables are refused,
-    /// `BadRow` only if no row of `meta` says another version. Where the three are not there, the
-    /// fault is `Store`, of a table that is not there. Where they are, and each of their rows has
-    /// its own number, SQLite's error has a cause outside the rows.
+    /// After a fault the connection is given back. `WrongVersion` and `BadRow` say why the tables
+    /// are refused, `BadRow` only if no row of `meta` says another version. Where the three are not
+    /// there, the fault is `Store`, of a table that is not there. Where they are, and each of their
+    /// rows has its own number, SQLite's error has a cause outside the rows.
     ///
     /// Nothing changes while the connection is open. A stop during the call leaves what one before
     /// it left; one after it, while the connection is open, the rows that stand.
@@ -112,9 +113,9 @@ impl<S: Alter> Store<S> {
         }
     }
 
-    /// The objects of the source that tables of version 1 hold, or why they were not read. In any
-    /// case those given are of the source, in order of class and key, and no two have one key. The
-    /// connection was open then, and stays so.
+    /// The objects of the source that tables of version 1 hold, or why they were not read. Whatever
+    /// the disk returned, those given are of the source, in order of class and key, and no two have
+    /// one key. The connection was open then, and stays so.
     ///
     /// `WrongVersion` and `BadRow` say why the tables are refused, `BadRow` only if no row of
     /// `meta` says another version. Where the three are not there, the fault is `Store`, of a table
@@ -182,7 +183,8 @@ impl<S: Alter> Store<S> {
         written
     }
 
-    /// Puts the rows of the object, which is such as readers make; `put` adds what a stop leaves.
+    /// Puts the rows of the object, which is such as readers make; `put` adds what a stop after the
+    /// call leaves.
     fn put_rows_of(&mut self, alloc: Global, object: &Object) -> Result<(), StoreFault>
         ensures { WritesRows S.Store (IsPut (entry_of object.now)) (Puts object.now.key object.now)
             self.old self.new result }
@@ -207,7 +209,8 @@ impl<S: Alter> Store<S> {
         written
     }
 
-    /// Adds the rows of the object, which is such as readers make.
+    /// Adds the rows of the object, which is such as readers make; `add` adds what a stop after the
+    /// call leaves.
     fn add_rows_of(&mut self, alloc: Global, object: &Object) -> Result<(), StoreFault>
         ensures { WritesRows S.Store (IsAdded (entry_of object.now ∷ []))
             (AddsTo object.now.key object.now) self.old self.new result }
@@ -231,7 +234,8 @@ impl<S: Alter> Store<S> {
         written
     }
 
-    /// Takes out the rows of the object with this key, which has the parts of its class.
+    /// Takes out the rows of the object with this key, which has the parts of its class; `remove`
+    /// adds what a stop after the call leaves.
     fn remove_rows_of(&mut self, alloc: Global, key: &Key) -> Result<(), StoreFault>
         ensures { WritesRows S.Store
             (IsTakenOut (class_number (class_of key.now)) (key_bytes key.now)) (TakesOut key.now)

@@ -49,7 +49,7 @@ impl From<Error> for StoreFault {
 pub enum CreateFault {
     /// One of the three tables has a row.
     NotEmpty,
-    /// SQLite's own error, its lack of memory included; or something else stands than the three
+    /// SQLite's own error, its lack of memory included; or something stands, but not the three
     /// tables.
     Store(Error),
     /// Memory for objects and texts ran out.

@@ -17,7 +17,8 @@ use std::alloc::{AllocError, Global};
 /// The AS numbers of more than 16 bits (RFC 6793).
 const UPPER: &[u8] = b"AS65536 - AS4294967295";
 
-/// The attributes of the block, which are well formed. The error is that memory ran out.
+/// The attributes of the block, which are well formed. The error is that memory ran out, here and
+/// below.
 #[tactic(auto, using(crate::proofs::UpperLemmas::upper_fields))]
 fn upper_attributes(
     alloc: Global,

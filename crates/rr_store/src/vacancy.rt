@@ -1,4 +1,5 @@
-//! Whether a database has room for a new store, as `creating` asks.
+//! Whether a database has room for a new store, as `creating` asks. An error has a cause outside
+//! the rows.
 
 ghost use Rattle.std.specs.Prelude.{◌≡◌, IsTrue};
 ghost use Rattle.rr_store.specs.Made.{no_schema};

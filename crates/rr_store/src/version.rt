@@ -56,8 +56,9 @@ impl Version {
         }
     }
 
-    /// The bytes of a key in tables of this version, if it has some there: a key with an AS number
-    /// above 65535 has none in version 1. The error is that memory ran out.
+    /// The bytes of a key in tables of this version, if it has some there. In version 1 exactly the
+    /// keys with an AS number above 65535, in a set's name too, have none; in version 2 each has
+    /// some. The error is that memory ran out.
     pub fn key_bytes(self, alloc: Global, key: &Key) -> Result<Option<Vec<u8>>, AllocError>
         ensures { IfOk result
             (λ bytes. option_map (λ b. b.items) bytes ≡ form_of self key.now) }

@@ -5,7 +5,7 @@
 ghost use Rattle.std.specs.Prelude.{[], ◌∷◌};
 ghost use Rattle.rr_store.specs.Entries.{IsAdded, IsPut, IsTakenOut};
 ghost use Rattle.rr_store.specs.Calls.{Transacts};
-ghost use Rattle.rr_store.specs.Kept.{IsKept};
+ghost use Rattle.rr_store.specs.Kept.{IsKeptConnection};
 
 use crate::bodies::{add_rows, put_rows, remove_rows};
 use crate::ending::end;
@@ -16,14 +16,15 @@ use sqlite::Alter;
 use std::alloc::Global;
 
 /// Puts the rows of an object in place of those with its class and key. The connection was open
-/// then, and stays so. After an error the rows are as they were, while the connection is open. A
-/// stop leaves what one before the call left or, where the connection was open, the rows after it.
+/// then, and stays so. After an error the rows are as they were, while the connection is open. No
+/// clause says why it fails, here and below. A stop leaves what one before the call left or, where
+/// the connection was open, the rows after it.
 pub(crate) fn put_entry<S: Alter>(
     conn: &mut IdleConnection<S>,
     alloc: Global,
     entry: &Entry,
 ) -> Result<(), StoreFault>
-    requires { IsKept S.Store conn.old }
+    requires { IsKeptConnection S.Store conn.old }
     ensures { Transacts S.Store (IsPut entry.now) conn.old conn.new result }
 {
     conn.note_committed();
@@ -38,7 +39,7 @@ pub(crate) fn insert_entry<S: Alter>(
     conn: &mut IdleConnection<S>,
     entry: &Entry,
 ) -> Result<(), StoreFault>
-    requires { IsKept S.Store conn.old }
+    requires { IsKeptConnection S.Store conn.old }
     ensures { Transacts S.Store (IsAdded (entry.now ∷ [])) conn.old conn.new result }
 {
     conn.note_committed();
@@ -55,7 +56,7 @@ pub(crate) fn remove_entry<S: Alter>(
     class: u8,
     key: &[u8],
 ) -> Result<(), StoreFault>
-    requires { IsKept S.Store conn.old }
+    requires { IsKeptConnection S.Store conn.old }
     ensures { Transacts S.Store (IsTakenOut class key.now) conn.old conn.new result }
 {
     conn.note_committed();

@@ -64,7 +64,7 @@ unfoldable pub request_of : List ℕ → List Field → Asked
 request_of source fields =
     request_of_key source (own_fields fields) (asks_deletion fields) (key_of (own_fields fields))
 
--- memory ran out: the item is refused, and a key that it shows is that of its paragraph
+-- memory ran out: the item is refused with E90, and a key that it shows is that of its paragraph
 pub record LacksMemory (fields : List Field) (request : Asked) : Type 0 where
   pub refused : request.action ≡ Err E90
   pub shown : IfSome request.key (λ key. key_of (own_fields fields) ≡ Ok key)

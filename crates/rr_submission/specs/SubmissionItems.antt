@@ -5,7 +5,7 @@ use Rattle.rr_text.specs.Fields.{Field}
 use Rattle.rr_text.specs.declared.text_fault.TextFault.{TextFault}
 use Rattle.rr_object.specs.declared.code.Code.{Code}
 use Rattle.rr_object.specs.declared.code.Code.TheVariants.{E90}
-use Rattle.rr_registry.specs.declared.run.Submitted.{Submitted}
+use Rattle.rr_registry.specs.Runs.{Submitted}
 use Rattle.rr_submission.specs.SubmissionTexts.{secrets_of, is_secrets_alone}
 use Rattle.rr_submission.specs.Requests.{Asked, IsRequest, unread, text_code}
 

@@ -31,10 +31,10 @@ use std::alloc::Global;
 use std::io;
 
 /// Submits what the reader gives, read in this source, to a ledger, and writes the report. The
-/// items are read, decided and reported one by one, in order. Memory grows with the secrets of the
-/// text and what is remembered of them, and otherwise not: no clause says so. Where all goes well,
-/// the whole report is written, and the result counts the items and those that were refused. A
-/// fault counts those that were decided.
+/// items are read, decided and reported one by one, in order. Beside the ledger, memory grows only
+/// with the secrets of the text and what is remembered of them, which no clause says. Where all
+/// goes well, the whole report is written, and the result counts the items and those that were
+/// refused. `ReadFault`, `WriteFault` and `StoreFault` count those that were decided.
 ///
 /// - `ReadFault`: where a read fails, or the text has no end within 16,777,216 reads, the items up
 ///   to the last blank line that came are decided and reported. A last line says so, as far as it
@@ -48,7 +48,8 @@ use std::io;
 ///   runs.
 /// - `Stopped`: where the ledger was stopped before, nothing is read, decided or written.
 /// - `Memory`: where memory runs out before the first item, nothing is read or decided. A last line
-///   says so, as far as it can be written.
+///   says so, as far as it can be written. Later it is no fault, but an item may be refused with
+///   E90.
 ///
 /// Where a prefix is held, and each item is foreign to its holders or their own, those not foreign
 /// are answered as if nobody else had submitted anything. What the holders hold ends as it then
@@ -158,7 +159,8 @@ fn handle_items<L: Ledger, R: Source, W: Sink>(
     }
 }
 
-/// Decides an item, counts it, and writes its line.
+/// Decides an item, counts it, and writes its line. Where the ledger, which ran, stops at it, it is
+/// not counted, and its line and a last line are written as far as they can be. The secrets stay.
 fn handle_item<L: Ledger, W: Sink>(
     alloc: Global,
     ledger: &mut L,
@@ -192,7 +194,8 @@ fn handle_item<L: Ledger, W: Sink>(
     }
 }
 
-/// The outcome of what is asked; an item is about this key.
+/// The outcome of what is asked of a ledger that runs; an item is about this key. The error is that
+/// the ledger stopped at it. The secrets stay.
 fn decide<L: Ledger>(
     alloc: Global,
     ledger: &mut L,

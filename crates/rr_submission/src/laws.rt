@@ -3,8 +3,8 @@
 
 ghost use Rattle.rr_submission.specs.SubmissionLaws.{ItemsAreConfined, ItemsKeepTheSource};
 
-/// From a registry of the source in which it is read, the items of a text lead to a registry of
-/// that source, whatever they ask.
+/// A run of the items of a text begins at a registry of the source in which the text is read. It
+/// leaves a registry of that source, whatever the items ask.
 pub fn items_keep_the_source()
     ensures { ItemsKeepTheSource }
 {}

@@ -11,7 +11,8 @@ use rr_auth::Secrets;
 use rr_registry::{Keeper, Outcome, Registry};
 use std::alloc::Global;
 
-/// A ledger stopped at an item: it decides no more.
+/// A ledger stopped at an item. What that leaves, and whether the ledger decides more, its `Stops`
+/// says.
 #[derive(Clone, Copy, Debug, PartialEq, Eq)]
 pub struct Stopped;
 
@@ -41,8 +42,8 @@ pub trait Ledger {
 
     /// Decides an item that came with these secrets, as a step of its registry; the secrets stay.
     /// The ledger must run, and still does after `Ok`. The error is that it stopped at the item:
-    /// `Stops` says what that leaves. In either case `Lasts` is true of the ledger before and
-    /// after, and `Kept` of the ledger after.
+    /// `Stops` says what that leaves, and whether `is_stopped` is true then. In either case `Lasts`
+    /// is true of the ledger before and after, and `Kept` of the ledger after.
     fn decide(
         &mut self,
         alloc: Global,

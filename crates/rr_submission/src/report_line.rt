@@ -36,7 +36,7 @@ fn item_line(number: u64, key: &Option<Key>, outcome: Outcome) -> ShortText
     line
 }
 
-/// The number, of at most 20 digits, and a space.
+/// Begins the line, which is empty: the number, of at most 20 digits, and a space, 21 bytes.
 fn push_item_number(line: &mut ShortText, number: u64)
     requires { line.old ≡ [] }
     ensures value { line.new ≡ line.old ++ number_part number }
@@ -46,7 +46,8 @@ fn push_item_number(line: &mut ShortText, number: u64)
     line.push(b" ");
 }
 
-/// The class, a space and the key, or `-`: at most 9, 1 and 255 bytes.
+/// Appends the class, a space and the key, or `-`: at most 9, 1 and 255 bytes. With the 21 of the
+/// number before them these are 286.
 #[tactic(auto, using(crate::proofs::LineSizes::class_name_short))]
 fn push_subject(line: &mut ShortText, key: &Option<Key>)
     requires { length line.old ≤ 21 }
@@ -63,7 +64,8 @@ fn push_subject(line: &mut ShortText, key: &Option<Key>)
     }
 }
 
-/// What stands after the subject, at most 15 bytes: a line has room for 320 in all.
+/// Appends what stands after the subject, at most 15 bytes. With the 286 before it the line has at
+/// most 301, for which a short text of 320 has room.
 #[tactic(auto, using(crate::proofs::LineSizes::outcome_short))]
 fn push_outcome(line: &mut ShortText, outcome: Outcome)
     requires { length line.old ≤ 286 }

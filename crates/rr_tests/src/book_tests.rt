@@ -216,12 +216,12 @@ fn any_items(alloc: Global, words: &mut Pcg32) -> Result<(Secrets, Item, Item), 
 fn any_secrets(alloc: Global, words: &mut Pcg32) -> Result<Secrets, AllocError> {
     let mut secrets = Secrets::new(alloc);
     let which = words.next_word() % 8;
-    secrets.add(alloc, b"no secret of anybody")?;
+    secrets.add_owned(Vec::from_slice(alloc, b"no secret of anybody")?)?;
     if which > 1 {
-        secrets.add(alloc, b"c")?;
+        secrets.add_owned(Vec::from_slice(alloc, b"c")?)?;
     }
     if which != 1 && which != 2 {
-        secrets.add(alloc, b"bc")?;
+        secrets.add_owned(Vec::from_slice(alloc, b"bc")?)?;
     }
     Ok(secrets)
 }

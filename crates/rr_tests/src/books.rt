@@ -1,7 +1,7 @@
 //! Registries in memory, in either book: of texts, and what they report and answer.
-use rr_answer::{answer_to, dump};
+use rr_answer::{dump, find_for};
 use rr_auth::Item;
-use rr_io::{Counted, Cut, Source};
+use rr_io::{Counted, Cut, Source, write_all};
 use rr_number::Name;
 use rr_object::Object;
 use rr_registry::{Keeper, Registry};
@@ -16,7 +16,7 @@ pub fn source(alloc: Global) -> Result<Name, Fail> {
 }
 
 /// The objects of a text.
-pub fn objects(alloc: Global, text: &[u8]) -> Result<Vec<Object>, Fail> {
+fn objects(alloc: Global, text: &[u8]) -> Result<Vec<Object>, Fail> {
     let source = source(alloc)?;
     let mut objects = Vec::new(alloc);
     let mut rest = text;
@@ -99,8 +99,10 @@ pub fn answered<B: Keeper>(
     limit: usize,
     query: &str,
 ) -> Result<Vec<u8>, Fail> {
-    match answer_to(alloc, registry, limit, query.as_bytes()) {
-        Ok(text) => Ok(text),
-        Err(fault) => Ok(Vec::from_slice(alloc, fault.line())?),
+    let mut writer = Counted::new(Vec::new(alloc));
+    match find_for(alloc, registry, limit, query.as_bytes()) {
+        Ok(found) => found.write(alloc, &mut writer)?,
+        Err(fault) => write_all(&mut writer, fault.line())?,
     }
+    Ok(writer.into_inner())
 }

@@ -1,5 +1,5 @@
 //! Nests of spans and trees of prefixes that grow. What they answer is seen in `sequence_tests.rt`.
-use crate::collections::Collection;
+use crate::collections::{Collection, is_held};
 use rr_cover::{InsertFault, PrefixTree, SpanNest};
 use rr_number::{Address, Prefix, Span};
 use std::alloc::AllocError;
@@ -14,7 +14,7 @@ fn takes<C: Collection>(collection: &mut C, span: Span, value: u32) -> bool {
         Ok(old) => old.is_none(),
         Err(InsertFault::Overlap(_)) => false,
         Err(InsertFault::Memory(back)) => {
-            let unchanged = back == value && collection.value_at(span).is_none();
+            let unchanged = back == value && !is_held(collection, span);
             unchanged && matches!(collection.put(span, value), Ok(None))
         }
     }

@@ -9,13 +9,19 @@ pub trait Collection {
 
     fn take(&mut self, span: Span) -> Option<u32>;
 
-    fn value_at(&self, span: Span) -> Option<u32>;
-
     fn is_crossed_by(&self, span: Span) -> bool;
 
     fn closest_to(&self, span: Span) -> Option<(Span, u32)>;
 
     fn spans_covering(&self, alloc: Global, span: Span) -> Result<Vec<Span>, AllocError>;
+}
+
+/// Whether a collection holds the span, which then is the closest to itself.
+pub fn is_held<C: Collection>(collection: &C, span: Span) -> bool {
+    match collection.closest_to(span) {
+        Some((closest, _)) => closest == span,
+        None => false,
+    }
 }
 
 /// Spans in no order, which are scanned: the simplest way, with which the others are compared.
@@ -32,14 +38,10 @@ impl Collection for Vec<(Span, u32)> {
     }
 
     fn take(&mut self, span: Span) -> Option<u32> {
-        let old = self.value_at(span);
-        self.retain(|entry| entry.0 != span);
-        old
-    }
-
-    fn value_at(&self, span: Span) -> Option<u32> {
         let found = self.iter().find(|entry| entry.0 == span)?;
-        Some(found.1)
+        let old = found.1;
+        self.retain(|entry| entry.0 != span);
+        Some(old)
     }
 
     fn is_crossed_by(&self, span: Span) -> bool {
@@ -75,10 +77,6 @@ impl Collection for SpanNest<u32> {
         self.remove(span)
     }
 
-    fn value_at(&self, span: Span) -> Option<u32> {
-        self.get(span).copied()
-    }
-
     fn is_crossed_by(&self, span: Span) -> bool {
         self.crosses(span)
     }
@@ -110,10 +108,6 @@ impl Collection for PrefixTree<u32> {
 
     fn take(&mut self, span: Span) -> Option<u32> {
         self.remove(prefix_of(span))
-    }
-
-    fn value_at(&self, span: Span) -> Option<u32> {
-        self.get(prefix_of(span)).copied()
     }
 
     /// Prefixes never cross.

@@ -80,7 +80,7 @@ fn a_read_fails_after_the_bytes_that_pass(rt: HostRuntime) {
     expect_no_read(&rt, &mut reader, 1);
     let counted = reader.into_inner();
     assert_eq!(rt; counted.failed_reads(), 0);
-    assert_eq!(rt; counted.reads(), 2);
+    assert_eq!(rt; counted.into_inner(), &b"ef"[..]);
 }
 
 #[test]
@@ -88,7 +88,6 @@ fn an_interrupted_read_is_a_fault(rt: HostRuntime) {
     let mut reader = Counted::new(Interrupted { calls: 0 });
     expect_read(&rt, &mut reader, b"ab");
     expect_no_read(&rt, &mut reader, 1);
-    assert_eq!(rt; reader.reads(), 1);
 }
 
 #[test]

@@ -1,5 +1,5 @@
 //! Tests in memory of what no use of the program shows: streams that fail, spans in trees and
-//! nests, calls that the program does not make; and seeded items and answers on registries in
+//! nests, questions that the program does not ask; and seeded items and answers on registries in
 //! either book. What is expected comes from the rules, read by hand. Worked cases that the program
 //! shows are in `checks/submissions`.
 #![tactic(auto)]
@@ -20,8 +20,6 @@ mod cover_tests;
 mod hostile_tests;
 #[cfg(test)]
 mod io_tests;
-#[cfg(test)]
-mod judging_tests;
 #[cfg(test)]
 mod reader_tests;
 #[cfg(test)]

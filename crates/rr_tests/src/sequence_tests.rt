@@ -57,7 +57,6 @@ fn expect_alike_at<R: Abort, C: Collection, D: Collection>(
     other: &D,
     span: Span,
 ) {
-    assert_eq!(rt; collection.value_at(span), other.value_at(span));
     assert_eq!(rt; collection.closest_to(span), other.closest_to(span));
     assert!(rt; collection.is_crossed_by(span) == other.is_crossed_by(span));
 }

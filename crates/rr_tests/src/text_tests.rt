@@ -1,7 +1,6 @@
 //! Worked texts, and what no clause says.
 
-use rr_text::{Paragraph, TextFault, meaning, next_paragraph, print};
-use std::alloc::{AllocError, Global};
+use rr_text::{Paragraph, TextFault, meaning, next_paragraph};
 use std::process::Abort;
 use std::test::Fail;
 
@@ -32,12 +31,8 @@ source:         test
 ";
 
 /// Whether a paragraph is printed so.
-pub(crate) fn is_printed(
-    alloc: Global,
-    paragraph: &Paragraph,
-    wanted: &str,
-) -> Result<bool, AllocError> {
-    Ok(print(alloc, paragraph)?.as_slice() == wanted.as_bytes())
+pub(crate) fn is_printed(paragraph: &Paragraph, wanted: &str) -> bool {
+    paragraph.text() == wanted.as_bytes()
 }
 
 /// Asserts the fault of a text's first paragraph.

@@ -23,7 +23,8 @@ use Rattle.rr_text.specs.Entries.{opened_value, added_value, continued, block_fi
 use Rattle.rr_text.specs.Fields.{Field, IsLine, AreFields, has_name, with_value, fields_eq}
 use Rattle.rr_text.specs.CanonicalText.{ended, opening_line, further_line, field_text, canonical}
 use Rattle.rr_text.specs.PrivateParts.{added_lines, opens_attribute, opens_first, OpensOrEnds}
-use Rattle.rr_text.specs.KeptText.{kept_field, kept_by, kept_fields, fields_in, IsKept, printed_by}
+use Rattle.rr_text.specs.KeptText.{kept_field, kept_by, kept_fields, fields_in, IsKeptText}
+use Rattle.rr_text.specs.KeptText.{printed_by}
 use Rattle.rr_text.specs.KeptText.{printed_lines, is_printed_by, is_printed}
 use Rattle.rr_text.proofs.EntryLemmas.{concat-text_lines, further, opened_kind}
 use Rattle.rr_text.proofs.CanonicalLines.{IsOpeningOf, opening_of, canonical_lines}
@@ -105,14 +106,14 @@ kept_again fields good = ap kept_fields (canonical_text_lines fields good)
 
 -- the canonical text of well-formed attributes may be kept
 pub kept_of : (fields : List Field) (text : List ℕ) → AreFields fields → text ≡ canonical fields →
-    (fields_in text ≡ fields) × IsKept text
+    (fields_in text ≡ fields) × IsKeptText text
 kept_of fields text good same =
     let again : fields_in text ≡ fields = ap fields_in same ∙ kept_again fields good in
     let P : List Field → Type 0 = AreFields in
     (again, record { good = rw again good; printed = ap canonical again ∙ sym same })
 
 -- texts that are kept are the same where their attributes are
-pub kept_same : (a b : List ℕ) → IsKept a → IsKept b → fields_in a ≡ fields_in b → a ≡ b
+pub kept_same : (a b : List ℕ) → IsKeptText a → IsKeptText b → fields_in a ≡ fields_in b → a ≡ b
 kept_same a b one other same = sym one.printed ∙ (ap canonical same ∙ other.printed)
 
 -- lines that are printed give the canonical text of their attributes
@@ -313,13 +314,13 @@ opened_some (line ∷ others) h = let kind : line_kind line ≡ Opening = opened
 -- the canonical text of the lines of a block without a fault may be kept, and keeps its attributes
 pub block_kept : (block text : List ℕ) → opens_first (text_lines block) ≡ true →
     block_fault (text_lines block) ≡ None → text ≡ printed_lines (text_lines block)
-    → (fields_in text ≡ block_fields (text_lines block)) × IsKept text
+    → (fields_in text ≡ block_fields (text_lines block)) × IsKeptText text
 block_kept block text opens none is = kept_of (block_fields (text_lines block)) text
     (sound block none) (is ∙ printed_is (text_lines block) opens)
 
 pub canonical_kept : (text : List ℕ) → opens_first (text_lines text) ≡ true →
     block_fault (text_lines text) ≡ None → list_all is_printed (text_lines text) ≡ true
-    → IsKept text × (0 < length (fields_in text))
+    → IsKeptText text × (0 < length (fields_in text))
 canonical_kept text opens none all =
     let kept = block_kept text text opens none
     (sym (all_as_printed (text_lines text) all ∙ concat-text_lines text)) in
@@ -415,7 +416,7 @@ same_answers false true h e = e refl
 same_answers false false h e = refl
 
 -- texts that are kept are compared in place of their attributes
-pub eq_kept : (a b : List ℕ) → IsKept a → IsKept b → bytes_eq a b ≡ fields_eq (fields_in a)
+pub eq_kept : (a b : List ℕ) → IsKeptText a → IsKeptText b → bytes_eq a b ≡ fields_eq (fields_in a)
     (fields_in b)
 eq_kept a b one other =
     same_answers (bytes_eq a b) (fields_eq (fields_in a) (fields_in b))

@@ -36,7 +36,7 @@ fields_in text = kept_fields (text_lines text)
 
 -- a text that a paragraph may be kept as: the canonical text of its own attributes, which are well
 -- formed
-pub record IsKept (text : List ℕ) : Type 0 where
+pub record IsKeptText (text : List ℕ) : Type 0 where
   pub good : AreFields (fields_in text)
   pub printed : canonical (fields_in text) ≡ text
 

@@ -63,8 +63,8 @@ pub record HasGiven (start now : Told) (p : Paragraphs) (given : List Entry) : T
   pub bounded : length text ≤ read_size * reads_of p
   pub few : length given ≤ length prefix
 
--- the entries that count of a text, by how its reading ended: after a failed read, or without an
--- end, those that a blank line closes
+-- the entries that count of a text, by how its reading ended: all where it was read to its end.
+-- After a failed read, or without an end, those that a blank line closes
 abbrev pub entries_by : ReadEnd → List ℕ → List Entry
 entries_by end.Whole text = entries text
 entries_by end.Broken text = whole_entries text
@@ -76,9 +76,9 @@ pub record HasEnded (start now : Told) (ended : ReadEnd) (given : List Entry) : 
   pub reads : Reads start now text ended
   pub spelled : entries_by ended text ≡ given
 
--- an answer gives one entry more. Or it says that the reading ended, by a failed read or not, and
--- that these were all entries that count. If memory ran out, an entry is passed over, and is not
--- told
+-- an answer gives one entry more. Or it says how the reading ended, as the state then does: at the
+-- end of the text, by a failed read or at the limit of reads. These were then all entries that
+-- count. If memory ran out, an entry is passed over, and is not told
 abbrev pub GivesNext : Told → Told → Paragraphs → List Entry
     → Result (Option (List Field)) TextFault → Type 0
 GivesNext start now p given (Ok None) = (state_of p ≡ Ended) × HasEnded start now end.Whole given

@@ -71,7 +71,7 @@ impl<'a> Attribute<'a> {
 
     /// The only line of the value, where it is seen to have no other; no clause says when the
     /// answer is `None`.
-    pub fn only_line(&self) -> Option<&'a [u8]>
+    pub(crate) fn only_line(&self) -> Option<&'a [u8]>
         ensures { IfSome result (λ line. self.now.lines ≡ line.now ∷ []) }
     {
         if continues(self.after) {
@@ -118,7 +118,8 @@ fn continues(text: &[u8]) -> bool
     !LineKind::of(line).opens_attribute()
 }
 
-/// Adds the lines that continue a value.
+/// Adds the lines that continue a value. No clause says what the list has after memory ran out,
+/// here and below.
 fn push_continued<'t>(lines: &mut Vec<&'t [u8]>, text: &'t [u8]) -> Result<(), AllocError>
     ensures { OnOk result (map (λ line. line.now) lines.new.items
         ≡ map (λ line. line.now) lines.old.items ++ continued (text_lines text.now)) }

@@ -1,10 +1,11 @@
-//! Canonical text: printed for answers and dumps, and read again from the rows of a database.
+//! Canonical text: printed for answers and dumps, and read again from the rows of a database. If
+//! its form changes, the rows that were written before are refused.
 
 ghost use Rattle.std.specs.Prelude.{◌≡◌, ◌<◌, ◌++◌, IfOk, OnOk, IfSome, Some, List};
 ghost use Rattle.std.specs.Prelude.{OnErr, length, map, true};
 ghost use Rattle.rr_text.specs.Fields.{Field, AreFields, with_value};
 ghost use Rattle.rr_text.specs.CanonicalText as canon;
-ghost use Rattle.rr_text.specs.KeptText.{IsKept, fields_in};
+ghost use Rattle.rr_text.specs.KeptText.{IsKeptText, fields_in};
 ghost use Rattle.rr_text.specs.Lines.{text_lines};
 ghost use Rattle.rr_text.specs.Outputs.{MayAdd};
 ghost use Rattle.rr_text.specs.PrivateParts.{opens_first};
@@ -13,7 +14,6 @@ use crate::comparing::are_printed;
 use crate::inspect::block_fault;
 use crate::line::{LineKind, split_line};
 use crate::paragraph::Paragraph;
-use crate::text::Text;
 use std::alloc::{AllocError, Global};
 
 /// Appends the canonical text of a paragraph (profile). The error is that memory ran out: then
@@ -47,13 +47,6 @@ pub fn print_onto_with_values(
     Ok(())
 }
 
-/// The canonical text of a paragraph (profile). The error is that memory ran out.
-pub fn print(alloc: Global, paragraph: &Paragraph) -> Result<Text, AllocError>
-    ensures { IfOk result (λ text. text ≡ canon.canonical paragraph.now) }
-{
-    Text::from_slice(alloc, paragraph.text())
-}
-
 /// The paragraph whose canonical text this is (profile), with at least one attribute, all well
 /// formed. `None` comes exactly where the text is that of no such paragraph. There is no bound on
 /// the size. The error is that memory ran out.
@@ -74,7 +67,7 @@ pub fn read_canonical(alloc: Global, text: &[u8]) -> Result<Option<Paragraph>, A
 
 /// Whether a text is the canonical text of a paragraph with an attribute.
 fn is_canonical(text: &[u8]) -> bool
-    ensures yes { result ≡ true → IsKept text.now × (0 < length (fields_in text.now)) }
+    ensures yes { result ≡ true → IsKeptText text.now × (0 < length (fields_in text.now)) }
     ensures only { (fields : List Field) → 0 < length fields → AreFields fields
         → canon.canonical fields ≡ text.now → result ≡ true }
 {

@@ -115,7 +115,8 @@ impl Draft {
         read_entry(alloc, block)
     }
 
-    /// Keeps a piece, which is of the line that has begun, if there is room for it.
+    /// Keeps a piece, which is of the line that has begun, if there is room for it; if not, notes
+    /// that bytes were left out.
     fn keep(&mut self, piece: &[u8])
         ensures { parts.KeepsPiece self.old self.new piece.now }
     {

@@ -24,13 +24,12 @@ pub mod value;
 
 pub use attribute::Attribute;
 pub use attributes::Attributes;
-pub use canonical::{print, print_onto, print_onto_with_values, read_canonical};
+pub use canonical::{print_onto, print_onto_with_values, read_canonical};
 pub use line::is_refused;
 pub use line_attribute::LineAttribute;
 pub use paragraph::Paragraph;
 pub use paragraphs::{Paragraphs, ReaderState};
 pub use reader::next_paragraph;
-pub use rr_io::{Counted, Cut, Sink, Source};
 pub use text::Text;
 pub use text_fault::TextFault;
 pub use value::meaning;

@@ -6,7 +6,7 @@ ghost use Rattle.std.specs.List.{list_any};
 ghost use Rattle.rr_text.specs.Fields.{AreFields, IsLine, has_name};
 ghost use Rattle.rr_text.specs.Fields as fields;
 ghost use Rattle.rr_text.specs.CanonicalText.{canonical};
-ghost use Rattle.rr_text.specs.KeptText.{IsKept, fields_in};
+ghost use Rattle.rr_text.specs.KeptText.{IsKeptText, fields_in};
 
 use crate::attributes::Attributes;
 use crate::canonical::print_onto_with_values;
@@ -24,13 +24,13 @@ pub struct Paragraph {
 impl Model for Paragraph {
     ghost use Rattle.std.specs.Prelude.{List};
     ghost use Rattle.rr_text.specs.Fields.{Field};
-    ghost use Rattle.rr_text.specs.KeptText.{IsKept, fields_in};
+    ghost use Rattle.rr_text.specs.KeptText.{IsKeptText, fields_in};
 
     ghost Value = { List Field };
 
     ghost view = { λ p. fields_in p.text.items };
 
-    ghost invariant = { λ p. IsKept p.text.items };
+    ghost invariant = { λ p. IsKeptText p.text.items };
 }
 
 impl Paragraph {
@@ -45,7 +45,7 @@ impl Paragraph {
 
     /// The paragraph of this canonical text, in memory that fits it.
     pub(crate) fn kept(text: Vec<u8>) -> Paragraph
-        requires { IsKept text.items }
+        requires { IsKeptText text.items }
         ensures { result ≡ fields_in text.items }
     {
         let mut text = text;

@@ -1,5 +1,5 @@
 //! Paragraphs read piece by piece, from a reader that is lent to each call: so submissions and
-//! dumps are read.
+//! dumps are read, and messages find where in a dump a fault stands.
 
 ghost use Rattle.std.specs.Prelude.{◌≡◌, ◌≤◌, length, take, drop};
 ghost use Rattle.rr_io.specs.Receiving.{read_limit, read_size};
@@ -29,6 +29,7 @@ pub enum ReaderState {
 #[derive(Drop)]
 pub struct Paragraphs {
     draft: Draft,
+    /// The piece that was read last: what is held of it stands between the two places.
     block: [u8; READ_SIZE],
     from: usize,
     to: usize,
@@ -47,7 +48,8 @@ impl Paragraphs {
     ghost use Rattle.rr_text.specs.ParagraphReaders.{AnswersNext, HasGiven, IsNew, held, reads_of};
     ghost use Rattle.rr_text.specs.ParagraphReaders.{state_of};
 
-    /// The paragraphs of a text of which nothing was read; the error is that memory ran out.
+    /// The paragraphs of a text of which nothing was read and no entry was given, whatever reader
+    /// gives it. The error is that memory ran out.
     pub fn new(alloc: Global) -> Result<Paragraphs, AllocError>
         ensures new { IfOk result (λ paragraphs. IsNew paragraphs) }
         ensures given { IfOk result
@@ -66,10 +68,11 @@ impl Paragraphs {
 
     /// The next paragraph of the text that this reader gives, which has at least one attribute, all
     /// well formed; `None` at its end (RFC 2622, 2). This holds where the reader is the same in
-    /// each call. `None`, `Read` or `Endless` comes in the end, and is then the answer for good,
-    /// without a read. `Read` says that a read failed, and `Endless` that 16,777,216 reads met no
-    /// end; before either, only what a blank line closes was given. After another fault the next
-    /// paragraph follows; `Memory` passes over one, also one with a fault.
+    /// each call. `None`, `Read` or `Endless` comes in the end, and is then the answer for good:
+    /// nothing more is read, and nothing changes. `Read` says that a read failed, and `Endless`
+    /// that 16,777,216 reads met no end; before either, exactly what a blank line closes was given.
+    /// After another fault the next paragraph follows; `Memory` passes over one, also one with a
+    /// fault. Of a connection, the other side stays as it was.
     pub fn next<R: Source>(
         &mut self,
         alloc: Global,
@@ -114,7 +117,8 @@ impl Paragraphs {
         Ok(Some(paragraph))
     }
 
-    /// The last entry of the text, if it has one.
+    /// The last entry of the text, if it has one. What is held, the count of reads and the state
+    /// stay.
     fn last(&mut self, alloc: Global) -> Result<Option<Paragraph>, TextFault>
         requires { (text : List ℕ) × IsUnclosed text self.old.draft }
         ensures last { (text : List ℕ) → IsUnclosed text self.old.draft
@@ -149,7 +153,7 @@ impl Paragraphs {
     }
 
     /// Adds what is held to the paragraph, up to the line that closes it, and says whether there is
-    /// one.
+    /// one; if not, nothing is held any more. The count of reads stays.
     fn take_held(&mut self) -> bool
         ensures closed { (past : List ℕ) → IsUnclosed past self.old.draft → result ≡ true
             → parts.TakesClosed past self.old self.new }
@@ -170,7 +174,8 @@ impl Paragraphs {
         }
     }
 
-    /// Reads a piece, where nothing is held, and says how the text stands if it does not go on.
+    /// Reads a piece, where nothing is held and the limit of reads is not met. Says how the text
+    /// stands if it does not go on. The draft stays.
     fn fill<R: Source>(&mut self, reader: &mut R) -> Option<ReaderState>
         requires reads { reads_of self.old < read_limit }
         requires none { self.old.from ≡ self.old.to }

@@ -1,5 +1,6 @@
 //! The lines of canonical text (profile): for attributes that are printed, and for blocks that are
-//! read. `comparing` takes the columns.
+//! read. `comparing` takes the columns. Where memory runs out, bytes may have been appended, and
+//! what stood before them stays.
 
 ghost use Rattle.std.specs.Prelude.{◌≡◌, ◌≤◌, ◌<◌, ◌+◌, ◌-◌, ◌^◌};
 ghost use Rattle.std.specs.Prelude.{max, replicate};
@@ -15,7 +16,7 @@ ghost use Rattle.rr_text.specs.PrivateParts.{added_lines, value_after};
 use crate::line::{LineKind, added_value, opened_value, split_line, written_name};
 use std::alloc::AllocError;
 
-/// The column in which values begin.
+/// The column, counted from 0, in which values begin.
 pub(crate) const VALUE_COLUMN: usize = 16;
 
 /// So many spaces.

@@ -1,5 +1,5 @@
 //! The paragraphs of a text in memory, in turn: for messages that say where a bad paragraph stands,
-//! and for tests.
+//! and for tests and benchmarks.
 
 ghost use Rattle.std.specs.Prelude.{◌≡◌, ◌≢◌, ◌<◌, ◌≤◌, IfOk, IfErr, IfSome};
 ghost use Rattle.std.specs.Prelude.{None, Ok, Err, [], ◌∷◌, length, drop};

@@ -5,7 +5,9 @@ ghost use Rattle.rr_text.specs.declared.text_fault.TextFault.TheVariants.{Memory
 
 use std::alloc::AllocError;
 
-/// Why a paragraph of a text, or the text itself, cannot be read.
+/// Why a paragraph of a text, or the text itself, cannot be read. Of a paragraph's faults
+/// `TooLarge` comes first, then that of its first faulty line; in a line `BadByte` comes first
+/// (profile).
 #[derive(Clone, Copy, Debug, PartialEq, Eq)]
 pub enum TextFault {
     /// The paragraph has more than 65,536 bytes (profile).

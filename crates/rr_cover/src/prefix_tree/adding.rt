@@ -16,7 +16,8 @@ use rr_number::Prefix;
 use std::alloc::Global;
 use std::mem;
 
-/// A node of the prefix with no value and nothing below it, unless memory runs out.
+/// A node of the prefix with no value and nothing below it, unless memory runs out. The clause
+/// speaks of its prefix alone.
 fn bare<T: Drop>(alloc: Global, prefix: Prefix) -> Option<Box<Node<T>>>
     ensures { IfSome result (λ node. node.value.prefix ≡ prefix) }
 {

@@ -35,7 +35,7 @@ pub(super) fn put_in_order(prefixes: &mut Vec<Prefix>)
 }
 
 /// Puts the prefixes of a tree that cover the span at the end of the list. A part whose root does
-/// not cover it has none. The error is that memory ran out.
+/// not cover it has none. The error is that memory ran out; then the list may have some of them.
 pub(super) fn push_covering<T>(
     tree: &Tree<T>,
     span: Span,

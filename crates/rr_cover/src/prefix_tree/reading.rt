@@ -1,12 +1,11 @@
 //! Looking prefixes up in a tree: for `PrefixTree`. Changes compare prefixes by it.
 
 ghost use Rattle.std.specs.Prelude.{◌≡◌, ◌≤◌, IfSome, IfNone};
-ghost use Rattle.std.specs.Option.{option_copied};
 ghost use Rattle.std.specs.Ordering.{eq_by_cmp};
 ghost use Rattle.rr_number.specs.Prefixes.{span_of};
 ghost use Rattle.rr_number.specs.Spans.{span_cmp};
 ghost use Rattle.rr_cover.specs.PrefixTrees.{in_upper, IsTree};
-ghost use Rattle.rr_cover.specs.TreeParts.{standing, room, side_of, IsSmallestCover, NoCover};
+ghost use Rattle.rr_cover.specs.TreeParts.{room, side_of, IsSmallestCover, NoCover};
 
 use super::{Node, Tree};
 use rr_number::{Prefix, Span};
@@ -36,23 +35,6 @@ fn side<T>(node: &Node<T>, prefix: Prefix) -> &Tree<T>
         &node.upper
     } else {
         &node.lower
-    }
-}
-
-/// The value that stands at the prefix.
-pub(super) fn find<T>(tree: &Tree<T>, prefix: Prefix) -> Option<&T>
-    requires { IsTree tree.now }
-    ensures { option_copied result ≡ standing tree.now (span_of prefix) }
-{
-    match tree {
-        Tree::Empty => None,
-        Tree::Fork(node) => {
-            if is_same(prefix, node.prefix) {
-                node.value.as_ref()
-            } else {
-                find(side(node, prefix), prefix)
-            }
-        }
     }
 }
 

@@ -1,5 +1,5 @@
 //! Changing the search tree of a nest, and keeping it balanced (AVL): for what `SpanNest` inserts
-//! and removes.
+//! and removes. No clause speaks of heights or of balance.
 
 ghost use Rattle.std.specs.Prelude.{◌≡◌, nat_le, None, Some, is_some, IfOk, IfSome, IfNone};
 ghost use Rattle.std.specs.Prelude.{OnErr};
@@ -10,7 +10,7 @@ ghost use Rattle.rr_cover.specs.NestParts.{with_before, with_after, IsTakenApart
 ghost use Rattle.rr_cover.specs.NestParts.{CanJoin, Joins, HoldsSame, Lacks, Gains, Loses};
 ghost use Rattle.rr_cover.specs.NestParts.{PutsInNest};
 
-use super::bounds::Bounds;
+use super::bounds::Lasts;
 use super::reading::{is_ahead, is_same};
 use super::{Nest, Node};
 use rr_number::Span;
@@ -53,12 +53,12 @@ fn open<T: Drop>(nest: Nest<T>) -> Option<(Box<Node<T>>, Nest<T>, Nest<T>)>
 }
 
 /// The bounds of a node with the span and the two sides.
-fn bounds_over<T>(span: Span, before: &Nest<T>, after: &Nest<T>) -> Bounds
+fn bounds_over<T>(span: Span, before: &Nest<T>, after: &Nest<T>) -> Lasts
     requires { IsNest before.now × IsNest after.now }
     ensures { IsBound result span before.now after.now }
 {
     let last = span.last();
-    Bounds {
+    Lasts {
         before: greatest(before).max(last),
         after: greatest(after),
     }
@@ -68,7 +68,7 @@ fn bounds_over<T>(span: Span, before: &Nest<T>, after: &Nest<T>) -> Bounds
 fn link<T: Drop>(
     mut node: Box<Node<T>>,
     height: u8,
-    bounds: Bounds,
+    bounds: Lasts,
     before: Nest<T>,
     after: Nest<T>,
 ) -> Nest<T>
@@ -350,7 +350,7 @@ fn add<T: Drop>(nest: &mut Nest<T>, alloc: Global, span: Span, value: T) -> Resu
         span,
         value,
         height: 1,
-        bounds: Bounds {
+        bounds: Lasts {
             before: span.last(),
             after: 0,
         },

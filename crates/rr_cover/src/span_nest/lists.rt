@@ -35,7 +35,7 @@ pub(super) fn put_in_order(spans: &mut Vec<Span>)
 
 /// Puts the spans of a tree that cover the span at the end of the list. Parts are passed by if none
 /// of their spans reaches its last number, or all begin after its first. The error is that memory
-/// ran out.
+/// ran out; then the list may have some of them.
 pub(super) fn push_covering<T>(
     nest: &Nest<T>,
     span: Span,

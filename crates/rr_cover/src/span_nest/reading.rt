@@ -2,7 +2,6 @@
 
 ghost use Rattle.std.specs.Prelude.{◌≡◌, ◌+◌, true, false, nat_le, is_some, IfSome};
 ghost use Rattle.std.specs.Prelude.{IfNone};
-ghost use Rattle.std.specs.Option.{option_copied};
 ghost use Rattle.std.specs.Ordering.{eq_by_cmp};
 ghost use Rattle.rr_number.specs.Spans.{Ends, IsSpan, span_cmp};
 ghost use Rattle.rr_cover.specs.SpanNests.{is_ahead, standing, Only, IsNest, IsSound};
@@ -25,25 +24,6 @@ pub(super) fn is_same(span: Span, other: Span) -> bool
     ensures { result ≡ eq_by_cmp span_cmp span other }
 {
     span == other
-}
-
-/// The value that stands at the span.
-pub(super) fn find<T>(nest: &Nest<T>, span: Span) -> Option<&T>
-    requires { IsNest nest.now }
-    ensures { option_copied result ≡ standing nest.now span }
-{
-    match nest {
-        Nest::Empty => None,
-        Nest::Fork(node) => {
-            if is_same(span, node.span) {
-                Some(&node.value)
-            } else if is_ahead(span, node.span) {
-                find(&node.before, span)
-            } else {
-                find(&node.after, span)
-            }
-        }
-    }
 }
 
 /// The node of the last span in order of those that begin below a number and reach another one.
@@ -87,7 +67,8 @@ fn last_reaching_in<T>(side: &Nest<T>, greatest: u32, below: u64, to: u64) -> Op
     last_reaching(side, below, to)
 }
 
-/// Whether a span held begins before the span and ends within it.
+/// Whether a span held begins before the span and ends within it. Of `true` the clauses say only
+/// that some span held crosses the span.
 fn ends_within<T>(nest: &Nest<T>, span: Span) -> bool
     requires { IsSound nest.now }
     ensures found { result ≡ true → SomeCrosses nest.now span }
@@ -101,7 +82,8 @@ fn ends_within<T>(nest: &Nest<T>, span: Span) -> bool
     }
 }
 
-/// Whether a span held begins within the span and ends after it.
+/// Whether a span held begins within the span and ends after it. Of `true` the clauses say only
+/// that some span held crosses the span.
 fn begins_within<T>(nest: &Nest<T>, span: Span) -> bool
     requires { IsSound nest.now }
     ensures found { result ≡ true → SomeCrosses nest.now span }

@@ -10,7 +10,8 @@ ghost use Rattle.rr_number.specs.SpanLaws.{SpansAreOrdered};
 use crate::as_span::AsSpan;
 use crate::span::Span;
 
-/// Covering is inclusion of sets of numbers, and two spans meet exactly where they share one.
+/// A span covers another exactly where each number of the other lies in it, and two spans meet
+/// exactly where some number lies in both.
 pub fn spans_are_sets()
     ensures inclusion { CoveringIsInclusion }
     ensures sharing { MeetingIsSharing }

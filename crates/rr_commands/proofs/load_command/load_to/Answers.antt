@@ -1,4 +1,4 @@
-use Rattle.std.proofs.Common.{inl, inr, refl}
+use Rattle.std.proofs.Common.{Err, ap, inl, inr, refl}
 use Rattle.rr_commands.proofs.load_command.load_to.Goals as goal
 
 pub returns-in-Ok : goal.returns-in-Ok
@@ -14,7 +14,7 @@ returns-in-Ok g c = inr (record {
 pub returns-in-Err : goal.returns-in-Err
 returns-in-Err g c = inl (record {
   fault = c.in-Err.fault;
-  told = refl;
+  told = ap Err c.loading_trouble.ensures;
   fails = c.in-Err.ensures.fails;
   silent = refl;
 })

@@ -16,13 +16,13 @@ returns-in_err-object c = λ given next at is so.
     rw (exit.1, exit.2) (first_fault _ c.args.n given next _ _ at
     (MatchResult-at_ok _ _ _ c.in_ok-objects.was so) (c.in_err-object.ensures next is))
 
-pub returns-in_err-push : goal.returns-in_err-push
-returns-in_err-push c = λ given next at is so.
-    let exit = err_from_is_err_and c.from_residual-in_err-push.result
-    c.from_residual-in_err-push.ensures.1 in
+pub returns-in_err-with_object : goal.returns-in_err-with_object
+returns-in_err-with_object c = λ given next at is so.
+    let exit = err_from_is_err_and c.from_residual-in_err-with_object.result
+    c.from_residual-in_err-with_object.ensures.1 in
     rw (exit.1, exit.2) (inl refl)
 
 pub returns : goal.returns
 returns c = λ given next at is so.
     one_more _ c.args.n given next _ _ at (MatchResult-at_ok _ _ _ c.in_ok-objects.was so)
-    (c.in_ok-object.ensures next is) ∙ ap Ok (sym c.in_ok-push.ensures.items)
+    (c.in_ok-object.ensures next is) ∙ ap Ok (sym c.in_ok-with_object.ensures)

@@ -3,8 +3,8 @@
 use Rattle.std.specs.Prelude.{◌≡◌, ℕ, ◌+◌, List, ◌++◌, length, map, replicate, Some}
 use Rattle.std.proofs.Common.{ap, ◌∙◌, length-append}
 use Rattle.std.proofs.lemmas.List.{length-map, length-replicate}
-use Rattle.rr_desk.specs.declared.memory_peers.MemoryTurn.{MemoryTurn}
-use Rattle.rr_desk.specs.MemoryTurns.{memory_turn}
+use Rattle.rr_service_tests.specs.declared.memory_peers.MemoryTurn.{MemoryTurn}
+use Rattle.rr_service_tests.specs.MemoryTurns.{memory_turn}
 use Rattle.rr_desk.specs.Turns.{Turn, unaccepted}
 
 -- the connections that are closed, and the accepts that found none, are the turns (profile)

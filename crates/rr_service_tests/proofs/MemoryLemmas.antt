@@ -3,9 +3,9 @@ use Rattle.std.proofs.Common.{◌≡◌, ℕ, zero, suc, ◌+◌, List, [], ◌�
 use Rattle.std.proofs.Common.{refl, ap, sym, ◌∙◌, subst, append_assoc}
 use Rattle.std.proofs.lemmas.List.{append-nil, map-append}
 use Rattle.std.specs.Prelude.{Option, None, Some}
-use Rattle.rr_desk.specs.declared.memory_peers.MemoryInput.{MemoryInput}
-use Rattle.rr_desk.specs.declared.memory_peers.MemoryTurn.{MemoryTurn}
-use Rattle.rr_desk.specs.MemoryTurns.{memory_turn}
+use Rattle.rr_service_tests.specs.declared.memory_peers.MemoryInput.{MemoryInput}
+use Rattle.rr_service_tests.specs.declared.memory_peers.MemoryTurn.{MemoryTurn}
+use Rattle.rr_service_tests.specs.MemoryTurns.{memory_turn}
 use Rattle.rr_desk.specs.Turns.{IsNext, Turn, unaccepted}
 
 replicate_more : (n : ℕ) (turn : Turn) → replicate (n + 1) turn ≡ replicate n turn ++ turn ∷ []

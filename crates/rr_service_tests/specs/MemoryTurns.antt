@@ -8,9 +8,9 @@ use Rattle.rr_io.specs.declared.joining.Joined.{Joined}
 use Rattle.rr_io.specs.Cut.{cut_left, cut_step}
 use Rattle.rr_io.specs.Joined.{joined_reader, joined_writer}
 use Rattle.rr_io.specs.Told.{Told}
-use Rattle.rr_desk.specs.declared.memory_peers.MemoryInput.{MemoryInput}
-use Rattle.rr_desk.specs.declared.memory_peers.MemoryTurn.{MemoryTurn}
-use Rattle.rr_desk.specs.declared.memory_peers.MemoryPeers.{MemoryPeers}
+use Rattle.rr_service_tests.specs.declared.memory_peers.MemoryInput.{MemoryInput}
+use Rattle.rr_service_tests.specs.declared.memory_peers.MemoryTurn.{MemoryTurn}
+use Rattle.rr_service_tests.specs.declared.memory_peers.MemoryPeers.{MemoryPeers}
 use Rattle.rr_desk.specs.Turns.{Tally, Turn, closed, unaccepted}
 
 -- the connections that are still to come
@@ -50,11 +50,11 @@ failed_accepts peers = peers.failed_accepts
 abbrev pub is_open : MemoryPeers → Bool
 is_open peers = is_some peers.given
 
--- the bytes that the open connection gives; none where none is open
+-- the bytes that the open connection had to give; none where none is open
 abbrev pub open_bytes : MemoryPeers → Option (List ℕ)
 open_bytes peers = option_map (λ given. given.now) peers.given
 
--- a connection that is closed, with the bytes that it gave and those that it was answered
+-- a connection that is closed, with the bytes that it had to give and those that it was answered
 abbrev pub memory_turn : MemoryTurn → Turn
 memory_turn turn = closed (Some turn.given.now) (Some turn.answered.items)
 

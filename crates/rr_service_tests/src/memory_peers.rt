@@ -1,4 +1,4 @@
-//! Connections over memory, by which tests serve a desk; over sockets there are those of
+//! Connections over memory, by which a desk is served here; over sockets there are those of
 //! `rr_listener`.
 
 ghost use Rattle.std.specs.Prelude.{◌≡◌, ◌+◌, ◌-◌, ◌<◌, ◌≤◌, ◌^◌};
@@ -6,7 +6,7 @@ ghost use Rattle.std.specs.Prelude.{false, is_some, if◌then◌else◌};
 ghost use Rattle.std.specs.Prelude.{length, vec_len, vec_capacity};
 ghost use Rattle.rr_desk.specs.Turns.{IsAccepted, IsFresh, IsUnaccepted};
 
-use crate::peers::{AcceptFault, Peers};
+use rr_desk::{AcceptFault, Peers};
 use rr_io::{Counted, Cut, Joined, Sink, Source};
 use std::alloc::{AllocError, Global};
 
@@ -24,7 +24,7 @@ pub struct MemoryInput<'a> {
 }
 
 impl<'a> MemoryInput<'a> {
-    ghost use Rattle.rr_desk.specs.MemoryTurns.{IsOfInput};
+    ghost use Rattle.rr_service_tests.specs.MemoryTurns.{IsOfInput};
 
     /// A connection that gives these bytes. In a call as many bytes may pass as `usize` counts, and
     /// calls fail only after as many.
@@ -43,7 +43,7 @@ impl<'a> MemoryInput<'a> {
     }
 
     /// The connection that it is.
-    fn connection(self, alloc: Global) -> MemoryConnection<'a>
+    pub(crate) fn connection(self, alloc: Global) -> MemoryConnection<'a>
         ensures fresh { IsFresh (⟦<MemoryConnection<'static> as Source>⟧.told result)
             (⟦<MemoryConnection<'static> as Sink>⟧.told result) }
         ensures is_of_it { IsOfInput self.entry result
@@ -88,8 +88,8 @@ pub struct MemoryPeers<'a> {
 
 impl<'a> MemoryPeers<'a> {
     ghost use Rattle.std.specs.Prelude.{◌≡◌, [], IfOk};
-    ghost use Rattle.rr_desk.specs.MemoryTurns.{failed_accepts, inputs_left, open_bytes};
-    ghost use Rattle.rr_desk.specs.MemoryTurns.{turns_closed};
+    ghost use Rattle.rr_service_tests.specs.MemoryTurns.{failed_accepts, inputs_left, open_bytes};
+    ghost use Rattle.rr_service_tests.specs.MemoryTurns.{turns_closed};
 
     /// Connections that are to come as these inputs say, in this order, with no turn taken yet. The
     /// error is that memory ran out.
@@ -118,9 +118,9 @@ impl<'a> MemoryPeers<'a> {
 
 impl<'a> Peers for MemoryPeers<'a> {
     ghost use Rattle.std.specs.Prelude.{◌≡◌, [], true, IfOk, OnErr};
-    ghost use Rattle.rr_desk.specs.MemoryTurns.{AcceptsNext, inputs_left, is_open, memory_tally};
-    ghost use Rattle.rr_desk.specs.MemoryTurns.{open_bytes};
-    ghost use Rattle.rr_desk.specs.MemoryTold.{told_in_all};
+    ghost use Rattle.rr_service_tests.specs.MemoryTurns.{AcceptsNext, inputs_left, is_open};
+    ghost use Rattle.rr_service_tests.specs.MemoryTurns.{memory_tally, open_bytes};
+    ghost use Rattle.rr_service_tests.specs.MemoryTold.{told_in_all};
 
     type Conn = MemoryConnection<'a>;
 

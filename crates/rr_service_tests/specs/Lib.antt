@@ -1,0 +1,2 @@
+pub mod MemoryTold
+pub mod MemoryTurns

@@ -4,7 +4,7 @@ pub mod Exact
 pub mod Expanded
 pub mod Lists
 pub mod Parts
-pub mod Places
+pub mod Forms
 pub mod Routes
 pub mod Rows
 pub mod Secrets

@@ -7,24 +7,24 @@ use Rattle.rr_text.specs.CanonicalText.{canonical, ended}
 use Rattle.rr_text.specs.Fields.{Field}
 use Rattle.rr_answer.specs.declared.found.Found.{Found}
 use Rattle.rr_answer.specs.declared.found.Found.TheVariants.{Objects, Numbers, Ranges}
-use Rattle.rr_answer.specs.declared.place.Place.{Place}
-use Rattle.rr_answer.specs.declared.place.Place.TheVariants.{Kept, Made}
+use Rattle.rr_answer.specs.declared.form.Form.{Form}
+use Rattle.rr_answer.specs.declared.form.Form.TheVariants.{Kept, Made}
 use Rattle.rr_answer.specs.Texts.{members_text, no_entries, or_else}
 
 -- The paragraph that is answered where an object stands (profile).
-abbrev pub shown : Place → List Field
+abbrev pub shown : Form → List Field
 shown (Kept paragraph) = paragraph.now
 shown (Made paragraph) = paragraph.value
 
 -- The canonical text of the paragraph that is answered where an object stands, and an empty line
 -- (profile).
-abbrev pub place_text : Place → List ℕ
-place_text place = ended (canonical (shown place))
+abbrev pub form_text : Form → List ℕ
+form_text form = ended (canonical (shown form))
 
 -- The text of what was found: of each object, or of the members of a set and the missing names; a
 -- line says so where there is nothing (profile).
 abbrev pub found_text : Found → List ℕ
-found_text (Objects places) = or_else no_entries (flat_map place_text places.items)
+found_text (Objects forms) = or_else no_entries (flat_map form_text forms.items)
 found_text (Numbers members) =
     members_text as_number_text members.found.items members.missing.items
 found_text (Ranges members) = members_text range_text members.found.items members.missing.items

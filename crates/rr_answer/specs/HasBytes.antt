@@ -6,8 +6,8 @@ use Rattle.rr_number.specs.Applied.{range_text}
 use Rattle.rr_number.specs.AsNumbers.{as_number_text}
 use Rattle.rr_number.specs.Ranges.{RangeParts}
 use Rattle.rr_text.specs.CanonicalText.{canonical, ended}
-use Rattle.rr_answer.specs.declared.place.Place.{Place}
-use Rattle.rr_answer.specs.Founds.{place_text, shown}
+use Rattle.rr_answer.specs.declared.form.Form.{Form}
+use Rattle.rr_answer.specs.Founds.{form_text, shown}
 use Rattle.rr_answer.specs.Texts.{missing_line, number_line, range_line}
 
 pub line_has_bytes : (line : List ℕ) → 0 < length (ended line)
@@ -22,5 +22,5 @@ range_has_bytes range = line_has_bytes (range_text range)
 pub missing_has_bytes : (name : List ℕ) → 0 < length (missing_line name)
 missing_has_bytes name = line_has_bytes (codes "% missing " ++ name)
 
-pub place_has_bytes : (place : Place) → 0 < length (place_text place)
-place_has_bytes place = line_has_bytes (canonical (shown place))
+pub form_has_bytes : (form : Form) → 0 < length (form_text form)
+form_has_bytes form = line_has_bytes (canonical (shown form))

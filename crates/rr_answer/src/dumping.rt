@@ -9,7 +9,7 @@ ghost use Rattle.rr_answer.specs.Dumps.{WritesDump, dump, dumped, end_line};
 
 use crate::text::{push_paragraph, push_public};
 use rr_book::Keeper;
-use rr_io::{Sink, write_all};
+use rr_io::{Writer, write_all};
 use rr_object::Object;
 use rr_registry::Registry;
 use std::alloc::{AllocError, Global};
@@ -52,7 +52,7 @@ impl From<AllocError> for DumpFault {
 /// all of them. A call of the writer failed where the fault is `Write`, and none did where it is
 /// `Memory`. Each object is written by itself, which no clause says.
 #[tactic(auto, using(crate::proofs::Dumped::dump_has_bytes))]
-pub fn dump<B: Keeper, W: Sink>(
+pub fn dump<B: Keeper, W: Writer>(
     alloc: Global,
     registry: &Registry<B>,
     writer: &mut W,
@@ -68,7 +68,7 @@ pub fn dump<B: Keeper, W: Sink>(
 
 /// Writes the objects and the last line, and gives the number of the objects. A fault leaves what
 /// one of `dump` leaves, here and below.
-fn dump_listed<W: Sink>(
+fn dump_listed<W: Writer>(
     alloc: Global,
     objects: &[&Object],
     writer: &mut W,
@@ -84,7 +84,7 @@ fn dump_listed<W: Sink>(
 }
 
 /// Writes the objects, each of which is printed where the one before it was.
-fn dump_objects<W: Sink>(
+fn dump_objects<W: Writer>(
     alloc: Global,
     objects: &[&Object],
     writer: &mut W,
@@ -102,7 +102,7 @@ fn dump_objects<W: Sink>(
 
 /// Writes one object, whose text takes the place of what the buffer has.
 #[tactic(auto, using(crate::proofs::Dumped::object_has_bytes))]
-fn dump_object<W: Sink>(
+fn dump_object<W: Writer>(
     text: &mut Vec<u8>,
     object: &Object,
     writer: &mut W,
@@ -130,7 +130,7 @@ fn push_dumped(text: &mut Vec<u8>, object: &Object, full: bool) -> Result<(), Al
 
 /// Writes the last line.
 #[tactic(auto, using(crate::specs::HasBytes::line_has_bytes))]
-fn dump_end<W: Sink>(alloc: Global, writer: &mut W, count: usize) -> Result<(), DumpFault>
+fn dump_end<W: Writer>(alloc: Global, writer: &mut W, count: usize) -> Result<(), DumpFault>
     ensures { WritesDump (end_line count) (W.told writer.old) (W.told writer.new) result }
 {
     let line = format!(in alloc; "% end {count}\n")?;

@@ -7,9 +7,9 @@ ghost use Rattle.rr_sets.specs.Lists.{lent};
 ghost use Rattle.rr_answer.specs.Founds.{found_text};
 ghost use Rattle.rr_answer.specs.Texts as texts;
 
-use crate::place::{Place, places};
+use crate::form::{Form, forms};
 use crate::writing::write_members;
-use rr_io::Sink;
+use rr_io::Writer;
 use rr_number::{AsNumber, Range};
 use rr_object::Object;
 use rr_sets::Members;
@@ -27,7 +27,7 @@ const EMPTY: &[u8] = b"% empty\n";
 #[derive(Drop)]
 pub enum Found<'a> {
     /// Objects, in the order of the answer.
-    Objects(Vec<Place<'a>>),
+    Objects(Vec<Form<'a>>),
     /// The AS numbers of an as-set, and the names that are missing.
     Numbers(Members<AsNumber>),
     /// The ranges of a set of either kind, and the names that are missing.
@@ -42,19 +42,19 @@ impl<'a> Found<'a> {
         ensures { IfOk result (λ found. found_text found
             ≡ texts.objects_text (lent objects.now)) }
     {
-        Ok(Found::Objects(places(alloc, objects)?))
+        Ok(Found::Objects(forms(alloc, objects)?))
     }
 
     /// Writes the text. The error is that a write failed: the writer has then taken the beginning
     /// of the text, and not all. Lack of memory is no error. Parts are gathered and written one
     /// after the other, which no clause says.
     #[tactic(auto, unfolding(crate::specs::Texts::members_text))]
-    pub fn write<W: Sink>(&self, alloc: Global, writer: &mut W) -> io::Result<()>
+    pub fn write<W: Writer>(&self, alloc: Global, writer: &mut W) -> io::Result<()>
         ensures { Writes (W.told writer.old) (W.told writer.new)
             (found_text self.now) result }
     {
         match self {
-            Found::Objects(places) => write_members(alloc, writer, places, &[], NO_ENTRIES),
+            Found::Objects(forms) => write_members(alloc, writer, forms, &[], NO_ENTRIES),
             Found::Numbers(members) => {
                 write_members(alloc, writer, &members.found, &members.missing, EMPTY)
             }

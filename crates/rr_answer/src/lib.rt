@@ -4,10 +4,10 @@
 mod answering;
 mod dumping;
 mod expansion;
+mod form;
 mod found;
 pub mod laws;
 mod part;
-mod place;
 mod query;
 mod query_fault;
 mod query_reading;
@@ -17,7 +17,7 @@ mod writing;
 
 pub use answering::find_for;
 pub use dumping::{DumpFault, dump};
+pub use form::Form;
 pub use found::Found;
-pub use place::Place;
 pub use query_fault::QueryFault;
 pub use query_reading::is_too_long;

@@ -1,12 +1,12 @@
 //! The parts of answers: lines of expansions, and names that are missing; objects are parts by
-//! `place`. `writing` writes and appends them.
+//! `form`. `writing` writes and appends them.
 
 ghost use Rattle.std.specs.Prelude.{◌<◌, length, ℕ, List};
 ghost use Rattle.rr_io.specs.Sending.{Writes};
 ghost use Rattle.rr_text.specs.Outputs.{MayAdd};
 
 use crate::text::push_line;
-use rr_io::{Sink, write_pieces};
+use rr_io::{Writer, write_pieces};
 use rr_number::{AsNumber, Range, SetName};
 use std::alloc::AllocError;
 use std::io;
@@ -23,7 +23,7 @@ pub(crate) trait Part {
 
     /// Writes its bytes. The error is that a write failed: the writer has then taken the beginning
     /// of them, and not all. Lack of memory is no error.
-    fn write<W: Sink>(&self, writer: &mut W) -> io::Result<()>
+    fn write<W: Writer>(&self, writer: &mut W) -> io::Result<()>
         ensures { Writes (W.told writer.old) (W.told writer.new) (bytes self.now) result };
 
     // It has bytes: so an answer with a part is never replaced by the line that there is none.
@@ -43,7 +43,7 @@ impl Part for AsNumber {
         push_line(out, self.text().as_bytes())
     }
 
-    fn write<W: Sink>(&self, writer: &mut W) -> io::Result<()> {
+    fn write<W: Writer>(&self, writer: &mut W) -> io::Result<()> {
         write_pieces(writer, &[self.text().as_bytes(), b"\n"])
     }
 }
@@ -61,7 +61,7 @@ impl Part for Range {
         push_line(out, self.text().as_bytes())
     }
 
-    fn write<W: Sink>(&self, writer: &mut W) -> io::Result<()> {
+    fn write<W: Writer>(&self, writer: &mut W) -> io::Result<()> {
         write_pieces(writer, &[self.text().as_bytes(), b"\n"])
     }
 }
@@ -80,7 +80,7 @@ impl Part for SetName {
         push_line(out, self.as_bytes())
     }
 
-    fn write<W: Sink>(&self, writer: &mut W) -> io::Result<()> {
+    fn write<W: Writer>(&self, writer: &mut W) -> io::Result<()> {
         write_pieces(writer, &[b"% missing ", self.as_bytes(), b"\n"])
     }
 }

@@ -10,7 +10,7 @@ use rr_object::{Object, print_public};
 use rr_text::{Paragraph, print_onto};
 use std::alloc::AllocError;
 
-/// Appends an object as it is answered: for public dumps. (Answers keep a `Place` of it.)
+/// Appends an object as it is answered: for public dumps. (Answers keep a `Form` of it.)
 pub(crate) fn push_public(text: &mut Vec<u8>, object: &Object) -> Result<(), AllocError>
     ensures { MayAdd (texts.public_text object.now) text.old.items text.new.items result }
 {

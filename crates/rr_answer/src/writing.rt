@@ -8,7 +8,7 @@ ghost use Rattle.rr_answer.specs.Texts as texts;
 ghost use Rattle.rr_answer.specs.WritingParts.{WritesSome};
 
 use crate::part::Part;
-use rr_io::{Sink, write_all};
+use rr_io::{Writer, write_all};
 use rr_number::SetName;
 use std::alloc::Global;
 use std::io;
@@ -52,7 +52,7 @@ fn gather<T: Part>(out: &mut Vec<u8>, parts: &[T]) -> usize
 
 /// Writes the first of the parts, which are some, and says how many: one by itself where memory
 /// does not allow to gather it.
-fn write_some<T: Part, W: Sink>(
+fn write_some<T: Part, W: Writer>(
     gathered: &mut Vec<u8>,
     writer: &mut W,
     parts: &[T],
@@ -72,7 +72,7 @@ fn write_some<T: Part, W: Sink>(
 
 /// Writes the parts. The error is that a write failed: the writer has then taken the beginning of
 /// them, and not all.
-fn write_parts<T: Part, W: Sink>(
+fn write_parts<T: Part, W: Writer>(
     gathered: &mut Vec<u8>,
     writer: &mut W,
     parts: &[T],
@@ -99,7 +99,7 @@ fn are_none<T>(found: &[T], missing: &[SetName]) -> bool
 
 /// Writes what was found and the names that are missing, or the line that there is nothing. The
 /// error is that a write failed: the writer has then taken the beginning of that, and not all.
-pub(crate) fn write_members<T: Part, W: Sink>(
+pub(crate) fn write_members<T: Part, W: Writer>(
     alloc: Global,
     writer: &mut W,
     found: &[T],

@@ -27,7 +27,7 @@ use Rattle.rr_auth.specs.declared.verdict.Verdict.TheVariants.{Refuse}
 use Rattle.rr_auth.specs.Passing.{names_pass}
 use Rattle.rr_auth.specs.Conditions.{names_unknown, unauthorised, lacks_origin, origin_refuses}
 use Rattle.rr_auth.specs.Conditions.{is_uncovered, cover_refuses, crosses_registered, is_in_use}
-use Rattle.rr_auth.specs.Verdicts.{verdict, submission, addition, change, deletion, place}
+use Rattle.rr_auth.specs.Verdicts.{verdict, submission, addition, change, deletion, by_place}
 use Rattle.rr_auth.proofs.Crossing.{keys_cross_back, crosses_itself}
 use Rattle.rr_object.proofs.KeyLaws.{keys_total, same_key}
 use Rattle.rr_auth.specs.Elements.{IsIn}
@@ -135,7 +135,7 @@ change_is_no_add r secrets stored o e =
 add_is_no_change : Add ≡ Change → ⊥
 add_is_no_change e = cc
 
-first_five : (r : Reg) (secrets : List (List ℕ)) (k : Key) → place r secrets k ≡ Change → ⊥
+first_five : (r : Reg) (secrets : List (List ℕ)) (k : Key) → by_place r secrets k ≡ Change → ⊥
 first_five r secrets k e =
     let a = not_first (crosses_registered r k) E16 _ _ e (change_differs E16) in
     let b = not_first (lacks_origin r k) E14 _ _ a.1 (change_differs E14) in

@@ -28,7 +28,7 @@ use Rattle.rr_auth.specs.Laws.{SameSecrets}
 use Rattle.rr_auth.specs.Passing.{fits_line, names_pass}
 use Rattle.rr_auth.specs.Registries.{Reg, maintainer, some_is_unknown, seen_by}
 use Rattle.rr_auth.proofs.Members.{both_or_none}
-use Rattle.rr_auth.specs.Verdicts.{first_of, place, submission, deletion, verdict}
+use Rattle.rr_auth.specs.Verdicts.{first_of, by_place, submission, deletion, verdict}
 use Rattle.std.proofs.lemmas.Slice.Eq.{bytes_eq-Decides}
 
 -- secrets with equal bytes are equal, and each is equal to itself
@@ -118,7 +118,7 @@ module _ (secrets others : List (List ℕ)) (s : SameSecrets secrets others) whe
   cover_says r (AsSet name) = parent_says r kinds.AsSet name
   cover_says r (RouteSet name) = parent_says r kinds.RouteSet name
 
-  place_says : (r : Reg) (k : Key) → place r secrets k ≡ place r others k
+  place_says : (r : Reg) (k : Key) → by_place r secrets k ≡ by_place r others k
   place_says r k = λ i. first_of (
       record { holds = crosses_registered r k; code = E16 } ∷ (
       record { holds = lacks_origin r k; code = E14 } ∷ (

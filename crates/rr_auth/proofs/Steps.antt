@@ -16,7 +16,7 @@ use Rattle.rr_auth.specs.declared.verdict.Verdict.TheVariants.{Refuse}
 use Rattle.rr_auth.specs.Registries.{Reg, Sound, seen_by}
 use Rattle.rr_auth.specs.Laws.{IsItem}
 use Rattle.rr_auth.specs.Sources.{IsReadIn, IsReadObject, IsRegistryOf}
-use Rattle.rr_auth.specs.Verdicts.{deletion, fits_item, place, submission, verdict, after, step}
+use Rattle.rr_auth.specs.Verdicts.{deletion, fits_item, by_place, submission, verdict, after, step}
 use Rattle.rr_auth.specs.Conditions.{names_unknown, unauthorised, is_uncovered, cover_refuses}
 use Rattle.rr_auth.specs.Conditions.{lacks_origin, origin_refuses, crosses_registered, is_in_use}
 use Rattle.rr_auth.proofs.Keeping.{after_insert, still_there, sound_added, sound_changed}
@@ -61,7 +61,7 @@ changed_or_same o true = refl
 changed_or_same o false = refl
 
 place_met : (r : Reg) (secrets : List (List ℕ)) (o : Obj) (k : Key) → fits_item (Submit o)
-    (place r secrets k) ≡ true
+    (by_place r secrets k) ≡ true
 place_met r secrets o k =
     met_if (Submit o) (λ code. refl) (crosses_registered r k) E16 _ (
     met_if (Submit o) (λ code. refl) (lacks_origin r k) E14 _ (

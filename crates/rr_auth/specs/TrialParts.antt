@@ -26,13 +26,13 @@ pub record IsTrial (secrets : List (List ℕ)) (lines : List AuthParts)
   pub told : trial.fits ≡ some_line_fits (take trial.tried secrets) lines
 
 -- An answer is one about these secrets and the lines that are kept with it.
-abbrev pub IsAnswer : List (List ℕ) → Answer → Type 0
-IsAnswer secrets answer = IsTrial secrets answer.lines.items answer.trial
+abbrev pub IsTrialAnswer : List (List ℕ) → Answer → Type 0
+IsTrialAnswer secrets answer = IsTrial secrets answer.lines.items answer.trial
 
 -- Each answer that is remembered is one about these secrets and the lines that are kept with it.
 abbrev pub AreAnswers : List (List ℕ) → BTreeMap (List ℕ) Answer → Type 0
 AreAnswers secrets answers =
-    (name : List ℕ) → IfSome (get (slice_cmp nat_cmp) answers name) (IsAnswer secrets)
+    (name : List ℕ) → IfSome (get (slice_cmp nat_cmp) answers name) (IsTrialAnswer secrets)
 
 -- Where the answers are right, so much was tried with the lines.
 abbrev pub Recalls : BTreeMap (List ℕ) Answer → List AuthParts → Trial → Type 0

@@ -31,8 +31,8 @@ first_of (c ∷ cs) v = if c.holds then Refuse c.code else first_of cs v
 
 -- The verdict on a new object by its place in the hierarchy: the first of E16, E14, E15, E12 and
 -- E13 that holds, and otherwise that it is added (RFC 2725, 9; profile).
-abbrev pub place : Reg → List (List ℕ) → Key → Verdict
-place r secrets k = first_of (
+abbrev pub by_place : Reg → List (List ℕ) → Key → Verdict
+by_place r secrets k = first_of (
     record { holds = crosses_registered r k; code = E16 } ∷ (
     record { holds = lacks_origin r k; code = E14 } ∷ (
     record { holds = origin_refuses r secrets k; code = E15 } ∷ (
@@ -46,7 +46,7 @@ abbrev pub addition : Reg → List (List ℕ) → Obj → Verdict
 addition r secrets o = first_of (
     record { holds = names_unknown (seen_by (Some o) r) o; code = E10 } ∷ (
     record { holds = unauthorised (seen_by (Some o) r) secrets o; code = E11 } ∷ []))
-    (place r secrets o.key)
+    (by_place r secrets o.key)
 
 -- The verdict on an object whose key is registered: the first of E10 and E11 that holds, both in
 -- the registry as it is. The new object's names decide E10, the stored mnt-by E11. Otherwise it is

@@ -15,7 +15,7 @@ ghost use Rattle.rr_auth.specs.Laws.{IsItem};
 ghost use Rattle.rr_auth.specs.Passing.{MayTry, Tries};
 ghost use Rattle.rr_auth.specs.Private.{below, below_origin, below_parent, below_space};
 ghost use Rattle.rr_auth.specs.SetParents.{parent_key};
-ghost use Rattle.rr_auth.specs.Verdicts.{addition, change, deletion, place, submission, verdict};
+ghost use Rattle.rr_auth.specs.Verdicts.{addition, by_place, change, deletion, submission, verdict};
 
 use crate::authority::{lower_passes, routes_pass};
 use crate::book::Book;
@@ -152,7 +152,7 @@ fn judge_place<B: Book>(
     secrets: &mut Secrets,
     key: &Key,
 ) -> Result<Verdict, AllocError>
-    ensures { MayTry (place (B.contents book.now) secrets.old key.now)
+    ensures { MayTry (by_place (B.contents book.now) secrets.old key.now)
         secrets.old secrets.new result }
 {
     if book.crosses(key) {

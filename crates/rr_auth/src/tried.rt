@@ -8,7 +8,7 @@
 ghost use Rattle.std.specs.Prelude.{◌≡◌, ℕ, List};
 ghost use Rattle.rr_object.specs.Parts.{AuthParts};
 ghost use Rattle.rr_auth.specs.Passing.{passes};
-ghost use Rattle.rr_auth.specs.TrialParts.{AreAnswers, IsAnswer, IsTrial, Recalls, Records};
+ghost use Rattle.rr_auth.specs.TrialParts.{AreAnswers, IsTrial, IsTrialAnswer, Recalls, Records};
 
 use crate::auth_line::{Line, are_lines, copy_lines};
 use crate::salted::some_line_fits;
@@ -117,7 +117,7 @@ impl Answer {
     /// What was tried with these lines: nothing when they are others.
     fn trial_of(&self, lines: &[Auth]) -> Trial
         ensures { (secrets : List (List ℕ))
-            → IsAnswer secrets self.now → IsTrial secrets lines.now result }
+            → IsTrialAnswer secrets self.now → IsTrial secrets lines.now result }
     {
         if are_lines(&self.lines, lines) {
             self.trial

@@ -61,7 +61,7 @@ pub record TakesOneTurn {S : Type 0} (g : Ghosts S) (serves : Serving) (tally_be
   pub turns : TakesTurns g serves 1 before after tally_before tally_after served failed
   pub settings : after.settings ≡ before.settings
   pub lasts : DatabaseLasts (desk_state g before) (desk_state g after)
-  pub rows : StoresUntilStopped g after.stored
+  pub rows : StoresUntilStopped g after.stock
 
 -- any free port was listened on, and one turn of what listens on it was taken and served (profile)
 pub record ListensOnce {S : Type 0} (g : Ghosts S) (network : NetworkCalls) (serves : Serving)

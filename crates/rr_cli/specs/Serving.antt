@@ -70,7 +70,7 @@ pub record HasServed {S : Type 0} (g : Ghosts S) (serves : Serving) (count : ℕ
       served failed
   pub settings : done.after.has.settings ≡ done.before.has.settings
   pub lasts : DatabaseLasts (desk_state g done.before.has) (desk_state g done.after.has)
-  pub rows : StoresUntilStopped g done.after.has.stored
+  pub rows : StoresUntilStopped g done.after.has.stock
   pub ends : EndsServed tally_after served failed done.before.output done.after.output done.ended
 
 -- what the line begins with that says where the program listens (profile)

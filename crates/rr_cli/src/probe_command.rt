@@ -17,7 +17,7 @@ use rr_commands::{
 };
 use rr_desk::{Desk, Peers, Settings, serve_all};
 use rr_http::Both;
-use rr_io::{Sink, Source, write_all};
+use rr_io::{Reader, Writer, write_all};
 use sqlite::Alter;
 use std::alloc::Global;
 use std::io;
@@ -73,7 +73,7 @@ fn probe_at<D: Databases, N: Network, W: Output>(
 }
 
 /// Asks a desk for its root maintainer, and prints the reply.
-fn probe_desk<S: Alter, N: Network, W: Sink>(
+fn probe_desk<S: Alter, N: Network, W: Writer>(
     alloc: Global,
     desk: &mut Desk<S>,
     network: &N,
@@ -89,7 +89,7 @@ fn probe_desk<S: Alter, N: Network, W: Sink>(
 }
 
 /// Prints a reply: the status is 0, or 1 if it is an error.
-fn print_reply<W: Sink>(reply: &[u8], output: &mut W) -> Result<u8, Trouble>
+fn print_reply<W: Writer>(reply: &[u8], output: &mut W) -> Result<u8, Trouble>
     ensures { PrintsReply reply.now (W.told output.old) (W.told output.new) result }
 {
     match write_all(output, reply) {

@@ -18,7 +18,7 @@ use rr_commands::{
     Databases, ErrorStream, Files, Host, Input, Output, ProgramFault, Trouble, dump, init, load,
     migrate, plain, print, query, shown_name, submit,
 };
-use rr_io::Sink;
+use rr_io::Writer;
 use std::alloc::Global;
 use std::env::Args;
 use std::io;
@@ -47,7 +47,7 @@ pub struct Streams<R, E> {
 /// is written there. The status of a fault is 2 at wrong arguments, and 3 at wrong settings. Of a
 /// command with settings it is 4 at trouble with the database, also if SQLite lacks memory once it
 /// is open, or if the desk is stopped. It is else 5, also if other memory ran out (profile).
-pub fn run<D: Databases, F: Files, N: Network, R: Input, W: Output, E: Sink>(
+pub fn run<D: Databases, F: Files, N: Network, R: Input, W: Output, E: Writer>(
     host: &mut Host<'_, D, W>,
     files: &F,
     network: &N,
@@ -67,7 +67,7 @@ pub fn run<D: Databases, F: Files, N: Network, R: Input, W: Output, E: Sink>(
 }
 
 /// The status of how a run ended, and at a fault its line on `errors`.
-fn ended_with<'a, E: Sink>(alloc: Global, end: Result<u8, ProgramFault<'a>>, errors: &mut E) -> u8
+fn ended_with<'a, E: Writer>(alloc: Global, end: Result<u8, ProgramFault<'a>>, errors: &mut E) -> u8
     ensures { EndsRun end.entry (E.told errors.old) (E.told errors.new) result }
 {
     match end {
@@ -78,7 +78,7 @@ fn ended_with<'a, E: Sink>(alloc: Global, end: Result<u8, ProgramFault<'a>>, err
 
 /// Tells on `errors` the trouble for which the arguments could not be read, and gives its status.
 /// The line is less its end if a write fails.
-pub fn tell_unread<E: Sink>(trouble: Trouble, errors: &mut E) -> u8
+pub fn tell_unread<E: Writer>(trouble: Trouble, errors: &mut E) -> u8
     ensures { EndsUnread trouble (E.told errors.old) (E.told errors.new) result }
 {
     ProgramFault::unnamed(trouble).tell(errors)

@@ -21,7 +21,7 @@ use rr_commands::{
 };
 use rr_desk::{ConnFault, Desk, Served, Service, Settings, serve_all};
 use rr_http::Both;
-use rr_io::{Connection, Sink, write_pieces};
+use rr_io::{Connection, Writer, write_pieces};
 use sqlite::{Alter, Error};
 use std::alloc::{AllocError, Global};
 use std::io;
@@ -135,7 +135,7 @@ fn serve_at<D: Databases, N: Network, W: Output>(
 }
 
 /// Listens on the port, says so, and serves so many connections of a desk.
-fn serve_desk<S: Alter, N: Network, W: Sink>(
+fn serve_desk<S: Alter, N: Network, W: Writer>(
     watched: &Watched<'_>,
     desk: &mut Desk<S>,
     network: &N,
@@ -195,7 +195,7 @@ impl Service for Watched<'_> {
 }
 
 /// Takes so many turns of a listener, and prints how many were served and how many failed.
-fn serve_turns<S: Alter, P: PeersWithCause, W: Sink>(
+fn serve_turns<S: Alter, P: PeersWithCause, W: Writer>(
     watched: &Watched<'_>,
     desk: &mut Desk<S>,
     peers: &mut P,
@@ -226,7 +226,7 @@ fn served_end<P: PeersWithCause>(served: Served, peers: &P) -> Result<u8, Troubl
 }
 
 /// Writes where the program listens.
-fn write_listening<W: Sink>(output: &mut W, port: u16) -> io::Result<()>
+fn write_listening<W: Writer>(output: &mut W, port: u16) -> io::Result<()>
     ensures writes { Writes (W.told output.old) (W.told output.new) (listening_line port) result }
 {
     let mut buffer = Buffer::new();
@@ -250,7 +250,7 @@ fn listening_head() -> &'static [u8]
 
 /// Writes how many turns were served, and how many failed.
 #[tactic(auto, unfolding(crate::specs::Serving::served_line))]
-fn write_served<W: Sink>(output: &mut W, served: Served) -> io::Result<()>
+fn write_served<W: Writer>(output: &mut W, served: Served) -> io::Result<()>
     ensures writes { Writes (W.told output.old) (W.told output.new)
         (served_line served.served served.failed) result }
 {

@@ -34,7 +34,7 @@ pub record HasAsked {S : Type 0} (g : Ghosts S) (text : List ℕ) (done : Deed (
   pub status : IfOk done.ended (λ status. status ≡ answer_status answer)
   pub trouble : IfErr done.ended (λ trouble. trouble ≡ Unwritten)
   pub same : done.after.has ≡ done.before.has
-  pub keeps : KeepsRows done.before.has.stored.registry (desk_state g done.after.has)
+  pub keeps : KeepsRows done.before.has.stock.registry (desk_state g done.after.has)
 
 -- what `irrdesk query` does, by its settings file (profile)
 abbrev pub AsksBy : {D S : Type 0} → Ports D S → List ℕ → List ℕ → Deed D ProgramEnd → Type 0

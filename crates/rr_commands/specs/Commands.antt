@@ -214,7 +214,7 @@ pub record OpensDesk {D S : Type 0} (by : StoreCalls D S) (names : Named) (start
     (desk : Desk S) : Type 0 where
   pub conn : Held S
   pub given : by.databases.opens names.path Refused (Ok conn) start end
-  pub opens : OpensTables by.store conn desk.stored
+  pub opens : OpensTables by.store conn desk.stock
   pub runs : IsRunning by.store names.settings desk
 
 -- a desk was opened, and this was done at it; the database that it left was closed (profile)
@@ -225,7 +225,7 @@ pub record IsDoneAtDesk {D S : Type 0} (by : StoreCalls D S) (does : Act (Desk S
   pub between : D
   pub opens : OpensDesk by names done.before.has between before
   pub did : does (within before after done)
-  pub closed : by.databases.closes after.stored.store between done.after.has
+  pub closed : by.databases.closes after.stock.store between done.after.has
 
 -- what a command does at the desk that its settings open: if there is no database, none is made
 -- (profile)

@@ -35,9 +35,9 @@ module _ {S : Type 0} (g : Ghosts S) (settings : SettingsParts) where
   pub record IsCreated (done : Deed (Held S) CommandEnd) : Type 0 where
     pub desk : Desk S
     pub runs : IsRunning g settings desk
-    pub opened : IsOpeningRegistry settings desk.stored.registry
-    pub makes : MakesTables g (HasOpeningRows settings) done.before.has desk.stored.store
-    pub given_back : done.after.has ≡ desk.stored.store
+    pub opened : IsOpeningRegistry settings desk.stock.registry
+    pub makes : MakesTables g (HasOpeningRows settings) done.before.has desk.stock.store
+    pub given_back : done.after.has ≡ desk.stock.store
     pub tells : HasTold created_line done
 
 -- what `irrdesk init` does in a database (profile)

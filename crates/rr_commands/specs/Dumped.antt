@@ -22,7 +22,7 @@ HasDumped bytes old new (Err _) = ⊥
 abbrev pub DumpsDesk : {S : Type 0} → Bool → Act (Desk S)
 DumpsDesk full done =
     (done.after.has ≡ done.before.has)
-    × HasDumped (dump full done.before.has.stored.registry)
+    × HasDumped (dump full done.before.has.stock.registry)
     done.before.output done.after.output done.ended
 
 -- what `irrdesk dump` does, by its settings file (profile)

@@ -57,11 +57,11 @@ module _ {S : Type 0} (g : Ghosts S) (settings : SettingsParts) (reader_old read
   pub record HasLoaded (done : Deed (Held S) CommandEnd) : Type 0 where
     pub desk : Desk S
     pub runs : IsRunning g settings desk
-    pub loaded : IsLoaded settings.source reader_old reader_new desk.stored.registry
+    pub loaded : IsLoaded settings.source reader_old reader_new desk.stock.registry
     pub makes : MakesTables g (HasLoadedRows settings.source reader_old reader_new)
-        done.before.has desk.stored.store
-    pub given_back : done.after.has ≡ desk.stored.store
-    pub tells : TellsLoaded (length (values desk.stored.registry))
+        done.before.has desk.stock.store
+    pub given_back : done.after.has ≡ desk.stock.store
+    pub tells : TellsLoaded (length (values desk.stock.registry))
         done.before.output done.after.output done.ended
 
 -- what the load of a dump does in a database, by what its reader told before and after (profile)

@@ -37,8 +37,8 @@ module _ {S : Type 0} (g : Ghosts S) (settings : SettingsParts) where
   pub record HasMigrated (done : Deed (Held S) CommandEnd) : Type 0 where
     pub desk : Desk S
     pub runs : IsRunning g settings desk
-    pub migrates : MigratesTables g settings done.before.has desk.stored
-    pub given_back : done.after.has ≡ desk.stored.store
+    pub migrates : MigratesTables g settings done.before.has desk.stock
+    pub given_back : done.after.has ≡ desk.stock.store
     pub tells : HasTold migrated_line done
 
 -- what `irrdesk migrate` does in a database, before a further look at it (profile)

@@ -39,8 +39,8 @@ pub record HasSubmitted {S : Type 0} (g : Ghosts S) (reader_old reader_new : Tol
   pub result : Result Done DeskFault
   pub submits : SubmitsTo g done.before.has done.after.has reader_old reader_new
       done.before.output done.after.output result
-  pub running : UnlessStoreFault result (done.after.has.stored.stopped ≡ false)
-  pub told : done.ended ≡ submission_end result (stop_cause done.after.has.stored.cause)
+  pub running : UnlessStoreFault result (done.after.has.stock.stopped ≡ false)
+  pub told : done.ended ≡ submission_end result (stop_cause done.after.has.stock.cause)
   pub leaves : LeavesDesk g done.before.has done.after.has result
 
 -- what is told of trouble without arguments: a database in memory fails only because memory ran
@@ -66,7 +66,7 @@ pub record HasSubmittedPlain {S : Type 0} (g : Ghosts S) (done : Deed Told Comma
   pub before : Desk S
   pub after : Desk S
   pub settings : before.settings ≡ built_in
-  pub opened : IsOpeningRegistry built_in before.stored.registry
+  pub opened : IsOpeningRegistry built_in before.stock.registry
   pub submitted : HasSubmitted g done.before.has done.after.has (within before after done)
 
 -- what the program does without arguments, by what standard input told before and after: there is

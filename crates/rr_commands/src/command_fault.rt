@@ -16,7 +16,7 @@ use crate::shown::shown_name;
 use crate::trouble::{Place, Trouble};
 use crate::words::{after_number, before_cause, before_number};
 use itoa::Buffer;
-use rr_io::{Sink, write_all, write_pieces};
+use rr_io::{Writer, write_all, write_pieces};
 use std::alloc::Global;
 use std::io;
 
@@ -155,7 +155,7 @@ impl<'a> ProgramFault<'a> {
 
     /// Says the fault in one line to `errors`, as standard error: all of it or, if a write fails,
     /// its beginning and not all. Gives the status of its trouble in either case.
-    pub fn tell<E: Sink>(self, errors: &mut E) -> u8
+    pub fn tell<E: Writer>(self, errors: &mut E) -> u8
         ensures says { TakesSome (E.told errors.old) (E.told errors.new)
             (fault_line self.entry.about self.entry.trouble self.entry.stream) }
         ensures status { result ≡ trouble_status self.entry.trouble }
@@ -167,7 +167,7 @@ impl<'a> ProgramFault<'a> {
 
     /// Writes the line.
     #[tactic(auto, unfolding(crate::specs::Faults::fault_line))]
-    fn write_line<E: Sink>(&self, errors: &mut E) -> io::Result<()>
+    fn write_line<E: Writer>(&self, errors: &mut E) -> io::Result<()>
         ensures { Writes (E.told errors.old) (E.told errors.new)
             (fault_line self.now.about self.now.trouble self.now.stream) result }
     {
@@ -178,7 +178,7 @@ impl<'a> ProgramFault<'a> {
 }
 
 /// Writes the name of what a fault is about, and a colon.
-fn write_about<E: Sink>(errors: &mut E, about: &About<'_>) -> io::Result<()>
+fn write_about<E: Writer>(errors: &mut E, about: &About<'_>) -> io::Result<()>
     ensures { Writes (E.told errors.old) (E.told errors.new)
         (name_on_line about.now) result }
 {
@@ -190,7 +190,7 @@ fn write_about<E: Sink>(errors: &mut E, about: &About<'_>) -> io::Result<()>
 }
 
 /// Writes a name, and a colon.
-fn write_name<E: Sink>(errors: &mut E, name: &[u8]) -> io::Result<()>
+fn write_name<E: Writer>(errors: &mut E, name: &[u8]) -> io::Result<()>
     ensures { Writes (E.told errors.old) (E.told errors.new)
         (map byte_on_line name.now ++ codes ": ") result }
 {
@@ -199,7 +199,7 @@ fn write_name<E: Sink>(errors: &mut E, name: &[u8]) -> io::Result<()>
 }
 
 /// Writes a text, with `?` for each control character, so that it stays on its line.
-fn write_on_line<E: Sink>(errors: &mut E, text: &[u8]) -> io::Result<()>
+fn write_on_line<E: Writer>(errors: &mut E, text: &[u8]) -> io::Result<()>
     ensures { Writes (E.told errors.old) (E.told errors.new)
         (map byte_on_line text.now) result }
 {
@@ -218,7 +218,7 @@ fn byte_on_line(byte: u8) -> u8
 
 /// Writes what went wrong, to the end of the line.
 #[tactic(auto, unfolding(crate::specs::Faults::trouble_text))]
-fn write_trouble<E: Sink>(errors: &mut E, trouble: Trouble, stream: Cause) -> io::Result<()>
+fn write_trouble<E: Writer>(errors: &mut E, trouble: Trouble, stream: Cause) -> io::Result<()>
     ensures { Writes (E.told errors.old) (E.told errors.new)
         (trouble_text trouble stream) result }
 {

@@ -15,7 +15,7 @@ use crate::registry_databases::{Databases, close, open_desk};
 use crate::settings_reading::read_settings_file;
 use crate::trouble::Trouble;
 use rr_desk::{Desk, Settings};
-use rr_io::Sink;
+use rr_io::Writer;
 use sqlite::Alter;
 use std::alloc::Global;
 
@@ -61,14 +61,14 @@ fn dump_at<D: Databases, W: Output>(
 
 /// Writes the dump of a desk that runs, full if that is asked for, and gives the status 0. The
 /// trouble is that a write failed or memory ran out: the beginning of it is written, not all.
-pub fn dump_to<S: Alter, W: Sink>(
+pub fn dump_to<S: Alter, W: Writer>(
     alloc: Global,
     desk: &Desk<S>,
     full: bool,
     writer: &mut W,
 ) -> Result<u8, Trouble>
-    requires { desk.now.stored.stopped ≡ false }
-    ensures { HasDumped (dumps.dump full desk.now.stored.registry)
+    requires { desk.now.stock.stopped ≡ false }
+    ensures { HasDumped (dumps.dump full desk.now.stock.registry)
         (W.told writer.old) (W.told writer.new) result }
 {
     match desk.dump(alloc, writer, full) {

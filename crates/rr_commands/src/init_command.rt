@@ -12,7 +12,7 @@ use crate::registry_databases::{Absent, Databases, close};
 use crate::settings_reading::read_settings_file;
 use crate::trouble::Trouble;
 use rr_desk::{Desk, Settings};
-use rr_io::Sink;
+use rr_io::Writer;
 use rr_store::IdleConnection;
 use sqlite::Alter;
 use std::alloc::Global;
@@ -59,7 +59,7 @@ fn init_at<D: Databases, W: Output>(
 /// the status 0. The trouble is why none was made, and nothing is written then; or that the line
 /// could not be written whole, and then it is made. The connection is given back, and its database
 /// is as [`Desk::create`] leaves it (profile).
-pub fn create_to<S: Alter, W: Sink>(
+pub fn create_to<S: Alter, W: Writer>(
     alloc: Global,
     conn: IdleConnection<S>,
     settings: Settings,

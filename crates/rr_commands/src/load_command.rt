@@ -21,7 +21,7 @@ use crate::trouble::Trouble;
 use itoa::Buffer;
 use rr_desk::{Desk, DeskLoadFault, Settings};
 use rr_index::IndexedBook;
-use rr_io::{Counted, Sink, Source, write_pieces};
+use rr_io::{Counted, Reader, Writer, write_pieces};
 use rr_registry::Registry;
 use rr_store::IdleConnection;
 use sqlite::Alter;
@@ -122,7 +122,7 @@ fn load_file<S: Alter, F: Files, W: Output>(
 /// which. The trouble is why none was made, and nothing is written then; or that the line could not
 /// be written whole, and then it is made. The connection is given back, and its database is as
 /// [`Desk::load`] leaves it (profile).
-pub fn load_to<S: Alter, R: Source, W: Sink>(
+pub fn load_to<S: Alter, R: Reader, W: Writer>(
     alloc: Global,
     conn: IdleConnection<S>,
     settings: Settings,
@@ -154,7 +154,7 @@ fn loading_trouble(fault: DeskLoadFault) -> Trouble
 
 /// Writes how many objects were loaded; if memory runs out as they are counted, that they were. No
 /// clause says which.
-fn tell_loaded<W: Sink>(
+fn tell_loaded<W: Writer>(
     alloc: Global,
     registry: &Registry<IndexedBook>,
     writer: &mut W,
@@ -177,7 +177,7 @@ fn object_count(alloc: Global, registry: &Registry<IndexedBook>) -> Result<u64, 
 }
 
 /// Writes that so many objects were loaded.
-fn tell_count<W: Sink>(writer: &mut W, count: u64) -> Result<u8, Trouble>
+fn tell_count<W: Writer>(writer: &mut W, count: u64) -> Result<u8, Trouble>
     ensures { Tells (loaded_line count) (W.told writer.old) (W.told writer.new) result }
 {
     let mut buffer = Buffer::new();

@@ -13,7 +13,7 @@ use crate::registry_databases::{Absent, Databases, close};
 use crate::settings_reading::read_settings_file;
 use crate::trouble::Trouble;
 use rr_desk::{Desk, Settings};
-use rr_io::Sink;
+use rr_io::Writer;
 use rr_store::IdleConnection;
 use sqlite::Alter;
 use std::alloc::Global;
@@ -61,7 +61,7 @@ fn migrate_at<D: Databases, W: Output>(
 
 /// Migrates the tables of version 1 of a database, and says so, or what is found the matter with it
 /// if it is refused. The connection is given back.
-fn migrate_told<S: Alter, W: Sink>(
+fn migrate_told<S: Alter, W: Writer>(
     alloc: Global,
     conn: IdleConnection<S>,
     settings: Settings,
@@ -82,7 +82,7 @@ fn migrate_told<S: Alter, W: Sink>(
 /// and nothing is written then; or that the line could not be written whole, and then they are
 /// migrated. The connection is given back, and its database is as [`Desk::migrate`] leaves it
 /// (profile).
-pub fn migrate_to<S: Alter, W: Sink>(
+pub fn migrate_to<S: Alter, W: Writer>(
     alloc: Global,
     conn: IdleConnection<S>,
     settings: Settings,

@@ -12,14 +12,14 @@ use crate::host::{Host, Store};
 use crate::progress::Shown;
 use crate::shown::shown_name;
 use crate::trouble::{Place, Trouble};
-use rr_io::{Sink, Source, write_all};
+use rr_io::{Reader, Writer, write_all};
 use std::alloc::{AllocError, Global};
 
 /// What faults of standard output are about.
 pub(crate) const STANDARD_OUTPUT: &str = "standard output";
 
 /// What commands print to, which may show on a terminal how far they are.
-pub trait Output: Sink {
+pub trait Output: Writer {
     /// Shows this from now on, on a terminal alone; no clause says what is shown. All that it tells
     /// as a writer stays: its bytes, and the count of its failed writes.
     fn show(&mut self, shown: Shown)
@@ -37,7 +37,7 @@ pub trait Output: Sink {
 }
 
 /// What commands read.
-pub trait Input: Source {
+pub trait Input: Reader {
     /// Why the last read that failed did so, or that it has no end if none did. It is for a
     /// message, and no contract says which it is.
     fn cause(&self) -> Cause;
@@ -76,7 +76,7 @@ pub fn print<'a, W: Output>(output: &mut W, text: &[u8]) -> Result<u8, ProgramFa
 }
 
 /// Writes a text, and gives the status 0; the fault is that it could not be written whole.
-pub(crate) fn tell<W: Sink>(writer: &mut W, text: &[u8]) -> Result<u8, Trouble>
+pub(crate) fn tell<W: Writer>(writer: &mut W, text: &[u8]) -> Result<u8, Trouble>
     ensures { Tells text.now (W.told writer.old) (W.told writer.new) result }
 {
     match write_all(writer, text) {

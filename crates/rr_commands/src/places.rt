@@ -9,7 +9,7 @@ use crate::files::Files;
 use crate::output::path_and_found;
 use crate::shown::push_key;
 use crate::trouble::Trouble;
-use rr_io::{Counted, Source};
+use rr_io::{Counted, Reader};
 use rr_object::{Key, key_of};
 use rr_text::{Paragraphs, TextFault, next_paragraph};
 use std::alloc::{AllocError, Global};
@@ -103,7 +103,7 @@ fn next_of_file<R: Read>(
 
 /// Reads the next paragraph, and gives its key, if it has one; `None` at the end, or if it
 /// cannot be read.
-fn next_key<R: Source>(
+fn next_key<R: Reader>(
     alloc: Global,
     paragraphs: &mut Paragraphs,
     reader: &mut R,

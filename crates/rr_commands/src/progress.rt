@@ -8,7 +8,7 @@ use crate::cause::Cause;
 use crate::error_stream::ErrorStream;
 use crate::meter::{CLEARED, Meter, Things};
 use crate::output::{Input, Output};
-use rr_io::{Sink, Source};
+use rr_io::{Reader, Writer};
 use std::io;
 
 /// A database of fewer bytes is opened without a word.
@@ -38,7 +38,7 @@ pub struct Progress<'a, W> {
     cause: Cause,
 }
 
-impl<'a, W: Sink> Progress<'a, W> {
+impl<'a, W: Writer> Progress<'a, W> {
     /// The writer, of which nothing is shown so far.
     pub fn new(errors: ErrorStream<'a>, writer: W) -> Progress<'a, W>
         ensures { result.writer ≡ writer }
@@ -53,7 +53,7 @@ impl<'a, W: Sink> Progress<'a, W> {
 }
 
 /// It passes each write on, and tells what the writer tells.
-impl<W: Sink> Sink for Progress<'_, W> {
+impl<W: Writer> Writer for Progress<'_, W> {
     ghost told = { λ p. W.told p.writer };
 
     fn write(&mut self, bytes: &[u8]) -> io::Result<usize> {
@@ -75,7 +75,7 @@ impl<W: Sink> Sink for Progress<'_, W> {
     }
 }
 
-impl<W: Sink> Output for Progress<'_, W> {
+impl<W: Writer> Output for Progress<'_, W> {
     fn show(&mut self, shown: Shown) {
         self.meter.clear();
         let is_shared = self.errors.is_shared();
@@ -106,7 +106,7 @@ pub struct Reading<'a, R> {
     cause: Cause,
 }
 
-impl<'a, R: Source> Reading<'a, R> {
+impl<'a, R: Reader> Reading<'a, R> {
     /// The reader, with its bytes counted from now on.
     pub fn new(errors: ErrorStream<'a>, reader: R) -> Reading<'a, R>
         ensures { result.reader ≡ reader }
@@ -138,7 +138,7 @@ impl<'a, R: Source> Reading<'a, R> {
 }
 
 /// It passes each read on, and tells what the reader tells.
-impl<R: Source> Source for Reading<'_, R> {
+impl<R: Reader> Reader for Reading<'_, R> {
     ghost told = { λ p. R.told p.reader };
 
     fn read(&mut self, buf: &mut [u8]) -> io::Result<usize> {
@@ -159,7 +159,7 @@ impl<R: Source> Source for Reading<'_, R> {
     }
 }
 
-impl<R: Source> Input for Reading<'_, R> {
+impl<R: Reader> Input for Reading<'_, R> {
     fn cause(&self) -> Cause {
         self.cause
     }

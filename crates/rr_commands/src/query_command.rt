@@ -13,7 +13,7 @@ use crate::registry_databases::{Databases, close, open_desk};
 use crate::settings_reading::read_settings_file;
 use crate::trouble::Trouble;
 use rr_desk::{Answered, Desk, Settings};
-use rr_io::Sink;
+use rr_io::Writer;
 use sqlite::Alter;
 use std::alloc::Global;
 
@@ -61,13 +61,13 @@ fn query_at<D: Databases, W: Output>(
 /// The trouble is that a write failed, and the beginning of the answer is written, not all. Where
 /// the disk gives back what was written, the desk keeps its rows while its database is open, and a
 /// stop of the process leaves them.
-pub fn answer_to<S: Alter, W: Sink>(
+pub fn answer_to<S: Alter, W: Writer>(
     alloc: Global,
     desk: &Desk<S>,
     query: &[u8],
     writer: &mut W,
 ) -> Result<u8, Trouble>
-    requires { desk.now.stored.stopped ≡ false }
+    requires { desk.now.stock.stopped ≡ false }
     ensures { HasAsked S.Store query.now
         (deed desk.now desk.now (W.told writer.old) (W.told writer.new) result) }
 {

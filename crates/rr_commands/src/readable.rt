@@ -4,7 +4,7 @@
 ghost use Rattle.std.specs.Prelude.{◌≡◌};
 ghost use Rattle.rr_io.specs.Counted.{counted_inner};
 
-use rr_io::{Counted, Source};
+use rr_io::{Counted, Reader};
 use std::io;
 use std::io::Read;
 

@@ -411,7 +411,7 @@ fn open_over<S: Alter>(
     settings: Settings,
     found: &mut String,
 ) -> Result<Desk<S>, (Trouble, IdleConnection<S>)>
-    ensures opens { IfOk result (λ desk. OpensTables S.Store conn desk.stored) }
+    ensures opens { IfOk result (λ desk. OpensTables S.Store conn desk.stock) }
     ensures runs { IfOk result (IsRunning S.Store settings) }
     ensures fails { IfErr result (λ e.
         FailsToOpenDesk S.Store settings.source conn e.1 e.0) }

@@ -18,7 +18,7 @@ use crate::readable::Readable;
 use crate::settings_file::{SettingsFault, read_settings};
 use crate::trouble::Trouble;
 use rr_desk::Settings;
-use rr_io::Source;
+use rr_io::Reader;
 use std::alloc::Global;
 use std::io;
 use std::io::{ErrorKind, Read};

@@ -21,7 +21,7 @@ use crate::registry_databases::{Databases, close, open_desk};
 use crate::settings_reading::read_settings_file;
 use crate::trouble::Trouble;
 use rr_desk::{Desk, DeskFault, Done, Settings};
-use rr_io::{Counted, Sink, Source};
+use rr_io::{Counted, Reader, Writer};
 use rr_store::IdleConnection;
 use sqlite::{Alter, Connection};
 use std::alloc::Global;
@@ -120,7 +120,7 @@ fn submit_file<S: Alter, F: Files, W: Output>(
     items: &FileAt<'_, F>,
     output: &mut W,
 ) -> Result<u8, Trouble>
-    requires { desk.old.stored.stopped ≡ false }
+    requires { desk.old.stock.stopped ≡ false }
     ensures { SubmitsDesk S.Store (F.calls items.now.files.now) items.now.path.now
         (deed desk.old desk.new (W.told output.old) (W.told output.new) result) }
 {
@@ -138,7 +138,7 @@ fn submit_file<S: Alter, F: Files, W: Output>(
 /// the report. The status is 0, or 1 if an item was refused. The trouble is that there is no desk,
 /// which stands for lack of memory, and then nothing is read or printed. Or it is how the
 /// submission was cut short; of a fault of the database [`plain`] tells that memory ran out.
-pub fn submit_plain<R: Source, W: Sink>(
+pub fn submit_plain<R: Reader, W: Writer>(
     alloc: Global,
     input: &mut R,
     output: &mut W,
@@ -153,7 +153,7 @@ pub fn submit_plain<R: Source, W: Sink>(
 }
 
 /// Submits `input` to a new desk over a database with nothing in it, which is let go then.
-fn submit_new<S: Alter + Drop, R: Source, W: Sink>(
+fn submit_new<S: Alter + Drop, R: Reader, W: Writer>(
     alloc: Global,
     conn: IdleConnection<S>,
     input: &mut R,
@@ -169,9 +169,9 @@ fn submit_new<S: Alter + Drop, R: Source, W: Sink>(
 /// A new desk with the built-in settings over a database with nothing in it. An error stands for
 /// lack of memory, as `plain_trouble` tells it.
 fn plain_desk<S: Alter + Drop>(alloc: Global, conn: IdleConnection<S>) -> Result<Desk<S>, Trouble>
-    ensures running { IfOk result (λ desk. desk.stored.stopped ≡ false) }
+    ensures running { IfOk result (λ desk. desk.stock.stopped ≡ false) }
     ensures settings { IfOk result (λ desk. desk.settings ≡ built_in) }
-    ensures opened { IfOk result (λ desk. IsOpeningRegistry built_in desk.stored.registry) }
+    ensures opened { IfOk result (λ desk. IsOpeningRegistry built_in desk.stock.registry) }
     ensures fails { IfErr result (λ trouble. plain_trouble trouble ≡ Trouble.Memory) }
 {
     let Ok(settings) = Settings::built_in(alloc) else {
@@ -186,13 +186,13 @@ fn plain_desk<S: Alter + Drop>(alloc: Global, conn: IdleConnection<S>) -> Result
 /// Submits what the reader gives to a desk that runs, and writes the report. The status is 0, or 1
 /// if an item was refused. The trouble is how the submission was cut short, with why the database
 /// failed if it did. Only a fault of the store stops the desk.
-pub fn submit_to<S: Alter, R: Source, W: Sink>(
+pub fn submit_to<S: Alter, R: Reader, W: Writer>(
     alloc: Global,
     desk: &mut Desk<S>,
     reader: &mut R,
     writer: &mut W,
 ) -> Result<u8, Trouble>
-    requires { desk.old.stored.stopped ≡ false }
+    requires { desk.old.stock.stopped ≡ false }
     ensures { HasSubmitted S.Store (R.told reader.old) (R.told reader.new)
         (deed desk.old desk.new (W.told writer.old) (W.told writer.new) result) }
 {

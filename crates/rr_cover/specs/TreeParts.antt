@@ -23,8 +23,8 @@ standing (Fork' p prefix value lower upper) s =
     option_or (own prefix value s) (option_or (standing lower s) (standing upper s))
 
 -- A tree holds the value at the span, and at any other what another holds.
-abbrev pub HoldsWith : {T : Type 0} → Tree T → Ends → T → Tree T → Type 0
-HoldsWith old span value new =
+abbrev pub TreeHoldsWith : {T : Type 0} → Tree T → Ends → T → Tree T → Type 0
+TreeHoldsWith old span value new =
     (s : Ends) → standing new s
     ≡ (if eq_by_cmp span_cmp s span then Some value else standing old s)
 
@@ -96,8 +96,8 @@ room Empty = 0
 room (Fork' p prefix value lower upper) = 33 - prefix.length
 
 -- A tree holds nothing at the span, and at any other what another holds.
-abbrev pub HoldsWithout : {T : Type 0} → Tree T → Ends → Tree T → Type 0
-HoldsWithout old span new =
+abbrev pub TreeHoldsWithout : {T : Type 0} → Tree T → Ends → Tree T → Type 0
+TreeHoldsWithout old span new =
     (s : Ends) → standing new s ≡ (if eq_by_cmp span_cmp s span then None else standing old s)
 
 -- A value can be put into a tree at a prefix: the tree is in order, and the prefix has at most 32
@@ -117,14 +117,14 @@ pub record CanBranch {T : Type 0} (old : Tree T) (at prefix : PrefixParts) : Typ
 -- another holds.
 pub record Grows {T : Type 0} (old : Tree T) (span : Ends) (value : T) (at : PrefixParts)
     (new : Tree T) : Type 0 where
-  pub all : HoldsWith old span value new
+  pub all : TreeHoldsWith old span value new
   pub tree : IsTree new
   pub root : root_of new ≡ Some at
 
 -- The value is put at the span; or nothing changes, and the value comes back. The tree is in order.
 pub record PutsInTree {T X : Type 0} (old : Tree T) (span : Ends) (value : T) (new : Tree T)
     (result : Result X T) : Type 0 where
-  pub all : OnOk result (HoldsWith old span value new)
+  pub all : OnOk result (TreeHoldsWith old span value new)
   pub err : OnErr result (new ≡ old)
   pub back : IfErr result (λ given. given ≡ value)
   pub tree : IsTree new
@@ -135,6 +135,6 @@ pub record TakesFromTree {T : Type 0} (old : Tree T) (span : Ends) (new : Tree T
     (result : Option T)
     : Type 0 where
   pub value : result ≡ standing old span
-  pub all : HoldsWithout old span new
+  pub all : TreeHoldsWithout old span new
   pub tree : IsTree new
   pub root : StaysRooted old new

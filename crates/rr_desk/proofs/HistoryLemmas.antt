@@ -54,7 +54,7 @@ use Rattle.rr_desk.specs.Modes.{that_registry, with_grown, with_made}
 use Rattle.rr_desk.specs.Opened.{FailsToOpenTables, IsRunning, MakesNone, MakesTables, OpensTables}
 use Rattle.rr_desk.specs.Rows.{KeepsRows}
 use Rattle.rr_desk.specs.Settings.{SettingsParts}
-use Rattle.rr_desk.specs.Stocks.{Stock, StoresRows, stock_ledger}
+use Rattle.rr_desk.specs.Stocks.{StockParts, StoresRows, stock_ledger}
 use Rattle.rr_desk.proofs.HistoryRows.{bare_none, grown_one, grown_there, made_there, opened_one}
 use Rattle.rr_desk.proofs.HistoryRows.{still_with_grown, still_with_made, unsaid, vacant_none}
 
@@ -119,7 +119,8 @@ module _ {S : Type 0} (g : Ghosts S) where
   goes_as by r s e q same goes = subst (λ (x : Reg). Goes (running by x) e q) same goes
 
   -- a store that holds the rows of its registry keeps them
-  keeps_of : (stock : Stock S) → StoresRows g stock → KeepsRows stock.registry (state g stock.store)
+  keeps_of : (stock : StockParts S) → StoresRows g stock → KeepsRows stock.registry
+      (state g stock.store)
   keeps_of stock holds = record {
     rows = λ clean on. (holds clean).rows;
     leaves = λ clean trees may. (
@@ -139,11 +140,11 @@ module _ {S : Type 0} (g : Ghosts S) where
   }
 
   -- a stock at which a submission came to a stop
-  record HasStopped (before after : Reg) (new : Stock S) : Type 0 where
+  record HasStopped (before after : Reg) (new : StockParts S) : Type 0 where
     pub is_stopped : new.stopped ≡ true
     pub has : HasOne g (that_registry before ∷ (that_registry after ∷ [])) new.store
 
-  has_stopped : (middle new : Stock S) (secrets : List (List ℕ)) (action : Result Item Code) →
+  has_stopped : (middle new : StockParts S) (secrets : List (List ℕ)) (action : Result Item Code) →
       StopsAt (stock_ledger g) middle secrets action new → HasStopped middle.registry new.registry
       new
   has_stopped middle new secrets (Ok item) halt = record {
@@ -160,7 +161,7 @@ module _ {S : Type 0} (g : Ghosts S) where
   }
   has_stopped middle new secrets (Err code) halt = absurd halt
 
-  plain_stop : (by : SettingsParts) (middle new : Stock S) (secrets : List (List ℕ))
+  plain_stop : (by : SettingsParts) (middle new : StockParts S) (secrets : List (List ℕ))
       (action : Result Item Code) → StopsAt (stock_ledger g) middle secrets action new
       → StopsAt (plain_ledger by) (running by middle.registry) secrets action
       (halted by (that_registry middle.registry ∷ (that_registry new.registry ∷ [])))
@@ -177,24 +178,24 @@ module _ {S : Type 0} (g : Ghosts S) where
   module _ (by : SettingsParts) (old new : Desk S) (ro rn wo wn : Told) where
     -- a submission that was not stopped
     stays : (result : Result Done DeskFault) → SubmitsText (plain_ledger by)
-        (running by old.stored.registry) (running by new.stored.registry) by.source ro rn wo wn
+        (running by old.stock.registry) (running by new.stock.registry) by.source ro rn wo wn
         result
-        → UnlessStoreFault result (running by new.stored.registry ≡ running by new.stored.registry)
-        → RunsWith g by new new.stored.registry
-        → Goes (running by old.stored.registry) (submitted ro rn wo wn result) (at_desk new)
+        → UnlessStoreFault result (running by new.stock.registry ≡ running by new.stock.registry)
+        → RunsWith g by new new.stock.registry
+        → Goes (running by old.stock.registry) (submitted ro rn wo wn result) (at_desk new)
     stays result it on runs = record {
-      next = running by new.stored.registry;
-      moves_there = decides by old.stored.registry (running by new.stored.registry) ro rn wo wn
+      next = running by new.stock.registry;
+      moves_there = decides by old.stock.registry (running by new.stock.registry) ro rn wo wn
           result it on;
       stands = runs;
     }
 
-    goes_on : (result : Result Done DeskFault) → Submits (stock_ledger g) old.stored new.stored
-        by.source (sides ro rn wo wn old.stored.registry new.stored.registry) result
-        → UnlessStoreFault result (new.stored.stopped ≡ false)
+    goes_on : (result : Result Done DeskFault) → Submits (stock_ledger g) old.stock new.stock
+        by.source (sides ro rn wo wn old.stock.registry new.stock.registry) result
+        → UnlessStoreFault result (new.stock.stopped ≡ false)
         → new.settings ≡ by
-        → (new.stored.stopped ≡ false → RunsWith g by new new.stored.registry)
-        → Goes (running by old.stored.registry) (submitted ro rn wo wn result) (at_desk new)
+        → (new.stock.stopped ≡ false → RunsWith g by new new.stock.registry)
+        → Goes (running by old.stock.registry) (submitted ro rn wo wn result) (at_desk new)
     goes_on (Ok done) it on settings runs = stays (Ok done) it refl (runs on)
     goes_on (Err (ReadFault count)) it on settings runs = stays (Err (ReadFault count)) it refl
         (runs on)
@@ -202,12 +203,12 @@ module _ {S : Type 0} (g : Ghosts S) where
         (runs on)
     goes_on (Err (StoreFault count)) it on settings runs =
         let h = it.handles in
-        let halt = has_stopped h.middle new.stored h.last.secrets h.last.request.action h.stops in
+        let halt = has_stopped h.middle new.stock h.last.secrets h.last.request.action h.stops in
         let next =
-        halted by (that_registry h.middle.registry ∷ (that_registry new.stored.registry ∷ []))
+        halted by (that_registry h.middle.registry ∷ (that_registry new.stock.registry ∷ []))
         in record {
           next = next;
-          moves_there = decides by old.stored.registry next ro rn wo wn (Err (StoreFault count))
+          moves_there = decides by old.stock.registry next ro rn wo wn (Err (StoreFault count))
               (record {
                 prefix = it.prefix;
                 reads = it.reads;
@@ -221,7 +222,7 @@ module _ {S : Type 0} (g : Ghosts S) where
                   runs = h.runs;
                   confined = h.confined;
                   running = refl;
-                  stops = plain_stop by h.middle new.stored h.last.secrets h.last.request.action
+                  stops = plain_stop by h.middle new.stock h.last.secrets h.last.request.action
                       h.stops;
                   writes = h.writes;
                   ends = h.ends;
@@ -239,25 +240,25 @@ module _ {S : Type 0} (g : Ghosts S) where
         → Goes mode (submitted ro rn wo wn result) (at_desk new)
     after_submission ro rn wo wn result (running by r) is s =
         let settings : new.settings ≡ by = is.leaves.settings ∙ s.settings in
-        let it : Submits (stock_ledger g) old.stored new.stored by.source
-        (sides ro rn wo wn old.stored.registry new.stored.registry) result =
-        subst (λ (x : SettingsParts). Submits (stock_ledger g) old.stored new.stored x.source
-        (sides ro rn wo wn old.stored.registry new.stored.registry) result) s.settings
+        let it : Submits (stock_ledger g) old.stock new.stock by.source
+        (sides ro rn wo wn old.stock.registry new.stock.registry) result =
+        subst (λ (x : SettingsParts). Submits (stock_ledger g) old.stock new.stock x.source
+        (sides ro rn wo wn old.stock.registry new.stock.registry) result) s.settings
         (is.submits s.running) in
-        let of_old : IsRegistryOf old.settings.source old.stored.registry =
-        subst (λ (x : SettingsParts). IsRegistryOf x.source old.stored.registry) (sym s.settings)
+        let of_old : IsRegistryOf old.settings.source old.stock.registry =
+        subst (λ (x : SettingsParts). IsRegistryOf x.source old.stock.registry) (sym s.settings)
         (subst (IsRegistryOf by.source) (sym s.registry) s.of_source) in
-        let of_new : IsRegistryOf by.source new.stored.registry =
-        subst (λ (x : SettingsParts). IsRegistryOf x.source new.stored.registry) settings
+        let of_new : IsRegistryOf by.source new.stock.registry =
+        subst (λ (x : SettingsParts). IsRegistryOf x.source new.stock.registry) settings
         (is.leaves.of_source of_old) in
-        goes_as by old.stored.registry r (submitted ro rn wo wn result) (at_desk new) s.registry
+        goes_as by old.stock.registry r (submitted ro rn wo wn result) (at_desk new) s.registry
         (goes_on by old new ro rn wo wn result it (is.leaves.runs_on s.running) settings
         (λ on. record {
           running = on;
           settings = settings;
           registry = refl;
           of_source = of_new;
-          keeps = keeps_of new.stored (is.leaves.rows on);
+          keeps = keeps_of new.stock (is.leaves.rows on);
         }))
     after_submission ro rn wo wn result (resting found) is s = absurd s
     after_submission ro rn wo wn result (halted by found) is s =
@@ -279,8 +280,8 @@ module _ {S : Type 0} (g : Ghosts S) where
       → Goes mode (asked text (answer_bytes answer)) (at_desk desk)
   after_answer desk text answer (resting found) gives s = absurd s
   after_answer desk text answer (running by r) gives s =
-      let of_desk : IsAnswered desk.stored.registry desk.settings.limit text false answer =
-      subst (λ (b : Bool). IsAnswered desk.stored.registry desk.settings.limit text b answer)
+      let of_desk : IsAnswered desk.stock.registry desk.settings.limit text false answer =
+      subst (λ (b : Bool). IsAnswered desk.stock.registry desk.settings.limit text b answer)
       s.running gives in
       let there : IsAnswered r by.limit text false answer =
       subst (λ (x : SettingsParts). IsAnswered r x.limit text false answer) s.settings
@@ -292,8 +293,8 @@ module _ {S : Type 0} (g : Ghosts S) where
       }
   after_answer desk text answer (halted by found) gives s =
       let none : answer ≡ halted_reply (is_too_long text) =
-      none_told (is_too_long text) desk.stored.registry desk.settings.limit text answer
-      (subst (λ (b : Bool). IsAnswered desk.stored.registry desk.settings.limit text b answer)
+      none_told (is_too_long text) desk.stock.registry desk.settings.limit text answer
+      (subst (λ (b : Bool). IsAnswered desk.stock.registry desk.settings.limit text b answer)
       s.stopped gives) in record {
         next = halted by found;
         moves_there = subst (λ (x : Result (List ℕ) QueryFault). Moves (halted by found)
@@ -302,9 +303,9 @@ module _ {S : Type 0} (g : Ghosts S) where
         stands = s;
       }
 
-  after_dump : (desk : Desk S) (full : Bool) (mode : Mode) → desk.stored.stopped ≡ false →
+  after_dump : (desk : Desk S) (full : Bool) (mode : Mode) → desk.stock.stopped ≡ false →
       Stands g (at_desk desk) mode
-      → Goes mode (dumped full (dump full desk.stored.registry)) (at_desk desk)
+      → Goes mode (dumped full (dump full desk.stock.registry)) (at_desk desk)
   after_dump desk full (resting found) on s = absurd s
   after_dump desk full (running by r) on s = record {
     next = running by r;
@@ -312,16 +313,16 @@ module _ {S : Type 0} (g : Ghosts S) where
         (running by r)) (sym s.registry) (prints by r full);
     stands = s;
   }
-  after_dump desk full (halted by found) on s = absurd (not_both desk.stored.stopped s.stopped on)
+  after_dump desk full (halted by found) on s = absurd (not_both desk.stock.stopped s.stopped on)
 
-  after_close : (desk : Desk S) (conn : Held S) (mode : Mode) → conn ≡ desk.stored.store →
+  after_close : (desk : Desk S) (conn : Held S) (mode : Mode) → conn ≡ desk.stock.store →
       Stands g (at_desk desk) mode → Goes mode closed (at_rest conn)
   after_close desk conn (resting found) same s = absurd s
   after_close desk conn (running by r) same s = record {
     next = resting (that_registry r ∷ []);
     moves_there = closes by r;
     stands = subst (λ (held : Held S). HasOne g (that_registry r ∷ []) held) (sym same)
-        (keeps_found r desk.stored.store s.keeps);
+        (keeps_found r desk.stock.store s.keeps);
   }
   after_close desk conn (halted by found) same s =
       record {
@@ -347,15 +348,15 @@ module _ {S : Type 0} (g : Ghosts S) where
         next = resting (that_registry r ∷ []);
         moves_there = breaks by r;
         stands =
-            found_one (that_registry r ∷ []) desk.stored.store conn found
-            (keeps_found r desk.stored.store s.keeps);
+            found_one (that_registry r ∷ []) desk.stock.store conn found
+            (keeps_found r desk.stock.store s.keeps);
       }
   after_stop (at_desk desk) conn (halted by those) found s =
       record {
         next = resting those;
         moves_there = breaks_halted by those;
         stands =
-            found_one those desk.stored.store conn found s.has;
+            found_one those desk.stock.store conn found s.has;
       }
   after_stop (at_desk desk) conn (resting those) found s = absurd s
   after_stop (at_rest old) conn (running by r) found s = absurd s
@@ -370,26 +371,26 @@ module _ {S : Type 0} (g : Ghosts S) where
 
   -- a desk that opens runs with its registry
   opened_with : (by : SettingsParts) (desk : Desk S) → IsRunning g by desk →
-      RunsWith g by desk desk.stored.registry
+      RunsWith g by desk desk.stock.registry
   opened_with by desk runs = record {
     running = runs.running;
     settings = runs.settings;
     registry =
         refl;
     of_source = runs.of_source;
-    keeps = keeps_of desk.stored runs.holds;
+    keeps = keeps_of desk.stock runs.holds;
   }
 
   after_opening : (by : SettingsParts) (conn : Held S) (desk : Desk S) (mode : Mode) →
-      IsRunning g by desk → OpensTables g conn desk.stored
-      → HasCleanDisk (state g desk.stored.store) → Stands g (at_rest conn) mode →
+      IsRunning g by desk → OpensTables g conn desk.stock
+      → HasCleanDisk (state g desk.stock.store) → Stands g (at_rest conn) mode →
       Goes mode (opened by) (at_desk desk)
   after_opening by conn desk (running other r) runs tables clean s = absurd s
   after_opening by conn desk (halted other found) runs tables clean s = absurd s
   after_opening by conn desk (resting found) runs tables clean s = record {
-    next = running by desk.stored.registry;
-    moves_there = opens by found desk.stored.registry
-        (opened_one found desk.stored.registry (database g conn) (tables.rows clean)
+    next = running by desk.stock.registry;
+    moves_there = opens by found desk.stock.registry
+        (opened_one found desk.stock.registry (database g conn) (tables.rows clean)
         (s.rows (omega (arith, clean, tables.crash.clean)) (tables.was_open clean)))
         runs.of_source;
     stands = opened_with by desk runs;
@@ -417,17 +418,17 @@ module _ {S : Type 0} (g : Ghosts S) where
       }
 
   after_making : (by : SettingsParts) (how : Making) (conn : Held S) (desk : Desk S) (mode : Mode)
-      → IsRunning g by desk → IsMadeBy how desk.stored.registry → MakesTables g (rows_by how) conn
-      desk.stored.store
-      → HasCleanDisk (state g desk.stored.store) → Stands g (at_rest conn) mode →
+      → IsRunning g by desk → IsMadeBy how desk.stock.registry → MakesTables g (rows_by how) conn
+      desk.stock.store
+      → HasCleanDisk (state g desk.stock.store) → Stands g (at_rest conn) mode →
       Goes mode (made by how) (at_desk desk)
   after_making by how conn desk (running other r) runs is tables clean s = absurd s
   after_making by how conn desk (halted other found) runs is tables clean s = absurd s
   after_making by how conn desk (resting found) runs is tables clean s =
       let earlier : HasCleanDisk (state g conn) = omega (arith, clean, tables.crash.clean) in
       let on = tables.was_open clean in record {
-        next = running by desk.stored.registry;
-        moves_there = makes by how found desk.stored.registry (vacant_none found (database g conn)
+        next = running by desk.stock.registry;
+        moves_there = makes by how found desk.stock.registry (vacant_none found (database g conn)
             (s.lists earlier on) (tables.vacant clean) (s.rows earlier on)) is;
         stands = opened_with by desk runs;
       }
@@ -464,15 +465,15 @@ module _ {S : Type 0} (g : Ghosts S) where
       }
 
   after_migration : (by : SettingsParts) (conn : Held S) (desk : Desk S) (mode : Mode) →
-      IsRunning g by desk → MigratesTables g by conn desk.stored
-      → HasCleanDisk (state g desk.stored.store) → Stands g (at_rest conn) mode →
+      IsRunning g by desk → MigratesTables g by conn desk.stock
+      → HasCleanDisk (state g desk.stock.store) → Stands g (at_rest conn) mode →
       Goes mode (migrated by) (at_desk desk)
   after_migration by conn desk (running other r) runs tables clean s = absurd s
   after_migration by conn desk (halted other found) runs tables clean s = absurd s
   after_migration by conn desk (resting found) runs tables clean s = record {
-    next = running by desk.stored.registry;
-    moves_there = migrates by found desk.stored.registry
-        (grown_one by found desk.stored.registry (database g conn) (tables.grown clean)
+    next = running by desk.stock.registry;
+    moves_there = migrates by found desk.stock.registry
+        (grown_one by found desk.stock.registry (database g conn) (tables.grown clean)
         (s.rows (omega (arith, clean, tables.crash.clean)) (tables.was_open clean)));
     stands = opened_with by desk runs;
   }

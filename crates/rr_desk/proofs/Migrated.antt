@@ -42,7 +42,7 @@ use Rattle.rr_store.specs.declared.store_fault.OpenFault.{OpenFault}
 use Rattle.rr_store.specs.declared.store_fault.OpenFault.TheVariants as opened
 use Rattle.rr_desk.specs.Opened.{GivesBack}
 use Rattle.rr_desk.specs.Rows.{CommitsNothing}
-use Rattle.rr_desk.specs.Stocks.{Stock}
+use Rattle.rr_desk.specs.Stocks.{StockParts}
 use Rattle.rr_store.specs.Migrating.{HasNoRoot, IsMigrated, has_mntner, is_mntner_of, upper_block}
 use Rattle.rr_store.proofs.CauseLemmas.{caused_then}
 use Rattle.rr_desk.specs.Migrating.{AreRegistry, CommitsMigrated, FailsMigrating}
@@ -292,7 +292,7 @@ module _ {S : Type 0} (g : Ghosts S) (s : SettingsParts) (first between : Held S
         ),
       )) one two
 
-  pub migrates_then : (stored : Stock S) → MigratesTables g s between stored →
+  pub migrates_then : (stored : StockParts S) → MigratesTables g s between stored →
       MigratesTables g s first stored
   migrates_then stored migrates = record {
     was_open = λ clean. was_open (let kept = migrates.crash.clean in omega (arith, kept));

@@ -36,7 +36,7 @@ use Rattle.rr_submission.proofs.Keeping.{items_keep_the_source}
 use Rattle.rr_desk.specs.declared.desk.Desk.{Desk}
 use Rattle.rr_desk.specs.Opening.{IsOpeningRegistry}
 use Rattle.rr_desk.specs.Settings.{IsSettings, SettingsParts}
-use Rattle.rr_desk.specs.Stocks.{Stock, stock_ledger}
+use Rattle.rr_desk.specs.Stocks.{StockParts, stock_ledger}
 use Rattle.rr_desk.proofs.Opens.{addresses_read, numbers_read, root_read, upper_read}
 use Rattle.rr_desk.proofs.OpeningRegistry.{are_these, opening_objects, upper_object}
 
@@ -92,9 +92,9 @@ opened_of_source s r is sound opened =
     (subst (AllByRecursion (IsReadIn s.source))
     (sym (are_these s opened.objects is opened.are_opening)) (opening_read s is))
 
-module _ {S : Type 0} (g : store.Ghosts S) (source : List ℕ) (old new : Stock S) where
+module _ {S : Type 0} (g : store.Ghosts S) (source : List ℕ) (old new : StockParts S) where
   -- what brings the desk to a stop is decided
-  decided : (middle : Stock S) (secrets : List (List ℕ)) (action : Result Item Code) →
+  decided : (middle : StockParts S) (secrets : List (List ℕ)) (action : Result Item Code) →
       StopsAt (stock_ledger g) middle secrets action new → (outcome : Outcome)
       × Decides middle.registry secrets action outcome new.registry
   decided middle secrets (Ok item) stops = (stops.outcome, stops.step)
@@ -155,7 +155,7 @@ module _ {S : Type 0} (g : store.Ghosts S) (source : List ℕ) (old new : Stock 
       }) result)
       → IsRegistryOf source old.registry → IsRegistryOf source new.registry
   submitted_where true start now before after result same submits of =
-      subst (λ (s : Stock S). IsRegistryOf source s.registry) (sym (same refl)) of
+      subst (λ (s : StockParts S). IsRegistryOf source s.registry) (sym (same refl)) of
   submitted_where false start now before after result same submits of = kept_of_source start now
       before after result (submits refl) of
 
@@ -175,10 +175,10 @@ module _ {S : Type 0} (g : store.Ghosts S) (source : List ℕ) (old new : Stock 
       start now before after result same submits of
 
 -- a desk with another registry and store
-abbrev pub with_stock : {S : Type 0} → Desk S → Stock S → Desk S
-with_stock desk stock = record { settings = desk.settings; stored = stock }
+abbrev pub with_stock : {S : Type 0} → Desk S → StockParts S → Desk S
+with_stock desk stock = record { settings = desk.settings; stock = stock }
 
 -- a desk is as it was where its registry and its store are
-pub same_desk : {S : Type 0} (desk : Desk S) (stock : Stock S) → stock ≡ desk.stored →
+pub same_desk : {S : Type 0} (desk : Desk S) (stock : StockParts S) → stock ≡ desk.stock →
     with_stock desk stock ≡ desk
 same_desk desk stock same = ap (with_stock desk) same

@@ -8,12 +8,12 @@ use Rattle.std.proofs.lemmas.List.Sums.{sum_by-append}
 use Rattle.sqlite_trees.specs.declared.store.Store.{Ghosts}
 use Rattle.rr_desk.specs.declared.desk.Desk.{Desk}
 use Rattle.std.specs.Prelude.{is_ok}
-use Rattle.rr_io.specs.declared.streams.Source as source
-use Rattle.rr_io.specs.declared.streams.Sink as sink
+use Rattle.rr_io.specs.declared.streams.Reader as readers
+use Rattle.rr_io.specs.declared.streams.Writer as writers
 use Rattle.rr_desk.specs.Desks.{desk_state}
 use Rattle.rr_desk.specs.Lasting.{database_still}
 use Rattle.rr_desk.specs.TurnParts.{TakesTurn}
-use Rattle.rr_desk.specs.Turns.{ConnEnd, Does, DoesAll, InOrder, IsAccepted, IsClosed, IsNext}
+use Rattle.rr_desk.specs.Turns.{ConnEnd, Does, DoesAll, InOrder, IsAccepted, IsClosed, IsNextTurn}
 use Rattle.rr_desk.specs.Turns.{IsUnaccepted, Serving, StaysServed, TakesTurns, Tally, Turn, Visit}
 use Rattle.rr_desk.specs.Turns.{closed, conn_visit, given_in, is_served, turn_of, with_turn}
 
@@ -47,10 +47,10 @@ all_more {S} g serves (v ∷ visits) visit first before after all does =
 -- the connections to come are accepted in their order by one turn more
 order_more : (visits : List (Option Visit)) (visit : Option Visit)
     (first before after : Option (List (List ℕ))) →
-    InOrder visits first before → IsNext (given_in visit) before after →
+    InOrder visits first before → IsNextTurn (given_in visit) before after →
     InOrder (visits ++ visit ∷ []) first after
 order_more [] visit first before after none next =
-    (after, subst (λ waiting. IsNext (given_in visit) waiting after) none next, refl)
+    (after, subst (λ waiting. IsNextTurn (given_in visit) waiting after) none next, refl)
 order_more (v ∷ visits) visit first before after all next =
     (all.0, all.1, order_more visits visit all.0 before after all.2 next)
 
@@ -118,8 +118,8 @@ no_turn g serves desk tally = record {
     none_more (Some turns) = ap Some (sym (append-nil turns))
 
 -- a connection was accepted, served and closed, which is a turn
-pub served_turn : {S C : Type 0} (g : Ghosts S) (serves : Serving) (reader : source.Ghosts C)
-    (writer : sink.Ghosts C) (before after : Desk S) (first between last : Tally)
+pub served_turn : {S C : Type 0} (g : Ghosts S) (serves : Serving) (reader : readers.Ghosts C)
+    (writer : writers.Ghosts C) (before after : Desk S) (first between last : Tally)
     (given : Option (List ℕ)) (old new : C) (ended : ConnEnd) (well : Bool) → well ≡ is_ok ended →
     IsAccepted first between given (reader.told old) (writer.told old) →
     serves S g before after (conn_visit reader writer old new ended) →
@@ -140,7 +140,7 @@ served_turn g serves reader writer before after first between last given old new
         served,
         stays,
       );
-      is_next = subst (IsNext (Some (reader.told old).bytes) first.waiting) (sym closes.waiting)
+      is_next = subst (IsNextTurn (Some (reader.told old).bytes) first.waiting) (sym closes.waiting)
           accepted.is_next;
       taken = record {
         counted = closes.counts.counted ∙ ap (λ n. n + 1) accepted.counted;

@@ -18,18 +18,18 @@ use Rattle.rr_desk.specs.Stocks.{DatabaseLasts, StoresUntilStopped, stock_ledger
 
 -- what is told of the database of a desk
 abbrev pub desk_state : {S : Type 0} → Ghosts S → Desk S → State
-desk_state g desk = state g desk.stored.store
+desk_state g desk = state g desk.stock.store
 
 -- the registry of a desk is of its settings' source
 abbrev pub IsOfItsSource : {S : Type 0} → Desk S → Type 0
-IsOfItsSource desk = IsRegistryOf desk.settings.source desk.stored.registry
+IsOfItsSource desk = IsRegistryOf desk.settings.source desk.stock.registry
 
 -- what a submission does to a desk that runs, and to its reader and its writer, by its answer
 abbrev pub SubmitsTo : {S : Type 0} → Ghosts S → Desk S → Desk S → Told → Told → Told
     → Told
     → Result Done DeskFault → Type 0
 SubmitsTo g old new reader_old reader_new writer_old writer_new result =
-    SubmitsText (stock_ledger g) old.stored new.stored old.settings.source reader_old reader_new
+    SubmitsText (stock_ledger g) old.stock new.stock old.settings.source reader_old reader_new
     writer_old writer_new result
 
 -- what a submission leaves of a desk: only a fault of the store stops it; until it is stopped, its
@@ -37,9 +37,9 @@ SubmitsTo g old new reader_old reader_new writer_old writer_new result =
 -- lasts, and its settings stay (profile)
 pub record LeavesDesk {S : Type 0} (g : Ghosts S) (old new : Desk S)
     (result : Result Done DeskFault) : Type 0 where
-  pub runs_on : old.stored.stopped ≡ false
-      → UnlessStoreFault result (new.stored.stopped ≡ false)
-  pub rows : StoresUntilStopped g new.stored
+  pub runs_on : old.stock.stopped ≡ false
+      → UnlessStoreFault result (new.stock.stopped ≡ false)
+  pub rows : StoresUntilStopped g new.stock
   pub of_source : IsOfItsSource old → IsOfItsSource new
   pub lasts : DatabaseLasts (desk_state g old) (desk_state g new)
   pub settings : new.settings ≡ old.settings
@@ -47,11 +47,11 @@ pub record LeavesDesk {S : Type 0} (g : Ghosts S) (old new : Desk S)
 -- the answer of a desk to the text of a query
 abbrev pub GivesAnswer : {S : Type 0} → Desk S → List ℕ → Result (List ℕ) QueryFault → Type 0
 GivesAnswer desk text answer =
-    IsAnswered desk.stored.registry desk.settings.limit text desk.stored.stopped answer
+    IsAnswered desk.stock.registry desk.settings.limit text desk.stock.stopped answer
 
 -- the answer of a desk to the text of a query is written, or where a write failed its beginning and
 -- not all (`Answers`)
 abbrev pub WritesAnswer : {S : Type 0} → Desk S → List ℕ → Told → Told
     → Result Answered WriteFault → Type 0
 WritesAnswer desk text old new result =
-    Answers desk.stored.registry desk.settings.limit text desk.stored.stopped old new result
+    Answers desk.stock.registry desk.settings.limit text desk.stock.stopped old new result

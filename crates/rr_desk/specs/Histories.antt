@@ -44,7 +44,7 @@ pub data Place (S : Type 0) : Type 0 where
 
 -- the connection to a database, at a desk or at rest
 abbrev pub connection : {S : Type 0} → Place S → Held S
-connection (at_desk desk) = desk.stored.store
+connection (at_desk desk) = desk.stock.store
 connection (at_rest conn) = conn
 
 -- tables hold the rows of the registry that is made so
@@ -86,9 +86,9 @@ module _ {S : Type 0} (g : Ghosts S) where
   -- what `Desk::submit` promises of a submission, clause by clause
   pub record IsSubmission (old new : Desk S) (reader_old reader_new writer_old writer_new : Told)
       (result : Result Done DeskFault) : Type 0 where
-    pub refuses : old.stored.stopped ≡ true
+    pub refuses : old.stock.stopped ≡ true
         → RefusesSubmission old new reader_old reader_new writer_old writer_new result
-    pub submits : old.stored.stopped ≡ false
+    pub submits : old.stock.stopped ≡ false
         → SubmitsTo g old new reader_old reader_new writer_old writer_new result
     pub leaves : LeavesDesk g old new result
 
@@ -114,24 +114,24 @@ module _ {S : Type 0} (g : Ghosts S) where
     query : (desk : Desk S) (text : List ℕ) (answer : Result (List ℕ) QueryFault) →
         GivesAnswer desk text answer →
         Happens (at_desk desk) (asked text (answer_bytes answer)) (at_desk desk)
-    printing : (desk : Desk S) (full : Bool) → desk.stored.stopped ≡ false →
-        Happens (at_desk desk) (dumped full (dump full desk.stored.registry)) (at_desk desk)
-    closing : (desk : Desk S) (conn : Held S) → conn ≡ desk.stored.store →
+    printing : (desk : Desk S) (full : Bool) → desk.stock.stopped ≡ false →
+        Happens (at_desk desk) (dumped full (dump full desk.stock.registry)) (at_desk desk)
+    closing : (desk : Desk S) (conn : Held S) → conn ≡ desk.stock.store →
         Happens (at_desk desk) closed (at_rest conn)
     opening : (by : SettingsParts) (conn : Held S) (desk : Desk S) →
-        IsRunning g by desk → OpensTables g conn desk.stored →
+        IsRunning g by desk → OpensTables g conn desk.stock →
         Happens (at_rest conn) (opened by) (at_desk desk)
     no_opening : (by : SettingsParts) (conn left : Held S) (fault : OpenFault) →
         FailsToOpenTables g by.source conn left fault →
         Happens (at_rest conn) (unopened by fault) (at_rest left)
     making : (by : SettingsParts) (how : Making) (conn : Held S) (desk : Desk S) →
-        IsRunning g by desk → IsMadeBy how desk.stored.registry
-        → MakesTables g (rows_by how) conn desk.stored.store →
+        IsRunning g by desk → IsMadeBy how desk.stock.registry
+        → MakesTables g (rows_by how) conn desk.stock.store →
         Happens (at_rest conn) (made by how) (at_desk desk)
     no_making : (how : Making) (conn left : Held S) → MakesNone g (rows_by how) conn left →
         Happens (at_rest conn) (unmade how) (at_rest left)
     migration : (by : SettingsParts) (conn : Held S) (desk : Desk S) →
-        IsRunning g by desk → MigratesTables g by conn desk.stored →
+        IsRunning g by desk → MigratesTables g by conn desk.stock →
         Happens (at_rest conn) (migrated by) (at_desk desk)
     no_migration : (by : SettingsParts) (conn left : Held S) (fault : MigrateFault) →
         FailsToMigrateTables g by conn left fault →
@@ -157,17 +157,17 @@ module _ {S : Type 0} (g : Ghosts S) where
   -- a desk runs by these settings with this registry, which is of their source: its tables hold the
   -- rows of it, and a stop leaves these
   pub record RunsWith (by : SettingsParts) (desk : Desk S) (r : Reg) : Type 0 where
-    pub running : desk.stored.stopped ≡ false
+    pub running : desk.stock.stopped ≡ false
     pub settings : desk.settings ≡ by
-    pub registry : desk.stored.registry ≡ r
+    pub registry : desk.stock.registry ≡ r
     pub of_source : IsRegistryOf by.source r
     pub keeps : KeepsRows r (desk_state g desk)
 
   -- a desk by these settings stopped, and its tables have rows in which one of these may be found
   pub record StopsWith (by : SettingsParts) (desk : Desk S) (found : List Found) : Type 0 where
-    pub stopped : desk.stored.stopped ≡ true
+    pub stopped : desk.stock.stopped ≡ true
     pub settings : desk.settings ≡ by
-    pub has : HasOne found desk.stored.store
+    pub has : HasOne found desk.stock.store
 
   -- the database stands as this registry by itself does: at a desk that runs or stopped as it, or
   -- at rest
@@ -197,7 +197,7 @@ module _ {S : Type 0} (g : Ghosts S) where
   abbrev pub DesksStand : Type 0
   DesksStand =
       (by : SettingsParts) (desk : Desk S) → IsRunning g by desk
-      → Stands (at_desk desk) (running by desk.stored.registry)
+      → Stands (at_desk desk) (running by desk.stock.registry)
 
   -- where the disk gives back what was written, the first table of the database has no row, as that
   -- of a new one has none: while the connection is open, and in what a stop leaves

@@ -1,5 +1,5 @@
 -- That a connection lasts where nothing is done, and through what is done after something else:
--- proofs that ghost items of `src/stored.rt` and of `rr_http` name.
+-- proofs that ghost items of `src/stock.rt` and of `rr_http` name.
 use Rattle.std.specs.Prelude.{refl}
 use Rattle.std.proofs.Common.{arith, inl}
 use Rattle.sqlite_trees.specs.declared.store.Store as store
@@ -7,7 +7,7 @@ use Rattle.sqlite.specs.Held.{state}
 use Rattle.sqlite.specs.State.{State, HasCleanDisk}
 use Rattle.sqlite.proofs.StateLemmas.{survives_then}
 use Rattle.rr_store.proofs.OtherLemmas.{others_itself, others_then}
-use Rattle.rr_desk.specs.Stocks.{DatabaseLasts, Stock, stock_ledger}
+use Rattle.rr_desk.specs.Stocks.{DatabaseLasts, StockParts, stock_ledger}
 
 -- a connection lasts where nothing is done
 pub database_still : (s : State) → DatabaseLasts s s
@@ -39,11 +39,11 @@ database_on a b c first second =
     }
 
 -- what lasts of a stock lasts where nothing is decided
-pub stock_still : {S : Type 0} (g : store.Ghosts S) (s : Stock S) → (stock_ledger g).Lasts s s
+pub stock_still : {S : Type 0} (g : store.Ghosts S) (s : StockParts S) → (stock_ledger g).Lasts s s
 stock_still g s = database_still (state g s.store)
 
 -- what lasts of a stock through some items, and through those after them, lasts through all
-pub stock_on : {S : Type 0} (g : store.Ghosts S) (before between after : Stock S) →
+pub stock_on : {S : Type 0} (g : store.Ghosts S) (before between after : StockParts S) →
     (stock_ledger g).Lasts before between → (stock_ledger g).Lasts between after
     → (stock_ledger g).Lasts before after
 stock_on g before between after first second =

@@ -26,7 +26,7 @@ use Rattle.rr_store.specs.declared.store_fault.MigrateFault.TheVariants.{WrongVe
 use Rattle.rr_store.specs.declared.version.Version.TheVariants.{Old}
 use Rattle.rr_desk.specs.Opened.{GivesBack}
 use Rattle.rr_desk.specs.Settings.{SettingsParts}
-use Rattle.rr_desk.specs.Stocks.{Stock}
+use Rattle.rr_desk.specs.Stocks.{StockParts}
 
 -- objects are those of a sound registry (profile)
 pub record AreRegistry (objects : List Obj) : Type 0 where
@@ -103,7 +103,7 @@ CommitsMigrated g settings conn =
 -- a stop of the process leaves the old ones or the new ones. This holds where the disk gives back
 -- what was written (profile)
 pub record MigratesTables {S : Type 0} (g : Ghosts S) (settings : SettingsParts) (conn : Held S)
-    (stored : Stock S) : Type 0 where
+    (stored : StockParts S) : Type 0 where
   pub was_open : OnCleanDisk g stored.store (IsTrue (state g conn).is_open)
   pub grown : OnCleanDisk g stored.store
       (IsGrown settings (database g conn) stored.registry)

@@ -27,7 +27,7 @@ use Rattle.rr_desk.specs.declared.desk.Desk.{Desk}
 use Rattle.rr_desk.specs.Opening.{IsOpeningRegistry}
 use Rattle.rr_desk.specs.Rows.{CommitsNothing}
 use Rattle.rr_desk.specs.Settings.{SettingsParts}
-use Rattle.rr_desk.specs.Stocks.{Stock, StoresRows}
+use Rattle.rr_desk.specs.Stocks.{StockParts, StoresRows}
 
 -- the tables hold the rows of no registry of the source (profile)
 abbrev pub HasNoRegistry : List ℕ → Database → Type 0
@@ -47,10 +47,10 @@ TellsOtherTables db error = ¬ HasTables db.schema → db.schema ≢ no_schema �
 -- a desk by these settings runs: its registry is of their source, and its tables hold the rows of
 -- it (profile)
 pub record IsRunning {S : Type 0} (g : Ghosts S) (by : SettingsParts) (desk : Desk S) : Type 0 where
-  pub running : desk.stored.stopped ≡ false
+  pub running : desk.stock.stopped ≡ false
   pub settings : desk.settings ≡ by
-  pub of_source : IsRegistryOf by.source desk.stored.registry
-  pub holds : StoresRows g desk.stored
+  pub of_source : IsRegistryOf by.source desk.stock.registry
+  pub holds : StoresRows g desk.stock
 
 -- why tables are not opened: they are of another version, which comes first, or no registry of the
 -- source has their rows; of a database without the three tables, that and nothing else is told
@@ -67,7 +67,7 @@ pub record RefusesRegistry (source : List ℕ) (db : Database) (fault : OpenFaul
 module _ {S : Type 0} (g : Ghosts S) where
   -- tables were opened, over a connection that was open: their rows are those of the registry, and
   -- nothing was changed or committed (profile)
-  pub record OpensTables (conn : Held S) (opened : Stock S) : Type 0 where
+  pub record OpensTables (conn : Held S) (opened : StockParts S) : Type 0 where
     pub was_open : OnCleanDisk g opened.store (IsTrue (state g conn).is_open)
     pub rows : OnCleanDisk g opened.store (HasRows opened.registry (database g conn))
     pub same : OnCleanDisk g opened.store (database g opened.store ≡ database g conn)

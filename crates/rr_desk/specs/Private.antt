@@ -30,7 +30,7 @@ use Rattle.rr_store.specs.declared.store_fault.StoreFault.{StoreFault}
 use Rattle.rr_store.specs.declared.store_fault.StoreFault.TheVariants as store_fault
 use Rattle.rr_store.specs.declared.store_fault.OpenFault.{OpenFault}
 use Rattle.rr_store.specs.declared.store_fault.OpenFault.TheVariants as opened
-use Rattle.rr_desk.specs.Stocks.{Stock, StoresRows}
+use Rattle.rr_desk.specs.Stocks.{StockParts, StoresRows}
 use Rattle.rr_desk.specs.declared.loading.DeskLoadFault.{DeskLoadFault}
 use Rattle.rr_desk.specs.declared.loading.DeskLoadFault.TheVariants as load
 
@@ -54,13 +54,13 @@ LeadsTo before key Deleted after = after ≡ remove before key
 LeadsTo before key (Refused code) after = after ≡ before
 
 -- a stock of this registry runs, and its store holds the rows of it
-pub record IsStockOf {S : Type 0} (g : Ghosts S) (this : Reg) (stock : Stock S) : Type 0 where
+pub record IsStockOf {S : Type 0} (g : Ghosts S) (this : Reg) (stock : StockParts S) : Type 0 where
   pub registry : stock.registry ≡ this
   pub running : stock.stopped ≡ false
   pub holds : StoresRows g stock
 
 -- a stock of a registry of this source runs, and its store holds the rows of it
-pub record IsStockOfSource {S : Type 0} (g : Ghosts S) (source : List ℕ) (stock : Stock S)
+pub record IsStockOfSource {S : Type 0} (g : Ghosts S) (source : List ℕ) (stock : StockParts S)
     : Type 0 where
   pub of_source : IsRegistryOf source stock.registry
   pub running : stock.stopped ≡ false

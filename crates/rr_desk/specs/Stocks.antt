@@ -19,14 +19,14 @@ use Rattle.rr_desk.specs.Rows.{Holds}
 
 -- a registry, the connection that keeps its rows, and whether a fault of the store stopped it, with
 -- the error of the database that was its cause
-pub record Stock (S : Type 0) : Type 0 where
+pub record StockParts (S : Type 0) : Type 0 where
   pub registry : Reg
   pub store : Held S
   pub stopped : Bool
   pub cause : Option Error
 
 -- a stock is told apart by its registry, its store, whether it is stopped, and its cause
-abbrev pub stock_code : {S : Type 0} → Coded S → Coded (Stock S)
+abbrev pub stock_code : {S : Type 0} → Coded S → Coded (StockParts S)
 stock_code {S} held =
     code_by (Reg × (Held S × (Bool × Option Error)))
     (coded× (map.code (key.the_row).coded (object.the_row).coded)
@@ -36,18 +36,18 @@ stock_code {S} held =
     (λ _. refl)
 
 -- the stock of this registry, store and cause; it is stopped where it has a cause
-abbrev pub stock_of : {S : Type 0} → Reg → Held S → Option Error → Stock S
+abbrev pub stock_of : {S : Type 0} → Reg → Held S → Option Error → StockParts S
 stock_of registry store cause =
     record { registry = registry; store = store; stopped = is_some cause; cause = cause }
 
 -- where the disk gives back what was written, the store of a stock holds the rows of its registry
 -- (profile)
-abbrev pub StoresRows : {S : Type 0} → store.Ghosts S → Stock S → Type 0
+abbrev pub StoresRows : {S : Type 0} → store.Ghosts S → StockParts S → Type 0
 StoresRows g s = OnCleanDisk g s.store (Holds s.registry (state g s.store))
 
 -- until a stock is stopped its store holds the rows of its registry, where the disk gives back what
 -- was written
-abbrev pub StoresUntilStopped : {S : Type 0} → store.Ghosts S → Stock S → Type 0
+abbrev pub StoresUntilStopped : {S : Type 0} → store.Ghosts S → StockParts S → Type 0
 StoresUntilStopped g s = s.stopped ≡ false → StoresRows g s
 
 -- what lasts of a connection, whatever is committed in between: a disk that is clean was clean, and
@@ -62,7 +62,7 @@ pub record DatabaseLasts (old now : State) : Type 0 where
 
 -- a stock as a ledger: it keeps its registry and, until it is stopped, the rows of it; it stops by
 -- a fault of the store alone, and its connection lasts (profile)
-abbrev pub stock_ledger : {S : Type 0} → store.Ghosts S → ledger.Ghosts (Stock S)
+abbrev pub stock_ledger : {S : Type 0} → store.Ghosts S → ledger.Ghosts (StockParts S)
 stock_ledger g = record {
   registry = λ s. s.registry;
   is_stopped = λ s. s.stopped;

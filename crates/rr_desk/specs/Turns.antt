@@ -5,8 +5,8 @@ use Rattle.std.specs.Prelude.{count_by}
 use Rattle.std.specs.Prelude.{List, [], ◌∷◌, ◌++◌, Option, None, Some, slice_get}
 use Rattle.std.specs.Option.{option_map}
 use Rattle.sqlite_trees.specs.declared.store.Store.{Ghosts}
-use Rattle.rr_io.specs.declared.streams.Source as source
-use Rattle.rr_io.specs.declared.streams.Sink as sink
+use Rattle.rr_io.specs.declared.streams.Reader as readers
+use Rattle.rr_io.specs.declared.streams.Writer as writers
 use Rattle.rr_io.specs.Told.{Told, set_beside}
 use Rattle.rr_desk.specs.declared.desk.Desk.{Desk}
 use Rattle.rr_desk.specs.declared.peers.ConnFault.{ConnFault}
@@ -41,14 +41,14 @@ with_turn told turn = option_map (λ turns. turns ++ turn ∷ []) told
 -- where connections to come are told, the one accepted is the first of them, and the others are
 -- still to come; none is accepted just where none is to come. Where they are not told, they stay
 -- untold
-abbrev pub IsNext : Option (Option (List ℕ)) → Option (List (List ℕ))
+abbrev pub IsNextTurn : Option (Option (List ℕ)) → Option (List (List ℕ))
     → Option (List (List ℕ))
     → Type 0
-IsNext accepted None after = after ≡ None
-IsNext None (Some []) after = after ≡ Some []
-IsNext None (Some (bytes ∷ rest)) after = ⊥
-IsNext (Some told) (Some []) after = ⊥
-IsNext (Some told) (Some (bytes ∷ rest)) after = (told ≡ Some bytes) × (after ≡ Some rest)
+IsNextTurn accepted None after = after ≡ None
+IsNextTurn None (Some []) after = after ≡ Some []
+IsNextTurn None (Some (bytes ∷ rest)) after = ⊥
+IsNextTurn (Some told) (Some []) after = ⊥
+IsNextTurn (Some told) (Some (bytes ∷ rest)) after = (told ≡ Some bytes) × (after ≡ Some rest)
 
 -- a connection was accepted: it is fresh, the next one, and its reader tells the bytes that are
 -- noted as given. It is no turn yet: those that are counted and told stay
@@ -58,7 +58,7 @@ pub record IsAccepted (before after : Tally) (given : Option (List ℕ)) (reader
   pub is_given : given ≡ reader.bytes
   pub counted : after.turns ≡ before.turns
   pub told : after.told ≡ before.told
-  pub is_next : IsNext (Some reader.bytes) before.waiting after.waiting
+  pub is_next : IsNextTurn (Some reader.bytes) before.waiting after.waiting
 
 -- a turn was taken, and is told where turns are told
 pub record CountsTurn (turn : Turn) (before after : Tally) : Type 0 where
@@ -68,7 +68,7 @@ pub record CountsTurn (turn : Turn) (before after : Tally) : Type 0 where
 -- no connection could be accepted, which is a turn; where those to come are told, there is none
 pub record IsUnaccepted (before after : Tally) : Type 0 where
   pub counts : CountsTurn unaccepted before after
-  pub is_next : IsNext None before.waiting after.waiting
+  pub is_next : IsNextTurn None before.waiting after.waiting
 
 -- a connection was closed, which is a turn, told where turns are told with the bytes that are noted
 -- as given and those that it was answered; the connections that are to come stay
@@ -92,7 +92,7 @@ pub record Visit : Type 0 where
 -- a connection while it was served, by what it told as a reader and as a writer, before and after.
 -- Beside the reader stands, also after, what stood there at first; beside the writer, also before,
 -- what stood there at last
-abbrev pub conn_visit : {C : Type 0} → source.Ghosts C → sink.Ghosts C → C → C → ConnEnd
+abbrev pub conn_visit : {C : Type 0} → readers.Ghosts C → writers.Ghosts C → C → C → ConnEnd
     → Visit
 conn_visit reader writer old new ended = record {
   reader_before = reader.told old;
@@ -122,7 +122,7 @@ is_served (Some visit) = is_ok visit.ended
 pub record StaysServed {S : Type 0} (g : Ghosts S) (before after : Desk S) : Type 0 where
   pub settings : after.settings ≡ before.settings
   pub lasts : DatabaseLasts (desk_state g before) (desk_state g after)
-  pub rows : StoresUntilStopped g after.stored
+  pub rows : StoresUntilStopped g after.stock
 
 -- what a turn did: nothing where no connection could be accepted, otherwise what serving it does,
 -- from when it was accepted, and what stays of the desk
@@ -152,7 +152,7 @@ abbrev pub InOrder : List (Option Visit) → Option (List (List ℕ)) → Option
     → Type 0
 InOrder [] before after = after ≡ before
 InOrder (visit ∷ visits) before after =
-    (between : Option (List (List ℕ))) × IsNext (given_in visit) before between
+    (between : Option (List (List ℕ))) × IsNextTurn (given_in visit) before between
     × InOrder visits between after
 
 -- the turn at this place was that of a connection whose reader told these bytes when it was

@@ -15,9 +15,9 @@ ghost use Rattle.rr_desk.specs.Stocks.{StoresUntilStopped};
 use crate::opened::{create_stored, open_stored};
 use crate::opening::opening_registry;
 use crate::settings::Settings;
-use crate::stored::Stored;
+use crate::stock::Stock;
 use rr_index::IndexedBook;
-use rr_io::{Sink, Source};
+use rr_io::{Reader, Writer};
 use rr_registry::Registry;
 use rr_store::{CreateFault, IdleConnection, OpenFault};
 use rr_submission::{DeskFault, Done};
@@ -35,7 +35,7 @@ use std::alloc::Global;
 #[derive(Drop)]
 pub struct Desk<S: Alter> {
     pub(crate) settings: Settings,
-    pub(crate) stored: Stored<S>,
+    pub(crate) stock: Stock<S>,
 }
 
 impl<S: Alter> Desk<S> {
@@ -54,9 +54,9 @@ impl<S: Alter> Desk<S> {
         settings: Settings,
     ) -> Result<Desk<S>, (CreateFault, IdleConnection<S>)>
         ensures runs { IfOk result (IsRunning S.Store settings) }
-        ensures opening { IfOk result (λ desk. IsOpeningRegistry settings desk.stored.registry) }
+        ensures opening { IfOk result (λ desk. IsOpeningRegistry settings desk.stock.registry) }
         ensures makes { IfOk result (λ desk.
-            MakesTables S.Store (HasOpeningRows settings) conn desk.stored.store) }
+            MakesTables S.Store (HasOpeningRows settings) conn desk.stock.store) }
         ensures fails { IfErr result (λ e.
             FailsToMakeTables S.Store (HasOpeningRows settings) conn e.1 e.0) }
         ensures event { MakesEvent S.Store settings (events.of_settings settings) conn result }
@@ -66,7 +66,7 @@ impl<S: Alter> Desk<S> {
             return Err((CreateFault::Memory, conn));
         };
         match create_stored(alloc, conn, registry) {
-            Ok(stored) => Ok(Desk { settings, stored }),
+            Ok(stock) => Ok(Desk { settings, stock }),
             Err(unmade) => Err(unmade),
         }
     }
@@ -84,13 +84,13 @@ impl<S: Alter> Desk<S> {
         settings: Settings,
     ) -> Result<Desk<S>, (OpenFault, IdleConnection<S>)>
         ensures runs { IfOk result (IsRunning S.Store settings) }
-        ensures opens { IfOk result (λ desk. OpensTables S.Store conn desk.stored) }
+        ensures opens { IfOk result (λ desk. OpensTables S.Store conn desk.stock) }
         ensures fails { IfErr result (λ e.
             FailsToOpenTables S.Store settings.source conn e.1 e.0) }
         ensures event { OpensEvent S.Store settings conn result }
     {
         match open_stored(alloc, conn, settings.source()) {
-            Ok(stored) => Ok(Desk { settings, stored }),
+            Ok(stock) => Ok(Desk { settings, stock }),
             Err(unopened) => Err(unopened),
         }
     }
@@ -123,15 +123,15 @@ impl<S: Alter> Desk<S> {
     /// However the submission ends, no fault of the disk is forgotten, and nothing but such a fault
     /// shuts the connection. The settings stay. While the connection is open, all of the file
     /// beside the rows of the three tables is as it was.
-    pub fn submit<R: Source, W: Sink>(
+    pub fn submit<R: Reader, W: Writer>(
         &mut self,
         alloc: Global,
         reader: &mut R,
         writer: &mut W,
     ) -> Result<Done, DeskFault>
-        ensures stopped { self.old.stored.stopped ≡ true → RefusesSubmission
+        ensures stopped { self.old.stock.stopped ≡ true → RefusesSubmission
             self.old self.new reader.old reader.new writer.old writer.new result }
-        ensures submits { self.old.stored.stopped ≡ false → SubmitsTo S.Store self.old self.new
+        ensures submits { self.old.stock.stopped ≡ false → SubmitsTo S.Store self.old self.new
             (R.told reader.old) (R.told reader.new) (W.told writer.old) (W.told writer.new) result }
         ensures leaves { LeavesDesk S.Store self.old self.new result }
         ensures event { Happens S.Store (histories.at_desk self.old)
@@ -140,7 +140,7 @@ impl<S: Alter> Desk<S> {
             (histories.at_desk self.new) }
     {
         let source = self.settings.source();
-        rr_submission::submit(alloc, &mut self.stored, source, reader, writer)
+        rr_submission::submit(alloc, &mut self.stock, source, reader, writer)
     }
 
     /// The settings.
@@ -153,43 +153,43 @@ impl<S: Alter> Desk<S> {
     /// Whether a fault of the store stopped the desk; until then the rows are those of its
     /// registry.
     pub fn stopped(&self) -> bool
-        ensures told { result ≡ self.now.stored.stopped }
-        ensures rows { StoresUntilStopped S.Store self.now.stored }
+        ensures told { result ≡ self.now.stock.stopped }
+        ensures rows { StoresUntilStopped S.Store self.now.stock }
     {
-        self.stored.stopped()
+        self.stock.stopped()
     }
 
     /// Whether its rows are those of its registry until a fault of the store stops it: they always
     /// are. `prove!` asks this where a proof needs it and the code does not.
     pub fn keeps_its_rows(&self) -> bool
         ensures always { result ≡ true }
-        ensures rows { StoresUntilStopped S.Store self.now.stored }
+        ensures rows { StoresUntilStopped S.Store self.now.stock }
     {
-        self.stored.stopped() == self.stored.cause().is_some()
+        self.stock.stopped() == self.stock.cause().is_some()
     }
 
     /// The error of the database that stopped the desk; none until it is stopped.
     pub fn cause(&self) -> Option<Error>
-        ensures cause { result ≡ self.now.stored.cause }
-        ensures stopped { self.now.stored.stopped ≡ is_some result }
+        ensures cause { result ≡ self.now.stock.cause }
+        ensures stopped { self.now.stock.stopped ≡ is_some result }
     {
-        self.stored.cause()
+        self.stock.cause()
     }
 
     /// The registry.
     pub fn registry(&self) -> &Registry<IndexedBook>
-        ensures { result.now ≡ self.now.stored.registry }
+        ensures { result.now ≡ self.now.stock.registry }
     {
-        self.stored.registry()
+        self.stock.registry()
     }
 
     /// Takes the desk apart and returns its connection, open or shut as it is; the rows stay.
     pub fn close(self) -> IdleConnection<S>
-        ensures same { result ≡ self.stored.store }
+        ensures same { result ≡ self.stock.store }
         ensures event { Happens S.Store (histories.at_desk self) events.closed
             (histories.at_rest result) }
     {
-        let Desk { stored, .. } = self;
-        stored.close()
+        let Desk { stock, .. } = self;
+        stock.close()
     }
 }

@@ -15,7 +15,7 @@ ghost use Rattle.rr_desk.specs.Stocks.{StoresUntilStopped};
 
 use crate::desk::Desk;
 use rr_answer::{Found, QueryFault, find_for, is_too_long};
-use rr_io::{Sink, write_all};
+use rr_io::{Writer, write_all};
 use sqlite::Alter;
 use std::alloc::Global;
 
@@ -39,7 +39,7 @@ impl<S: Alter> Desk<S> {
     /// writer has taken the beginning of the answer, and not all of it. The event has the whole
     /// answer all the same. Until the desk is stopped, its rows are those of its registry.
     #[tactic(auto, using(crate::proofs::AnswerLemmas::written))]
-    pub fn answer<W: Sink>(
+    pub fn answer<W: Writer>(
         &self,
         alloc: Global,
         query: &[u8],
@@ -47,9 +47,9 @@ impl<S: Alter> Desk<S> {
     ) -> Result<Answered, WriteFault>
         ensures answers { WritesAnswer self.now query.now
             (W.told writer.old) (W.told writer.new) result }
-        ensures rows { StoresUntilStopped S.Store self.now.stored }
-        ensures keeps { self.now.stored.stopped ≡ false
-            → KeepsRows self.now.stored.registry (desk_state S.Store self.now) }
+        ensures rows { StoresUntilStopped S.Store self.now.stock }
+        ensures keeps { self.now.stock.stopped ≡ false
+            → KeepsRows self.now.stock.registry (desk_state S.Store self.now) }
         ensures event { AsksEvent S.Store self.now query.now
             (W.told writer.old) (W.told writer.new) result }
     {
@@ -62,11 +62,11 @@ impl<S: Alter> Desk<S> {
     #[tactic(auto, using(crate::proofs::AnswerLemmas::running))]
     fn found(&self, alloc: Global, text: &[u8]) -> Result<Found<'_>, QueryFault>
         ensures gives { GivesAnswer self.now text.now (made_answer result) }
-        ensures rows { StoresUntilStopped S.Store self.now.stored }
-        ensures keeps { self.now.stored.stopped ≡ false
-            → KeepsRows self.now.stored.registry (desk_state S.Store self.now) }
+        ensures rows { StoresUntilStopped S.Store self.now.stock }
+        ensures keeps { self.now.stock.stopped ≡ false
+            → KeepsRows self.now.stock.registry (desk_state S.Store self.now) }
     {
-        if !self.stored.stopped() {
+        if !self.stock.stopped() {
             return self.found_running(alloc, text);
         }
         if is_too_long(text) {
@@ -78,19 +78,19 @@ impl<S: Alter> Desk<S> {
 
     /// What the text of a query finds in the registry, or the error.
     fn found_running(&self, alloc: Global, text: &[u8]) -> Result<Found<'_>, QueryFault>
-        ensures ok { IfOk result (λ found. IsAnswerTo self.now.stored.registry
+        ensures ok { IfOk result (λ found. IsAnswerTo self.now.stock.registry
             self.now.settings.limit text.now (Ok (found_text found))) }
         ensures fault { IfErr result (λ fault. fault ≢ Memory → IsAnswerTo
-            self.now.stored.registry self.now.settings.limit text.now (Err fault)) }
+            self.now.stock.registry self.now.settings.limit text.now (Err fault)) }
         ensures long { is_too_long text.now ≡ true → result ≡ Err TooLong }
     {
         let limit = self.settings.limit() as usize;
-        find_for(alloc, self.stored.registry(), limit, text)
+        find_for(alloc, self.stock.registry(), limit, text)
     }
 }
 
 /// Writes what was found part by part, or the line of the error.
-fn write_found<W: Sink>(
+fn write_found<W: Writer>(
     alloc: Global,
     found: &Result<Found<'_>, QueryFault>,
     writer: &mut W,
@@ -109,7 +109,7 @@ fn write_found<W: Sink>(
 }
 
 /// Writes the line of an error.
-fn write_fault<W: Sink>(fault: QueryFault, writer: &mut W) -> Result<Answered, WriteFault>
+fn write_fault<W: Writer>(fault: QueryFault, writer: &mut W) -> Result<Answered, WriteFault>
     ensures writes { Writes (W.told writer.old) (W.told writer.new)
         (answer_bytes (Err fault)) result }
     ensures told { IfOk result (λ done. done.error ≡ told_number (Err fault)) }

@@ -10,7 +10,7 @@ ghost use Rattle.rr_desk.specs.Histories.{Happens};
 ghost use Rattle.rr_desk.specs.Histories as histories;
 
 use crate::desk::Desk;
-use rr_io::Sink;
+use rr_io::Writer;
 use sqlite::Alter;
 use std::alloc::Global;
 
@@ -45,26 +45,26 @@ impl<S: Alter> Desk<S> {
     /// (profile). It answers how many there are. After `Write` or `Memory` the writer has taken the
     /// beginning of the dump, and not all of it. A stopped desk alone answers `Stopped`, and writes
     /// nothing. The event of a desk that runs has the whole dump, also where not all was written.
-    pub fn dump<W: Sink>(
+    pub fn dump<W: Writer>(
         &self,
         alloc: Global,
         writer: &mut W,
         full: bool,
     ) -> Result<usize, DeskDumpFault>
-        ensures stopped { self.now.stored.stopped ≡ true
+        ensures stopped { self.now.stock.stopped ≡ true
             → RefusesDump writer.old writer.new result }
-        ensures dumps { self.now.stored.stopped ≡ false
-            → Dumps (dumps.dump full self.now.stored.registry)
+        ensures dumps { self.now.stock.stopped ≡ false
+            → Dumps (dumps.dump full self.now.stock.registry)
             (W.told writer.old) (W.told writer.new) result }
-        ensures count { IfOk result (λ count. count ≡ length (values self.now.stored.registry)) }
-        ensures event { self.now.stored.stopped ≡ false → Happens S.Store
+        ensures count { IfOk result (λ count. count ≡ length (values self.now.stock.registry)) }
+        ensures event { self.now.stock.stopped ≡ false → Happens S.Store
             (histories.at_desk self.now)
-            (events.dumped full (dumps.dump full self.now.stored.registry))
+            (events.dumped full (dumps.dump full self.now.stock.registry))
             (histories.at_desk self.now) }
     {
-        if self.stored.stopped() {
+        if self.stock.stopped() {
             return Err(DeskDumpFault::Stopped);
         }
-        Ok(rr_answer::dump(alloc, self.stored.registry(), writer, full)?)
+        Ok(rr_answer::dump(alloc, self.stock.registry(), writer, full)?)
     }
 }

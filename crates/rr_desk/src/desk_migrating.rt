@@ -15,7 +15,7 @@ ghost use Rattle.rr_desk.specs.Private.{IsStockOf, IsStockOfSource};
 use crate::desk::Desk;
 use crate::opening::{upper_object, with_object};
 use crate::settings::Settings;
-use crate::stored::Stored;
+use crate::stock::Stock;
 use rr_index::IndexedBook;
 use rr_object::Object;
 use rr_registry::{LoadFault, Registry};
@@ -43,12 +43,12 @@ impl<S: Alter> Desk<S> {
         settings: Settings,
     ) -> Result<Desk<S>, (MigrateFault, IdleConnection<S>)>
         ensures runs { IfOk result (IsRunning S.Store settings) }
-        ensures migrates { IfOk result (λ desk. MigratesTables S.Store settings conn desk.stored) }
+        ensures migrates { IfOk result (λ desk. MigratesTables S.Store settings conn desk.stock) }
         ensures fails { IfErr result (λ e. FailsToMigrateTables S.Store settings conn e.1 e.0) }
         ensures event { MigratesEvent S.Store settings conn result }
     {
         match migrate_stored(alloc, conn, &settings) {
-            Ok(stored) => Ok(Desk { settings, stored }),
+            Ok(stock) => Ok(Desk { settings, stock }),
             Err(unmigrated) => Err(unmigrated),
         }
     }
@@ -59,7 +59,7 @@ fn migrate_stored<S: Alter>(
     alloc: Global,
     mut conn: IdleConnection<S>,
     settings: &Settings,
-) -> Result<Stored<S>, (MigrateFault, IdleConnection<S>)>
+) -> Result<Stock<S>, (MigrateFault, IdleConnection<S>)>
     ensures stock { IfOk result (IsStockOfSource S.Store settings.now.source) }
     ensures migrates { IfOk result (MigratesTables S.Store settings.now conn) }
     ensures fails { IfErr result (λ e. FailsToMigrateTables S.Store settings.now conn e.1 e.0) }
@@ -77,7 +77,7 @@ fn migrate_tables<S: Alter>(
     conn: IdleConnection<S>,
     settings: &Settings,
     registry: Registry<IndexedBook>,
-) -> Result<Stored<S>, (MigrateFault, IdleConnection<S>)>
+) -> Result<Stock<S>, (MigrateFault, IdleConnection<S>)>
     requires { OnCleanDisk S.Store conn
         (IsGrown settings.now (database S.Store conn) registry) }
     ensures stock { IfOk result (IsStockOf S.Store registry) }
@@ -85,7 +85,7 @@ fn migrate_tables<S: Alter>(
     ensures fails { IfErr result (λ e. FailsToMigrateTables S.Store settings.now conn e.1 e.0) }
 {
     match Store::migrate(alloc, conn, settings.root(), settings.source()) {
-        Ok(store) => Ok(Stored::of(registry, store)),
+        Ok(store) => Ok(Stock::of(registry, store)),
         Err(unmade) => Err(unmade),
     }
 }

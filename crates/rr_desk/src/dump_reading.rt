@@ -12,7 +12,7 @@ ghost use Rattle.rr_desk.specs.declared.dump_read_fault.DumpReadFault.TheVariant
 
 use crate::dump_read_fault::DumpReadFault;
 use crate::opening::with_object;
-use rr_io::Source;
+use rr_io::Reader;
 use rr_number::Name;
 use rr_object::{Object, ObjectFault};
 use rr_text::{Paragraph, Paragraphs, TextFault};
@@ -23,7 +23,7 @@ use std::alloc::Global;
 /// is read to its end even then. So a failed read, and too many reads, are told in place of it.
 /// If memory runs out, the whole dump was read, or nothing of it was, and that may be told in place
 /// of an entry's fault.
-pub fn read_dump<R: Source>(
+pub fn read_dump<R: Reader>(
     alloc: Global,
     reader: &mut R,
     source: &Name,
@@ -36,7 +36,7 @@ pub fn read_dump<R: Source>(
 }
 
 /// The objects of a dump of which nothing was read.
-fn read_entries<R: Source>(
+fn read_entries<R: Reader>(
     alloc: Global,
     paragraphs: &mut Paragraphs,
     reader: &mut R,
@@ -61,7 +61,7 @@ fn read_entries<R: Source>(
 
 /// The next entry of the text that this reader gives, a paragraph or its fault; `None` at its end.
 /// The error is a failed read, or too many reads.
-fn next_entry<R: Source>(
+fn next_entry<R: Reader>(
     alloc: Global,
     paragraphs: &mut Paragraphs,
     reader: &mut R,

@@ -19,7 +19,7 @@ mod opening;
 mod peers;
 mod service;
 mod settings;
-mod stored;
+mod stock;
 mod turn_serving;
 
 pub use desk::Desk;

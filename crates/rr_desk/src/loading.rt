@@ -14,7 +14,7 @@ use crate::dump_reading::read_dump;
 use crate::opened::create_stored;
 use crate::settings::Settings;
 use rr_index::IndexedBook;
-use rr_io::Source;
+use rr_io::Reader;
 use rr_number::Name;
 use rr_registry::{LoadFault, Registry};
 use rr_store::{CreateFault, IdleConnection};
@@ -69,7 +69,7 @@ impl<S: Alter> Desk<S> {
     /// for them, the new ones whole. Where other tables stand in place of the three, the error of
     /// the database says that. Where one of the three has a row, that error has a cause outside the
     /// rows.
-    pub fn load<R: Source>(
+    pub fn load<R: Reader>(
         alloc: Global,
         conn: IdleConnection<S>,
         settings: Settings,
@@ -77,9 +77,9 @@ impl<S: Alter> Desk<S> {
     ) -> Result<Desk<S>, (DeskLoadFault, IdleConnection<S>)>
         ensures runs { IfOk result (IsRunning S.Store settings) }
         ensures loaded { IfOk result (λ desk. IsLoaded settings.source
-            (R.told reader.old) (R.told reader.new) desk.stored.registry) }
+            (R.told reader.old) (R.told reader.new) desk.stock.registry) }
         ensures makes { IfOk result (λ desk. MakesTables S.Store (HasLoadedRows settings.source
-            (R.told reader.old) (R.told reader.new)) conn desk.stored.store) }
+            (R.told reader.old) (R.told reader.new)) conn desk.stock.store) }
         ensures fails { IfErr result (λ e. FailsToLoadTables S.Store settings.source
             (R.told reader.old) (R.told reader.new) conn e.1 e.0) }
         ensures event { MakesEvent S.Store settings (events.of_dump settings.source
@@ -87,7 +87,7 @@ impl<S: Alter> Desk<S> {
     {
         match read_registry(alloc, settings.source(), reader) {
             Ok(registry) => match create_stored(alloc, conn, registry) {
-                Ok(stored) => Ok(Desk { settings, stored }),
+                Ok(stock) => Ok(Desk { settings, stock }),
                 Err((fault, conn)) => Err((DeskLoadFault::Unmade(fault), conn)),
             },
             Err(fault) => {
@@ -99,7 +99,7 @@ impl<S: Alter> Desk<S> {
 }
 
 /// The registry of this source whose dump the reader gives.
-fn read_registry<R: Source>(
+fn read_registry<R: Reader>(
     alloc: Global,
     source: &Name,
     reader: &mut R,

@@ -9,7 +9,7 @@ ghost use Rattle.rr_desk.specs.Opened.{OpensTables};
 ghost use Rattle.rr_desk.specs.Private.{opening_fault};
 ghost use Rattle.rr_desk.specs.Private.{IsStockOf, IsStockOfSource};
 
-use crate::stored::Stored;
+use crate::stock::Stock;
 use rr_index::IndexedBook;
 use rr_number::Name;
 use rr_registry::{LoadFault, Registry};
@@ -23,14 +23,14 @@ pub(crate) fn open_stored<S: Alter>(
     alloc: Global,
     conn: IdleConnection<S>,
     source: &Name,
-) -> Result<Stored<S>, (OpenFault, IdleConnection<S>)>
+) -> Result<Stock<S>, (OpenFault, IdleConnection<S>)>
     ensures stock { IfOk result (IsStockOfSource S.Store source.now) }
     ensures opens { IfOk result (OpensTables S.Store conn) }
     ensures fails { IfErr result (λ e. FailsToOpenTables S.Store source.now conn e.1 e.0) }
 {
     match Store::open_all(alloc, conn, source) {
         Ok((store, objects)) => match Registry::from_objects(alloc, objects) {
-            Ok(registry) => Ok(Stored::of(registry, store)),
+            Ok(registry) => Ok(Stock::of(registry, store)),
             Err(fault) => Err((refused(fault), store.close())),
         },
         Err(unopened) => Err(unopened),
@@ -55,7 +55,7 @@ pub(crate) fn create_stored<S: Alter>(
     alloc: Global,
     conn: IdleConnection<S>,
     registry: Registry<IndexedBook>,
-) -> Result<Stored<S>, (CreateFault, IdleConnection<S>)>
+) -> Result<Stock<S>, (CreateFault, IdleConnection<S>)>
     ensures stock { IfOk result (IsStockOf S.Store registry) }
     ensures makes { IfOk result (λ stored.
         MakesTables S.Store (HasRows registry) conn stored.store) }
@@ -63,7 +63,7 @@ pub(crate) fn create_stored<S: Alter>(
         FailsToMakeTables S.Store (HasRows registry) conn e.1 e.0) }
 {
     match create_store(alloc, conn, &registry) {
-        Ok(store) => Ok(Stored::of(registry, store)),
+        Ok(store) => Ok(Stock::of(registry, store)),
         Err(unmade) => Err(unmade),
     }
 }

@@ -43,7 +43,7 @@ pub trait Peers {
     fn accept(&mut self, alloc: Global) -> Result<Self::Conn, AcceptFault>
         requires { (tally self.old).turns + 1 < 2 ^ 64 }
         ensures accepted { IfOk result (λ conn. IsAccepted (tally self.old) (tally self.new)
-            (given self.new) (Self.Conn.Source.told conn) (Self.Conn.Sink.told conn)) }
+            (given self.new) (Self.Conn.Reader.told conn) (Self.Conn.Writer.told conn)) }
         ensures open { IfOk result (λ conn. IsOpen self.new) }
         ensures refused { OnErr result (IsUnaccepted (tally self.old) (tally self.new)) };
 
@@ -53,7 +53,7 @@ pub trait Peers {
     fn close(&mut self, conn: Self::Conn)
         requires open { IsOpen self.old }
         requires room { (tally self.old).turns + 1 < 2 ^ 64 }
-        ensures { IsClosed (given self.old) (Self.Conn.Sink.told conn).bytes
+        ensures { IsClosed (given self.old) (Self.Conn.Writer.told conn).bytes
             (tally self.old) (tally self.new) };
 
     /// How many turns there were, told or not.

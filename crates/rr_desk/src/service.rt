@@ -27,9 +27,9 @@ pub trait Service {
         conn: &mut C,
     ) -> Result<(), ConnFault>
         ensures serves { serves S S.Store desk.old desk.new
-            (conn_visit C.Source C.Sink conn.old conn.new result) }
+            (conn_visit C.Reader C.Writer conn.old conn.new result) }
         ensures lasts { DatabaseLasts
             (desk_state S.Store desk.old) (desk_state S.Store desk.new) }
-        ensures rows { StoresUntilStopped S.Store desk.new.stored }
+        ensures rows { StoresUntilStopped S.Store desk.new.stock }
         ensures settings { desk.new.settings ≡ desk.old.settings };
 }

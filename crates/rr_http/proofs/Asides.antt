@@ -4,8 +4,8 @@ use Rattle.std.proofs.Common.{◌≡◌, ℕ, inl, inr, Bool, List, [], Ok, Err,
 use Rattle.std.specs.Prelude.{Result, false}
 use Rattle.rr_io.specs.declared.receiving.ReadEnd.{ReadEnd}
 use Rattle.rr_io.specs.declared.receiving.ReadEnd.TheVariants as read_end
-use Rattle.rr_io.specs.declared.streams.Source as source
-use Rattle.rr_io.specs.declared.streams.Sink as sink
+use Rattle.rr_io.specs.declared.streams.Reader as readers
+use Rattle.rr_io.specs.declared.streams.Writer as writers
 use Rattle.rr_io.specs.Told.{Beside, Told, beside, set_beside}
 use Rattle.rr_io.specs.Receiving.{BreaksOff, Reads}
 use Rattle.rr_io.specs.Sending.{TakesPrefix, TakesSome, Writes}
@@ -144,7 +144,7 @@ stood : (here there between : Told) → between.aside ≡ here.aside → beside 
 stood here there between aside same =
     ap (told_by (beside there)) (sym aside) ∙ ap (λ this. told_by this between.aside) same
 
-module _ {C : Type 0} (reader : source.Ghosts C) (writer : sink.Ghosts C)
+module _ {C : Type 0} (reader : readers.Ghosts C) (writer : writers.Ghosts C)
     (reads_leave : (c : C) → (reader.told c).aside ≡ beside (writer.told c))
     (writes_leave : (c : C) → (writer.told c).aside ≡ beside (reader.told c)) where
   -- the reader stays while the connection is written, and the writer while it is read

@@ -21,7 +21,7 @@ use Rattle.rr_http.specs.DeskRegistrars.{desk_ledger}
 
 stops_whole : {S : Type 0} (g : store.Ghosts S) (middle new : Desk S) (secrets : List (List ℕ))
     (action : Result Item Code) →
-    StopsAt (stock_ledger g) middle.stored secrets action new.stored → StopsAt (desk_ledger g)
+    StopsAt (stock_ledger g) middle.stock secrets action new.stock → StopsAt (desk_ledger g)
     middle secrets action new
 stops_whole g middle new secrets (Ok item) stops = stops
 stops_whole g middle new secrets (Err code) stops = stops
@@ -29,10 +29,10 @@ stops_whole g middle new secrets (Err code) stops = stops
 stopped_whole : {S : Type 0} (g : store.Ghosts S) (source : List ℕ)
     (entries : List (Result (List Field) TextFault)) (old new : Desk S) (before after : Told)
     (count : ℕ) →
-    HandlesThenStops (stock_ledger g) source entries old.stored new.stored before after count →
+    HandlesThenStops (stock_ledger g) source entries old.stock new.stock before after count →
     HandlesThenStops (desk_ledger g) source entries old new before after count
 stopped_whole {S} g source entries old new before after count stopped =
-    let middle : Desk S = record { settings = old.settings; stored = stopped.middle } in record {
+    let middle : Desk S = record { settings = old.settings; stock = stopped.middle } in record {
       told = stopped.told;
       last = stopped.last;
       outcomes = stopped.outcomes;
@@ -52,7 +52,7 @@ stopped_whole {S} g source entries old new before after count stopped =
 -- what a submission does to the registry and the store of a desk, it does to the desk
 pub submits_whole : {S : Type 0} (g : store.Ghosts S) (old new : Desk S) (source : List ℕ)
     (sides : Sides) (result : Result Done DeskFault) →
-    Submits (stock_ledger g) old.stored new.stored source sides result → Submits (desk_ledger g)
+    Submits (stock_ledger g) old.stock new.stock source sides result → Submits (desk_ledger g)
     old new source sides result
 submits_whole g old new source sides (Ok done) submits = submits
 submits_whole g old new source sides (Err (fault.ReadFault items)) submits = submits

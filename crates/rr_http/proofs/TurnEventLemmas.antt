@@ -67,24 +67,24 @@ module _ {S : Type 0} (g : store.Ghosts S) where
       (sym it.is) (query_event before text it.answer it.answered))
 
   -- so is a dump
-  printed : (before after : Desk S) → before.stored.stopped ≡ false → after ≡ before →
-      Happens g (at_desk before) (dumped false (dumps.dump false before.stored.registry))
+  printed : (before after : Desk S) → before.stock.stopped ≡ false → after ≡ before →
+      Happens g (at_desk before) (dumped false (dumps.dump false before.stock.registry))
       (at_desk after)
   printed before after running same =
       subst (λ (desk : Desk S). Happens g (at_desk before)
-      (dumped false (dumps.dump false before.stored.registry)) (at_desk desk)) (sym same)
+      (dumped false (dumps.dump false before.stock.registry)) (at_desk desk)) (sym same)
       (printing before false running)
 
   -- and a submission
   stops_alike : (middle after : Desk S) (secrets : List (List ℕ)) (action : Result Item Code) →
-      StopsAt (desk_ledger g) middle secrets action after → StopsAt (stock_ledger g) middle.stored
-      secrets action after.stored
+      StopsAt (desk_ledger g) middle secrets action after → StopsAt (stock_ledger g) middle.stock
+      secrets action after.stock
   stops_alike middle after secrets (Ok item) stops = stops
   stops_alike middle after secrets (Err code) stops = absurd stops
 
   as_stock : (before after : Desk S) (source : List ℕ) (sides : Sides)
       (result : Result Done DeskFault) → Submits (desk_ledger g) before after source sides result →
-      Submits (stock_ledger g) before.stored after.stored source sides result
+      Submits (stock_ledger g) before.stock after.stock source sides result
   as_stock before after source sides (Ok done) it = it
   as_stock before after source sides (Err (ReadFault items)) it = it
   as_stock before after source sides (Err (WriteFault items)) it = it
@@ -96,7 +96,7 @@ module _ {S : Type 0} (g : store.Ghosts S) where
           told = h.told;
           last = h.last;
           outcomes = h.outcomes;
-          middle = h.middle.stored;
+          middle = h.middle.stock;
           between = h.between;
           are_items = h.are_items;
           runs = h.runs;
@@ -112,7 +112,7 @@ module _ {S : Type 0} (g : store.Ghosts S) where
   as_stock before after source sides (Err Stopped) it = it
 
   taken_in : (before after : Desk S) (body : List ℕ) (size : ℕ) (end : BodyEnd) (old new : Told)
-      (ended : ConnEnd) → before.stored.stopped ≡ false → StaysServed g before after
+      (ended : ConnEnd) → before.stock.stopped ≡ false → StaysServed g before after
       → (it : IsSubmitted (desk_registrar g) body size end before after old new ended)
       → Happens g (at_desk before)
       (submitted (in_memory body 0 0) (in_memory it.submits.rest it.submits.faults
@@ -121,7 +121,7 @@ module _ {S : Type 0} (g : store.Ghosts S) where
       submission_event before after (in_memory body 0 0)
       (in_memory it.submits.rest it.submits.faults it.submits.reads) it.between new it.done
       (record {
-        refuses = λ halted. absurd (not_both before.stored.stopped halted running);
+        refuses = λ halted. absurd (not_both before.stock.stopped halted running);
         submits = λ runs. as_stock before after before.settings.source _ it.done it.submits.submits;
         leaves = record {
           runs_on = λ runs. it.leaves.running;
@@ -175,16 +175,16 @@ module _ {S : Type 0} (g : store.Ghosts S) where
         (inr (inr (record { bytes = told.text; replies = told.replies; event = refl })))
 
     of_query : (buffered escaped : List ℕ) (visit : Visit) →
-        AnswersQuery (desk_registrar g).Answers before.stored.stopped (percent_decode escaped)
+        AnswersQuery (desk_registrar g).Answers before.stock.stopped (percent_decode escaped)
         before after visit.writer_before visit.writer_after visit.ended
         → Turned (IsAskedTurn buffered (query escaped) visit) before after
     of_query buffered escaped visit (inl none) = nothing before after none.1.same
         (inl (refl, none.1.replies))
     of_query buffered escaped visit (inr it) = of_running buffered escaped visit it.1
 
-    of_sent : (buffered : List ℕ) (visit : Visit) → after ≡ before → before.stored.stopped ≡ false
+    of_sent : (buffered : List ℕ) (visit : Visit) → after ≡ before → before.stock.stopped ≡ false
         → IsHeadCut visit.writer_before visit.writer_after visit.ended
-        ⊎ IsDumped (dumps.dump false before.stored.registry) visit.writer_before
+        ⊎ IsDumped (dumps.dump false before.stock.registry) visit.writer_before
         visit.writer_after visit.ended
         → Turned (IsAskedTurn buffered dump visit) before after
     of_sent buffered visit same running (inl cut) = nothing before after same
@@ -193,14 +193,14 @@ module _ {S : Type 0} (g : store.Ghosts S) where
         one_thing before after _ (printed before after running same)
         (inr
         (inr (record {
-          bytes = dumps.dump false before.stored.registry;
+          bytes = dumps.dump false before.stock.registry;
           sent = told;
           event =
               refl;
         })))
 
     of_dump : (buffered : List ℕ) (visit : Visit) → after ≡ before →
-        AnswersDump (dumps.dump false before.stored.registry) before.stored.stopped
+        AnswersDump (dumps.dump false before.stock.registry) before.stock.stopped
         visit.writer_before visit.writer_after visit.ended
         → Turned (IsAskedTurn buffered dump visit) before after
     of_dump buffered visit same (inl it) = nothing before after same (inl (refl, it.1))

@@ -17,11 +17,11 @@ use Rattle.rr_http.specs.Serving.{Serves}
 -- stopped, and whose connection lasts
 abbrev pub desk_ledger : {S : Type 0} → store.Ghosts S → ledger.Ghosts (Desk S)
 desk_ledger g = record {
-  registry = λ desk. desk.stored.registry;
-  is_stopped = λ desk. desk.stored.stopped;
-  Stops = λ old secrets item new. (stock_ledger g).Stops old.stored secrets item new.stored;
-  Lasts = λ old new. (stock_ledger g).Lasts old.stored new.stored;
-  Kept = λ desk. (stock_ledger g).Kept desk.stored;
+  registry = λ desk. desk.stock.registry;
+  is_stopped = λ desk. desk.stock.stopped;
+  Stops = λ old secrets item new. (stock_ledger g).Stops old.stock secrets item new.stock;
+  Lasts = λ old new. (stock_ledger g).Lasts old.stock new.stock;
+  Kept = λ desk. (stock_ledger g).Kept desk.stock;
 }
 
 -- the text in which a desk answers a query, which changes nothing of it; until it is stopped it
@@ -32,7 +32,7 @@ pub record IsDeskAnswer {S : Type 0} (g : store.Ghosts S) (before : Desk S) (que
   pub answered : GivesAnswer before query answer
   pub is : text ≡ answer_bytes answer
   pub same : after ≡ before
-  pub keeps : before.stored.stopped ≡ false → KeepsRows before.stored.registry (desk_state g after)
+  pub keeps : before.stock.stopped ≡ false → KeepsRows before.stock.registry (desk_state g after)
 
 -- a desk answers queries, gives the public dump of its registry, and takes submissions until it is
 -- stopped
@@ -41,7 +41,7 @@ desk_registrar g = record {
   ledger = desk_ledger g;
   settings = λ desk. desk.settings;
   Answers = λ before query text after. IsDeskAnswer g before query text after;
-  dumped = λ desk. dump false desk.stored.registry;
+  dumped = λ desk. dump false desk.stock.registry;
 }
 
 -- what serving a connection of a desk does

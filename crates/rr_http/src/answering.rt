@@ -16,12 +16,12 @@ use crate::registrar::Registrar;
 use crate::replying::{write_ok_head, write_refusal};
 use percent_encoding::percent_decode;
 use rr_desk::{ConnFault, DeskDumpFault, DeskFault, Done};
-use rr_io::Sink;
+use rr_io::Writer;
 use std::alloc::Global;
 
 /// Refuses a request. The error is that a write failed: the writer has taken the beginning of the
 /// reply, and not all.
-pub(crate) fn refuse<W: Sink>(writer: &mut W, refusal: Refusal) -> Result<(), ConnFault>
+pub(crate) fn refuse<W: Writer>(writer: &mut W, refusal: Refusal) -> Result<(), ConnFault>
     ensures { WritesReply (refusal_reply refusal)
         (W.told writer.old) (W.told writer.new) result }
 {
@@ -33,7 +33,7 @@ pub(crate) fn refuse<W: Sink>(writer: &mut W, refusal: Refusal) -> Result<(), Co
 
 /// Asks the desk and writes its answer, alone (RFC 3912, 2) or after a head. The error is that a
 /// write failed: the writer has taken the beginning of the answer, and not all.
-pub(crate) fn write_answer<D: Registrar, W: Sink>(
+pub(crate) fn write_answer<D: Registrar, W: Writer>(
     alloc: Global,
     desk: &mut D,
     query: &[u8],
@@ -51,7 +51,7 @@ pub(crate) fn write_answer<D: Registrar, W: Sink>(
 /// Answers a query by HTTP, whose percent escapes are read first (RFC 3986, 2.1). If the desk is
 /// stopped it is not asked, and the reply is 503. The error is that a write failed: the writer has
 /// taken the beginning of the reply, and not all.
-pub(crate) fn answer_query<D: Registrar, W: Sink>(
+pub(crate) fn answer_query<D: Registrar, W: Writer>(
     alloc: Global,
     desk: &mut D,
     escaped: &[u8],
@@ -88,7 +88,7 @@ fn decode(escaped: &[u8], decoded: &mut [u8]) -> usize
 /// Writes the head of a reply, and after it the answer to a query; the desk is asked once the head
 /// is written. The error is that a write failed: the writer has taken the beginning of the reply,
 /// and not all.
-fn give_answer<D: Registrar, W: Sink>(
+fn give_answer<D: Registrar, W: Writer>(
     alloc: Global,
     desk: &mut D,
     query: &[u8],
@@ -106,7 +106,7 @@ fn give_answer<D: Registrar, W: Sink>(
 /// Gives the public dump by HTTP, or 503 if the desk is stopped. Where memory runs out the dump
 /// ends early, which is not an error. The error is that a write failed: the writer has taken the
 /// beginning of the reply, and not all.
-pub(crate) fn give_dump<D: Registrar, W: Sink>(
+pub(crate) fn give_dump<D: Registrar, W: Writer>(
     alloc: Global,
     desk: &D,
     writer: &mut W,
@@ -142,7 +142,7 @@ fn dump_end(fault: DeskDumpFault) -> Result<(), ConnFault>
 /// or all of them; after a fault of the store, which alone stops the desk, those before the item at
 /// which it came; and if memory ran out before the first item, none. The fault is never that the
 /// desk had stopped.
-pub(crate) fn submit_body<D: Registrar, W: Sink>(
+pub(crate) fn submit_body<D: Registrar, W: Writer>(
     alloc: Global,
     desk: &mut D,
     bytes: &[u8],

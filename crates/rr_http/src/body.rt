@@ -2,7 +2,7 @@
 
 ghost use Rattle.std.specs.Prelude.{◌≡◌, ◌<◌, []};
 
-use rr_io::Source;
+use rr_io::Reader;
 use std::io;
 use std::io::ErrorKind;
 
@@ -37,7 +37,7 @@ impl<'a> Body<'a> {
     }
 }
 
-impl<'a> Source for Body<'a> {
+impl<'a> Reader for Body<'a> {
     ghost use Rattle.rr_http.specs.BodyParts.{body_told};
 
     ghost told = { body_told };

@@ -5,7 +5,7 @@ ghost use Rattle.rr_http.specs.Bodies.{ReadsBody};
 ghost use Rattle.rr_http.specs.BodyParts.{ReadsRest};
 
 use crate::body_size::BodySize;
-use rr_io::{READ_SIZE, Source};
+use rr_io::{READ_SIZE, Reader};
 use std::alloc::{AllocError, Global};
 
 /// How the reading of a body ended.
@@ -23,7 +23,7 @@ pub enum BodyEnd {
 /// `buffered`, up to that size. Gives its bytes, or those that came of it, and how the reading
 /// ended. No byte after the body is read. The error is that memory ran out for a body that is not
 /// empty, and nothing is read then.
-pub fn read_body<R: Source>(
+pub fn read_body<R: Reader>(
     alloc: Global,
     reader: &mut R,
     buffered: &[u8],
@@ -43,7 +43,7 @@ pub fn read_body<R: Source>(
 
 /// Reads on until the body has `size` bytes, for which there is room, the input ends, or a read
 /// fails.
-fn read_rest<R: Source>(reader: &mut R, body: &mut Vec<u8>, size: usize) -> BodyEnd
+fn read_rest<R: Reader>(reader: &mut R, body: &mut Vec<u8>, size: usize) -> BodyEnd
     requires within { length body.old.items ≤ size }
     requires room { size ≤ vec_capacity body.old }
     ensures { ReadsRest (R.told reader.old) (R.told reader.new)

@@ -6,7 +6,7 @@ ghost use Rattle.rr_http.specs.DeskRegistrars.{desk_registrar};
 
 use crate::registrar::Registrar;
 use rr_desk::{Desk, DeskDumpFault, DeskFault, Done, WriteFault};
-use rr_io::{Sink, Source};
+use rr_io::{Reader, Writer};
 use sqlite::Alter;
 use std::alloc::Global;
 
@@ -27,7 +27,7 @@ impl<S: Alter> Registrar for Desk<S> {
         Desk::stopped(self)
     }
 
-    fn answer<W: Sink>(
+    fn answer<W: Writer>(
         &mut self,
         alloc: Global,
         query: &[u8],
@@ -37,12 +37,12 @@ impl<S: Alter> Registrar for Desk<S> {
         Ok(())
     }
 
-    fn dump<W: Sink>(&self, alloc: Global, writer: &mut W) -> Result<(), DeskDumpFault> {
+    fn dump<W: Writer>(&self, alloc: Global, writer: &mut W) -> Result<(), DeskDumpFault> {
         Desk::dump(self, alloc, writer, false)?;
         Ok(())
     }
 
-    fn submit<R: Source, W: Sink>(
+    fn submit<R: Reader, W: Writer>(
         &mut self,
         alloc: Global,
         reader: &mut R,

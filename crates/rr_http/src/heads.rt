@@ -9,7 +9,7 @@ ghost use Rattle.rr_http.specs.Wants.{BreaksHead, FindsHead, IsHead};
 
 use crate::asking::Refusal;
 use rr_bytes::{ByteSet, place_of, trim_end};
-use rr_io::Source;
+use rr_io::Reader;
 use std::io;
 
 /// How many bytes of a connection are read at most before it is known what it wants (profile).
@@ -30,7 +30,7 @@ pub enum Head {
 /// connection wants: its first line or the head of its request is whole, `buf` is full, or the
 /// input ended. Gives what stands there, and how many bytes were read, which `buf` then begins
 /// with. The error is a failed read before that is known.
-pub fn read_head<R: Source>(reader: &mut R, buf: &mut [u8]) -> io::Result<(Head, usize)>
+pub fn read_head<R: Reader>(reader: &mut R, buf: &mut [u8]) -> io::Result<(Head, usize)>
     requires { length buf.old ≡ HEAD_LIMIT }
     ensures within { IfOk result (λ read. read.1 ≤ HEAD_LIMIT) }
     ensures finds { IfOk result
@@ -133,7 +133,7 @@ impl Goal {
 /// Reads on after the first `filled` bytes of `buf`, the first `seen` of which do not have the
 /// goal, until they have it, fill the buffer, or the input ends: gives how many there are then, and
 /// the place of the goal. A failed read is the error.
-fn read_on<R: Source>(
+fn read_on<R: Reader>(
     reader: &mut R,
     goal: Goal,
     buf: &mut [u8],

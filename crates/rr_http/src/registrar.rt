@@ -8,7 +8,7 @@ ghost use Rattle.rr_desk.specs.Settings.{SettingsParts};
 ghost use Rattle.rr_http.specs.Registrars.{AnswersInWriting, Leaves, LeavesSubmitted};
 
 use rr_desk::{DeskDumpFault, DeskFault, Done, WriteFault};
-use rr_io::{Sink, Source};
+use rr_io::{Reader, Writer};
 use std::alloc::Global;
 
 /// What answers queries, gives the public dump, and takes submissions, as a desk does.
@@ -32,7 +32,7 @@ pub trait Registrar {
 
     /// Answers a query in a text, and is then in a state, as `Answers` says. After a failed write
     /// the writer has taken the beginning of the text, and not all of it.
-    fn answer<W: Sink>(
+    fn answer<W: Writer>(
         &mut self,
         alloc: Global,
         query: &[u8],
@@ -43,7 +43,7 @@ pub trait Registrar {
 
     /// Writes the public dump. The fault is that it is stopped, and then nothing is written. Or a
     /// write failed or memory ran out, and then the beginning of the dump is written, and not all.
-    fn dump<W: Sink>(&self, alloc: Global, writer: &mut W) -> Result<(), DeskDumpFault>
+    fn dump<W: Writer>(&self, alloc: Global, writer: &mut W) -> Result<(), DeskDumpFault>
         ensures stopped { ledger.is_stopped self.now ≡ true
             → RefusesDump writer.old writer.new result }
         ensures dumps { ledger.is_stopped self.now ≡ false
@@ -55,7 +55,7 @@ pub trait Registrar {
     /// lasts, its settings stay, and a registry of its source stays one. Where a prefix is held,
     /// and each item up to a fault of the store is foreign to its holders or their own, nobody else
     /// changes what they hold.
-    fn submit<R: Source, W: Sink>(
+    fn submit<R: Reader, W: Writer>(
         &mut self,
         alloc: Global,
         reader: &mut R,

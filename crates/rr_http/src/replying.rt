@@ -7,13 +7,13 @@ ghost use Rattle.rr_http.specs.Replies.{refusal_reply, status_of, status_words};
 
 use crate::asking::{Page, Refusal};
 use http::StatusCode;
-use rr_io::{Sink, write_all};
+use rr_io::{Writer, write_all};
 use rr_submission::ShortText;
 use std::io;
 
 /// Writes the reply to a request that is refused. After a fault the writer has taken the beginning
 /// of it, and not all.
-pub fn write_refusal<W: Sink>(writer: &mut W, refusal: Refusal) -> io::Result<()>
+pub fn write_refusal<W: Writer>(writer: &mut W, refusal: Refusal) -> io::Result<()>
     ensures { Writes (W.told writer.old) (W.told writer.new) (refusal_reply refusal) result }
 {
     write_all(writer, refusal_reply(refusal).as_bytes())
@@ -22,7 +22,7 @@ pub fn write_refusal<W: Sink>(writer: &mut W, refusal: Refusal) -> io::Result<()
 /// Writes the head of a reply whose body is what was asked. After a fault the writer has taken the
 /// beginning of it, and not all.
 #[tactic(auto, unfolding(crate::specs::Replies::ok_head))]
-pub(crate) fn write_ok_head<W: Sink>(writer: &mut W) -> io::Result<()>
+pub(crate) fn write_ok_head<W: Writer>(writer: &mut W) -> io::Result<()>
     ensures { Writes (W.told writer.old) (W.told writer.new) ok_head result }
 {
     write_all(

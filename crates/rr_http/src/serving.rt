@@ -17,7 +17,7 @@ use crate::heads::{HEAD_LIMIT, Head, read_head};
 use crate::registrar::Registrar;
 use crate::replying::write_ok_head;
 use rr_desk::ConnFault;
-use rr_io::{Connection, Sink};
+use rr_io::{Connection, Writer};
 use std::alloc::Global;
 
 /// Serves one connection by whois or HTTP: reads what it wants, asks the desk, and writes the reply
@@ -42,7 +42,7 @@ pub fn serve_one<D: Registrar, C: Connection>(
     conn: &mut C,
 ) -> Result<(), ConnFault>
     ensures serves { Serves D.Registrar desk.old desk.new
-        (conn_visit C.Source C.Sink conn.old conn.new result) }
+        (conn_visit C.Reader C.Writer conn.old conn.new result) }
     ensures leaves { Leaves D.ledger D.settings desk.old desk.new }
 {
     let mut buf = [0u8; HEAD_LIMIT];
@@ -63,7 +63,7 @@ fn serve_head<D: Registrar, C: Connection>(
     requires head { IsHead read.now head }
     requires short { length read.now ≤ HEAD_LIMIT }
     ensures { ServesHead D.Registrar read.now desk.old desk.new
-        (conn_visit C.Source C.Sink conn.old conn.new result) }
+        (conn_visit C.Reader C.Writer conn.old conn.new result) }
 {
     match head {
         Head::Whois(count) => write_answer(alloc, desk, &read[..count], conn),
@@ -85,7 +85,7 @@ fn serve_asked<D: Registrar, C: Connection>(
 ) -> Result<(), ConnFault>
     requires { HasQueryWithin HEAD_LIMIT (view_of asked) }
     ensures { ServesAsks D.Registrar buffered.now (view_of asked.entry) desk.old desk.new
-        (conn_visit C.Source C.Sink conn.old conn.new result) }
+        (conn_visit C.Reader C.Writer conn.old conn.new result) }
 {
     match asked {
         Asked::Refused(refusal) => refuse(conn, refusal),
@@ -104,7 +104,7 @@ fn serve_submission<D: Registrar, C: Connection>(
     conn: &mut C,
 ) -> Result<(), ConnFault>
     ensures { ServesBody D.Registrar buffered.now size desk.old desk.new
-        (conn_visit C.Source C.Sink conn.old conn.new result) }
+        (conn_visit C.Reader C.Writer conn.old conn.new result) }
 {
     if desk.stopped() {
         return refuse(conn, Refusal::Unavailable);
@@ -121,7 +121,7 @@ fn serve_submission<D: Registrar, C: Connection>(
 /// Submits a body of this size of which these bytes came, writes the report after the head of the
 /// reply, and says whether a write failed. That head is written first, because each line of the
 /// report is written once its item is decided.
-fn submit_read<D: Registrar, W: Sink>(
+fn submit_read<D: Registrar, W: Writer>(
     alloc: Global,
     desk: &mut D,
     body: &[u8],

@@ -1,4 +1,6 @@
 -- The spans of a registry's objects, as objects come and go.
+-- Keys of a class tie exactly where their spans do, so a key that comes or goes is a span of one of
+-- the three maps. It is long because each map is shown for both changes, and as it was otherwise.
 use Rattle.std.proofs.Common.{◌≡◌, ◌||◌, ◌&&◌, ℕ, Bool, true, false, cond, not, refl, sym, ap}
 use Rattle.std.proofs.Common.{subst, ◌∙◌}
 use Rattle.std.specs.Prelude.{Option, None, Some, is_some}

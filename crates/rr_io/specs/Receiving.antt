@@ -1,4 +1,4 @@
--- What a reader gives, and how a reading ends: for `Source` and all that reads a text. What is said
+-- What a reader gives, and how a reading ends: for `Reader` and all that reads a text. What is said
 -- of a reader's bytes holds where it tells them.
 use Rattle.std.specs.Prelude.{◌≡◌, ℕ, ◌+◌, ◌<◌, ◌≤◌, List, []}
 use Rattle.std.specs.Prelude.{◌++◌, length, take, Some, Result, Ok, Err}

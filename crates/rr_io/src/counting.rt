@@ -1,9 +1,9 @@
 //! std's readers and writers, with their failed calls and their reads counted: how the crates above
-//! make a `Source` or a `Sink` of one.
+//! make a `Reader` or a `Writer` of one.
 ghost use Rattle.std.specs.Prelude.{◌≡◌};
 ghost use Rattle.rr_io.specs.Told.{Counts, alone};
 
-use super::{Sink, Source};
+use super::{Reader, Writer};
 use std::io;
 use std::io::{ErrorKind, Read, Write};
 
@@ -53,7 +53,7 @@ pub(crate) fn count_one(count: &mut u64)
     *count = count.saturating_add(1);
 }
 
-impl<T: Read> Source for Counted<T> {
+impl<T: Read> Reader for Counted<T> {
     ghost told = { λ c. record {
       bytes = T.remaining c.inner;
       faults = c.failed_reads;
@@ -79,7 +79,7 @@ impl<T: Read> Source for Counted<T> {
     }
 }
 
-impl<T: Write> Sink for Counted<T> {
+impl<T: Write> Writer for Counted<T> {
     ghost told = { λ c. record {
       bytes = T.contents c.inner;
       faults = c.failed_writes;

@@ -3,7 +3,7 @@ ghost use Rattle.std.specs.Prelude.{◌≡◌, ◌<◌, min};
 ghost use Rattle.rr_io.specs.Sending.{WritesOnce};
 ghost use Rattle.rr_io.specs.Receiving.{ReadsOnce};
 
-use super::{Sink, Source};
+use super::{Reader, Writer};
 use crate::counting::count_one;
 use std::io;
 use std::io::ErrorKind;
@@ -59,7 +59,7 @@ impl<T> Cut<T> {
     }
 }
 
-impl<T: Source> Source for Cut<T> {
+impl<T: Reader> Reader for Cut<T> {
     ghost use Rattle.rr_io.specs.Cut.{cut_told, reads_cut, PassesUntilCut};
 
     ghost told = { cut_told T.told reads_cut };
@@ -87,7 +87,7 @@ impl<T: Source> Source for Cut<T> {
     }
 }
 
-impl<T: Sink> Sink for Cut<T> {
+impl<T: Writer> Writer for Cut<T> {
     ghost use Rattle.rr_io.specs.Cut.{cut_told, writes_cut, PassesUntilCut};
 
     ghost told = { cut_told T.told writes_cut };

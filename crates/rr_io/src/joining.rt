@@ -2,7 +2,7 @@
 ghost use Rattle.std.specs.Prelude.{◌≡◌, refl};
 ghost use Rattle.rr_io.specs.Told.{beside, set_beside};
 
-use super::{Connection, Sink, Source};
+use super::{Connection, Reader, Writer};
 use std::io;
 
 /// A connection that is made of a reader and a writer. Each counts its own failed calls.
@@ -23,20 +23,6 @@ impl<R, W> Joined<R, W> {
         Joined { reader, writer }
     }
 
-    /// The reader of the connection.
-    pub fn reader(&self) -> &R
-        ensures { result.now ≡ joined_reader self.now }
-    {
-        &self.reader
-    }
-
-    /// The writer of the connection.
-    pub fn writer(&self) -> &W
-        ensures { result.now ≡ joined_writer self.now }
-    {
-        &self.writer
-    }
-
     /// The reader and the writer themselves.
     pub fn into_parts(self) -> (R, W)
         ensures { result ≡ (joined_reader self, joined_writer self) }
@@ -46,7 +32,7 @@ impl<R, W> Joined<R, W> {
     }
 }
 
-impl<R: Source, W: Sink> Source for Joined<R, W> {
+impl<R: Reader, W: Writer> Reader for Joined<R, W> {
     ghost told = { λ j. set_beside (beside (W.told j.writer)) (R.told j.reader) };
 
     fn read(&mut self, buf: &mut [u8]) -> io::Result<usize> {
@@ -58,7 +44,7 @@ impl<R: Source, W: Sink> Source for Joined<R, W> {
     }
 }
 
-impl<R: Source, W: Sink> Sink for Joined<R, W> {
+impl<R: Reader, W: Writer> Writer for Joined<R, W> {
     ghost told = { λ j. set_beside (beside (R.told j.reader)) (W.told j.writer) };
 
     fn write(&mut self, bytes: &[u8]) -> io::Result<usize> {
@@ -70,8 +56,8 @@ impl<R: Source, W: Sink> Sink for Joined<R, W> {
     }
 }
 
-impl<R: Source, W: Sink> Connection for Joined<R, W> {
-    ghost read_leaves_sink = { λ _. refl };
+impl<R: Reader, W: Writer> Connection for Joined<R, W> {
+    ghost read_leaves_writer = { λ _. refl };
 
-    ghost write_leaves_source = { λ _. refl };
+    ghost write_leaves_reader = { λ _. refl };
 }

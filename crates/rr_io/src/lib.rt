@@ -14,4 +14,4 @@ pub use cutting::Cut;
 pub use joining::Joined;
 pub use receiving::{READ_LIMIT, READ_SIZE, ReadEnd};
 pub use sending::{write_all, write_pieces};
-pub use streams::{Connection, Sink, Source};
+pub use streams::{Connection, Reader, Writer};

@@ -1,13 +1,13 @@
-//! Whole texts written, by as many writes as it takes: for all that is printed to a `Sink`.
+//! Whole texts written, by as many writes as it takes: for all that is printed to a `Writer`.
 ghost use Rattle.std.specs.Prelude.{flat_map};
 ghost use Rattle.rr_io.specs.Sending.{Writes};
 
-use super::Sink;
+use super::Writer;
 use std::io;
 
 /// Writes all of `bytes`. The error is that a write failed: the writer has then taken the beginning
 /// of them, and not all.
-pub fn write_all<W: Sink>(writer: &mut W, bytes: &[u8]) -> io::Result<()>
+pub fn write_all<W: Writer>(writer: &mut W, bytes: &[u8]) -> io::Result<()>
     ensures { Writes (W.told writer.old) (W.told writer.new) bytes.now result }
 {
     let mut rest = bytes;
@@ -21,7 +21,7 @@ pub fn write_all<W: Sink>(writer: &mut W, bytes: &[u8]) -> io::Result<()>
 
 /// Writes all of the pieces, one after the other. The error is that a write failed: the writer has
 /// then taken the beginning of their bytes, and not all.
-pub fn write_pieces<W: Sink>(writer: &mut W, pieces: &[&[u8]]) -> io::Result<()>
+pub fn write_pieces<W: Writer>(writer: &mut W, pieces: &[&[u8]]) -> io::Result<()>
     ensures { Writes (W.told writer.old) (W.told writer.new)
         (flat_map (λ piece. piece.now) pieces.now) result }
 {

@@ -7,7 +7,7 @@ ghost use Rattle.rr_io.specs.Receiving.{ReadsOnce};
 use std::io;
 
 /// A reader. An error of any kind is a fault, and leaves what there is to read as it was.
-pub trait Source {
+pub trait Reader {
     // The bytes that are left to read, the counts of the reads that failed and of those that did
     // not, and what stands beside the reader.
     ghost told: { Self → Told };
@@ -25,7 +25,7 @@ pub trait Source {
 
 /// A writer. An error of any kind is a fault, and so is a write of at least one byte that takes
 /// none.
-pub trait Sink {
+pub trait Writer {
     // The bytes that were taken, the count of failed writes, and what stands beside the writer.
     ghost told: { Self → Told };
 
@@ -42,10 +42,10 @@ pub trait Sink {
 
 /// A reader and a writer in one value. What stands beside each is what the other tells, so that the
 /// calls of each leave the other alone.
-pub trait Connection: Source + Sink {
-    ghost read_leaves_sink: { (c : Self)
-        → (Self.Source.told c).aside ≡ beside (Self.Sink.told c) };
+pub trait Connection: Reader + Writer {
+    ghost read_leaves_writer: { (c : Self)
+        → (Self.Reader.told c).aside ≡ beside (Self.Writer.told c) };
 
-    ghost write_leaves_source: { (c : Self)
-        → (Self.Sink.told c).aside ≡ beside (Self.Source.told c) };
+    ghost write_leaves_reader: { (c : Self)
+        → (Self.Writer.told c).aside ≡ beside (Self.Reader.told c) };
 }

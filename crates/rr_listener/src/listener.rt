@@ -7,7 +7,7 @@ ghost use Rattle.std.specs.Result.{result_err, result_ok};
 
 use crate::stream::{Stream, accept_stream, end_stream};
 use rr_desk::{AcceptFault, Peers};
-use rr_io::{Sink, Source};
+use rr_io::{Reader, Writer};
 use std::alloc::Global;
 use std::io;
 use std::net::{Ipv4Addr, TcpListener};
@@ -93,7 +93,7 @@ impl<'a> Peers for Listener<'a> {
         requires { self.old.turns + 1 < 2 ^ 64 }
         ensures accepted { IfOk result (λ conn. IsAccepted
             (listener_tally self.old) (listener_tally self.new) None
-            (⟦<Stream<'static> as Source>⟧.told conn) (⟦<Stream<'static> as Sink>⟧.told conn)) }
+            (⟦<Stream<'static> as Reader>⟧.told conn) (⟦<Stream<'static> as Writer>⟧.told conn)) }
         ensures refused { OnErr result
             (IsUnaccepted (listener_tally self.old) (listener_tally self.new)) }
         ensures kept { IsSome self.new.accept_error ↔ IsErr result }

@@ -6,7 +6,7 @@ ghost use Rattle.rr_desk.specs.Turns.{IsFresh};
 use crate::peer_reader::PeerReader;
 use crate::peer_writer::PeerWriter;
 use crate::socket::PeerSocket;
-use rr_io::{Counted, Joined, Sink, Source};
+use rr_io::{Counted, Joined, Reader, Writer};
 use std::io;
 use std::net::TcpListener;
 
@@ -17,10 +17,10 @@ pub type Stream<'a> = Joined<Counted<PeerReader<'a>>, Counted<PeerWriter<'a>>>;
 /// where that is told, and what its peer sends is not told. The error is the system's.
 pub(crate) fn accept_stream<'a>(rt: &'a HostRuntime, socket: &TcpListener) -> io::Result<Stream<'a>>
     ensures fresh { IfOk result (λ stream. IsFresh
-        (⟦<Stream<'static> as Source>⟧.told stream)
-        (⟦<Stream<'static> as Sink>⟧.told stream)) }
+        (⟦<Stream<'static> as Reader>⟧.told stream)
+        (⟦<Stream<'static> as Writer>⟧.told stream)) }
     ensures untold { IfOk result (λ stream.
-        (⟦<Stream<'static> as Source>⟧.told stream).bytes ≡ None) }
+        (⟦<Stream<'static> as Reader>⟧.told stream).bytes ≡ None) }
 {
     let (writing, _peer) = socket.accept()?;
     let reading = writing.try_clone()?;

@@ -14,7 +14,7 @@ use crate::digits::read_number;
 use crate::ends::End;
 use crate::number_text::{NUMBER_SIZE, NumberText};
 use rr_bytes::is_keyword;
-use rr_io::{Sink, write_all};
+use rr_io::{Writer, write_all};
 use std::marker::Model;
 use std::{fmt, io};
 
@@ -81,7 +81,7 @@ impl AsNumber {
 
     /// Writes the printed text. After a fault the writer has taken the beginning of it, and not
     /// all.
-    pub fn print_to<W: Sink>(&self, writer: &mut W) -> io::Result<()>
+    pub fn print_to<W: Writer>(&self, writer: &mut W) -> io::Result<()>
         ensures { Writes (W.told writer.old) (W.told writer.new)
             (as_number_text self.now) result }
     {

@@ -10,7 +10,7 @@ use crate::dash::cut_at_dash;
 use crate::ends::{ends_text, read_between};
 use crate::number_text::NumberText;
 use crate::{AsNumber, Span};
-use rr_io::{Sink, write_all};
+use rr_io::{Writer, write_all};
 use std::marker::Model;
 use std::{fmt, io};
 
@@ -69,7 +69,7 @@ impl AsSpan {
 
     /// Writes the printed text. After a fault the writer has taken the beginning of it, and not
     /// all.
-    pub fn print_to<W: Sink>(&self, writer: &mut W) -> io::Result<()>
+    pub fn print_to<W: Writer>(&self, writer: &mut W) -> io::Result<()>
         ensures { Writes (W.told writer.old) (W.told writer.new)
             (as_span_text self.now) result }
     {

@@ -12,7 +12,7 @@ ghost use Rattle.rr_number.specs.Shown.{Shows};
 use crate::any_set::{AS_ANY, RS_ANY};
 use crate::name_text::NameText;
 use rr_bytes::{is_keyword, is_name, to_upper};
-use rr_io::{Sink, write_all};
+use rr_io::{Writer, write_all};
 use std::alloc::{AllocError, Global};
 use std::marker::Model;
 use std::{fmt, io};
@@ -113,7 +113,7 @@ impl Name {
     }
 
     /// Writes the name. After a fault the writer has taken the beginning of it, and not all.
-    pub fn print_to<W: Sink>(&self, writer: &mut W) -> io::Result<()>
+    pub fn print_to<W: Writer>(&self, writer: &mut W) -> io::Result<()>
         ensures { Writes (W.told writer.old) (W.told writer.new) self.now result }
     {
         write_all(writer, self.as_bytes())

@@ -20,7 +20,7 @@ use crate::name_text::NameText;
 use crate::{AsNumber, SetKind};
 pub use parent::Parent;
 use rr_bytes::{cut_at, is_keyword, is_name, to_upper};
-use rr_io::{Sink, write_all};
+use rr_io::{Writer, write_all};
 use std::alloc::{AllocError, Global};
 use std::marker::Model;
 use std::{fmt, io};
@@ -108,7 +108,7 @@ impl SetName {
     }
 
     /// Writes the name. After a fault the writer has taken the beginning of it, and not all.
-    pub fn print_to<W: Sink>(&self, writer: &mut W) -> io::Result<()>
+    pub fn print_to<W: Writer>(&self, writer: &mut W) -> io::Result<()>
         ensures { Writes (W.told writer.old) (W.told writer.new) self.now result }
     {
         write_all(writer, self.as_bytes())

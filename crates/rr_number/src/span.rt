@@ -15,7 +15,7 @@ use crate::dash::cut_at_dash;
 use crate::ends::{ends_text, read_between};
 use crate::number_text::NumberText;
 use crate::prefix::Prefix;
-use rr_io::{Sink, write_all};
+use rr_io::{Writer, write_all};
 use std::marker::Model;
 use std::{fmt, io};
 
@@ -109,7 +109,7 @@ impl Span {
 
     /// Writes the text of the span of addresses. After a fault the writer has taken the beginning
     /// of it, and not all.
-    pub fn print_to<W: Sink>(&self, writer: &mut W) -> io::Result<()>
+    pub fn print_to<W: Writer>(&self, writer: &mut W) -> io::Result<()>
         ensures { Writes (W.told writer.old) (W.told writer.new)
             (span_text self.now) result }
     {

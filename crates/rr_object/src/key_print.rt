@@ -17,7 +17,7 @@ ghost use Rattle.rr_object.specs.KeyParts.{digits_of, is_old_component};
 
 use crate::key::Key;
 use crate::laws::a_key_has_its_parts;
-use rr_io::{Sink, write_pieces};
+use rr_io::{Writer, write_pieces};
 use rr_number::{AsNumber, Prefix, Span};
 use std::alloc::{AllocError, Global};
 use std::io;
@@ -32,7 +32,7 @@ const ROUTE_LENGTH: usize = NUMBER_LENGTH + 1 + 2 + 1 + NUMBER_LENGTH;
 impl Key {
     /// Writes the key as reports print it (profile). After a fault the writer has taken the
     /// beginning of it, but not all.
-    pub fn print_to<W: Sink>(&self, writer: &mut W) -> io::Result<()>
+    pub fn print_to<W: Writer>(&self, writer: &mut W) -> io::Result<()>
         ensures { Writes (W.told writer.old) (W.told writer.new) (key_text self.now) result }
     {
         match self {
@@ -135,7 +135,7 @@ fn is_old_component(component: &[u8]) -> bool
 }
 
 /// Writes a route's prefix, a space and its origin.
-fn print_route<W: Sink>(prefix: Prefix, origin: AsNumber, writer: &mut W) -> io::Result<()>
+fn print_route<W: Writer>(prefix: Prefix, origin: AsNumber, writer: &mut W) -> io::Result<()>
     ensures { Writes (W.told writer.old) (W.told writer.new)
         (prefix_text prefix ++ (32 ∷ as_number_text origin)) result }
 {

@@ -30,7 +30,7 @@ use Rattle.rr_auth.specs.Laws.{IsItem, IsRefusal, key_about}
 use Rattle.rr_auth.specs.Passing.{names_pass}
 use Rattle.rr_auth.specs.Registries.{Reg, Sound, seen_by}
 use Rattle.rr_auth.specs.SetParents.{parent_key, parent_object, parent_refuses}
-use Rattle.rr_auth.specs.Verdicts.{addition, after, deletion, place, step, submission, verdict}
+use Rattle.rr_auth.specs.Verdicts.{addition, after, deletion, by_place, step, submission, verdict}
 use Rattle.rr_auth.proofs.Covers.{closest_said}
 use Rattle.rr_auth.specs.Elements.{IsIn}
 use Rattle.rr_auth.proofs.Members.{all_fail, stands_at}
@@ -48,7 +48,7 @@ use Rattle.rr_registry.proofs.Space.{route_theirs, theirs_of_key}
 
 -- a new object that the space above it refuses is refused
 place_refused : (r : Reg) (secrets : List (List ℕ)) (k : Key) → cover_refuses r secrets k ≡ true →
-    IsRefusal (place r secrets k)
+    IsRefusal (by_place r secrets k)
 place_refused r secrets k e =
     refused_if (crosses_registered r k) E16 _ (
     refused_if (lacks_origin r k) E14 _ (

@@ -34,7 +34,8 @@ use Rattle.rr_auth.specs.Conditions.{lacks_origin, origin_refuses, crosses_regis
 use Rattle.rr_auth.specs.Laws.{IsItem}
 use Rattle.rr_auth.specs.Registries.{Reg, Sound, keys_cross, seen_by, with_mntner}
 use Rattle.rr_auth.specs.SetParents.{parent_key, parent_object}
-use Rattle.rr_auth.specs.Verdicts.{addition, after, change, deletion, first_of, place, submission}
+use Rattle.rr_auth.specs.Verdicts.{addition, after, change, deletion, first_of, by_place}
+use Rattle.rr_auth.specs.Verdicts.{submission}
 use Rattle.rr_auth.specs.Verdicts.{verdict}
 use Rattle.rr_auth.proofs.Covers.{closest_passes, closest_said}
 use Rattle.rr_auth.proofs.Crossing.{keys_cross_back}
@@ -295,7 +296,7 @@ module _ (h : Holding) (r q : Reg) (secrets : List (List ℕ)) (sound : Sound r)
   cover_says (AsBlock s) e formed = cc
   cover_says (AutNum n) e formed = cc
 
-  place_alike : (k : Key) → is_within h k ≡ true → IsKeyValue k → place r secrets k ≡ place q
+  place_alike : (k : Key) → is_within h k ≡ true → IsKeyValue k → by_place r secrets k ≡ by_place q
       secrets k
   place_alike k e formed =
       let sixteen = crossed_alike h r q secrets sound sound_q held held_q agree k e in

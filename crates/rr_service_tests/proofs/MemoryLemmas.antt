@@ -6,7 +6,7 @@ use Rattle.std.specs.Prelude.{Option, None, Some}
 use Rattle.rr_service_tests.specs.declared.memory_peers.MemoryInput.{MemoryInput}
 use Rattle.rr_service_tests.specs.declared.memory_peers.MemoryTurn.{MemoryTurn}
 use Rattle.rr_service_tests.specs.MemoryTurns.{memory_turn}
-use Rattle.rr_desk.specs.Turns.{IsNext, Turn, unaccepted}
+use Rattle.rr_desk.specs.Turns.{IsNextTurn, Turn, unaccepted}
 
 replicate_more : (n : ℕ) (turn : Turn) → replicate (n + 1) turn ≡ replicate n turn ++ turn ∷ []
 replicate_more zero turn = refl
@@ -37,13 +37,14 @@ given input = input.bytes.now
 -- the next input is accepted, and the others wait
 pub next_waits : (inputs rest : List MemoryInput) (input : MemoryInput) (told : Option (List ℕ)) →
     inputs ≡ input ∷ rest → told ≡ Some (given input) →
-    IsNext (Some told) (Some (map given inputs)) (Some (map given rest))
+    IsNextTurn (Some told) (Some (map given inputs)) (Some (map given rest))
 next_waits inputs rest input told split is =
-    subst (λ xs. IsNext (Some told) (Some (map given xs)) (Some (map given rest))) (sym split)
+    subst (λ xs. IsNextTurn (Some told) (Some (map given xs)) (Some (map given rest))) (sym split)
     (is, refl)
 
 -- and none where none waits
-pub none_waits : (inputs : List MemoryInput) → inputs ≡ [] → IsNext None (Some (map given inputs))
+pub none_waits : (inputs : List MemoryInput) → inputs ≡ [] →
+    IsNextTurn None (Some (map given inputs))
     (Some (map given inputs))
-none_waits inputs none = subst (λ xs. IsNext None (Some (map given xs)) (Some (map given xs)))
+none_waits inputs none = subst (λ xs. IsNextTurn None (Some (map given xs)) (Some (map given xs)))
     (sym none) refl

@@ -7,7 +7,7 @@ use rr_desk::{
     serve_all,
 };
 use rr_http::{Both, Registrar, serve_one};
-use rr_io::{Counted, Cut, Sink, Source};
+use rr_io::{Counted, Cut, Reader, Writer};
 use rr_store::IdleConnection;
 use sqlite::{Alter, Connection, Error};
 use std::alloc::{AllocError, Global};
@@ -138,7 +138,7 @@ impl<S: Alter + Drop> Office for Desk<S> {
 
 /// Submits what the reader gives, and writes the report. Like the two calls after it, it promises
 /// nothing, so that long contracts are not met over readers and writers of many parts.
-fn submit<S: Alter, R: Source, W: Sink>(
+fn submit<S: Alter, R: Reader, W: Writer>(
     alloc: Global,
     desk: &mut Desk<S>,
     reader: &mut R,
@@ -148,7 +148,7 @@ fn submit<S: Alter, R: Source, W: Sink>(
 }
 
 /// Answers a query: the number of the error.
-fn answer<S: Alter, W: Sink>(
+fn answer<S: Alter, W: Writer>(
     alloc: Global,
     desk: &Desk<S>,
     query: &str,

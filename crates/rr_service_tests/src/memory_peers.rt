@@ -7,7 +7,7 @@ ghost use Rattle.std.specs.Prelude.{length, vec_len, vec_capacity};
 ghost use Rattle.rr_desk.specs.Turns.{IsAccepted, IsFresh, IsUnaccepted};
 
 use rr_desk::{AcceptFault, Peers};
-use rr_io::{Counted, Cut, Joined, Sink, Source};
+use rr_io::{Counted, Cut, Joined, Reader, Writer};
 use std::alloc::{AllocError, Global};
 
 /// What a connection over memory gives, and where its calls fail.
@@ -44,10 +44,10 @@ impl<'a> MemoryInput<'a> {
 
     /// The connection that it is.
     pub(crate) fn connection(self, alloc: Global) -> MemoryConnection<'a>
-        ensures fresh { IsFresh (⟦<MemoryConnection<'static> as Source>⟧.told result)
-            (⟦<MemoryConnection<'static> as Sink>⟧.told result) }
+        ensures fresh { IsFresh (⟦<MemoryConnection<'static> as Reader>⟧.told result)
+            (⟦<MemoryConnection<'static> as Writer>⟧.told result) }
         ensures is_of_it { IsOfInput self.entry result
-            (⟦<MemoryConnection<'static> as Source>⟧.told result) }
+            (⟦<MemoryConnection<'static> as Reader>⟧.told result) }
     {
         let step = self.step.max(1);
         let reader = Cut::new(Counted::new(self.bytes), step, self.reads_end);
@@ -136,14 +136,14 @@ impl<'a> Peers for MemoryPeers<'a> {
         requires { (memory_tally self.old).turns + 1 < 2 ^ 64 }
         ensures accepted { IfOk result (λ conn. IsAccepted
             (memory_tally self.old) (memory_tally self.new) (open_bytes self.new)
-            (⟦<MemoryConnection<'static> as Source>⟧.told conn)
-            (⟦<MemoryConnection<'static> as Sink>⟧.told conn)) }
+            (⟦<MemoryConnection<'static> as Reader>⟧.told conn)
+            (⟦<MemoryConnection<'static> as Writer>⟧.told conn)) }
         ensures open { IfOk result (λ conn. is_open self.new ≡ true) }
         ensures refused { OnErr result
             (IsUnaccepted (memory_tally self.old) (memory_tally self.new)) }
         ensures next { IfOk result (λ conn. AcceptsNext
             (inputs_left self.old) (inputs_left self.new) conn
-            (⟦<MemoryConnection<'static> as Source>⟧.told conn)) }
+            (⟦<MemoryConnection<'static> as Reader>⟧.told conn)) }
         ensures none_left { OnErr result
             ((inputs_left self.old ≡ []) × (inputs_left self.new ≡ [])) }
     {

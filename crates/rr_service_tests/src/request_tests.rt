@@ -4,7 +4,7 @@ use rr_http::{
     Asked, BodyEnd, BodySize, HEAD_LIMIT, Head, Page, Refusal, read_body, read_head, read_request,
     write_refusal,
 };
-use rr_io::{Counted, Cut, Sink, Source};
+use rr_io::{Counted, Cut, Reader, Writer};
 use std::alloc::{AllocError, Global};
 use std::io;
 use std::process::Abort;
@@ -335,7 +335,7 @@ struct Calls<W> {
     calls: u64,
 }
 
-impl<W: Sink> Sink for Calls<W> {
+impl<W: Writer> Writer for Calls<W> {
     ghost told = { λ c. W.told c.inner };
 
     fn write(&mut self, bytes: &[u8]) -> io::Result<usize> {
@@ -371,7 +371,7 @@ fn a_refusal_is_written_in_one_call(rt: HostRuntime) {
 }
 
 /// Asserts the body that is read after these bytes of it, and how it ends.
-fn expect_body<T: Source, R: Abort + AllocGlobal>(
+fn expect_body<T: Reader, R: Abort + AllocGlobal>(
     rt: &R,
     reader: &mut T,
     buffered: &[u8],

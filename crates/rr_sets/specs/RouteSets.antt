@@ -104,13 +104,13 @@ InRouteSet r start range = carried.IsFound (Refers r) (HasRange r) applied (Set 
 
 -- A chain of references, which may be empty, leads from the set of the name to this set or AS
 -- (RFC 2622, 5).
-abbrev pub IsReachedFrom : Reg → List ℕ → MemberSet → Type 0
-IsReachedFrom r start set = carried.IsReachedFrom (Refers r) (Set start) set
+abbrev pub LeadsToSet : Reg → List ℕ → MemberSet → Type 0
+LeadsToSet r start set = carried.IsReachedFrom (Refers r) (Set start) set
 
 -- A chain of references, which may be empty, leads from a set to a name of which there is no set
 -- (profile).
 abbrev pub IsMissingName : Reg → List ℕ → List ℕ → Type 0
-IsMissingName r start name = IsReachedFrom r start (Set name) × (has_set r name ≡ false)
+IsMissingName r start name = LeadsToSet r start (Set name) × (has_set r name ≡ false)
 
 -- References lead to more than `limit` sets and ASes, the set itself among them, or to more than
 -- `limit` pairs of one of these and a range that it stands for (profile).

@@ -5,7 +5,7 @@ ghost use Rattle.rr_io.specs.Sending.{Writes};
 ghost use Rattle.rr_submission.specs.Endings.{before_count, after_count, last_line};
 
 use crate::short_text::ShortText;
-use rr_io::{Sink, write_all};
+use rr_io::{Writer, write_all};
 use std::io;
 
 /// How a submission ended, as its last line says. There is none after a write fault in the line of
@@ -49,7 +49,11 @@ impl Ending {
 /// Writes the last line of a report, with how many items were decided. The first call of the writer
 /// is given all of it, which no clause says. After a fault the writer has taken the beginning of
 /// it, and not all.
-pub(crate) fn write_last_line<W: Sink>(writer: &mut W, ending: Ending, items: u64) -> io::Result<()>
+pub(crate) fn write_last_line<W: Writer>(
+    writer: &mut W,
+    ending: Ending,
+    items: u64,
+) -> io::Result<()>
     ensures { Writes (W.told writer.old) (W.told writer.new)
         (last_line ending items) result }
 {

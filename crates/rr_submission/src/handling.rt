@@ -22,7 +22,7 @@ use crate::report_line::write_item_line;
 use crate::request::Request;
 use crate::submission::{DeskFault, Done};
 use rr_auth::{Item, Secrets};
-use rr_io::{ReadEnd, Sink, Source};
+use rr_io::{ReadEnd, Reader, Writer};
 use rr_number::Name;
 use rr_object::{Code, Key};
 use rr_registry::Outcome;
@@ -57,7 +57,7 @@ use std::io;
 /// before that one; what the stop leaves is what `Stops` of the ledger says. What lasts of a ledger
 /// through any items (`Lasts`) lasts, and what is so of it between items (`Kept`) is so, however
 /// the submission ends.
-pub fn submit<L: Ledger, R: Source, W: Sink>(
+pub fn submit<L: Ledger, R: Reader, W: Writer>(
     alloc: Global,
     ledger: &mut L,
     source: &Name,
@@ -81,7 +81,7 @@ pub fn submit<L: Ledger, R: Source, W: Sink>(
 }
 
 /// Submits what the reader gives to a ledger that runs.
-fn report<L: Ledger, R: Source, W: Sink>(
+fn report<L: Ledger, R: Reader, W: Writer>(
     alloc: Global,
     ledger: &mut L,
     source: &Name,
@@ -128,7 +128,7 @@ struct Course {
 
 /// Reads, decides and reports the items of a text one by one: each line is written before the next
 /// item is read.
-fn handle_items<L: Ledger, R: Source, W: Sink>(
+fn handle_items<L: Ledger, R: Reader, W: Writer>(
     alloc: Global,
     ledger: &mut L,
     source: &Name,
@@ -161,7 +161,7 @@ fn handle_items<L: Ledger, R: Source, W: Sink>(
 
 /// Decides an item, counts it, and writes its line. Where the ledger, which ran, stops at it, it is
 /// not counted, and its line and a last line are written as far as they can be. The secrets stay.
-fn handle_item<L: Ledger, W: Sink>(
+fn handle_item<L: Ledger, W: Writer>(
     alloc: Global,
     ledger: &mut L,
     course: &mut Course,
@@ -222,7 +222,7 @@ fn decide<L: Ledger>(
 /// Writes the line of an item at which the ledger stopped, after so many that were decided,
 /// and the last line.
 #[tactic(auto, unfolding(crate::specs::Reports::stop_lines))]
-fn write_stop<W: Sink>(writer: &mut W, items: u64, key: &Option<Key>) -> io::Result<()>
+fn write_stop<W: Writer>(writer: &mut W, items: u64, key: &Option<Key>) -> io::Result<()>
     requires { items + 1 < 2 ^ 64 }
     ensures { Writes (W.told writer.old) (W.told writer.new)
         (stop_lines items key.now) result }

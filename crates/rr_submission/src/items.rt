@@ -12,7 +12,7 @@ use crate::request::Request;
 use crate::secret::secret_of;
 use crate::submission_text::{is_password, is_secrets_alone};
 use rr_auth::Secrets;
-use rr_io::{ReadEnd, Source};
+use rr_io::{ReadEnd, Reader};
 use rr_number::Name;
 use rr_object::Code;
 use rr_text::{Attribute, Paragraph, Paragraphs, TextFault};
@@ -22,7 +22,7 @@ use std::alloc::{AllocError, Global};
 /// error says how the reading broke off before that, and is never `Whole`. The secrets of the
 /// paragraphs that it passes are added to `secrets`. Where memory runs out, the item is refused
 /// with E90.
-pub(crate) fn next_item<R: Source>(
+pub(crate) fn next_item<R: Reader>(
     alloc: Global,
     paragraphs: &mut Paragraphs,
     reader: &mut R,

@@ -6,14 +6,14 @@ ghost use Rattle.rr_submission.specs.Reports.{item_line, number_part, outcome_pa
 ghost use Rattle.rr_submission.specs.Reports.{outcome_word, refusal_code, subject};
 
 use crate::short_text::ShortText;
-use rr_io::{Sink, write_all};
+use rr_io::{Writer, write_all};
 use rr_object::Key;
 use rr_registry::Outcome;
 use std::io;
 
 /// Writes the line of an item. The first call of the writer is given all of it, which no clause
 /// says. After a fault the writer has taken the beginning of it, and not all.
-pub(crate) fn write_item_line<W: Sink>(
+pub(crate) fn write_item_line<W: Writer>(
     writer: &mut W,
     number: u64,
     key: &Option<Key>,

@@ -1,7 +1,7 @@
 //! Registries in memory, in either book: of texts, and what they report and answer.
 use rr_answer::{dump, find_for};
 use rr_auth::Item;
-use rr_io::{Counted, Cut, Source, write_all};
+use rr_io::{Counted, Cut, Reader, write_all};
 use rr_number::Name;
 use rr_object::Object;
 use rr_registry::{Keeper, Registry};
@@ -58,7 +58,7 @@ pub fn taken<B: Keeper>(alloc: Global, text: &[u8]) -> Result<Registry<B>, Fail>
 }
 
 /// Submits what the reader gives to a registry; answers with the report.
-pub fn report<B: Keeper, R: Source>(
+pub fn report<B: Keeper, R: Reader>(
     alloc: Global,
     registry: &mut Registry<B>,
     reader: &mut R,

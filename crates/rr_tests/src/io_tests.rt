@@ -37,7 +37,7 @@ impl Write for Full {
 }
 
 /// Asserts that a read gives these bytes.
-fn expect_read<S: Source, R: Abort>(rt: &R, reader: &mut S, wanted: &[u8]) {
+fn expect_read<S: Reader, R: Abort>(rt: &R, reader: &mut S, wanted: &[u8]) {
     let mut block = [0u8; 8];
     match reader.read(&mut block) {
         Ok(count) => assert!(rt; &block[..count] == wanted),
@@ -46,14 +46,14 @@ fn expect_read<S: Source, R: Abort>(rt: &R, reader: &mut S, wanted: &[u8]) {
 }
 
 /// Asserts that a read fails, as the last of so many.
-fn expect_no_read<S: Source, R: Abort>(rt: &R, reader: &mut S, failed: u64) {
+fn expect_no_read<S: Reader, R: Abort>(rt: &R, reader: &mut S, failed: u64) {
     let mut block = [0u8; 8];
     assert!(rt; reader.read(&mut block).is_err());
     assert_eq!(rt; reader.failed_reads(), failed);
 }
 
 /// Asserts whether these pieces are written, and how many writes have failed by then.
-fn expect_written<S: Sink, R: Abort>(
+fn expect_written<S: Writer, R: Abort>(
     rt: &R,
     sink: &mut S,
     pieces: &[&[u8]],

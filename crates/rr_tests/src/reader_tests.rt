@@ -1,7 +1,7 @@
 //! Paragraphs read piece by piece: cuts, and readers that fail or never end.
 
 use crate::text_tests::{CANONICAL, FOLDED, is_printed};
-use rr_io::{Counted, Cut, READ_SIZE, Source};
+use rr_io::{Counted, Cut, READ_SIZE, Reader};
 use rr_text::{Paragraphs, TextFault};
 use std::alloc::Global;
 use std::io;
@@ -44,7 +44,7 @@ impl Read for Unending {
 }
 
 /// Whether a reader gives, in its next paragraph, one that is printed so.
-fn gives<S: Source>(
+fn gives<S: Reader>(
     alloc: Global,
     paragraphs: &mut Paragraphs,
     reader: &mut S,
@@ -57,7 +57,7 @@ fn gives<S: Source>(
 }
 
 /// Asserts that a reader gives one paragraph, printed so, and then none for good.
-fn expect_one<S: Source, R: Abort + AllocGlobal>(
+fn expect_one<S: Reader, R: Abort + AllocGlobal>(
     rt: &R,
     reader: &mut S,
     printed: &str,
@@ -97,7 +97,7 @@ fn paragraphs_after_a_fault_are_read(rt: HostRuntime) -> Result<(), Fail> {
 }
 
 /// Asserts that the paragraphs of a reader end with this fault, twice.
-fn expect_fault<S: Source, R: Abort + AllocGlobal>(
+fn expect_fault<S: Reader, R: Abort + AllocGlobal>(
     rt: &R,
     paragraphs: &mut Paragraphs,
     reader: &mut S,

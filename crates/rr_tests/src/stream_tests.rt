@@ -3,7 +3,7 @@ use crate::books::{source, taken};
 use crate::texts::OPENING;
 use crate::told::expect_text;
 use rr_index::IndexedBook;
-use rr_io::{Counted, Cut, Sink};
+use rr_io::{Counted, Cut, Writer};
 use rr_registry::{Keeper, Registry};
 use rr_submission::{DeskFault, Done, submit};
 use std::alloc::Global;
@@ -158,7 +158,7 @@ struct Calls<W> {
     line_ends: u64,
 }
 
-impl<W: Sink> Sink for Calls<W> {
+impl<W: Writer> Writer for Calls<W> {
     ghost told = { λ c. W.told c.inner };
 
     fn write(&mut self, bytes: &[u8]) -> io::Result<usize> {

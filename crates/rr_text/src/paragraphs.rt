@@ -7,7 +7,7 @@ ghost use Rattle.rr_io.specs.Receiving.{read_limit, read_size};
 use crate::draft::Draft;
 use crate::paragraph::Paragraph;
 use crate::text_fault::TextFault;
-use rr_io::{READ_LIMIT, READ_SIZE, Source};
+use rr_io::{READ_LIMIT, READ_SIZE, Reader};
 use std::alloc::{AllocError, Global};
 
 /// How the reading of a text stands.
@@ -73,7 +73,7 @@ impl Paragraphs {
     /// that 16,777,216 reads met no end; before either, exactly what a blank line closes was given.
     /// After another fault the next paragraph follows; `Memory` passes over one, also one with a
     /// fault. Of a connection, the other side stays as it was.
-    pub fn next<R: Source>(
+    pub fn next<R: Reader>(
         &mut self,
         alloc: Global,
         reader: &mut R,
@@ -89,7 +89,7 @@ impl Paragraphs {
     }
 
     /// The next paragraph, as `next` gives it, while the reading is open.
-    fn next_open<R: Source>(
+    fn next_open<R: Reader>(
         &mut self,
         alloc: Global,
         reader: &mut R,
@@ -134,7 +134,7 @@ impl Paragraphs {
     }
 
     /// Reads up to the end of the next paragraph, or of the text.
-    fn gather<R: Source>(&mut self, reader: &mut R) -> ReaderState
+    fn gather<R: Reader>(&mut self, reader: &mut R) -> ReaderState
         ensures { parts.Gathers result (R.told reader.old) (R.told reader.new)
             (held self.old) (reads_of self.old) self.new }
     {
@@ -176,7 +176,7 @@ impl Paragraphs {
 
     /// Reads a piece, where nothing is held and the limit of reads is not met. Says how the text
     /// stands if it does not go on. The draft stays.
-    fn fill<R: Source>(&mut self, reader: &mut R) -> Option<ReaderState>
+    fn fill<R: Reader>(&mut self, reader: &mut R) -> Option<ReaderState>
         requires reads { reads_of self.old < read_limit }
         requires none { self.old.from ≡ self.old.to }
         ensures fills { parts.Fills result (R.told reader.old)

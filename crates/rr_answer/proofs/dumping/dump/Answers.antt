@@ -6,8 +6,8 @@ use Rattle.rr_answer.proofs.dumping.dump.Goals as goal
 
 pub returns-clause-writes : goal.returns-clause-writes
 returns-clause-writes g c =
-    subst (λ (bytes : List ℕ). WritesDump bytes (g.W.Sink.told c.args.writer.now)
-    (g.W.Sink.told c.dump_listed.new.writer) c.dump_listed.result)
+    subst (λ (bytes : List ℕ). WritesDump bytes (g.W.Writer.told c.args.writer.now)
+    (g.W.Writer.told c.dump_listed.new.writer) c.dump_listed.result)
     (dump_is c.args.full c.args.registry.now c.in_ok-objects.objects.items c.deref.result.now
     c.in_ok-objects.ensures.all c.deref.ensures.value)
     c.dump_listed.ensures.writes

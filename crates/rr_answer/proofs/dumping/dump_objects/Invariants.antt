@@ -9,4 +9,4 @@ abbrev pub invariant-objects : goal.invariant-objects
 invariant-objects g l =
     (taken : List ℕ) × (flat_map (λ object. dumped l.full object.now) l.objects ≡ taken ++ flat_map
     (λ object. dumped l.full object.now) (drop l.object-index l.objects))
-    × Takes (g.W.Sink.told l.initial.writer) (g.W.Sink.told l.writer) taken
+    × Takes (g.W.Writer.told l.initial.writer) (g.W.Writer.told l.writer) taken

@@ -10,8 +10,8 @@ returns g c =
     let bytes = g.T.Part.bytes in
     let found = c.args.found.now in
     let missing = c.args.missing.now in
-    subst (λ (text : List ℕ). Writes (g.W.Sink.told c.args.writer.now)
-    (g.W.Sink.told c.write_parts-2.new.writer) text c.write_parts-2.result)
+    subst (λ (text : List ℕ). Writes (g.W.Writer.told c.args.writer.now)
+    (g.W.Writer.told c.write_parts-2.new.writer) text c.write_parts-2.result)
     (sym (members_bytes bytes g.met.T.Part.has_bytes found missing c.args.nothing.now
     (c.are_none.ensures.no c.if-are_none.false)))
     (writes_then _ _ _ (flat_map bytes found) (flat_map missing_line missing)

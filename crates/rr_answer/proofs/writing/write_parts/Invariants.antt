@@ -7,7 +7,7 @@ use Rattle.rr_answer.proofs.writing.write_parts.Given as goal
 abbrev pub invariant-rest : goal.invariant-rest
 invariant-rest g l =
     (taken : List ℕ) × (flat_map g.T.Part.bytes l.parts ≡ taken ++ flat_map g.T.Part.bytes l.rest)
-    × Takes (g.W.Sink.told l.initial.writer) (g.W.Sink.told l.writer) taken
+    × Takes (g.W.Writer.told l.initial.writer) (g.W.Writer.told l.writer) taken
 
 abbrev pub decreases-rest : goal.decreases-rest
 decreases-rest g l = length l.rest

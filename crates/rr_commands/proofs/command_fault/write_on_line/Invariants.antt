@@ -7,4 +7,4 @@ abbrev pub invariant-bytes : goal.invariant-bytes
 invariant-bytes g l =
     (taken : List ℕ) × (map byte_on_line l.text ≡ taken ++ map byte_on_line
     (drop l.byte-index l.text))
-    × Takes (g.E.Sink.told l.initial.errors) (g.E.Sink.told l.errors) taken
+    × Takes (g.E.Writer.told l.initial.errors) (g.E.Writer.told l.errors) taken

@@ -7,7 +7,7 @@ use Rattle.rr_desk.proofs.dump_reading.read_entries.Given as goal
 
 abbrev pub invariant-entries : goal.invariant-entries
 invariant-entries g l =
-    (given : List Entry) × HasGiven (g.R.Source.told l.initial.reader) (g.R.Source.told l.reader)
+    (given : List Entry) × HasGiven (g.R.Reader.told l.initial.reader) (g.R.Reader.told l.reader)
     l.paragraphs given
     × (l.count ≡ length given)
     × MatchResult l.read (λ objects. objects_from l.source 1 given ≡ Ok objects.items)

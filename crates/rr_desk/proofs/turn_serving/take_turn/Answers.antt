@@ -3,7 +3,7 @@ use Rattle.rr_desk.proofs.turn_serving.take_turn.Goals as goal
 
 pub returns-in-Ok : goal.returns-in-Ok
 returns-in-Ok g c =
-    served_turn _ _ g.P.Conn.Source g.P.Conn.Sink _ _ _ _ _ _ c.in-Ok.conn c.serve-ended.new.conn
+    served_turn _ _ g.P.Conn.Reader g.P.Conn.Writer _ _ _ _ _ _ c.in-Ok.conn c.serve-ended.new.conn
     _ _ c.is_ok.ensures.value c.in-Ok.ensures.accepted c.serve-ended.ensures.serves
     (record {
       settings = c.serve-ended.ensures.settings;

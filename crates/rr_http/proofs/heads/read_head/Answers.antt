@@ -35,8 +35,8 @@ returns-in_err-count-2-clause-breaks g c =
 pub returns-clause-finds : goal.returns-clause-finds
 returns-clause-finds g c =
     let room = c.read_on.auto.buf ∙ c.requires in
-    subst (λ head. FindsHead (g.R.Source.told c.args.reader.now)
-    (g.R.Source.told c.read_on-2.new.reader) (take c.in_ok-count-2.count c.read_on-2.new.buf)
+    subst (λ head. FindsHead (g.R.Reader.told c.args.reader.now)
+    (g.R.Reader.told c.read_on-2.new.reader) (take c.in_ok-count-2.count c.read_on-2.new.buf)
     head) (sym c.request_head.ensures)
     (head_found _ _ _ _ _ _ _ _ _ _ _ _ room (c.read_on-2.auto.buf ∙ room) c.in-Some.is
     c.in_ok-count.ensures.reads

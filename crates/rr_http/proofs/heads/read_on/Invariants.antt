@@ -7,7 +7,7 @@ use Rattle.rr_http.proofs.heads.read_on.Given as goal
 abbrev pub invariant-reads : goal.invariant-reads
 invariant-reads g l = record {
   more : List ℕ;
-  gives : Gives (g.R.Source.told l.initial.reader) (g.R.Source.told l.reader) more;
+  gives : Gives (g.R.Reader.told l.initial.reader) (g.R.Reader.told l.reader) more;
   joined : take l.count l.buf ≡ take l.filled l.initial.buf ++ more;
   within : l.count ≤ length l.buf;
   is_place : l.place ≡ goal_place l.goal (take l.count l.buf);

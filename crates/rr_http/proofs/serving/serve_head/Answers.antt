@@ -5,7 +5,7 @@ use Rattle.rr_http.proofs.serving.serve_head.Goals as goal
 pub returns-in-Whois : goal.returns-in-Whois
 returns-in-Whois g c =
     let law = g.met.C.Connection in
-    let told = answered g.C.Source g.C.Sink law.read_leaves_sink law.write_leaves_source _ _ _ _
+    let told = answered g.C.Reader g.C.Writer law.read_leaves_writer law.write_leaves_reader _ _ _ _
     c.args.conn.now c.write_answer.new.writer _ c.write_answer.ensures in
     whois_served _ _ _ _ _ _ (rw c.in-Whois.is at c.requires.head) told.0 told.1
 
@@ -17,6 +17,6 @@ returns-in-Http g c =
 pub returns-in-Refused : goal.returns-in-Refused
 returns-in-Refused g c =
     let law = g.met.C.Connection in
-    let told = replied g.C.Source g.C.Sink law.read_leaves_sink law.write_leaves_source
+    let told = replied g.C.Reader g.C.Writer law.read_leaves_writer law.write_leaves_reader
     c.args.desk.now _ c.args.conn.now c.refuse.new.writer _ c.refuse.ensures in
     refusal_served _ _ _ _ _ _ (rw c.in-Refused.is at c.requires.head) told.0 told.1

@@ -6,14 +6,16 @@ use Rattle.rr_http.proofs.serving.serve_one.Goals as goal
 pub returns-in-Ok-clause-serves : goal.returns-in-Ok-clause-serves
 returns-in-Ok-clause-serves g c =
     let law = g.met.C.Connection in
-    head_read g.C.Source g.C.Sink law.read_leaves_sink law.write_leaves_source g.D.Registrar _ _ _ _
+    head_read g.C.Reader g.C.Writer law.read_leaves_writer law.write_leaves_reader g.D.Registrar _
+    _ _ _
     c.args.conn.now c.read_head.new.reader c.serve_head.new.conn _ c.in-Ok.ensures.finds.1
     c.serve_head.ensures
 
 pub returns-in-Err-clause-serves : goal.returns-in-Err-clause-serves
 returns-in-Err-clause-serves g c =
     let law = g.met.C.Connection in
-    inl (broken g.C.Source g.C.Sink law.read_leaves_sink law.write_leaves_source _ c.args.conn.now
+    inl (broken g.C.Reader g.C.Writer law.read_leaves_writer law.write_leaves_reader _
+    c.args.conn.now
     c.read_head.new.reader c.in-Err.ensures.breaks)
 
 pub returns-in-Ok-clause-leaves : goal.returns-in-Ok-clause-leaves

@@ -4,8 +4,8 @@ use Rattle.rr_io.proofs.sending.write_all.Given as goal
 
 abbrev pub invariant-rest : goal.invariant-rest
 invariant-rest g l =
-    (taken : List ℕ) × (l.bytes ≡ taken ++ l.rest) × Takes (g.W.Sink.told l.initial.writer)
-    (g.W.Sink.told l.writer) taken
+    (taken : List ℕ) × (l.bytes ≡ taken ++ l.rest) × Takes (g.W.Writer.told l.initial.writer)
+    (g.W.Writer.told l.writer) taken
 
 abbrev pub decreases-rest : goal.decreases-rest
 decreases-rest g l = length l.rest

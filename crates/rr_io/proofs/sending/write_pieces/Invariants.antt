@@ -7,4 +7,4 @@ abbrev pub invariant-pieces : goal.invariant-pieces
 invariant-pieces g l =
     (taken : List ℕ) × (flat_map (λ piece. piece.now) l.pieces ≡ taken ++ flat_map
     (λ piece. piece.now) (drop l.piece-index l.pieces))
-    × Takes (g.W.Sink.told l.initial.writer) (g.W.Sink.told l.writer) taken
+    × Takes (g.W.Writer.told l.initial.writer) (g.W.Writer.told l.writer) taken

@@ -3,7 +3,7 @@ use Rattle.std.proofs.lemmas.Map.Lookups.{exact_bytes}
 use Rattle.std.proofs.lemmas.Result.{err_from_is_err_and}
 use Rattle.rr_object.specs.declared.member.MemberSet.{MemberSet}
 use Rattle.rr_object.specs.declared.member.MemberSet.TheVariants.{Set}
-use Rattle.rr_sets.specs.RouteSets.{IsReachedFrom}
+use Rattle.rr_sets.specs.RouteSets.{LeadsToSet}
 use Rattle.rr_sets.proofs.Expanding.{expanded_fault}
 use Rattle.rr_sets.proofs.ReferenceLists.{missing_among}
 use Rattle.rr_sets.proofs.route_sets.expand_known.Goals as goal
@@ -16,9 +16,9 @@ returns-in_err-gathered g c = λ known.
 
 pub returns : goal.returns
 returns g c = λ known.
-    let reached : (set : MemberSet) → Contains c.deref.result.now set ↔ IsReachedFrom
+    let reached : (set : MemberSet) → Contains c.deref.result.now set ↔ LeadsToSet
     (g.B.Book.contents c.args.book.now) c.args.name.now set =
-    subst (λ (l : List MemberSet). (set : MemberSet) → Contains l set ↔ IsReachedFrom
+    subst (λ (l : List MemberSet). (set : MemberSet) → Contains l set ↔ LeadsToSet
     (g.B.Book.contents c.args.book.now) c.args.name.now set) (sym c.deref.ensures.value)
     c.in_ok-gathered.ensures.found.nodes.all in record {
       found = record {

@@ -17,8 +17,8 @@ returns-in-Numbers g c =
     missing.result.now) ≡ found_text c.args.self.now =
     (λ i. or_else nothing (flat_map number_line (found.ensures.value i) ++ flat_map missing_line
     (missing.ensures.value i))) ∙ sym (ap found_text c.in-Numbers.is) in
-    subst (λ (text : List ℕ). Writes (g.W.Sink.told c.args.writer.now)
-    (g.W.Sink.told c.write_members-in-Numbers.new.writer) text
+    subst (λ (text : List ℕ). Writes (g.W.Writer.told c.args.writer.now)
+    (g.W.Writer.told c.write_members-in-Numbers.new.writer) text
     c.write_members-in-Numbers.result)
     whole c.write_members-in-Numbers.ensures
 
@@ -32,6 +32,6 @@ returns-in-Ranges g c =
     missing.result.now) ≡ found_text c.args.self.now =
     (λ i. or_else nothing (flat_map range_line (found.ensures.value i) ++ flat_map missing_line
     (missing.ensures.value i))) ∙ sym (ap found_text c.in-Ranges.is) in
-    subst (λ (text : List ℕ). Writes (g.W.Sink.told c.args.writer.now)
-    (g.W.Sink.told c.write_members-in-Ranges.new.writer) text c.write_members-in-Ranges.result)
+    subst (λ (text : List ℕ). Writes (g.W.Writer.told c.args.writer.now)
+    (g.W.Writer.told c.write_members-in-Ranges.new.writer) text c.write_members-in-Ranges.result)
     whole c.write_members-in-Ranges.ensures

@@ -22,10 +22,10 @@ returns-in_err-write_about g c =
 pub returns : goal.returns
 unfolding fault_line
 returns g c =
-    let after = Writes-then _ _ (g.E.Sink.told c.write_trouble.new.errors) _
+    let after = Writes-then _ _ (g.E.Writer.told c.write_trouble.new.errors) _
     (trouble_text c.args.self.now.trouble c.args.self.now.stream) c.write_trouble.result
     c.in_ok-write_about.ensures c.write_trouble.ensures in
-    Writes-then _ _ (g.E.Sink.told c.write_trouble.new.errors) _
+    Writes-then _ _ (g.E.Writer.told c.write_trouble.new.errors) _
     (name_on_line c.args.self.now.about ++ trouble_text c.args.self.now.trouble
     c.args.self.now.stream) c.write_trouble.result
     c.in_ok-write_all.ensures after

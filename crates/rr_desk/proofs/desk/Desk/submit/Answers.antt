@@ -20,7 +20,7 @@ pub returns-clause-leaves : goal.returns-clause-leaves
 returns-clause-leaves g c = record {
   runs_on = c.submit.ensures.running;
   rows = c.submit.ensures.kept;
-  of_source = submitted_of_source g.S.Store c.args.self.now.settings.source c.args.self.now.stored
+  of_source = submitted_of_source g.S.Store c.args.self.now.settings.source c.args.self.now.stock
       c.submit.new.ledger _ _ _ _ _
       (λ stopped. (c.submit.ensures.stopped stopped).1)
       (λ running. rw c.source-source.ensures.source at (c.submit.ensures.submits running));
@@ -34,8 +34,8 @@ returns-clause-event g c = submission _ _ _ _ _ _ _ (record {
       let refused = returns-clause-stopped g c halted in (
         refused.0,
         refused.1,
-        ap (λ r. g.R.Source.told r) refused.2,
-        ap (λ w. g.W.Sink.told w)
+        ap (λ r. g.R.Reader.told r) refused.2,
+        ap (λ w. g.W.Writer.told w)
             refused.3,
       );
   submits = returns-clause-submits g c;

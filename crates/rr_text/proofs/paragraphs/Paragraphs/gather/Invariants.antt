@@ -5,7 +5,7 @@ use Rattle.rr_text.proofs.paragraphs.Paragraphs.gather.Given as goal
 
 abbrev pub invariant-reads : goal.invariant-reads
 invariant-reads g l =
-    IsGathering (g.R.Source.told l.initial.reader) (g.R.Source.told l.reader) (held l.initial.self)
+    IsGathering (g.R.Reader.told l.initial.reader) (g.R.Reader.told l.reader) (held l.initial.self)
     (reads_of l.initial.self) l.self
 
 abbrev pub decreases-reads : goal.decreases-reads

@@ -3,7 +3,7 @@ use Rattle.std.specs.FinMap.{get}
 use Rattle.std.specs.Option.{option_copied}
 use Rattle.std.specs.Prelude.{is_some}
 use Rattle.rr_desk.proofs.Following.{some_there}
-use Rattle.rr_desk.proofs.stored.standing.Goals as goal
+use Rattle.rr_desk.proofs.stock.standing.Goals as goal
 
 pub unwrap-requires : goal.unwrap-requires
 unwrap-requires c =

@@ -25,16 +25,16 @@ use std::marker::Model;
 /// A registry with the store that keeps its rows. A fault of the store stops it: until then the
 /// store holds the rows of the registry, and from then on the error of the database is kept.
 #[derive(Drop)]
-pub struct Stored<S: Alter> {
+pub struct Stock<S: Alter> {
     registry: Registry<IndexedBook>,
     store: Store<S>,
     cause: Option<Error>,
 }
 
-impl<S: Alter> Model for Stored<S> {
-    ghost use Rattle.rr_desk.specs.Stocks.{Stock, stock_code, stock_of, StoresUntilStopped};
+impl<S: Alter> Model for Stock<S> {
+    ghost use Rattle.rr_desk.specs.Stocks.{StockParts, stock_code, stock_of, StoresUntilStopped};
 
-    ghost Value = { Stock S };
+    ghost Value = { StockParts S };
 
     ghost coded = { stock_code S.code };
 
@@ -43,17 +43,17 @@ impl<S: Alter> Model for Stored<S> {
     ghost invariant = { λ s. StoresUntilStopped S.Store (stock_of s.registry s.store s.cause) };
 }
 
-impl<S: Alter> Stored<S> {
+impl<S: Alter> Stock<S> {
     /// A registry with a store that is open and holds its rows, which a stop leaves. No fault has
     /// stopped it.
-    pub(crate) fn of(registry: Registry<IndexedBook>, store: Store<S>) -> Stored<S>
+    pub(crate) fn of(registry: Registry<IndexedBook>, store: Store<S>) -> Stock<S>
         requires is_open { IsOpen S.Store store }
         requires settled { IsSettled S.Store store }
         requires rows { OnCleanDisk S.Store store (HasRows registry (database S.Store store)) }
         ensures store { result.store ≡ store }
         ensures stock { IsStockOf S.Store registry result }
     {
-        Stored {
+        Stock {
             registry,
             store,
             cause: None,
@@ -91,14 +91,14 @@ impl<S: Alter> Stored<S> {
     pub fn close(self) -> IdleConnection<S>
         ensures { result ≡ self.store }
     {
-        let Stored { store, .. } = self;
+        let Stock { store, .. } = self;
         store.close()
     }
 }
 
 /// The registry is changed first, then the rows. A fault of the store stops both for good, also
 /// where memory runs out, because the rows then lack what the registry has.
-impl<S: Alter> Ledger for Stored<S> {
+impl<S: Alter> Ledger for Stock<S> {
     ghost registry = { (stock_ledger S.Store).registry };
 
     ghost is_stopped = { (stock_ledger S.Store).is_stopped };

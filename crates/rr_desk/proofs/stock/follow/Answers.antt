@@ -1,6 +1,6 @@
 use Rattle.rr_desk.proofs.Following.{gain_follows, loss_follows, new_follows, writes_follow}
 use Rattle.rr_desk.proofs.Following.{writes_leave}
-use Rattle.rr_desk.proofs.stored.follow.Goals as goal
+use Rattle.rr_desk.proofs.stock.follow.Goals as goal
 
 pub returns-in-Added-clause-follows : goal.returns-in-Added-clause-follows
 returns-in-Added-clause-follows g c =

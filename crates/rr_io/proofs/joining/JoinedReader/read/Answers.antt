@@ -1,5 +1,5 @@
 use Rattle.rr_io.proofs.Transfers.{ReadsOnce-beside}
-use Rattle.rr_io.proofs.joining.JoinedSource.read.Goals as goal
+use Rattle.rr_io.proofs.joining.JoinedReader.read.Goals as goal
 
 -- what stands beside it has no part in it
 pub returns : goal.returns

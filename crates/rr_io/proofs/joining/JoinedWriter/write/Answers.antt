@@ -1,5 +1,5 @@
 use Rattle.rr_io.proofs.Transfers.{WritesOnce-beside}
-use Rattle.rr_io.proofs.joining.JoinedSink.write.Goals as goal
+use Rattle.rr_io.proofs.joining.JoinedWriter.write.Goals as goal
 
 -- what stands beside it has no part in it
 pub returns : goal.returns

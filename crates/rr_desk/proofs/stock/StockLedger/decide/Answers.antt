@@ -4,7 +4,7 @@ use Rattle.sqlite.specs.Held.{state}
 use Rattle.rr_desk.specs.Stops.{LeavesStopped}
 use Rattle.rr_desk.specs.Stocks.{DatabaseLasts}
 use Rattle.rr_desk.proofs.Following.{stops_there, leads_at, stands_after, still_held, item_lasts}
-use Rattle.rr_desk.proofs.stored.StoredLedger.decide.Goals as goal
+use Rattle.rr_desk.proofs.stock.StockLedger.decide.Goals as goal
 
 pub invariant_of-self : goal.invariant_of-self
 invariant_of-self g c = λ running.

@@ -10,7 +10,7 @@ ghost use Rattle.rr_answer.specs.Texts.{public_text};
 
 use crate::part::Part;
 use crate::text::push_paragraph;
-use rr_io::{Sink, write_pieces};
+use rr_io::{Writer, write_pieces};
 use rr_object::{Object, public};
 use rr_text::Paragraph;
 use std::alloc::{AllocError, Global};
@@ -18,25 +18,25 @@ use std::io;
 
 /// An object as it is answered: what the registry keeps, or its public form where that is another.
 #[derive(Drop)]
-pub enum Place<'a> {
+pub enum Form<'a> {
     /// The paragraph of the object, which hides nothing.
     Kept(&'a Paragraph),
     /// The public form, made for this answer.
     Made(Box<Paragraph>),
 }
 
-impl<'a> Place<'a> {
-    /// The place of an object, where its public form is answered. The error is that memory ran out.
-    #[tactic(auto, using(crate::proofs::Places::nothing_hidden))]
-    pub(crate) fn of(alloc: Global, object: &'a Object) -> Result<Place<'a>, AllocError>
-        ensures { IfOk result (λ place. founds.shown place ≡ public_of object.now) }
+impl<'a> Form<'a> {
+    /// The form in which an object is answered, its public one. The error is that memory ran out.
+    #[tactic(auto, using(crate::proofs::Forms::nothing_hidden))]
+    pub(crate) fn of(alloc: Global, object: &'a Object) -> Result<Form<'a>, AllocError>
+        ensures { IfOk result (λ form. founds.shown form ≡ public_of object.now) }
     {
         let paragraph = object.paragraph();
         if !paragraph.has(b"auth") {
-            return Ok(Place::Kept(paragraph));
+            return Ok(Form::Kept(paragraph));
         }
         match Box::new(alloc, public(alloc, object)?) {
-            Ok(made) => Ok(Place::Made(made)),
+            Ok(made) => Ok(Form::Made(made)),
             Err(_) => Err(AllocError),
         }
     }
@@ -46,47 +46,44 @@ impl<'a> Place<'a> {
         ensures { result.now ≡ founds.shown self.now }
     {
         match self {
-            Place::Kept(paragraph) => paragraph,
-            Place::Made(paragraph) => paragraph,
+            Form::Kept(paragraph) => paragraph,
+            Form::Made(paragraph) => paragraph,
         }
     }
 }
 
 /// An object as it is answered.
-impl Part for Place<'_> {
-    ghost use Rattle.rr_answer.specs.Founds.{place_text};
-    ghost use Rattle.rr_answer.specs.HasBytes.{place_has_bytes};
+impl Part for Form<'_> {
+    ghost use Rattle.rr_answer.specs.Founds.{form_text};
+    ghost use Rattle.rr_answer.specs.HasBytes.{form_has_bytes};
 
-    ghost bytes = { place_text };
+    ghost bytes = { form_text };
 
-    ghost has_bytes = { place_has_bytes };
+    ghost has_bytes = { form_has_bytes };
 
     fn push_onto(&self, out: &mut Vec<u8>) -> Result<(), AllocError> {
         push_paragraph(out, self.paragraph())
     }
 
-    fn write<W: Sink>(&self, writer: &mut W) -> io::Result<()> {
+    fn write<W: Writer>(&self, writer: &mut W) -> io::Result<()> {
         write_pieces(writer, &[self.paragraph().text(), b"\n"])
     }
 }
 
-/// The places of the objects, in their order; the clause says which text they have together. The
+/// The forms of the objects, in their order; the clause says which text they have together. The
 /// error is that memory ran out.
 #[tactic(auto, using(crate::proofs::Lists::texts_lent))]
-pub(crate) fn places<'a>(
-    alloc: Global,
-    objects: &[&'a Object],
-) -> Result<Vec<Place<'a>>, AllocError>
-    ensures { IfOk result (λ places.
-        flat_map founds.place_text places.items ≡ flat_map public_text (lent objects.now)) }
+pub(crate) fn forms<'a>(alloc: Global, objects: &[&'a Object]) -> Result<Vec<Form<'a>>, AllocError>
+    ensures { IfOk result (λ forms.
+        flat_map founds.form_text forms.items ≡ flat_map public_text (lent objects.now)) }
 {
-    let mut places = Vec::with_capacity(alloc, objects.len())?;
+    let mut forms = Vec::with_capacity(alloc, objects.len())?;
     'objects: for object in objects {
-        let place = Place::of(alloc, object)?;
-        match places.push(place) {
+        let form = Form::of(alloc, object)?;
+        match forms.push(form) {
             Ok(()) => {}
             Err(_) => return Err(AllocError),
         }
     }
-    Ok(places)
+    Ok(forms)
 }

@@ -341,6 +341,8 @@ def test_replicas_are_found_by_the_agent_and_old_ones_left_out(trial: Trial) -> 
                 expect(door.whois("AS2"), worlds.AS2 + b"\n", "an old answer in place of none")
                 status, _, body = door.http("GET", "/status", port=door.status_port)
                 expect((status, body[:7]), (200, b"in part"), "the status")
+                first = body.splitlines()[0]
+                expect(b" old" in first, False, f"an age of replicas that do not serve: {first!r}")
 
 
 def test_nobody_pays_for_a_registry_that_stands_still(trial: Trial) -> None:

@@ -40,6 +40,7 @@ STEPS = [
     pytest.param("service", "disk_full", id="a full disk and the check"),
     pytest.param("service", "checked", id="the timer of the check"),
     pytest.param("service", "door", id="the door and 64 clients"),
+    pytest.param("timers", "refused", id="a door that refuses its settings"),
     pytest.param("timers", "asked_on", id="an upgrade while clients ask"),
     pytest.param("service", "past", id="the history of an object through the door"),
     pytest.param("service", "analysed", id="systemd-analyze"),

@@ -307,6 +307,23 @@ class Timers:
         )
         return f"{len(mail.splitlines())} lines of mail"
 
+    def refused(self) -> str:
+        """That a door which refuses its settings names them as their reader does, and that what
+        the page says opens its ports again, whatever clients did meanwhile."""
+        service, guest, place = self.service, self.service.guest, "/etc/irrdesk/door.toml"
+        guest.done(f"cp {place} /run/door.toml; echo 'unheard_of = 1' >> {place}")
+        asking = "for n in $(seq 9); do timeout 2 whois -h 127.0.0.1 -p 43 ROOT-MNT; done; true"
+        guest.done(f"systemctl restart irrdesk-door; {asking}", seconds=600)
+        reported = found(f"^(irr door: {place}.*)$", service.journal("irrdesk-door"), "its words")
+        guest.done(
+            f"cat /run/door.toml > {place}; systemctl reset-failed irrdesk-door;"
+            " systemctl start irrdesk-door.socket irrdesk-door",
+            seconds=600,
+        )
+        asked = "whois -h 127.0.0.1 -p 43 ROOT-MNT | grep -q ^mntner"
+        guest.until(asked, "an answer after its settings are right again")
+        return reported
+
     def released(self) -> str:
         """A package of each released version in the place of this one, and this one again: the
         registry, its settings and what is enabled stay, and whoever asks at the door is

@@ -366,7 +366,7 @@ def test_each_unit_may_read_its_settings() -> None:
         if lines.get("User") != "irrdesk":
             bound = [word.lstrip("-") for word in lines.get("BindReadOnlyPaths", "").split()]
             for named in re.findall(r"/etc/irrdesk/\S+", lines["ExecStart"]):
-                held = [folder for folder in bound if named.startswith(f"{folder}/")]
+                held = [at for at in bound if named == at or named.startswith(f"{at}/")]
                 expect(len(held), 1, f"{path.name}: whether {named} is bound, of {bound}")
                 expect("TemporaryFileSystem" in lines, True, f"whether {path.name} may enter it")
 

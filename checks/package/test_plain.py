@@ -435,8 +435,13 @@ def test_the_package_is_taken_away_to_the_last_file(
     for name in "lib/irrdesk-mirror", "lib/irrdesk-view", "log/irrdesk-door":
         place, last = os.path.split(name)
         os.symlink(f"private/{last}", inside(root, f"/var/{place}/{last}"))
+    nginx = inside(root, "/etc/nginx")
+    os.makedirs(nginx)
+    write(nginx, "irr.conf", b"include /etc/irrdesk/submitters.conf;\n")
     ended = Ended(root, "dpkg --purge irrdesk")
     expect((ended.status, ended.reported), (0, ""), "the purge")
+    expect("nginx -t fails" in ended.printed, True, f"what it says of nginx: {ended.printed}")
+    shutil.rmtree(nginx)
     kept = re.findall(r"^  (/\S+)$", ended.printed, re.MULTILINE)
     wanted = [
         own[0].rpartition("/")[0],
@@ -459,7 +464,8 @@ def test_the_package_is_taken_away_to_the_last_file(
     links = "/var/log/irrdesk-door /var/lib/irrdesk-view"
     done(root, f"rm -r {' '.join(kept)} {links} /var/log/private /var/lib/private")
     done(root, f"dpkg --install {package(root)}")
-    done(root, "dpkg --purge irrdesk")
+    printed = done(root, "dpkg --purge irrdesk")
+    expect("nginx" in printed, False, f"whether it speaks of an nginx that is not there: {printed}")
     expect(sorted(listing(root) - before), [], "what a purge without data keeps")
     expect(Ended(root, "getent passwd irrdesk").status, 2, "whether there is a user")
     tell("nothing is left but the data")

@@ -303,6 +303,15 @@ def test_a_fault_is_one_line_with_its_remedy(
         expect(is_line, True, lines[0])
 
 
+def test_a_proxy_that_is_down_is_to_be_started(trial: Trial, tool: Tool) -> None:
+    port = free_port()
+    with standing(trial, tool, "proxy-down") as machine:
+        printed = machine("--certificate", f"{HOST}:{port}").printed.decode()
+    what = f"{HOST}:{port}: nothing listens at port {port}: start the proxy"
+    wanted = f"certificate-bad: {what}; {REMEDIES['certificate-bad']}\n"
+    expect(printed, wanted, "what is said of it")
+
+
 def test_replicas_are_not_renewed_since_the_oldest_was(trial: Trial, tool: Tool) -> None:
     """One that was never renewed counts for nothing."""
     now, told = time.time(), json.loads(agent("other objects"))

@@ -105,7 +105,8 @@ def test_a_registry_in_a_folder_is_made_by_options(trial: Trial, tool: Tool) -> 
     expect(b"added" in ran.printed, True, f"what the first maintainer signs: {ran.printed!r}")
     dump = registered(trial, settings, place)
     again = [*words[:-1], "another.password"]
-    expect_line(tool(*again, folder=place), 4, ".*irr.db: a registry is here; .*", "a second one")
+    ran = tool(*again, folder=place)
+    expect_line(ran, 4, ".*irr.db: a registry is here, and .*", "a second one")
     expect(registered(trial, settings, place) == dump, True, "whether the registry stays")
     expect(os.path.exists(os.path.join(place, "another.password")), False, "a second password")
 
@@ -316,7 +317,7 @@ def test_a_service_is_made_of_the_files_of_the_package(trial: Trial, tool: Tool)
     config = write(str(service.place), "haproxy.cfg", text.encode())
     read = subprocess.run(["haproxy", "-c", "-f", config], capture_output=True, check=False)
     expect(read.returncode, 0, f"whether HAProxy reads them: {read.stderr.decode()}")
-    expect_line(service.full(), 4, ".*a registry is here; .*", "a second one")
+    expect_line(service.full(), 4, ".*a registry is here, and .*", "a second one")
     expect(service.asked(), [], "what a second one asks of systemd")
     example = Path(TOP, "examples", "nginx.conf").read_text(encoding="ascii")
     place = re.search(r"location = /submissions \{\n(.*?)\}", example, re.DOTALL)

@@ -154,7 +154,8 @@ export const CODES = {
     E11: [
         "No password given so far fits a maintainer in the `mnt-by` that applies: " +
             "that of the registered object, or of the new one.",
-        "Give the password before the item. Make the `auth` line by `irr auth`.",
+        "Give the right password, before the item. For a new mntner make the `auth` " +
+            "line by `irr auth`.",
     ],
     E12: [
         "Nothing covers the new object, or the parent of a set is not registered.",

@@ -1,4 +1,4 @@
--- What is answered to a query.
+-- What is answered to a query: for `find_for`, and for desks, which answer with the same bytes.
 use Rattle.std.specs.Prelude.{◌≡◌, ℕ, List, Result, Ok, Err}
 use Rattle.std.specs.Ordering.{nat_cmp}
 use Rattle.rr_auth.specs.Registries.{Reg}

@@ -1,4 +1,4 @@
--- What a dump writes.
+-- What a dump writes: for `dump`. `read_dump` of `rr_desk` and `tools/irr` read it.
 use Rattle.std.specs.Prelude.{◌≡◌, ◌<◌, ℕ, Bool, true, false, List, ◌++◌, codes}
 use Rattle.std.specs.Prelude.{decimal, length, Result, Ok, Err}
 use Rattle.std.specs.FinMap.{values}

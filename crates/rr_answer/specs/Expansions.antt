@@ -1,4 +1,4 @@
--- What the expansion of a set answers.
+-- What the expansion of a set answers: for `Answers`.
 use Rattle.std.specs.Prelude.{◌≡◌, ◌⊎◌, ℕ, true, false, List, Result, Ok, Err}
 use Rattle.std.specs.declared.cmp.Ordering.{Ordering}
 use Rattle.std.specs.Cmp.Lexicographic.{slice_cmp}
@@ -27,7 +27,7 @@ pub record IsUnknown {X : Type 0} (set : Meaning X) (text : List ℕ) : Type 0 w
   pub text_is : text ≡ no_entries
 
 -- There is such a set, its expansion is over the limit, and the fault says so (profile).
-pub record IsOver {X : Type 0} (set : Meaning X) (fault : QueryFault) : Type 0 where
+pub record IsOverLimit {X : Type 0} (set : Meaning X) (fault : QueryFault) : Type 0 where
   pub known : set.known ≡ true
   pub many : set.Overflows
   pub fault_is : fault ≡ TooMany
@@ -37,4 +37,4 @@ pub record IsOver {X : Type 0} (set : Meaning X) (fault : QueryFault) : Type 0 w
 abbrev pub IsExpansion : {X : Type 0} → (X → X → Ordering) → (X → List ℕ) → Meaning X
     → Result (List ℕ) QueryFault → Type 0
 IsExpansion cmp line set (Ok text) = IsListed cmp line set text ⊎ IsUnknown set text
-IsExpansion cmp line set (Err fault) = IsOver set fault
+IsExpansion cmp line set (Err fault) = IsOverLimit set fault

@@ -1,4 +1,4 @@
--- Why a query is not answered.
+-- Why a query is not answered, as clients are told: for `QueryFault`.
 use Rattle.std.specs.Prelude.{ℕ, ◌+◌, List, [], ◌∷◌, ◌++◌, codes}
 use Rattle.rr_text.specs.CanonicalText.{ended}
 use Rattle.rr_answer.specs.declared.query_fault.QueryFault.{QueryFault}

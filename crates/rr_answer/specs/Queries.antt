@@ -1,4 +1,4 @@
--- What a query asks for.
+-- What a query asks for: for `find_for`, by `Answers`, and for `is_too_long`.
 use Rattle.std.specs.Prelude.{ℕ, Bool, ◌||◌, List, [], ◌∷◌, length, nat_lt, codes}
 use Rattle.std.specs.Prelude.{Option, None, Some, Result, Ok, Err, if◌then◌else◌}
 use Rattle.std.specs.List.{list_any}

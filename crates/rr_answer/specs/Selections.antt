@@ -1,4 +1,4 @@
--- Which objects of a registry a query asks for.
+-- Which objects of a registry a query asks for: for `find_for`, by `Answers`.
 use Rattle.std.specs.Prelude.{Bool, ◌&&◌, List, [], filter, is_some}
 use Rattle.std.specs.List.{cons_option}
 use Rattle.std.specs.Option.{option_map_or}
@@ -6,7 +6,7 @@ use Rattle.std.specs.FinMap.{get, values}
 use Rattle.rr_number.specs.Prefixes.{PrefixParts, span_of}
 use Rattle.rr_number.specs.Spans.{Ends}
 use Rattle.rr_object.specs.Objects.{Obj, object_names}
-use Rattle.rr_auth.specs.Closest.{closest_inetnum, closest_routes, origin_at}
+use Rattle.rr_auth.specs.Closest.{closest_inetnum, closest_route_prefix, origin_at}
 use Rattle.rr_auth.specs.Registries.{Reg}
 use Rattle.rr_book.specs.Listings.{covering, covers_span, inside, lies_in}
 use Rattle.rr_sets.specs.Lists.{is_originated}
@@ -25,7 +25,7 @@ is_route_of p o = is_some (origin_at p o.key)
 -- The routes of the closest prefix to this one (RFC 2725, 9).
 abbrev pub routes_closest : Reg → PrefixParts → List Obj
 routes_closest r p =
-    option_map_or (λ closest. filter (is_route_of closest) (values r)) (closest_routes r p) []
+    option_map_or (λ closest. filter (is_route_of closest) (values r)) (closest_route_prefix r p) []
 
 -- The objects that a query asks for, by class and key. They are the object of a key, those that
 -- name a maintainer, or the routes of an origin. Or they are the inetnums and routes of exactly a

@@ -1,4 +1,5 @@
--- The texts of objects and of expansions, as answers and public dumps have them.
+-- The texts of objects and of expansions, as answers and public dumps have them. `tools/irr` and
+-- `web` read them: who changes them changes those too.
 use Rattle.std.specs.Prelude.{ℕ, List, [], ◌∷◌, ◌++◌, codes}
 use Rattle.std.specs.List.{flat_map}
 use Rattle.rr_number.specs.Applied.{range_text}

@@ -8,7 +8,7 @@ ghost use Rattle.rr_answer.specs.Founds.{found_text};
 ghost use Rattle.rr_answer.specs.Queries.{is_too_long};
 
 use crate::expansion::{numbers, ranges};
-use crate::found::Found;
+use crate::found::Findings;
 use crate::query::Query;
 use crate::query_fault::QueryFault;
 use crate::query_reading::read_query;
@@ -27,7 +27,7 @@ fn find<'a, B: Keeper>(
     registry: &'a Registry<B>,
     limit: usize,
     query: &Query,
-) -> Result<Found<'a>, QueryFault>
+) -> Result<Findings<'a>, QueryFault>
     ensures ok { IfOk result
         (λ found. IsAnswer registry.now limit query.now (Ok (found_text found))) }
     ensures fault { IfErr result
@@ -38,7 +38,7 @@ fn find<'a, B: Keeper>(
         Query::Prefixes(name) => ranges(alloc, registry.book(), name, limit),
         _ => {
             let objects = asked(alloc, registry, query)?;
-            Ok(Found::of(alloc, &objects)?)
+            Ok(Findings::of(alloc, &objects)?)
         }
     }
 }
@@ -50,7 +50,7 @@ fn expanded<'a, B: SetBook>(
     book: &'a B,
     name: &SetName,
     limit: usize,
-) -> Result<Found<'a>, QueryFault>
+) -> Result<Findings<'a>, QueryFault>
     ensures ok { IfOk result (λ found. IsExpanded (kind_of name.now)
         (B.contents book.now) limit name.now (Ok (found_text found))) }
     ensures fault { IfErr result (λ fault. fault ≢ Memory
@@ -62,16 +62,21 @@ fn expanded<'a, B: SetBook>(
     }
 }
 
-/// What the text of a query finds, which `Found::write` writes as the answer. The fault is the
-/// first of `TooLong`, `Bad` and `TooMany` that fits, or, of a text that is not too long, that
-/// memory ran out. `TooMany` comes exactly for an expansion over `limit`, counted as
-/// `expand_as_set` and `expand_route_set` of `rr_sets` count it.
+/// What the text of a query finds, which `Findings::write` writes as the answer. It is the objects
+/// that the query asks for, or the members of a set and the names that are missing; no object if
+/// there is no such set. Which texts are queries, and what each asks for, `Queries` and
+/// `Selections` define.
+///
+/// The fault is the first of `TooLong`, `Bad` and `TooMany` that fits, in this order. Or, of a text
+/// that is not too long, it is that memory ran out; when it does, no clause says. `TooMany` comes
+/// exactly for an expansion over `limit`, counted as `expand_as_set` and `expand_route_set` of
+/// `rr_sets` count it. `Stopped` never comes.
 pub fn find_for<'a, B: Keeper>(
     alloc: Global,
     registry: &'a Registry<B>,
     limit: usize,
     text: &[u8],
-) -> Result<Found<'a>, QueryFault>
+) -> Result<Findings<'a>, QueryFault>
     ensures ok { IfOk result
         (λ found. IsAnswerTo registry.now limit text.now (Ok (found_text found))) }
     ensures fault { IfErr result

@@ -1,4 +1,5 @@
-//! How a registry is written as a dump. A desk dumps by this.
+//! How a registry is written as a dump. A desk dumps by this. `read_dump` of `rr_desk` and
+//! `tools/irr` read dumps: who changes their text changes these too.
 
 ghost use Rattle.std.specs.Prelude.{◌≡◌, ◌++◌, IfOk, length};
 ghost use Rattle.std.specs.FinMap.{values};
@@ -24,6 +25,7 @@ pub enum DumpFault {
     Memory,
 }
 
+/// The fault is that a write failed.
 impl From<io::Error> for DumpFault {
     ghost use Rattle.std.specs.Prelude.{◌≡◌};
     ghost use Rattle.rr_answer.specs.declared.dumping.DumpFault.TheVariants.{Write};
@@ -35,6 +37,7 @@ impl From<io::Error> for DumpFault {
     }
 }
 
+/// The fault is that memory ran out.
 impl From<AllocError> for DumpFault {
     ghost use Rattle.std.specs.Prelude.{◌≡◌};
     ghost use Rattle.rr_answer.specs.declared.dumping.DumpFault.TheVariants.{Memory};
@@ -46,11 +49,12 @@ impl From<AllocError> for DumpFault {
     }
 }
 
-/// Writes the objects by class and key, an empty line after each, and a last line that counts them.
-/// `full` says whether they are written with all their text, or as they are answered (profile). The
-/// result is their number. After a fault the writer has taken the beginning of these bytes, and not
-/// all of them. A call of the writer failed where the fault is `Write`, and none did where it is
-/// `Memory`. Each object is written by itself, which no clause says.
+/// Writes all objects by class and key, an empty line after each, and the last line, `% end` with
+/// their number. `full` says whether they are written with all their text, or in the public form in
+/// which they are answered (profile). The result is their number. After a fault the writer has
+/// taken the beginning of these bytes, and not all of them. A call of the writer failed where the
+/// fault is `Write`, and none did where it is `Memory`. Each object is written by itself, which no
+/// clause says.
 #[tactic(auto, using(crate::proofs::Dumped::dump_has_bytes))]
 pub fn dump<B: Keeper, W: Writer>(
     alloc: Global,

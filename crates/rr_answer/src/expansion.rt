@@ -5,7 +5,7 @@ ghost use Rattle.rr_answer.specs.declared.query_fault.QueryFault.TheVariants.{Me
 ghost use Rattle.rr_answer.specs.Answers.{IsNumberAnswer, IsRangeAnswer};
 ghost use Rattle.rr_answer.specs.Founds.{found_text};
 
-use crate::found::Found;
+use crate::found::Findings;
 use crate::query_fault::QueryFault;
 use rr_number::SetName;
 use rr_sets::{ExpandFault, SetBook, expand_as_set, expand_route_set};
@@ -18,15 +18,15 @@ pub(crate) fn numbers<'a, B: SetBook>(
     book: &'a B,
     name: &SetName,
     limit: usize,
-) -> Result<Found<'a>, QueryFault>
+) -> Result<Findings<'a>, QueryFault>
     ensures ok { IfOk result (λ found.
         IsNumberAnswer (B.contents book.now) limit name.now (Ok (found_text found))) }
     ensures fault { IfErr result (λ fault. fault ≢ Memory
         → IsNumberAnswer (B.contents book.now) limit name.now (Err fault)) }
 {
     match expand_as_set(alloc, book, name, limit) {
-        Ok(members) => Ok(Found::Numbers(members)),
-        Err(ExpandFault::NoSuchSet) => Ok(Found::Objects(Vec::new(alloc))),
+        Ok(members) => Ok(Findings::Numbers(members)),
+        Err(ExpandFault::NoSuchSet) => Ok(Findings::Objects(Vec::new(alloc))),
         Err(ExpandFault::TooMany) => Err(QueryFault::TooMany),
         Err(ExpandFault::Memory) => Err(QueryFault::Memory),
     }
@@ -39,15 +39,15 @@ pub(crate) fn ranges<'a, B: SetBook>(
     book: &'a B,
     name: &SetName,
     limit: usize,
-) -> Result<Found<'a>, QueryFault>
+) -> Result<Findings<'a>, QueryFault>
     ensures ok { IfOk result (λ found.
         IsRangeAnswer (B.contents book.now) limit name.now (Ok (found_text found))) }
     ensures fault { IfErr result (λ fault. fault ≢ Memory
         → IsRangeAnswer (B.contents book.now) limit name.now (Err fault)) }
 {
     match expand_route_set(alloc, book, name, limit) {
-        Ok(members) => Ok(Found::Ranges(members)),
-        Err(ExpandFault::NoSuchSet) => Ok(Found::Objects(Vec::new(alloc))),
+        Ok(members) => Ok(Findings::Ranges(members)),
+        Err(ExpandFault::NoSuchSet) => Ok(Findings::Objects(Vec::new(alloc))),
         Err(ExpandFault::TooMany) => Err(QueryFault::TooMany),
         Err(ExpandFault::Memory) => Err(QueryFault::Memory),
     }

@@ -1,5 +1,6 @@
 //! What a query finds, and the text of it, which is the answer. `answering` gives it, and a desk
-//! writes the text part by part.
+//! writes the text part by part. `tools/irr` and `web` read this text: who changes it changes them
+//! too.
 
 ghost use Rattle.std.specs.Prelude.{◌≡◌, IfOk};
 ghost use Rattle.rr_io.specs.Sending.{Writes};
@@ -23,9 +24,12 @@ const NO_ENTRIES: &[u8] = b"% no entries\n";
 const EMPTY: &[u8] = b"% empty\n";
 
 /// What a query found: objects where they stand, or the members of a set. Its text is that of the
-/// answer (profile), which need not be made whole to be written.
+/// answer (profile), which need not be made whole to be written. Objects have their public
+/// canonical texts, each with an empty line after it, or `% no entries` where there is none.
+/// Members have a line each, and after them each missing name one that begins with `% missing`;
+/// without either the text is `% empty`.
 #[derive(Drop)]
-pub enum Found<'a> {
+pub enum Findings<'a> {
     /// Objects, in the order of the answer.
     Objects(Vec<Form<'a>>),
     /// The AS numbers of an as-set, and the names that are missing.
@@ -34,18 +38,18 @@ pub enum Found<'a> {
     Ranges(Members<Range>),
 }
 
-impl<'a> Found<'a> {
+impl<'a> Findings<'a> {
     /// The objects as they are answered: the public canonical text of each and an empty line, or
     /// `% no entries` where there is none (profile). The error is that memory ran out.
     #[tactic(auto, unfolding(crate::specs::Texts::objects_text))]
-    pub(crate) fn of(alloc: Global, objects: &[&'a Object]) -> Result<Found<'a>, AllocError>
+    pub(crate) fn of(alloc: Global, objects: &[&'a Object]) -> Result<Findings<'a>, AllocError>
         ensures { IfOk result (λ found. found_text found
             ≡ texts.objects_text (lent objects.now)) }
     {
-        Ok(Found::Objects(forms(alloc, objects)?))
+        Ok(Findings::Objects(forms(alloc, objects)?))
     }
 
-    /// Writes the text. The error is that a write failed: the writer has then taken the beginning
+    /// Writes this text. The error is that a write failed: the writer has then taken the beginning
     /// of the text, and not all. Lack of memory is no error. Parts are gathered and written one
     /// after the other, which no clause says.
     #[tactic(auto, unfolding(crate::specs::Texts::members_text))]
@@ -54,11 +58,11 @@ impl<'a> Found<'a> {
             (found_text self.now) result }
     {
         match self {
-            Found::Objects(forms) => write_members(alloc, writer, forms, &[], NO_ENTRIES),
-            Found::Numbers(members) => {
+            Findings::Objects(forms) => write_members(alloc, writer, forms, &[], NO_ENTRIES),
+            Findings::Numbers(members) => {
                 write_members(alloc, writer, &members.found, &members.missing, EMPTY)
             }
-            Found::Ranges(members) => {
+            Findings::Ranges(members) => {
                 write_members(alloc, writer, &members.found, &members.missing, EMPTY)
             }
         }

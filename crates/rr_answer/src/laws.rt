@@ -3,8 +3,9 @@
 
 ghost use Rattle.rr_answer.specs.Secrecy.{AnswersKeepSecrets, DumpsKeepSecrets, SourcesAreRead};
 
-/// In a registry of a source each object stands under its own key, and is what its paragraph reads
-/// as.
+/// A registry of a source is sound, and each object is what its paragraph reads as in that source.
+/// Then each stands under its own key, and is what its paragraph reads as, whichever source this
+/// names.
 pub fn registries_of_a_source_are_read()
     ensures { SourcesAreRead }
 {}

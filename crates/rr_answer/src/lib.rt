@@ -18,6 +18,6 @@ mod writing;
 pub use answering::find_for;
 pub use dumping::{DumpFault, dump};
 pub use form::Form;
-pub use found::Found;
+pub use found::Findings;
 pub use query_fault::QueryFault;
 pub use query_reading::is_too_long;

@@ -35,7 +35,7 @@ impl QueryFault {
         }
     }
 
-    /// The line that is answered, with the LF that ends it.
+    /// The line that is answered: `% error`, a space and the number, with the LF that ends it.
     pub fn line(self) -> &'static [u8]
         ensures { result.now ≡ error_line self }
     {
@@ -49,6 +49,7 @@ impl QueryFault {
     }
 }
 
+/// The fault is that memory ran out.
 impl From<AllocError> for QueryFault {
     ghost use Rattle.std.specs.Prelude.{◌≡◌};
     ghost use Rattle.rr_answer.specs.declared.query_fault.QueryFault.TheVariants.{Memory};

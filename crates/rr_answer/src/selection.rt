@@ -135,7 +135,7 @@ fn routes_closest<B: Book>(
     ensures { IfOk result
         (λ found. lent found.items ≡ select.routes_closest (B.contents book.now) prefix) }
 {
-    match book.closest_routes(prefix) {
+    match book.closest_route_prefix(prefix) {
         Some(closest) => routes_of(alloc, book, closest),
         None => Ok(Vec::new(alloc)),
     }

@@ -29,7 +29,7 @@ pub enum Command<'a> {
     Dump {
         /// The settings.
         settings: &'a str,
-        /// Whether each has all of its text.
+        /// Whether all text of each object is printed, and not its public form.
         full: bool,
     },
     /// Make a registry from a dump.

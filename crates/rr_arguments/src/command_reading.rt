@@ -31,9 +31,14 @@ const GREATEST_COUNT: usize = 1_000_000;
 /// What stands before the usage in a refusal.
 const USAGE: &str = "usage: ";
 
-/// The command that the arguments ask for, of which the first is the program's own name. The fault
-/// is why they ask for none, or that memory ran out, which it may at any time. What the text of the
-/// help or the line of a refusal is, no clause says.
+/// The command that the arguments ask for; the first of them is the program's own name. Without
+/// another one the command is `Plain`. If words follow the settings of a query, whose path begins
+/// with no dash, all of them are words of the query. Just `help` and after it one word that is not
+/// `help` ask for the help on the command of that name. What else is asked, the rules of `grammar`
+/// say. Beyond these, a port is a number from 1 to 65,535, and a count one from 1 to 1,000,000,
+/// both in digits alone. A bad port is told before a bad count (profile). The fault is why they ask
+/// for no command, or that memory ran out, which it may at any time. What the text of the help or
+/// of the version is, or the line of a refusal, no clause says.
 pub fn read_command<'a>(
     alloc: Global,
     arguments: &'a [String],

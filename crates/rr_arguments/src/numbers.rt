@@ -5,8 +5,8 @@ ghost use Rattle.rr_arguments.specs.Numbers.{number_within};
 
 use rr_bytes::{are_digits, capped_value};
 
-/// The number that an argument spells in decimal digits alone, if it is 1 to `greatest`, which is
-/// below 2^32.
+/// The number that an argument spells in decimal digits alone, also with leading zeros, if it is 1
+/// to `greatest`, which is below 2^32. `None` for any other argument.
 pub(crate) fn read_number(argument: &str, greatest: usize) -> Option<usize>
     requires { greatest < 2 ^ 32 }
     ensures value { result ≡ number_within argument.now greatest }

@@ -17,7 +17,8 @@ use Rattle.rr_object.specs.KeyOrders.{IsKeyValue, IsRoute}
 use Rattle.rr_object.specs.Objects.{Obj}
 use Rattle.rr_auth.specs.Authority.{routes_pass}
 use Rattle.rr_auth.specs.Closest.{block_span, closest_block, closest_inetnum, closest_of}
-use Rattle.rr_auth.specs.Closest.{closest_routes, inetnum_span, is_closest, is_cover, is_no_closer}
+use Rattle.rr_auth.specs.Closest.{closest_route_prefix, inetnum_span, is_closest, is_cover}
+use Rattle.rr_auth.specs.Closest.{is_no_closer}
 use Rattle.rr_auth.specs.Closest.{origin_at, origins, route_prefix, route_span, same_prefix}
 use Rattle.rr_auth.specs.Conditions.{cover_refuses, route_passes, space_passes}
 use Rattle.rr_auth.specs.Laws.{IsClosestWhereCovered}
@@ -139,7 +140,7 @@ one_prefix r s o x sound c d same =
 
 -- where some route is closest, its prefix is the one that is given
 pub closest_routes_there : (r : Reg) (p : PrefixParts) (o : Obj) → Sound r → IsClosestAt route_span
-    r (span_of p) o → closest_routes r p ≡ route_prefix o.key
+    r (span_of p) o → closest_route_prefix r p ≡ route_prefix o.key
 closest_routes_there r p o sound c =
     let given = closest_given route_span r (span_of p) o sound (routes_nested r sound)
     (prefix_ordered p) c in
@@ -150,13 +151,14 @@ closest_routes_there r p o sound c =
 pub closest_routes_none : (r : Reg) (p : PrefixParts) → Sound r →
     ((k : Key) (x : Obj) (u : Ends) → get r k ≡ Some x → route_span k ≡ Some u →
     covers u (span_of p) ≡ false)
-    → closest_routes r p ≡ None
+    → closest_route_prefix r p ≡ None
 closest_routes_none r p sound h = ap (λ v. option_and_then (λ x. route_prefix x.key) v)
     (closest_none route_span r (span_of p) sound h)
 
 pub closest_routes_agree : (r : Reg) (p : PrefixParts) (k : Key) (o : Obj) → Sound r →
     get r k ≡ Some o
-    → is_closest route_span (values r) (span_of p) o ≡ true → closest_routes r p ≡ route_prefix
+    → is_closest route_span (values r) (span_of p) o ≡ true → closest_route_prefix r p
+    ≡ route_prefix
     o.key
 closest_routes_agree r p k o sound f e =
     let there = stands_at r o sound (found_in r k o f) in
@@ -269,7 +271,7 @@ closest_prefix : (o : Obj) (s : Ends) → route_span o.key ≡ Some s → (q : P
 closest_prefix o s e = let key = route_key o.key s e in (key.0, ap route_prefix key.1.1.0)
 
 -- a closest route has a prefix, which is given
-closest_routes_none_alike : (r : Reg) (p : PrefixParts) → is_none (closest_routes r p)
+closest_routes_none_alike : (r : Reg) (p : PrefixParts) → is_none (closest_route_prefix r p)
     ≡ is_none (closest_of route_span (values r) (span_of p))
 closest_routes_none_alike r p =
     elim (closest_of route_span (values r) (span_of p)) as (λ v. closest_of route_span (values r)
@@ -298,7 +300,7 @@ unfolding closest_and_passes
 routes_ask_the_closest r secrets p n sound =
     elim (list_any (is_cover route_span (span_of p)) (values r)) as
     (λ b. list_any (is_cover route_span (span_of p)) (values r) ≡ b
-    → not (space_passes r secrets p (closest_routes r p)) ≡ not (
+    → not (space_passes r secrets p (closest_route_prefix r p)) ≡ not (
     if b then list_any (λ x. is_closest route_span (values r) (span_of p) x && routes_pass r
     secrets p x) (values r)
     else option_map_or (routes_pass r secrets p) (closest_inetnum r (span_of p)) false)) [

@@ -21,7 +21,7 @@ use Rattle.rr_auth.specs.declared.item.Item.TheVariants.{Submit, Delete as Delet
 use Rattle.rr_auth.specs.declared.verdict.Verdict.TheVariants.{Add, Change, Unchanged, Delete}
 use Rattle.rr_auth.specs.Authority.{lower_of, routes_of}
 use Rattle.rr_auth.specs.SetParents.{parent_object, parent_refuses}
-use Rattle.rr_auth.specs.Closest.{closest_inetnum, closest_block, closest_routes, origins}
+use Rattle.rr_auth.specs.Closest.{closest_inetnum, closest_block, closest_route_prefix, origins}
 use Rattle.rr_auth.specs.Conditions.{names_unknown, lacks_origin, origin_refuses, is_uncovered}
 use Rattle.rr_auth.specs.Conditions.{cover_refuses, space_passes, crosses_registered, is_in_use}
 use Rattle.rr_auth.specs.Laws.{SameSecrets}
@@ -114,7 +114,7 @@ module _ (secrets others : List (List ℕ)) (s : SameSecrets secrets others) whe
   cover_says r (AsBlock t) = ap not (below_says r (closest_block r t))
   cover_says r (AutNum n) = ap not (below_says r (closest_block r (record { first = n; last = n })))
   cover_says r (Inetnum t) = ap not (below_says r (closest_inetnum r t))
-  cover_says r (Route p n) = ap not (space_says r p (closest_routes r p))
+  cover_says r (Route p n) = ap not (space_says r p (closest_route_prefix r p))
   cover_says r (AsSet name) = parent_says r kinds.AsSet name
   cover_says r (RouteSet name) = parent_says r kinds.RouteSet name
 

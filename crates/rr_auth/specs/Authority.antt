@@ -1,4 +1,4 @@
--- Which maintainers decide below an object (RFC 2725, 9 and 10).
+-- Which maintainers decide below an object (RFC 2725, 9 and 10): for verdicts.
 use Rattle.std.specs.Prelude.{ℕ, Bool, true, false, ◌==◌, ◌||◌, List, length, map, filter}
 use Rattle.std.specs.Prelude.{if◌then◌else◌}
 use Rattle.std.specs.List.{list_any}

@@ -69,8 +69,8 @@ prefix_of_closest all p =
 
 -- The prefix of the closest routes of a registry to a prefix (RFC 2725, 9). In a sound registry
 -- all of them have it; in another this is that of the first by key.
-abbrev pub closest_routes : Reg → PrefixParts → Option PrefixParts
-closest_routes r p = prefix_of_closest (values r) p
+abbrev pub closest_route_prefix : Reg → PrefixParts → Option PrefixParts
+closest_route_prefix r p = prefix_of_closest (values r) p
 
 -- Two prefixes are the same.
 abbrev pub same_prefix : PrefixParts → PrefixParts → Bool

@@ -13,7 +13,7 @@ use Rattle.rr_object.specs.declared.key.Key.TheVariants.{Mntner, AsBlock, AutNum
 use Rattle.rr_object.specs.declared.key.Key.TheVariants.{AsSet, RouteSet}
 use Rattle.rr_object.specs.Objects.{Obj, names_of}
 use Rattle.rr_auth.specs.Registries.{Reg, is_crossed_by_some, is_named, some_is_unknown}
-use Rattle.rr_auth.specs.Closest.{closest_inetnum, closest_block, closest_routes, origins}
+use Rattle.rr_auth.specs.Closest.{closest_inetnum, closest_block, closest_route_prefix, origins}
 use Rattle.rr_auth.specs.Passing.{names_pass}
 use Rattle.rr_auth.specs.Authority.{lower_passes, routes_pass}
 use Rattle.rr_auth.specs.SetParents.{lacks_parent, parent_refuses}
@@ -35,7 +35,8 @@ is_uncovered r (Mntner name) = false
 is_uncovered r (AsBlock s) = is_none (closest_block r s)
 is_uncovered r (AutNum n) = is_none (closest_block r (record { first = n; last = n }))
 is_uncovered r (Inetnum s) = is_none (closest_inetnum r s)
-is_uncovered r (Route p n) = is_none (closest_routes r p) && is_none (closest_inetnum r (span_of p))
+is_uncovered r (Route p n) = is_none (closest_route_prefix r p) && is_none
+    (closest_inetnum r (span_of p))
 is_uncovered r (AsSet name) = lacks_parent r kinds.AsSet name
 is_uncovered r (RouteSet name) = lacks_parent r kinds.RouteSet name
 
@@ -65,7 +66,7 @@ cover_refuses r secrets (AutNum n) =
     (closest_block r (record { first = n; last = n })) false)
 cover_refuses r secrets (Inetnum s) =
     not (option_map_or (lower_passes r secrets) (closest_inetnum r s) false)
-cover_refuses r secrets (Route p n) = not (space_passes r secrets p (closest_routes r p))
+cover_refuses r secrets (Route p n) = not (space_passes r secrets p (closest_route_prefix r p))
 cover_refuses r secrets (AsSet name) = parent_refuses r secrets kinds.AsSet name
 cover_refuses r secrets (RouteSet name) = parent_refuses r secrets kinds.RouteSet name
 

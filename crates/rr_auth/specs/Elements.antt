@@ -1,4 +1,5 @@
--- The elements of a list.
+-- The elements of a list: for proofs here and in the crates above, and for contracts of
+-- `rr_registry`.
 use Rattle.std.specs.Prelude.{◌≡◌, ◌⊎◌, List, [], ◌∷◌}
 
 -- x is an element of the list

@@ -1,4 +1,5 @@
--- What is remembered of the objects of a registry, and when it holds.
+-- What is remembered of the objects of a registry, and when it holds: for `Known`, for `judge`,
+-- which asks it, and for `rr_registry`, which keeps it.
 use Rattle.std.specs.Prelude.{◌≡◌, ℕ, Bool, false, List, Some, IfSome, Result}
 use Rattle.std.specs.BTreeMap.{BTreeMap, get as answer_at}
 use Rattle.std.specs.FinMap.{get}

@@ -1,4 +1,5 @@
--- What every verdict keeps, and what is closest in a registry.
+-- What every verdict keeps, and what is closest in a registry: laws of `src/laws.rt`. `judge` and
+-- `rr_registry` cite `IsItem`, and `rr_submission` cites `key_about`.
 use Rattle.std.specs.Prelude.{◌≡◌, ◌&&◌, ℕ, true, false, not, List, Some}
 use Rattle.std.specs.Prelude.{if◌then◌else◌, is_none}
 use Rattle.std.specs.List.{list_any}
@@ -17,7 +18,7 @@ use Rattle.rr_auth.specs.declared.item.Item.TheVariants.{Submit, Delete}
 use Rattle.rr_auth.specs.declared.verdict.Verdict.{Verdict}
 use Rattle.rr_auth.specs.declared.verdict.Verdict.TheVariants.{Refuse}
 use Rattle.rr_auth.specs.Authority.{routes_pass}
-use Rattle.rr_auth.specs.Closest.{block_span, closest_block, closest_inetnum, closest_routes}
+use Rattle.rr_auth.specs.Closest.{block_span, closest_block, closest_inetnum, closest_route_prefix}
 use Rattle.rr_auth.specs.Closest.{inetnum_span, is_closest, is_cover, route_prefix, route_span}
 use Rattle.rr_auth.specs.Conditions.{cover_refuses}
 use Rattle.rr_auth.specs.Passing.{names_pass}
@@ -51,8 +52,9 @@ StaysOfSource =
     → IsRegistryOf source r → IsReadIn source i
     → IsRegistryOf source (step r secrets i)
 
--- The verdict on an item is one of those that are given on such an item: no submission is answered
--- as a deletion, nor a deletion as an addition, a change or no change.
+-- The verdict on an item is one of those that are given on such an item. On one that submits an
+-- object it is never a deletion. On one that deletes an object it is never an addition, a change or
+-- no change.
 abbrev pub VerdictsFitItems : Type 0
 VerdictsFitItems =
     (r : Reg) (secrets : List (List ℕ)) (i : Item) → fits_item i (verdict r secrets i) ≡ true
@@ -100,12 +102,13 @@ OneClosestBlock =
     (r : Reg) (s : Ends) (k : Key) (o : Obj) → Sound r → IsSpan s → get r k ≡ Some o
     → is_closest block_span (values r) s o ≡ true → closest_block r s ≡ Some o
 
--- In a sound registry all closest routes to a prefix have one prefix, that of `closest_routes`.
+-- In a sound registry all closest routes to a prefix have one prefix, that of
+-- `closest_route_prefix`.
 abbrev pub ClosestRoutesAgree : Type 0
 ClosestRoutesAgree =
     (r : Reg) (p : PrefixParts) (k : Key) (o : Obj) → Sound r → get r k ≡ Some o
     → is_closest route_span (values r) (span_of p) o ≡ true
-    → closest_routes r p ≡ route_prefix o.key
+    → closest_route_prefix r p ≡ route_prefix o.key
 
 -- A span has no closest inetnum exactly where no inetnum of the registry covers the span; likewise
 -- it has no closest as-block, and a prefix no closest routes (RFC 2725, 9).
@@ -115,7 +118,7 @@ pub record IsClosestWhereCovered (r : Reg) : Type 0 where
   pub blocks : (s : Ends)
       → is_none (closest_block r s) ≡ not (list_any (is_cover block_span s) (values r))
   pub routes : (p : PrefixParts)
-      → is_none (closest_routes r p)
+      → is_none (closest_route_prefix r p)
       ≡ not (list_any (is_cover route_span (span_of p)) (values r))
 
 -- In every registry, sound or not, nothing is closest exactly where nothing covers: so E12 is as

@@ -1,6 +1,6 @@
--- What private functions of src promise each other: the parts of `place` in `Verdicts`, one for
--- each kind of cover, and what a walk over names stands for. The verdict is made of `place` alone,
--- and no caller reads these.
+-- What private functions of src promise each other: the parts of `by_place` in `Verdicts`, one for
+-- each kind of cover, and what a walk over names stands for. The verdict is made of `by_place`
+-- alone, and no caller reads these.
 use Rattle.std.specs.Prelude.{ℕ, Bool, false, not, ◌&&◌, is_none, List, [], ◌∷◌, map}
 use Rattle.std.specs.Prelude.{filter}
 use Rattle.std.specs.Prelude.{Option}
@@ -16,7 +16,7 @@ use Rattle.rr_auth.specs.declared.verdict.Verdict.{Verdict}
 use Rattle.rr_auth.specs.declared.verdict.Verdict.TheVariants.{Add}
 use Rattle.rr_auth.specs.Authority.{grants}
 use Rattle.rr_auth.specs.Registries.{Reg}
-use Rattle.rr_auth.specs.Closest.{closest_inetnum, closest_routes}
+use Rattle.rr_auth.specs.Closest.{closest_inetnum, closest_route_prefix}
 use Rattle.rr_auth.specs.Conditions.{lacks_origin, origin_refuses, space_passes}
 use Rattle.rr_auth.specs.SetParents.{lacks_parent, parent_refuses}
 use Rattle.rr_auth.specs.Verdicts.{first_of}
@@ -37,10 +37,11 @@ below_parent r secrets kind name = first_of (
 abbrev pub below_space : Reg → List (List ℕ) → PrefixParts → Verdict
 below_space r secrets p = first_of (
     record {
-      holds = is_none (closest_routes r p) && is_none (closest_inetnum r (span_of p));
+      holds = is_none (closest_route_prefix r p) && is_none (closest_inetnum r (span_of p));
       code = E12;
     } ∷ (
-    record { holds = not (space_passes r secrets p (closest_routes r p)); code = E13 } ∷ [])) Add
+    record { holds = not (space_passes r secrets p (closest_route_prefix r p)); code = E13 } ∷ []))
+    Add
 
 -- What the aut-num of a route's origin says of it, and then the routes and inetnums above it.
 abbrev pub below_origin : Reg → List (List ℕ) → PrefixParts → ℕ → Verdict

@@ -1,4 +1,5 @@
--- The parents of sets: what a set's name without its last component names.
+-- The parents of sets, which a set's name without its last component names: for verdicts on new
+-- sets.
 use Rattle.std.specs.Prelude.{ℕ, Bool, false, not, List, Option, None, Some, is_none}
 use Rattle.std.specs.Option.{option_map_or, option_and_then}
 use Rattle.std.specs.FinMap.{get}

@@ -1,4 +1,5 @@
--- A registry of one source.
+-- Registries of one source, and items that are read in it: for the law that such registries stay
+-- so, and for the crates above, whose registries have one source.
 use Rattle.std.specs.Prelude.{◌≡◌, ℕ, List, Some, Ok}
 use Rattle.std.specs.FinMap.{get}
 use Rattle.rr_object.specs.declared.key.Key.{Key}

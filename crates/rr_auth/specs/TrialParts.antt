@@ -57,8 +57,8 @@ HasDigests salt wanted secrets digests =
     ≡ list_any (fits_line (record { salt = salt; digest = digest })) secrets
 
 -- The line's digest is wanted.
-abbrev pub IsWanted : BTreeSet (List ℕ) → AuthParts → Type 0
-IsWanted wanted line = IsTrue (contains (slice_cmp nat_cmp) wanted line.digest)
+abbrev pub HasWantedDigest : BTreeSet (List ℕ) → AuthParts → Type 0
+HasWantedDigest wanted line = IsTrue (contains (slice_cmp nat_cmp) wanted line.digest)
 
 -- The order of salts.
 abbrev pub salt_cmp : Vec ℕ → Vec ℕ → Ordering

@@ -1,4 +1,5 @@
--- The verdict on an item, and the registry after it.
+-- The verdict on an item, and the registry after it: for `judge`, and for `rr_registry`, which
+-- carries verdicts out.
 use Rattle.std.specs.Prelude.{ℕ, Bool, true, false, List, [], ◌∷◌, Option, None, Some}
 use Rattle.std.specs.Prelude.{if◌then◌else◌}
 use Rattle.std.specs.Option.{option_map_or}
@@ -20,12 +21,12 @@ use Rattle.rr_auth.specs.Conditions.{lacks_origin, origin_refuses, crosses_regis
 use Rattle.rr_auth.specs.Conditions.{is_unregistered}
 
 -- A condition of refusal with its code.
-pub record Refusal : Type 0 where
+pub record RefusalCondition : Type 0 where
   pub holds : Bool
   pub code : Code
 
 -- The code of the first condition that holds, otherwise the verdict that follows.
-abbrev pub first_of : List Refusal → Verdict → Verdict
+abbrev pub first_of : List RefusalCondition → Verdict → Verdict
 first_of [] v = v
 first_of (c ∷ cs) v = if c.holds then Refuse c.code else first_of cs v
 
@@ -64,8 +65,8 @@ submission None r secrets o = addition r secrets o
 submission (Some stored) r secrets o = change r secrets stored o
 
 -- A deletion needs that the object is stored (E18), that its mnt-by passes (E11), and that no other
--- object names it, if it is a mntner (E17). The first that is lacking is told (RFC 2725, 9;
--- profile).
+-- object names it, if it is a mntner (E17). It is refused with the code of the first of these that
+-- is lacking (RFC 2725, 9; profile).
 abbrev pub deletion : Option Obj → Reg → List (List ℕ) → Key → Verdict
 deletion stored r secrets k = first_of (
     record { holds = is_unregistered stored; code = E18 } ∷ (

@@ -28,9 +28,10 @@ use rr_number::{AsNumber, Parent, Prefix, SetKind, SetName, Span};
 use rr_object::{Code, Key, Object};
 use std::alloc::{AllocError, Global};
 
-/// The verdict on an item over the book's registry (RFC 2725, 9; profile); the error is out of
-/// memory. In either case the secrets stay as they were, and the key of an object that is submitted
-/// is well formed. What is known has to be true of the registry, and what is known then still is.
+/// The verdict on an item over the book's registry (RFC 2725, 9; profile). The error is that memory
+/// ran out. In either case the secrets stay as they were, and the key of an object that is
+/// submitted is well formed. What `known` remembers must be true of the registry; what it remembers
+/// afterwards, in either case, still is.
 pub fn judge<B: Book>(
     alloc: Global,
     book: &B,
@@ -271,7 +272,7 @@ fn judge_space<B: Book>(
     ensures { MayTry (below_space (B.contents book.now) secrets.old prefix)
         secrets.old secrets.new result }
 {
-    match book.closest_routes(prefix) {
+    match book.closest_route_prefix(prefix) {
         None => Ok(judge_inetnum_space(book, secrets, prefix)),
         Some(closest) => {
             let origins = book.origins(alloc, closest)?;

@@ -19,13 +19,16 @@ pub fn registries_stay_sound()
     ensures { StaysSound }
 {}
 
-/// A registry of a source stays one, whatever item comes that is read in that source.
+/// A registry of a source stays one, whatever item comes that is read in that source. Such a
+/// registry is sound, and each object in it is what its paragraph reads as in the source. Such an
+/// item submits an object that is what its paragraph reads as there, or deletes one. In either case
+/// the key is well formed.
 pub fn registries_stay_of_their_source()
     ensures { StaysOfSource }
 {}
 
-/// A submission is never answered as a deletion, nor a deletion as an addition, a change or no
-/// change.
+/// The verdict on an item that submits an object is never a deletion. The verdict on an item that
+/// deletes one is never an addition, a change or no change.
 pub fn verdicts_fit_their_items()
     ensures { VerdictsFitItems }
 {}
@@ -42,29 +45,32 @@ pub fn only_which_secrets_are_given_matters()
     ensures { SecretsAreASet }
 {}
 
-/// In a sound registry a span has one closest inetnum at most, that of `closest_inetnum`.
+/// In a sound registry a span has one closest inetnum at most: each that is closest is that of
+/// `closest_inetnum`.
 pub fn closest_inetnums_are_one()
     ensures { OneClosestInetnum }
 {}
 
-/// In a sound registry a span has one closest as-block at most, that of `closest_block`.
+/// In a sound registry a span has one closest as-block at most: each that is closest is that of
+/// `closest_block`.
 pub fn closest_blocks_are_one()
     ensures { OneClosestBlock }
 {}
 
-/// In a sound registry all closest routes to a prefix have one prefix, that of `closest_routes`.
+/// In a sound registry all closest routes to a prefix have one prefix, that of
+/// `closest_route_prefix`.
 pub fn closest_routes_have_one_prefix()
     ensures { ClosestRoutesAgree }
 {}
 
-/// In every registry nothing is closest exactly where nothing covers: no inetnum or as-block to a
-/// span, and no route to a prefix.
+/// In every registry a span has no closest inetnum exactly where no inetnum covers it. The same
+/// holds of as-blocks, and of a prefix and the routes that cover it.
 pub fn nothing_closest_is_uncovered()
     ensures { NothingClosestIsUncovered }
 {}
 
 /// In a sound registry E13 holds of a route exactly in two cases. Some route covers it, and no
-/// closest route authorises it; or none covers it, and no closest inetnum authorises it.
+/// closest route authorises it; or no route covers it, and no closest inetnum authorises it.
 pub fn routes_ask_the_closest_routes_or_inetnum()
     ensures { RoutesAskTheClosest }
 {}

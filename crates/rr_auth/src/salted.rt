@@ -9,7 +9,8 @@ ghost use Rattle.std.specs.BTreeMap.{get};
 ghost use Rattle.std.specs.BTreeSet.{BTreeSet as Digests, contains};
 ghost use Rattle.std.specs.Cmp.Lexicographic.{slice_cmp};
 ghost use Rattle.std.specs.Ordering.{nat_cmp};
-ghost use Rattle.rr_auth.specs.TrialParts.{AreDigests, AsksLine, HasDigests, IsWanted, salt_cmp};
+ghost use Rattle.rr_auth.specs.TrialParts.{AreDigests, AsksLine, HasDigests, HasWantedDigest};
+ghost use Rattle.rr_auth.specs.TrialParts.{salt_cmp};
 ghost use Rattle.rr_auth.specs.TrialParts.{some_line_fits};
 
 use crate::secret::{Secret, salted_digest, some_fits};
@@ -18,8 +19,8 @@ use rr_object::auth::DIGEST_BYTES;
 use std::alloc::{AllocError, Global};
 use std::collections::{BTreeMap, BTreeSet};
 
-/// Whether one of the secrets fits one of the lines. Each secret is hashed with each of their salts
-/// once, unless memory runs out: then it is hashed with each line.
+/// Whether one of the secrets fits one of the lines. No clause says how often a secret is hashed:
+/// with each of their salts once, unless memory runs out, and then with each line.
 pub(crate) fn some_line_fits(alloc: Global, secrets: &[Secret], lines: &[Auth]) -> bool
     ensures { result ≡ some_line_fits secrets.now lines.now }
 {
@@ -52,7 +53,7 @@ fn some_line_fits_by_salt(
 
 /// The digests of the lines; the error is out of memory.
 fn digests_of(alloc: Global, lines: &[Auth]) -> Result<BTreeSet<[u8; DIGEST_BYTES]>, AllocError>
-    ensures { IfOk result (λ digests. All (IsWanted digests) lines.now) }
+    ensures { IfOk result (λ digests. All (HasWantedDigest digests) lines.now) }
 {
     let mut digests = BTreeSet::new(alloc);
     for line in lines {
@@ -89,7 +90,7 @@ impl Salted {
         line: &Auth,
     ) -> Result<bool, AllocError>
         requires remembered { AreDigests wanted.now secrets.now self.old.digests }
-        requires wanted { IsWanted wanted.now line.now }
+        requires wanted { HasWantedDigest wanted.now line.now }
         ensures { AsksLine wanted.now secrets.now line.now self.new.digests result }
     {
         let salt = Vec::from_slice(self.alloc, line.salt())?;

@@ -41,8 +41,8 @@ impl Secrets {
         }
     }
 
-    /// Adds the secret of these bytes, which it keeps; the error is out of memory and leaves the
-    /// secrets as they were.
+    /// Adds the secret of these bytes, which it keeps, after those that there are. The error is
+    /// that memory ran out: then the secrets are as they were.
     #[tactic(auto, using(crate::proofs::Remembered::answers_stay))]
     pub fn add_owned(&mut self, bytes: Vec<u8>) -> Result<(), AllocError>
         ensures { AddsAllOrNone (bytes.items ∷ []) self.old self.new result }
@@ -51,8 +51,8 @@ impl Secrets {
         Ok(())
     }
 
-    /// Adds these secrets too, all or none; the error is out of memory and leaves the secrets as
-    /// they were.
+    /// Adds these secrets, in their order, after those that there are. The error is that memory ran
+    /// out: then none is added, and the secrets are as they were.
     #[tactic(auto, using(crate::proofs::Remembered::answers_stay))]
     pub fn add_all(&mut self, more: Secrets) -> Result<(), AllocError>
         ensures { AddsAllOrNone more self.old self.new result }

@@ -55,8 +55,9 @@ impl Tried {
         }
     }
 
-    /// Whether the maintainer passes. Only the secrets after those that were tried with its lines
-    /// are hashed, and each of them once with each salt.
+    /// Whether the maintainer passes. The answers must be right for these secrets, and still are
+    /// then. Only the secrets after those that were tried with its lines are hashed, each once with
+    /// each salt while memory lasts, which no clause says.
     pub(crate) fn passes(&mut self, secrets: &[Secret], maintainer: &Object) -> bool
         requires { AreAnswers secrets.now self.old.answers }
         ensures answer { result ≡ passes secrets.now maintainer.now }

@@ -1,4 +1,5 @@
--- A registry as a list of objects in the order of their keys.
+-- A registry as a list of objects in the order of their keys: for `Keeper::of`, for the list of the
+-- plain book, and for `rr_index`.
 use Rattle.std.specs.Prelude.{◌≡◌, Bool, true, not, List, [], ◌∷◌, Option, filter, find, map}
 use Rattle.std.specs.FinMap.{from_sorted, is_sorted}
 use Rattle.std.specs.FinMap.Entries.{by_order}

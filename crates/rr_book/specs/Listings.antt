@@ -1,4 +1,5 @@
--- Which inetnums and routes of a registry cover a span, and which lie inside it.
+-- Which inetnums and routes of a registry cover a span, and which lie inside it: for `covering` and
+-- `inside` of books and registries, and for answers.
 use Rattle.std.specs.Prelude.{Bool, false, List, filter, Option, None, Some}
 use Rattle.std.specs.Option.{option_map_or}
 use Rattle.std.specs.FinMap.{values}

@@ -1,4 +1,5 @@
--- Keys of objects, under the sets that these name in their `member-of`.
+-- Keys of objects, under the sets that these objects name in their `member-of`: for `SetIndex`,
+-- which each book keeps.
 use Rattle.std.specs.Prelude.{◌≡◌, ℕ, Bool, false, not, ◌&&◌, ◌||◌, List, OnErr, OnOk, Result}
 use Rattle.std.specs.BTreeMap.{BTreeMap, get as keys_at}
 use Rattle.std.specs.BTreeSet.{BTreeSet, contains}

@@ -10,8 +10,9 @@ ghost use Rattle.rr_book.specs.Private.{span_in};
 use rr_number::{Prefix, Span};
 use rr_object::{Class, Key, Object};
 
-/// The first closest object of the class to the span; none if no object of it covers the span, as
-/// of a class without spans. Only objects that cover the span are compared with the others.
+/// The first of the objects of the class that is closest to the span. Its own span covers or equals
+/// that, and no smaller one of the class does. None if there is none, as of a class without spans.
+/// No clause says that only objects that cover the span are compared with the others.
 pub(crate) fn closest<'a>(objects: &'a [Object], class: Class, span: Span) -> Option<&'a Object>
     ensures { option_copied result ≡ closest_of (span_in class) objects.now span }
 {
@@ -88,8 +89,9 @@ fn route_span(key: &Key) -> Option<Span>
     }
 }
 
-/// The prefix of the first closest route to the prefix; none if no route covers it.
-pub(crate) fn closest_routes(objects: &[Object], prefix: Prefix) -> Option<Prefix>
+/// The prefix of the first of the routes that is closest to the prefix, as `closest` says; none if
+/// none covers it.
+pub(crate) fn closest_route_prefix(objects: &[Object], prefix: Prefix) -> Option<Prefix>
     ensures { result ≡ prefix_of_closest objects.now prefix }
 {
     match closest(objects, Class::Route, prefix.span()) {

@@ -16,8 +16,8 @@ pub(crate) fn all(alloc: Global, objects: &[Object]) -> Result<Vec<&Object>, All
     objects.iter().collect(alloc)
 }
 
-/// The inetnums and routes that cover the span, in the order of the objects. The error is that
-/// memory ran out.
+/// Those of the objects that are inetnums or routes whose addresses cover the span, or are the
+/// span, in their order. The error is that memory ran out.
 pub(crate) fn covering(
     alloc: Global,
     objects: &[Object],
@@ -31,8 +31,8 @@ pub(crate) fn covering(
         .collect(alloc)
 }
 
-/// The inetnums and routes that lie inside the span, in the order of the objects. The error is that
-/// memory ran out.
+/// Those of the objects that are inetnums or routes whose addresses lie inside the span, or are the
+/// span, in their order. The error is that memory ran out.
 pub(crate) fn inside(
     alloc: Global,
     objects: &[Object],

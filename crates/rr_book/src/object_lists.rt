@@ -20,7 +20,8 @@ use rr_object::{Key, Object};
 use std::alloc::{AllocError, AllocFailed, Global};
 use std::mem;
 
-/// The object of the key, among objects in the order of their keys.
+/// The object of the key; none if there is none. The objects must stand in the order of their keys,
+/// no two under one key.
 pub(crate) fn find_by_key<'a>(objects: &'a [Object], key: &Key) -> Option<&'a Object>
     requires { is_in_order objects.now ≡ true }
     ensures { option_copied result ≡ object_at objects.now key.now }
@@ -37,7 +38,8 @@ pub(crate) fn find_by_key<'a>(objects: &'a [Object], key: &Key) -> Option<&'a Ob
     }
 }
 
-/// The mntner of the name, among objects in the order of their keys.
+/// The mntner of the name; none if there is none. The objects must stand in the order of their
+/// keys, no two under one key.
 pub(crate) fn find_mntner<'a>(objects: &'a [Object], name: &Name) -> Option<&'a Object>
     requires { is_in_order objects.now ≡ true }
     ensures { option_copied result ≡ find (λ o. is_mntner_of name.now o.key) objects.now }
@@ -72,7 +74,8 @@ fn is_above(name: &Name, key: &Key) -> bool
     }
 }
 
-/// Whether some object crosses the key.
+/// Whether the key is that of an inetnum or an as-block, and its span crosses that of some object
+/// of its class.
 pub(crate) fn some_crosses(objects: &[Object], key: &Key) -> bool
     ensures { result ≡ is_crossed_by_some key.now objects.now }
 {
@@ -104,22 +107,22 @@ fn keys_cross(key: &Key, other: &Key) -> bool
     }
 }
 
-/// Whether an object other than the maintainer of the name names it.
+/// Whether an object other than the maintainer of the name names that maintainer.
 pub(crate) fn is_named_by_another(objects: &[Object], name: &Name) -> bool
     ensures { result ≡ list_any (is_other_naming name.now) objects.now }
 {
     objects.iter().any(|object| is_other_naming(object, name))
 }
 
-/// Whether the object is not the maintainer of the name, and names it.
+/// Whether the object is not the maintainer of the name, and names that maintainer.
 pub(crate) fn is_other_naming(object: &Object, name: &Name) -> bool
     ensures { result ≡ is_other_naming name.now object.now }
 {
     !object.key().is_mntner_of(name) && object.names(name)
 }
 
-/// The origins of the routes of the prefix, in the order of the objects. The error is that memory
-/// ran out.
+/// The origins of the routes of exactly the prefix, in the order of the objects. The error is that
+/// memory ran out.
 pub(crate) fn origins(
     alloc: Global,
     objects: &[Object],
@@ -133,7 +136,7 @@ pub(crate) fn origins(
         .collect(alloc)
 }
 
-/// The origin in the key, where this is the key of a route of the prefix; otherwise none.
+/// The origin in the key, where this is the key of a route of exactly the prefix; otherwise none.
 pub fn origin_at(key: &Key, prefix: Prefix) -> Option<AsNumber>
     ensures { result ≡ origin_at prefix key.now }
 {
@@ -156,9 +159,10 @@ fn is_same_prefix(prefix: Prefix, other: Prefix) -> bool
     prefix.address().to_bits() == other.address().to_bits() && prefix.length() == other.length()
 }
 
-/// Puts the object into its place among objects in the order of their keys. One of the same key
-/// that stood there is given back. The error is that memory ran out: it gives the new one back, and
-/// the list stays as it was.
+/// Puts the object into its place in the order of the keys. One of the same key that stood there is
+/// given back, and none if none did. The objects must stand in that order before, no two under one
+/// key. The error is that memory ran out: it gives the new object back, and the list stays as it
+/// was.
 #[tactic(auto, using(crate::proofs::Places::put_in_place))]
 pub(crate) fn put(
     objects: &mut Vec<Object>,
@@ -200,8 +204,8 @@ fn stands_at(objects: &[Object], key: &Key, at: usize) -> bool
     }
 }
 
-/// Takes the object of the key out, among objects in the order of their keys, and gives it back;
-/// none if there is none.
+/// Takes the object of the key out, and gives it back; none if there is none. The others stay. The
+/// objects must stand in the order of their keys, no two under one key.
 pub(crate) fn remove(objects: &mut Vec<Object>, key: &Key) -> Option<Object>
     requires { is_in_order objects.old.items ≡ true }
     ensures rest { objects.new.items ≡ left_without key.now objects.old.items }

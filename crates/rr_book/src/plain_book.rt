@@ -6,7 +6,7 @@ ghost use Rattle.std.specs.FinMap.{values};
 ghost use Rattle.rr_auth.specs.Registries.{ListsOf, Sound};
 ghost use Rattle.rr_sets.specs.Lists.{IsReferrer, ListsOnce};
 
-use crate::closest::{closest, closest_routes};
+use crate::closest::{closest, closest_route_prefix};
 use crate::keeper::Keeper;
 use crate::set_index::{SetIndex, objects_of};
 use crate::{listings, object_lists};
@@ -17,7 +17,8 @@ use std::alloc::{AllocError, Global};
 use std::marker::Model;
 
 /// Objects in the order of class and key, and their keys under the sets that they name in
-/// `member-of`; contracts see the finite map from keys to objects. It is always sound.
+/// `member-of`; contracts see the finite map from keys to objects. It is always sound, as `SetBook`
+/// says.
 #[derive(Drop)]
 pub struct PlainBook {
     objects: Vec<Object>,
@@ -43,9 +44,9 @@ impl Model for PlainBook {
 }
 
 impl PlainBook {
-    /// The objects whose `member-of` names the set, each once; the error is that memory ran out.
-    /// The registry is sound. No clause says that they are in the order of class and key, nor that
-    /// k of n objects take O(k log n) steps.
+    /// Exactly the objects whose `member-of` names the set, each once; the error is that memory ran
+    /// out. The registry is sound, after an error too. No clause says that they are in the order of
+    /// class and key, nor that k of n objects take O(k log n) steps.
     pub(crate) fn objects_that_name(
         &self,
         alloc: Global,
@@ -60,7 +61,7 @@ impl PlainBook {
         }
     }
 
-    /// The objects in the order of class and key. The registry is sound.
+    /// All objects, in the order of class and key. The registry is sound.
     #[tactic(auto, using(crate::proofs::Order::values_of_book))]
     pub(crate) fn as_slice(&self) -> &[Object]
         ensures objects { result.now ≡ values self.now }
@@ -89,8 +90,8 @@ impl Book for PlainBook {
         closest(&self.objects, Class::AsBlock, span)
     }
 
-    fn closest_routes(&self, prefix: Prefix) -> Option<Prefix> {
-        closest_routes(&self.objects, prefix)
+    fn closest_route_prefix(&self, prefix: Prefix) -> Option<Prefix> {
+        closest_route_prefix(&self.objects, prefix)
     }
 
     fn origins(&self, alloc: Global, prefix: Prefix) -> Result<Vec<AsNumber>, AllocError> {

@@ -26,22 +26,23 @@ use rr_object::{Key, Object};
 use std::alloc::{AllocError, Global};
 use std::collections::{BTreeMap, BTreeSet};
 
-/// Keys of objects, under the sets that these name in their `member-of`.
+/// Keys of objects, under the names of the sets that these objects name in their `member-of`.
 #[derive(Drop)]
 pub struct SetIndex {
     keys: BTreeMap<SetName, BTreeSet<Key>>,
 }
 
-/// The sets that an object names in its `member-of`, and those that the one in whose place it comes
-/// named there.
+/// What an object and the one in whose place it comes name in their `member-of`.
 #[derive(Drop)]
 pub(crate) struct NamedSets {
+    /// The sets that the one in whose place it comes names; none if there is none.
     pub(crate) before: BTreeSet<SetName>,
+    /// The sets that the object names.
     pub(crate) after: BTreeSet<SetName>,
 }
 
 impl SetIndex {
-    /// An index without keys.
+    /// An index that has no key under any set.
     pub fn new(alloc: Global) -> SetIndex
         ensures { (name : List ℕ) (key : Key) → stands_under result.keys name key ≡ false }
     {
@@ -65,17 +66,18 @@ impl SetIndex {
         Ok(referrers)
     }
 
-    /// The keys that the index has under the set; none if it has no entry of this name.
+    /// The keys that the index has under the name of the set; none if it has no entry of this name.
     pub fn keys(&self, name: &SetName) -> Option<&BTreeSet<Key>>
         ensures { option_copied result ≡ get (slice_cmp nat_cmp) self.now.keys name.now }
     {
         self.keys.get(name)
     }
 
-    /// Puts the key of an object that comes in place of another, if there is one, under each set
-    /// that it names and the other does not. Under none of these may it stand before. It gives the
-    /// sets that each names; the error is that memory ran out, and then the same keys stand under
-    /// each set as before.
+    /// Puts the key of `object` under each set that it names in its `member-of`, save those that
+    /// `other` names there. `other` is the one in whose place it comes, if there is one. Nothing
+    /// else changes. Under none of the sets where it is put may the key stand before. The result
+    /// says which sets each of the two names. The error is that memory ran out, and then the same
+    /// keys stand under each set as before.
     pub(crate) fn enter(
         &mut self,
         alloc: Global,
@@ -101,8 +103,9 @@ impl SetIndex {
     }
 
     /// Puts the object's key under each set that it names in its `member-of`, save those in
-    /// `others`. Under none of the sets where it is put may it stand before. The error is that
-    /// memory ran out, and then the same keys stand under each set as before.
+    /// `others`. Nothing else changes. Under none of the sets where it is put may the key stand
+    /// before. The error is that memory ran out, and then the same keys stand under each set as
+    /// before.
     pub fn add(
         &mut self,
         alloc: Global,
@@ -125,7 +128,8 @@ impl SetIndex {
     }
 
     /// Puts the object's key under each set that it names, save the others. The error is that
-    /// memory ran out: it may then stand under some of these sets, and all that stood still does.
+    /// memory ran out. Then nothing is put but this key, perhaps, under some of these sets, and
+    /// every key that stood under a set still does.
     fn add_each(
         &mut self,
         alloc: Global,
@@ -149,8 +153,8 @@ impl SetIndex {
         Ok(())
     }
 
-    /// Puts the key under the set. If memory runs out, the same keys stand under each set as
-    /// before.
+    /// Puts the key under the set, and changes nothing else. If memory runs out, the same keys
+    /// stand under each set as before.
     fn add_under(&mut self, alloc: Global, name: &SetName, key: &Key) -> Result<(), AllocError>
         ensures { MayChange (HasAddedKey name.now key.now) self.old.keys self.new.keys result }
     {
@@ -169,7 +173,7 @@ impl SetIndex {
     }
 
     /// Takes the object's key from under each set that it names in its `member-of`, save those in
-    /// `others`.
+    /// `others`. Nothing else changes.
     pub fn take(&mut self, object: &Object, others: &BTreeSet<SetName>)
         ensures { HasTaken object.now (contains (slice_cmp nat_cmp) others.now)
             self.old.keys self.new.keys }
@@ -181,8 +185,7 @@ impl SetIndex {
         }
     }
 
-    /// Takes the key of an object, which is freed, from under each set that it names, save the
-    /// others.
+    /// Does what `take` does, and frees the object.
     pub(crate) fn take_and_free(&mut self, object: Object, others: &BTreeSet<SetName>)
         ensures { HasTaken object (contains (slice_cmp nat_cmp) others.now)
             self.old.keys self.new.keys }
@@ -190,7 +193,8 @@ impl SetIndex {
         self.take(&object, others);
     }
 
-    /// Takes the object's key from under each set that it names in its `member-of`.
+    /// Takes the object's key from under each set that it names in its `member-of`. Nothing else
+    /// changes.
     pub fn take_all(&mut self, object: &Object)
         ensures { HasTaken object.now (λ other. false) self.old.keys self.new.keys }
     {
@@ -199,14 +203,14 @@ impl SetIndex {
         }
     }
 
-    /// Takes the key of an object, which is freed, from under each set that it names.
+    /// Does what `take_all` does, and frees the object.
     pub(crate) fn take_all_and_free(&mut self, object: Object)
         ensures { HasTaken object (λ other. false) self.old.keys self.new.keys }
     {
         self.take_all(&object);
     }
 
-    /// Takes the key from under the set.
+    /// Takes the key from under the set, and changes nothing else.
     fn take_from(&mut self, name: &SetName, key: &Key)
         ensures { HasTakenKey name.now key.now self.old.keys self.new.keys }
     {
@@ -215,7 +219,8 @@ impl SetIndex {
         }
     }
 
-    /// Takes the key from among those of the set; `true` says that none is left.
+    /// Takes the key from under the set, and changes nothing else; `true` says that none is left
+    /// under it.
     fn take_key(&mut self, name: &SetName, key: &Key) -> bool
         ensures taken { HasTakenKey name.now key.now self.old.keys self.new.keys }
         ensures empty { IsTrue result → (k : Key)
@@ -255,8 +260,9 @@ fn sets_among(alloc: Global, names: &[SetName]) -> Result<BTreeSet<SetName>, All
     Ok(sets)
 }
 
-/// Those of the objects that have one of the keys, in the order of the keys, which strictly rise.
-/// The objects stand in the order of theirs. The error is that memory ran out.
+/// Those of the objects that have one of `keys`, in the order of these keys. The objects must stand
+/// in the order of their own keys, no two under one. The error is that memory ran out. That `keys`
+/// strictly rise is promised after an error too.
 pub(crate) fn objects_of<'a>(
     alloc: Global,
     objects: &'a [Object],

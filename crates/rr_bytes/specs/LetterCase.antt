@@ -11,6 +11,6 @@ upper text = map to_ascii_uppercase text
 abbrev pub lowered : List ℕ → List ℕ
 lowered text = map to_ascii_lowercase text
 
--- A text is this word; letter case is ignored (RFC 2622, 2).
+-- A text is this word; the case of ASCII letters is ignored (RFC 2622, 2).
 unfoldable pub is_keyword : List ℕ → List ℕ → Bool
 is_keyword word text = bytes_eq (lowered text) (lowered word)

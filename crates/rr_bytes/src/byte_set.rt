@@ -1,17 +1,18 @@
-//! Sets of bytes that stand between or round what counts of a text: `trims` and `parts` leave them
-//! out.
+//! Sets of bytes that stand round a text, or between the words or items in it: `trims` and `parts`
+//! leave them out.
 
 ghost use Rattle.std.specs.Prelude.{◌≡◌};
 ghost use Rattle.rr_bytes.specs.ByteSets.{is_in};
 
-/// A set of bytes that stand between or round what counts of a text (RFC 2622, 2; CR: profile).
+/// A set of bytes that stand round a text, or between the words or items in it (RFC 2622, 2; CR:
+/// profile).
 #[derive(Clone, Copy, Debug, PartialEq, Eq)]
 pub enum ByteSet {
     /// Spaces, tabs and CRs: the blanks inside a line, between words.
     Blanks,
-    /// These and LFs: the blanks round a line.
+    /// Spaces, tabs, CRs and LFs: the blanks round a line.
     BlanksAndLineFeeds,
-    /// Blanks and commas, between the items of a list.
+    /// Spaces, tabs, CRs and commas, between the items of a list.
     BlanksAndCommas,
 }
 

@@ -1,5 +1,6 @@
 //! Texts cut at a byte, as lines, keys, prefixes, names of sets and heads of requests are read.
-//! `rr_text` finds the ends of all lines by `place_of`, whose cost no contract states.
+//! `rr_text` finds the ends of all lines by `place_of`: no contract states its cost, so none would
+//! show that it got slower.
 
 ghost use Rattle.std.specs.Prelude.{◌≡◌, ◌==◌, ◌≤◌, length, position};
 ghost use Rattle.std.specs.List.{after_first, before_first, position_or_len};
@@ -8,7 +9,7 @@ ghost use Rattle.rr_bytes.specs.Cuts.{cut_at, from_first};
 
 use memchr::memchr;
 
-/// The place, from 0, of the first such byte of the text, if it has one.
+/// How many bytes of the text stand before the first that equals `byte`; `None` where it has none.
 #[inline]
 #[tactic(auto, using(crate::proofs::PlaceLemmas::place_found))]
 pub fn place_of(text: &[u8], byte: u8) -> Option<usize>
@@ -17,7 +18,7 @@ pub fn place_of(text: &[u8], byte: u8) -> Option<usize>
     memchr(byte, text)
 }
 
-/// What stands before and after the first such byte of the text, if it has one.
+/// What stands before and after the first `byte` of the text; `None` where it has none.
 #[inline]
 #[tactic(auto, unfolding(crate::specs::Cuts::cut_at))]
 pub fn cut_at(text: &[u8], byte: u8) -> Option<(&[u8], &[u8])>
@@ -29,8 +30,8 @@ pub fn cut_at(text: &[u8], byte: u8) -> Option<(&[u8], &[u8])>
     Some((before, after))
 }
 
-/// What stands before the first such byte of the text, and the rest, which begins with it; all of
-/// the text and nothing where it has none.
+/// What stands before the first `byte` of the text, and the rest, which begins with it; where it
+/// has none, all of the text and nothing.
 #[inline]
 pub fn cut_before(text: &[u8], byte: u8) -> (&[u8], &[u8])
     ensures before { result.0.now ≡ before_first (λ b. b == byte) text.now }
@@ -39,8 +40,8 @@ pub fn cut_before(text: &[u8], byte: u8) -> (&[u8], &[u8])
     text.split_at(end_of_before(text, byte))
 }
 
-/// What stands before and after the first such byte of the text; all of the text and nothing where
-/// it has none.
+/// What stands before and after the first `byte` of the text; where it has none, all of the text
+/// and nothing.
 #[inline]
 pub fn cut_around(text: &[u8], byte: u8) -> (&[u8], &[u8])
     ensures before { result.0.now ≡ before_first (λ b. b == byte) text.now }
@@ -55,7 +56,8 @@ pub fn cut_around(text: &[u8], byte: u8) -> (&[u8], &[u8])
     (before, after)
 }
 
-/// The place, from 0, of the first such byte of the text, or the text's length where it has none.
+/// How many bytes of the text stand before the first that equals `byte`, or the text's length where
+/// it has none.
 #[inline]
 #[tactic(auto, using(crate::proofs::PlaceLemmas::placed))]
 fn end_of_before(text: &[u8], byte: u8) -> usize

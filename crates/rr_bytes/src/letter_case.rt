@@ -7,7 +7,8 @@ ghost use Rattle.rr_bytes.specs.LetterCase.{is_keyword, lowered, upper};
 
 use std::alloc::{AllocError, Global};
 
-/// Whether the text is the word, but for the case of letters (RFC 2622, 2).
+/// Whether the text is the word, but for the case of ASCII letters (RFC 2622, 2): they are equal in
+/// lower case, and exactly then in upper case.
 pub fn is_keyword(text: &[u8], word: &[u8]) -> bool
     ensures value { result ≡ is_keyword word.now text.now }
     ensures upper { result ≡ bytes_eq (upper text.now) (upper word.now) }
@@ -15,7 +16,7 @@ pub fn is_keyword(text: &[u8], word: &[u8]) -> bool
     text.eq_ignore_ascii_case(word)
 }
 
-/// The text with its letters in upper case; the error is that memory ran out.
+/// The text with its ASCII letters in upper case; the error is that memory ran out.
 pub fn to_upper(alloc: Global, text: &[u8]) -> Result<Vec<u8>, AllocError>
     ensures { IfOk result (λ bytes. bytes.items ≡ upper text.now) }
 {
@@ -24,7 +25,7 @@ pub fn to_upper(alloc: Global, text: &[u8]) -> Result<Vec<u8>, AllocError>
     Ok(bytes)
 }
 
-/// The text with its letters in lower case; the error is that memory ran out.
+/// The text with its ASCII letters in lower case; the error is that memory ran out.
 pub fn to_lower(alloc: Global, text: &[u8]) -> Result<Vec<u8>, AllocError>
     ensures { IfOk result (λ bytes. bytes.items ≡ lowered text.now) }
 {

@@ -12,16 +12,16 @@ const MOST_ATTRIBUTE_BYTES: usize = 64;
 /// The most bytes that a name has (profile).
 const MOST_BYTES: usize = 80;
 
-/// Whether the text is the name of an attribute, in any letter case: 1 to 64 letters, digits, `-`
-/// and `_`, the first a letter (profile).
+/// Whether the text is the name of an attribute, in any letter case: 1 to 64 ASCII letters, digits,
+/// `-` and `_`, the first a letter (profile).
 pub fn is_attribute_name(text: &[u8]) -> bool
     ensures { result ≡ is_attribute_name text.now }
 {
     begins_with_letter(text) && has_name_bytes(text) && text.len() <= MOST_ATTRIBUTE_BYTES
 }
 
-/// Whether the text is a name, in any letter case: 1 to 80 letters, digits, `-` and `_`, the first
-/// a letter, the last a letter or a digit (RFC 2622, 2; the count: profile).
+/// Whether the text is a name, in any letter case: 1 to 80 ASCII letters, digits, `-` and `_`. The
+/// first is a letter, the last a letter or a digit (RFC 2622, 2; the count: profile).
 #[tactic(auto, unfolding(crate::specs::NameBytes::is_name))]
 pub fn is_name(text: &[u8]) -> bool
     ensures { result ≡ is_name text.now }

@@ -10,8 +10,8 @@ ghost use Rattle.rr_bytes.specs.Parts.{joined_by_space, parts_at, words};
 use crate::byte_set::ByteSet;
 use std::alloc::{AllocError, Global};
 
-/// The parts into which bytes of the set cut the text, in order and without the empty ones
-/// (profile); the error is that memory ran out.
+/// The parts into which the bytes of the set `separators` cut the text, in order and without the
+/// empty ones (profile); the error is that memory ran out.
 pub fn parts_between(
     alloc: Global,
     text: &[u8],
@@ -34,8 +34,8 @@ pub fn parts_between(
     Ok(found)
 }
 
-/// The words of the text, which spaces, tabs and CRs separate (profile); the error is that memory
-/// ran out.
+/// The words of the text, in order: what spaces, tabs and CRs separate, without empty ones
+/// (profile). The error is that memory ran out.
 #[tactic(auto, unfolding(crate::specs::Parts::words))]
 pub fn words(alloc: Global, text: &[u8]) -> Result<Vec<&[u8]>, AllocError>
     ensures { IfOk result (λ found. map (λ word. word.now) found.items ≡ words text.now) }
@@ -43,7 +43,8 @@ pub fn words(alloc: Global, text: &[u8]) -> Result<Vec<&[u8]>, AllocError>
     parts_between(alloc, text, ByteSet::Blanks)
 }
 
-/// The texts as one, with a space between each two (profile); the error is that memory ran out.
+/// The texts as one, in order, with a space between each two (profile); the error is that memory
+/// ran out.
 pub fn joined_by_space(alloc: Global, texts: &[&[u8]]) -> Result<Vec<u8>, AllocError>
     ensures { IfOk result
         (λ joined. joined.items ≡ joined_by_space (map (λ text. text.now) texts.now)) }

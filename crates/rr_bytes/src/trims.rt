@@ -7,7 +7,7 @@ ghost use Rattle.rr_bytes.specs.Trims as trims;
 
 use crate::byte_set::ByteSet;
 
-/// The text less the bytes of the set that it begins with.
+/// The text less the bytes in `blanks` before its first other byte; nothing where all are in it.
 #[inline(never)]
 #[tactic(auto, using(crate::proofs::TrimLemmas::start_trimmed))]
 pub fn trim_start(text: &[u8], blanks: ByteSet) -> &[u8]
@@ -23,7 +23,7 @@ pub fn trim_start(text: &[u8], blanks: ByteSet) -> &[u8]
     rest
 }
 
-/// The text less the bytes of the set that it ends with.
+/// The text less the bytes in `blanks` after its last other byte; nothing where all are in it.
 #[inline(never)]
 #[tactic(auto, using(crate::proofs::TrimLemmas::end_trimmed))]
 pub fn trim_end(text: &[u8], blanks: ByteSet) -> &[u8]
@@ -39,7 +39,8 @@ pub fn trim_end(text: &[u8], blanks: ByteSet) -> &[u8]
     rest
 }
 
-/// The text less the bytes of the set that it begins and ends with.
+/// The text less the bytes in `blanks` before its first and after its last other byte; nothing
+/// where all are in it.
 pub fn trim(text: &[u8], blanks: ByteSet) -> &[u8]
     ensures { result.now ≡ trims.trim (is_in blanks) text.now }
 {

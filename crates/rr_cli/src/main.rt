@@ -1,4 +1,6 @@
-//! The program `irrdesk`: makes a registry, submits to it, and asks and serves what it has.
+//! The program `irrdesk`: makes a registry, submits to it, and asks and serves what it has. `main`
+//! takes the arguments, the streams, the files and the network of the machine, and `program_run`
+//! does the rest.
 #![tactic(auto)]
 
 mod network;
@@ -9,7 +11,7 @@ mod serve_command;
 mod standard_streams;
 
 use crate::network::Sockets;
-use crate::program_run::Streams;
+use crate::program_run::ProgramStreams;
 use crate::standard_streams::{StandardInput, fill_closed};
 use rr_commands::{DatabaseFiles, ErrorStream, Host, Progress, Reading, SystemFiles, Tools};
 use rr_io::Counted;
@@ -24,7 +26,7 @@ fn main(rt: HostRuntime) -> ExitCode {
         alloc: rt.alloc(),
         errors: ErrorStream::new(&rt),
     };
-    let mut streams = Streams {
+    let mut streams = ProgramStreams {
         input: Reading::silent(tools.errors, Counted::new(stdin)),
         errors: tools.errors.counted(),
     };

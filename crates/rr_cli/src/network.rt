@@ -29,8 +29,9 @@ pub trait Network {
     ghost calls: { Self → NetworkCalls };
 
     /// Listens on this port, or on any free one if it is 0; no turn was counted yet. The error is
-    /// the cause for which the port is refused. That 0 stands for a free port, and for which one,
-    /// no clause says.
+    /// the cause for which the port is refused. Of the cause, and of what the listener counts and
+    /// tells, clauses say what `calls.listens` says. That 0 stands for a free port, and for which
+    /// one, no clause says.
     fn listen(&self, port: u16) -> Result<Self::Listener, Cause>
         ensures turns { IfOk result (λ listener. (Self.Listener.tally listener).turns ≡ 0) }
         ensures listens { IfOk result
@@ -38,19 +39,21 @@ pub trait Network {
         ensures refused { IfErr result (λ cause. (calls self.now).listens port (Err cause)) };
 
     /// Connects to a listener, and writes a query, its line end, and nothing more (RFC 3912, 2).
-    /// The peer that is returned is to read the reply. The error is the system's. Clauses say what
-    /// is asked, and what the peer is to be given, but neither of whom nor in which bytes.
+    /// The peer that is returned is to read the reply. The error is the system's. Clauses say, by
+    /// `calls.asks`, what is asked, and what the peer is to be given or the error, but neither of
+    /// whom nor in which bytes.
     fn ask(&self, listener: &Self::Listener, query: &[u8]) -> io::Result<Self::Peer>
         ensures asked { IfOk result
             (λ peer. (calls self.now).asks query.now (Ok (Self.Peer.remaining peer))) }
         ensures unasked { IfErr result (λ error. (calls self.now).asks query.now (Err error)) };
 
-    /// Closes the connection of a peer, with its failed reads counted.
+    /// Closes the connection of a peer; `calls.closes` says what is true then, by the count of its
+    /// failed reads.
     fn close(&self, peer: Counted<Self::Peer>)
         ensures { (calls self.now).closes (counted_failed_reads peer) };
 }
 
-/// The sockets of this machine.
+/// The sockets of this machine, of which no clause says what they carry.
 #[derive(Clone, Copy)]
 pub struct Sockets<'a> {
     rt: &'a HostRuntime,

@@ -28,15 +28,19 @@ const ERROR: u8 = 1;
 
 /// Asks the registry that the settings name for its root maintainer, and prints the reply. It asks
 /// by whois, over a connection to a listener of its own on any free port, of which it takes one
-/// turn. The status is 0, or 1 if the reply is an error. The fault is why there are no settings, no
-/// desk (as `open_desk` of `rr_commands` tells it), no listener or no reply, and then nothing is
-/// printed; or that the reply was not printed whole. There is no reply if nobody could ask, if the
-/// turn or a read failed, if none was given or told, or if memory ran out. Whose connection the
-/// turn serves, no clause says.
+/// turn. The status is 0, or 1 if the reply is an error.
+///
+/// The fault is why there are no settings, and then no database is opened. Or it is why there is no
+/// desk (as `open_desk` of `rr_commands` tells it), no listener or no reply. In these cases nothing
+/// is printed. Or it is that the reply was not printed whole. The fault names what its trouble is
+/// about: the settings file, the database, standard output or nothing. There is no reply if nobody
+/// could ask, if the turn or a read failed, if none was given or told, or if memory ran out. Whose
+/// connection the turn serves, no clause says; nor for which cause a turn failed.
 ///
 /// Where there is no database, none is made. Without a listener, or if nobody could ask, the desk
 /// stays as it is. After a turn its settings are as they were, its database lasts, and until a
-/// fault of the store stops it, its rows are those of its registry.
+/// fault of the store stops it, its rows are those of its registry. At the end the database is
+/// closed as the desk leaves it.
 pub fn probe<'a, D: Databases, F: Files, N: Network, W: Output>(
     host: &mut Host<'_, D, W>,
     files: &F,

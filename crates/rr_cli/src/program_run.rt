@@ -30,7 +30,7 @@ const HINT: &[u8] =
 
 /// The streams of a program beside its standard output, which is its host's.
 #[derive(Drop)]
-pub struct Streams<R, E> {
+pub struct ProgramStreams<R, E> {
     /// Standard input.
     pub input: R,
     /// Standard error, for the line of a fault.
@@ -38,21 +38,24 @@ pub struct Streams<R, E> {
 }
 
 /// Does what the arguments ask for, the first of which is the program's own name, and gives the
-/// status. It is 0 if that is done, and 1 if an item was refused or an answer was an error.
-/// A command without settings uses no database, and the plain command alone reads standard input.
-/// Arguments that ask for no command, or for which memory runs out, are a fault: then no database,
-/// standard input or standard output is used.
+/// status. It is 0 if that is done, and 1 if an item was refused or an answer was an error. What
+/// each command does, its function says. A command without settings uses no database, and the plain
+/// command alone reads standard input. Arguments that ask for no command, or for which memory runs
+/// out, are a fault: then no database, standard input or standard output is used. That fault names
+/// the word that is no port or no count, or says why the arguments are refused, though no clause
+/// says in which words.
 ///
-/// A fault has its line on `streams.errors`, less its end if a write fails; without a fault nothing
-/// is written there. The status of a fault is 2 at wrong arguments, and 3 at wrong settings. Of a
-/// command with settings it is 4 at trouble with the database, also if SQLite lacks memory once it
-/// is open, or if the desk is stopped. It is else 5, also if other memory ran out (profile).
+/// A fault has its line on `streams.errors`, which names legibly what it is about, less its end if
+/// a write fails. Without a fault nothing is written there. The status of a fault is 2 at wrong
+/// arguments, and 3 at wrong settings. Of a command with settings it is 4 at trouble with the
+/// database, also if SQLite lacks memory once it is open, or if the desk is stopped. It is else 5,
+/// also if other memory ran out (profile).
 pub fn run<D: Databases, F: Files, N: Network, R: Input, W: Output, E: Writer>(
     host: &mut Host<'_, D, W>,
     files: &F,
     network: &N,
     arguments: &[String],
-    streams: &mut Streams<R, E>,
+    streams: &mut ProgramStreams<R, E>,
 ) -> u8
     ensures { Runs (ports D.Disk.Store D.calls (F.calls files.now))
         (means (N.calls network.now) serves_desk) (map string_bytes arguments.now)
@@ -77,15 +80,17 @@ fn ended_with<'a, E: Writer>(alloc: Global, end: Result<u8, ProgramFault<'a>>, e
 }
 
 /// Tells on `errors` the trouble for which the arguments could not be read, and gives its status.
-/// The line is less its end if a write fails.
+/// The line names nothing that it is about, and is less its end if a write fails. Why reading or
+/// printing failed, if the trouble is that, no clause says.
 pub fn tell_unread<E: Writer>(trouble: Trouble, errors: &mut E) -> u8
     ensures { EndsUnread trouble (E.told errors.old) (E.told errors.new) result }
 {
     ProgramFault::unnamed(trouble).tell(errors)
 }
 
-/// The arguments as a list; which they are, no clause says. The trouble is that the system gave
-/// none, as one is not text or memory ran out, or that memory ran out for the list (profile).
+/// The arguments as a list, only if the system gave them; which they are, no clause says. The
+/// trouble is that the system gave none, as one is not text or memory ran out, or that memory ran
+/// out for the list (profile).
 pub fn collect(alloc: Global, arguments: io::Result<Args>) -> Result<Vec<String>, Trouble>
     ensures read { OnOk result (IsOk arguments) }
     ensures unread { IfErr result (AreUnread arguments) }

@@ -4,8 +4,8 @@
 ghost use Rattle.std.specs.Prelude.{◌≡◌, ◌+◌, ◌<◌, ◌^◌, IfErr, IfOk, string_bytes};
 ghost use Rattle.rr_io.specs.Sending.{Writes};
 ghost use Rattle.rr_http.specs.DeskRegistrars.{serves_desk};
-ghost use Rattle.rr_commands.specs.Commands.{AtDesk, EndsAs};
-ghost use Rattle.rr_commands.specs.Faults.{IsFaultOf};
+ghost use Rattle.rr_commands.specs.Commands.{AtDesk, EndsAlike};
+ghost use Rattle.rr_commands.specs.Faults.{HasTrouble};
 ghost use Rattle.rr_commands.specs.Worlds.{at, deed, done_by, named, ports};
 ghost use Rattle.rr_cli.specs.Networks.{means};
 ghost use Rattle.rr_cli.specs.Serving.{HasServed, IsAboutServing, IsServedEnd, ServesBy};
@@ -16,8 +16,8 @@ use crate::network::Network;
 use crate::peers_with_cause::PeersWithCause;
 use itoa::Buffer;
 use rr_commands::{
-    DatabaseCause, Databases, Files, Host, Output, ProgramFault, Store, Tools, Trouble, close,
-    ended, open_desk, read_settings_file,
+    DatabaseCause, Databases, Files, Host, NamedDatabase, Output, ProgramFault, Tools, Trouble,
+    close, ended, open_desk, read_settings_file,
 };
 use rr_desk::{ConnFault, Desk, Served, Service, Settings, serve_all};
 use rr_http::Both;
@@ -37,16 +37,20 @@ pub struct Listening {
 
 /// Takes so many turns of a listener on this port of 127.0.0.1, and serves each connection by whois
 /// and HTTP, from the registry that the settings name. Prints where it listens, and at the end how
-/// many turns were served and how many failed. The status is 0. The fault is why there are no
-/// settings, no desk (as `open_desk` of `rr_commands` tells it) or no listener, or that a line was
-/// not printed whole. If both lines were, but no turn was served and no connection accepted in the
-/// last one, that is the fault; clauses say so where turns are told. Trouble with the listener
-/// shows its address, unless memory runs out.
+/// many turns were served and how many failed. The status is 0.
+///
+/// The fault is why there are no settings, and then no database is opened; or why there is no desk
+/// (as `open_desk` of `rr_commands` tells it) or no listener. In these cases nothing is printed. Or
+/// it is that a line was not printed whole. If both lines were, but no turn was served and no
+/// connection accepted in the last one, that is the fault. Clauses say so where turns are told, and
+/// never for which cause. A fault names what its trouble is about: the settings file, the database,
+/// standard output or, of the listener, its address, unless memory runs out.
 ///
 /// Where there is no database, none is made. Without a listener, or if where it listens is not
 /// printed whole, no turn is taken, and the desk stays as it is. The settings of the desk stay, its
-/// database lasts, and until a fault of the store stops it, its rows are those of its registry. If
-/// the database fails meanwhile, that is said once on standard error, of which no clause speaks.
+/// database lasts, and until a fault of the store stops it, its rows are those of its registry. At
+/// the end the database is closed as the desk leaves it. If the database fails meanwhile, that is
+/// said once on standard error, of which no clause speaks.
 pub fn serve<'a, D: Databases, F: Files, N: Network, W: Output>(
     host: &mut Host<'_, D, W>,
     files: &F,
@@ -74,9 +78,9 @@ fn ended_at<'a, D: Databases, W: Output>(
     end: Result<u8, Trouble>,
     port: u16,
     file: &'a str,
-    store: Store,
+    store: NamedDatabase,
 ) -> Result<u8, ProgramFault<'a>>
-    ensures ends { EndsAs end result }
+    ensures ends { EndsAlike end result }
     ensures about { IfErr result
         (IsAboutServing port file.now (string_bytes store.path) (string_bytes store.found)) }
 {
@@ -94,7 +98,7 @@ fn ended_at<'a, D: Databases, W: Output>(
 
 /// A fault about a port of 127.0.0.1.
 fn about_port<'a>(alloc: Global, trouble: Trouble, port: u16) -> ProgramFault<'a>
-    ensures { IsFaultOf trouble (ShowsPort port) result }
+    ensures { HasTrouble trouble (ShowsPort port) result }
 {
     match address(alloc, port) {
         Ok(address) => ProgramFault::named(address, trouble),

@@ -12,9 +12,11 @@ use std::os::fd::{AsRawFd, RawFd};
 const EBADF: i32 = 9;
 
 /// Fills the place of each standard stream that is closed, in order, because what is opened gets
-/// the lowest free number. While these are kept, no file and no socket gets the number of a stream.
-/// So nothing that is meant for the stream goes into it, as a line of standard error into a reply.
-/// No clause says any of this.
+/// the lowest free number. For each stream it returns the file in its place; `None` if the stream
+/// is open, or if its place could not be filled. While the caller keeps these files, no other file
+/// and no socket gets the number of a stream whose place is filled. So nothing that is meant for
+/// the stream goes into another file, as a line of standard error into a reply. No clause says any
+/// of this.
 pub fn fill_closed(rt: &HostRuntime) -> [Option<File>; 3] {
     [fill(rt, 0), fill(rt, 1), fill(rt, 2)]
 }

@@ -3,7 +3,7 @@ use Rattle.std.proofs.Common.{◌≡◌, ℕ, Some, refl}
 use Rattle.rr_registry.specs.declared.load.LoadFault.TheVariants as list
 use Rattle.rr_desk.specs.declared.dump_read_fault.DumpReadFault.TheVariants as dump
 use Rattle.rr_commands.specs.Troubles.{paragraph_in, place_of}
-use Rattle.rr_commands.specs.declared.trouble.Place.TheVariants as place
+use Rattle.rr_commands.specs.declared.trouble.TroublePlace.TheVariants as place
 use Rattle.rr_commands.specs.declared.trouble.Trouble.{Trouble}
 use Rattle.rr_commands.specs.declared.trouble.Trouble.TheVariants as trouble
 

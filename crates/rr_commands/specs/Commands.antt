@@ -26,7 +26,7 @@ use Rattle.rr_commands.specs.declared.registry_databases.Absent.{Absent}
 use Rattle.rr_commands.specs.declared.registry_databases.Absent.TheVariants.{Refused}
 use Rattle.rr_commands.specs.declared.command_fault.ProgramFault.{ProgramFault}
 use Rattle.rr_commands.specs.declared.settings_reading.TheConstants.{MOST_BYTES}
-use Rattle.rr_commands.specs.declared.trouble.Place.TheVariants as place
+use Rattle.rr_commands.specs.declared.trouble.TroublePlace.TheVariants as place
 use Rattle.rr_commands.specs.declared.trouble.Trouble.{Trouble}
 use Rattle.rr_commands.specs.declared.trouble.Trouble.TheVariants as trouble
 
@@ -47,16 +47,16 @@ abbrev pub Act : Type 0 → Type 1
 Act X = Deed X CommandEnd → Type 0
 
 -- what a fault of a command shows, by the path of its database and what was found in that (profile)
-abbrev pub Naming : Type 1
-Naming = List ℕ → List ℕ → ProgramFault → Type 0
+abbrev pub Showing : Type 1
+Showing = List ℕ → List ℕ → ProgramFault → Type 0
 
 -- how a command ends and how the program does: with the same status, or by a fault with the same
 -- trouble (profile)
-abbrev pub EndsAs : CommandEnd → ProgramEnd → Type 0
-EndsAs (Ok status) (Ok ended) = ended ≡ status
-EndsAs (Err trouble) (Err fault) = fault.trouble ≡ trouble
-EndsAs (Ok status) (Err fault) = ⊥
-EndsAs (Err trouble) (Ok ended) = ⊥
+abbrev pub EndsAlike : CommandEnd → ProgramEnd → Type 0
+EndsAlike (Ok status) (Ok ended) = ended ≡ status
+EndsAlike (Err trouble) (Err fault) = fault.trouble ≡ trouble
+EndsAlike (Ok status) (Err fault) = ⊥
+EndsAlike (Err trouble) (Ok ended) = ⊥
 
 -- the cause of an error of the system (profile)
 abbrev pub cause_of : Error → Cause
@@ -74,8 +74,8 @@ abbrev pub unopened_trouble : Cause → Trouble
 unopened_trouble cause.Memory = trouble.Memory
 unopened_trouble cause = trouble.FileUnopened cause
 
--- the file at this path was opened and, if it tells its bytes, these are all, or the first, one
--- more than such a file may have (profile)
+-- the file at this path was opened. If it tells its bytes, these are the first of them, up to one
+-- more than a settings file may have (profile)
 pub record ReadsFile (files : FileCalls) (file text : List ℕ) : Type 0 where
   pub given : Option (List ℕ)
   pub opened : files.opens file (Ok given)
@@ -133,18 +133,18 @@ pub record HasSettings (files : FileCalls) (file : List ℕ) (names : Named) : T
 
 -- there are settings and the path of a database in a file, a command did what it does by these, and
 -- the program ends so; its fault shows what it is about (profile)
-pub record HasActed {D : Type 0} (files : FileCalls) (file : List ℕ) (shows : Naming)
+pub record HasActed {D : Type 0} (files : FileCalls) (file : List ℕ) (shows : Showing)
     (does : Action D) (done : Deed D ProgramEnd) : Type 0 where
   pub names : Named
   pub read : HasSettings files file names
   pub ended : CommandEnd
   pub did : does names (ended_by ended done)
-  pub ends : EndsAs ended done.ended
+  pub ends : EndsAlike ended done.ended
   pub found : List ℕ
   pub about : IfErr done.ended (shows names.path found)
 
 -- what a command does that reads its settings from the file at this path first (profile)
-abbrev pub ActsBySettings : {D : Type 0} → FileCalls → List ℕ → Naming → Action D
+abbrev pub ActsBySettings : {D : Type 0} → FileCalls → List ℕ → Showing → Action D
     → Deed D ProgramEnd → Type 0
 ActsBySettings files file shows does done =
     HasNoSettings files file done ⊎ HasActed files file shows does done

@@ -12,8 +12,8 @@ use Rattle.rr_commands.specs.declared.cause.Cause.{Cause}
 use Rattle.rr_commands.specs.declared.command_fault.About.{About}
 use Rattle.rr_commands.specs.declared.command_fault.About.TheVariants.{Nothing, Word, Named}
 use Rattle.rr_commands.specs.declared.command_fault.ProgramFault.{ProgramFault}
-use Rattle.rr_commands.specs.declared.trouble.Place.{Place}
-use Rattle.rr_commands.specs.declared.trouble.Place.TheVariants as place
+use Rattle.rr_commands.specs.declared.trouble.TroublePlace.{TroublePlace}
+use Rattle.rr_commands.specs.declared.trouble.TroublePlace.TheVariants as place
 use Rattle.rr_commands.specs.declared.trouble.Trouble.{Trouble}
 
 -- a byte as it is written on the line: `?` for a control character (profile)
@@ -29,7 +29,7 @@ name_on_line (Named name) = map byte_on_line (string_bytes name) ++ codes ": "
 
 -- the name of where a command with this file and database went wrong, as it is written on the line,
 -- and a colon; nothing for what has no name (profile)
-abbrev pub place_on_line : Place → List ℕ → List ℕ → List ℕ
+abbrev pub place_on_line : TroublePlace → List ℕ → List ℕ → List ℕ
 place_on_line place.Nothing file database = []
 place_on_line place.Database file database = map byte_on_line database ++ codes ": "
 place_on_line place.File file database = map byte_on_line file ++ codes ": "
@@ -54,7 +54,7 @@ abbrev pub ShowsOnLine : List ℕ → ProgramFault → Type 0
 ShowsOnLine name fault = name_on_line fault.about ≡ name
 
 -- a fault with this trouble, of which this is true (profile)
-pub record IsFaultOf (told : Trouble) (holds : ProgramFault → Type 0) (fault : ProgramFault)
+pub record HasTrouble (told : Trouble) (holds : ProgramFault → Type 0) (fault : ProgramFault)
     : Type 0 where
   pub trouble : fault.trouble ≡ told
   pub shows : holds fault

@@ -1,4 +1,5 @@
--- What a look at a database may find whose tables were not opened or not migrated (profile).
+-- What a look at a database may find whose tables were not opened or not migrated, for the
+-- diagnosis of `open_desk` and `migrate` (profile).
 use Rattle.std.specs.Prelude.{◌≡◌, ◌⊎◌, ℕ, ◌==◌, ◌||◌, Bool, true, false, not, IsTrue}
 use Rattle.std.specs.Prelude.{nat_lt}
 use Rattle.rr_store.specs.declared.store_fault.MigrateFault.{MigrateFault}

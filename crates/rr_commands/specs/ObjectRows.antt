@@ -19,7 +19,7 @@ pub record IsTextOfOther (source text : List ℕ) : Type 0 where
   pub other : object_of fields source ≡ Err OtherSource
 
 -- a row of `object` has the text of an object of another source (profile)
-pub record IsOfOther (source : List ℕ) (row : Row) : Type 0 where
+pub record IsOfOtherSource (source : List ℕ) (row : Row) : Type 0 where
   pub text : List ℕ
   pub stands : column row 2 ≡ Blob text
   pub other : IsTextOfOther source text
@@ -29,7 +29,7 @@ abbrev pub AreOfOther : List ℕ → ℕ → List Row → Type 0
 AreOfOther source zero rows = Unit {0}
 AreOfOther source (suc count) [] = ⊥
 AreOfOther source (suc count) (row ∷ rows) =
-    (IsOfOther source row × AreOfOther source count rows) ⊎ AreOfOther source (suc count) rows
+    (IsOfOtherSource source row × AreOfOther source count rows) ⊎ AreOfOther source (suc count) rows
 
 -- more than half of these rows have objects of another source (profile)
 pub record AreMostlyOfOther (source : List ℕ) (rows : List Row) : Type 0 where

@@ -5,15 +5,15 @@ use Rattle.std.specs.Prelude.{codes, if◌then◌else◌}
 use Rattle.sqlite_trees.specs.declared.store.Store.{Ghosts}
 use Rattle.rr_io.specs.Told.{Told}
 use Rattle.rr_submission.specs.declared.submission.Done.{Done}
-use Rattle.rr_submission.specs.declared.submission.DeskFault.{DeskFault}
-use Rattle.rr_submission.specs.declared.submission.DeskFault.TheVariants as desk
-use Rattle.rr_submission.specs.Submissions.{UnlessStoreFault}
+use Rattle.rr_submission.specs.declared.submission.SubmissionFault.{SubmissionFault}
+use Rattle.rr_submission.specs.declared.submission.SubmissionFault.TheVariants as desk
+use Rattle.rr_submission.specs.Submissions.{UnlessLedgerStopped}
 use Rattle.rr_desk.specs.Desks.{LeavesDesk, SubmitsTo}
 use Rattle.rr_desk.specs.Opening.{IsOpeningRegistry}
 use Rattle.rr_desk.specs.Settings.{built_in}
 use Rattle.rr_desk.specs.declared.desk.Desk.{Desk}
 use Rattle.rr_commands.specs.Causes.{stop_cause}
-use Rattle.rr_commands.specs.Commands.{Act, ActsBySettings, AtDesk, CommandEnd, EndsAs}
+use Rattle.rr_commands.specs.Commands.{Act, ActsBySettings, AtDesk, CommandEnd, EndsAlike}
 use Rattle.rr_commands.specs.Commands.{FailsSilently, IsUnopenedFile, ProgramEnd}
 use Rattle.rr_commands.specs.Faults.{IsAbout}
 use Rattle.rr_commands.specs.Files.{FileCalls}
@@ -28,7 +28,7 @@ done_status done = if done.refused == 0 then 0 else 1
 
 -- the status of a submission, or its fault, by the desk's result and why its database failed, if it
 -- did (profile)
-abbrev pub submission_end : Result Done DeskFault → DatabaseCause → CommandEnd
+abbrev pub submission_end : Result Done SubmissionFault → DatabaseCause → CommandEnd
 submission_end (Ok done) cause = Ok (done_status done)
 submission_end (Err fault) cause = Err (Submission fault cause)
 
@@ -36,10 +36,10 @@ submission_end (Err fault) cause = Err (Submission fault cause)
 -- The desk is left as a submission leaves it, and only a fault of the store stopped it (profile)
 pub record HasSubmitted {S : Type 0} (g : Ghosts S) (reader_old reader_new : Told)
     (done : Deed (Desk S) CommandEnd) : Type 0 where
-  pub result : Result Done DeskFault
+  pub result : Result Done SubmissionFault
   pub submits : SubmitsTo g done.before.has done.after.has reader_old reader_new
       done.before.output done.after.output result
-  pub running : UnlessStoreFault result (done.after.has.stock.stopped ≡ false)
+  pub running : UnlessLedgerStopped result (done.after.has.stock.stopped ≡ false)
   pub told : done.ended ≡ submission_end result (stop_cause done.after.has.stock.cause)
   pub leaves : LeavesDesk g done.before.has done.after.has result
 
@@ -47,7 +47,7 @@ pub record HasSubmitted {S : Type 0} (g : Ghosts S) (reader_old reader_new : Tol
 -- out, so that is told of its faults (profile)
 abbrev pub plain_trouble : Trouble → Trouble
 plain_trouble (Creating fault) = Memory
-plain_trouble (Submission (desk.StoreFault items) cause) = Memory
+plain_trouble (Submission (desk.LedgerStopped items) cause) = Memory
 plain_trouble (Submission desk.Stopped cause) = Memory
 plain_trouble trouble = trouble
 
@@ -105,5 +105,5 @@ plain_end (Err trouble) = Err (plain_trouble trouble)
 pub record EndsPlain {S : Type 0} (g : Ghosts S) (done : Deed Told ProgramEnd) : Type 0 where
   pub ended : CommandEnd
   pub runs : RunsPlain g (ended_by ended done)
-  pub ends : EndsAs (plain_end ended) done.ended
+  pub ends : EndsAlike (plain_end ended) done.ended
   pub about : IfErr done.ended (IsAbout (codes "standard input") [] [])

@@ -5,21 +5,21 @@ use Rattle.rr_registry.specs.declared.load.LoadFault.TheVariants as list
 use Rattle.rr_store.specs.declared.store_fault.CreateFault.TheVariants as creating
 use Rattle.rr_store.specs.declared.store_fault.MigrateFault.TheVariants as migrating
 use Rattle.rr_store.specs.declared.store_fault.OpenFault.TheVariants as opening
-use Rattle.rr_submission.specs.declared.submission.DeskFault.TheVariants as desk
+use Rattle.rr_submission.specs.declared.submission.SubmissionFault.TheVariants as desk
 use Rattle.rr_desk.specs.declared.desk_dumping.DeskDumpFault.TheVariants as dumping
 use Rattle.rr_desk.specs.declared.dump_read_fault.DumpReadFault.TheVariants as dump
 use Rattle.rr_commands.specs.Causes.{cause_text, database_cause_text}
 use Rattle.rr_commands.specs.declared.cause.Cause.{Cause}
 use Rattle.rr_commands.specs.declared.cause.Cause.TheVariants as cause
 use Rattle.rr_commands.specs.declared.cause.DatabaseCause.TheVariants as database
-use Rattle.rr_commands.specs.declared.trouble.Ending.{Ending}
-use Rattle.rr_commands.specs.declared.trouble.Place.{Place}
-use Rattle.rr_commands.specs.declared.trouble.Place.TheVariants as place
+use Rattle.rr_commands.specs.declared.trouble.TroubleEnd.{TroubleEnd}
+use Rattle.rr_commands.specs.declared.trouble.TroublePlace.{TroublePlace}
+use Rattle.rr_commands.specs.declared.trouble.TroublePlace.TheVariants as place
 use Rattle.rr_commands.specs.declared.trouble.Trouble.{Trouble}
 use Rattle.rr_commands.specs.declared.trouble.Trouble.TheVariants as trouble
 
 -- an end of the program with this status and a line about this
-abbrev pub ends_with : ℕ → Place → Ending
+abbrev pub ends_with : ℕ → TroublePlace → TroubleEnd
 ends_with status place = record { status = status; place = place }
 
 -- how the program ends by each trouble: what its line is about, and its status. The status is 2 at
@@ -28,7 +28,7 @@ ends_with status place = record { status = status; place = place }
 -- The line is about the database at status 4, and if memory ran out as that or its registry was
 -- opened. It is about the settings file at status 3, about another file at trouble with that or
 -- with what it has, about standard output if a write failed, and else about nothing (profile).
-abbrev pub trouble_end : Trouble → Ending
+abbrev pub trouble_end : Trouble → TroubleEnd
 trouble_end trouble.BadArguments = ends_with 2 place.Nothing
 trouble_end trouble.BadPort = ends_with 2 place.Nothing
 trouble_end trouble.BadCount = ends_with 2 place.Nothing
@@ -65,7 +65,7 @@ trouble_end (trouble.ServedInVain cause) = ends_with 4 place.Database
 trouble_end (trouble.FileUnopened cause) = ends_with 5 place.File
 trouble_end (trouble.Submission (desk.ReadFault items) cause) = ends_with 5 place.File
 trouble_end (trouble.Submission (desk.WriteFault items) cause) = ends_with 5 place.Output
-trouble_end (trouble.Submission (desk.StoreFault items) cause) = ends_with 4 place.Database
+trouble_end (trouble.Submission (desk.LedgerStopped items) cause) = ends_with 4 place.Database
 trouble_end (trouble.Submission desk.Memory cause) = ends_with 5 place.Nothing
 trouble_end (trouble.Submission desk.Stopped cause) = ends_with 4 place.Database
 trouble_end (trouble.Dumping dumping.Write) = ends_with 5 place.Output
@@ -91,7 +91,7 @@ abbrev pub trouble_status : Trouble → ℕ
 trouble_status trouble = (trouble_end trouble).status
 
 -- what a trouble is about
-abbrev pub place_of : Trouble → Place
+abbrev pub place_of : Trouble → TroublePlace
 place_of trouble = (trouble_end trouble).place
 
 -- the paragraph of a dump, from 1, that is the matter (profile)
@@ -121,7 +121,7 @@ trouble_cause _ stream = None
 -- a cause in words, or nothing: why the database failed in a submission or while it was served,
 -- and else the cause that the system gave (profile)
 abbrev pub cause_words : Trouble → Option Cause → List ℕ
-cause_words (trouble.Submission (desk.StoreFault items) cause) given = database_cause_text cause
+cause_words (trouble.Submission (desk.LedgerStopped items) cause) given = database_cause_text cause
 cause_words (trouble.ServedInVain cause) given = database_cause_text cause
 cause_words _ None = []
 cause_words _ (Some cause) = cause_text cause
@@ -135,5 +135,5 @@ trouble_number (trouble.DumpUnread fault) = paragraph_in (trouble.DumpUnread fau
 trouble_number (trouble.DumpUntaken fault) = paragraph_in (trouble.DumpUntaken fault)
 trouble_number (trouble.Submission (desk.ReadFault items) cause) = Some items
 trouble_number (trouble.Submission (desk.WriteFault items) cause) = Some items
-trouble_number (trouble.Submission (desk.StoreFault items) cause) = Some items
+trouble_number (trouble.Submission (desk.LedgerStopped items) cause) = Some items
 trouble_number _ = None

@@ -12,8 +12,8 @@ use Rattle.rr_store.specs.declared.store_fault.MigrateFault.TheVariants as migra
 use Rattle.rr_store.specs.declared.store_fault.OpenFault.{OpenFault}
 use Rattle.rr_store.specs.declared.store_fault.OpenFault.TheVariants as opening
 use Rattle.rr_store.specs.declared.version.TheConstants.{OLD_VERSION, VERSION}
-use Rattle.rr_submission.specs.declared.submission.DeskFault.{DeskFault}
-use Rattle.rr_submission.specs.declared.submission.DeskFault.TheVariants as desk
+use Rattle.rr_submission.specs.declared.submission.SubmissionFault.{SubmissionFault}
+use Rattle.rr_submission.specs.declared.submission.SubmissionFault.TheVariants as desk
 use Rattle.rr_desk.specs.declared.desk_dumping.DeskDumpFault.{DeskDumpFault}
 use Rattle.rr_desk.specs.declared.desk_dumping.DeskDumpFault.TheVariants as dumping
 use Rattle.rr_desk.specs.declared.dump_read_fault.DumpReadFault.TheVariants as dump
@@ -72,12 +72,12 @@ opening_words (opening.Store error) = refused_words error
 opening_words opening.Memory = out_of_memory
 
 -- the words for a submission that was cut short (profile)
-abbrev pub submission_words : DeskFault → List ℕ
+abbrev pub submission_words : SubmissionFault → List ℕ
 submission_words (desk.ReadFault items) =
     codes "the submission could not be read to its end, so submit the whole text again: "
 submission_words (desk.WriteFault items) =
     codes "the report could not be written, so submit the whole text again: "
-submission_words (desk.StoreFault items) =
+submission_words (desk.LedgerStopped items) =
     codes "the database failed, so submit the whole text again: "
 submission_words desk.Memory = out_of_memory
 submission_words desk.Stopped = stopped
@@ -178,7 +178,7 @@ before_number (trouble.Submission (desk.ReadFault items) cause) =
     codes "; items decided before that: "
 before_number (trouble.Submission (desk.WriteFault items) cause) =
     codes "; items decided before that: "
-before_number (trouble.Submission (desk.StoreFault items) cause) =
+before_number (trouble.Submission (desk.LedgerStopped items) cause) =
     codes "; items decided before that: "
 before_number _ = []
 

@@ -98,7 +98,9 @@ pub enum Cause {
 
 impl Cause {
     /// The cause of an error of the system, by its kind, and by its number where the kind tells
-    /// none, or only that input does not fit; without a number the latter is `BadName` (profile).
+    /// none, or only that input does not fit. Of an error whose number is to tell the cause, and
+    /// that has none or one below 0, the cause is `Unnumbered`. But of input that does not fit,
+    /// without a number, it is `BadName` (profile).
     pub fn of(error: &io::Error) -> Cause
         ensures { result ≡ system_cause (error_kind error.now) (raw_os_error error.now) }
     {
@@ -285,7 +287,8 @@ pub enum DatabaseCause {
 }
 
 impl DatabaseCause {
-    /// The cause of an error of the database, by the code of a failure, and else `Unknown`.
+    /// The cause of an error of the database, by its code if it is a failure. It is `Unknown` for
+    /// any other error, and for a code that has no cause of its own.
     pub fn of(error: sqlite::Error) -> DatabaseCause
         ensures { result ≡ database_cause error }
     {

@@ -3,17 +3,17 @@
 
 ghost use Rattle.std.specs.Prelude.{◌≡◌, ◌++◌, [], IfSome, codes, map, string_bytes};
 ghost use Rattle.rr_io.specs.Sending.{TakesSome, Writes};
-ghost use Rattle.rr_commands.specs.Faults.{IsFaultOf, IsLegible, ShowsOnLine, byte_on_line};
+ghost use Rattle.rr_commands.specs.Faults.{HasTrouble, IsLegible, ShowsOnLine, byte_on_line};
 ghost use Rattle.rr_commands.specs.Faults.{fault_about, fault_line, name_on_line, number_text};
 ghost use Rattle.rr_commands.specs.Faults.{place_on_line, trouble_text};
 ghost use Rattle.rr_commands.specs.Troubles.{place_of, trouble_status};
 ghost use Rattle.rr_commands.specs.declared.command_fault.About.TheVariants as abouts;
-ghost use Rattle.rr_commands.specs.declared.trouble.Place.TheVariants as place;
+ghost use Rattle.rr_commands.specs.declared.trouble.TroublePlace.TheVariants as place;
 
 use crate::cause::Cause;
 use crate::output::STANDARD_OUTPUT;
 use crate::shown::shown_name;
-use crate::trouble::{Place, Trouble};
+use crate::trouble::{Trouble, TroublePlace};
 use crate::words::{after_number, before_cause, before_number};
 use itoa::Buffer;
 use rr_io::{Writer, write_all, write_pieces};
@@ -94,7 +94,7 @@ impl<'a> ProgramFault<'a> {
     /// A fault with this trouble, whose line names standard output. It keeps `stream`: why that
     /// took no more.
     pub fn of_output(trouble: Trouble, stream: Cause) -> ProgramFault<'a>
-        ensures shows { IsFaultOf trouble (ShowsOnLine (place_on_line place.Output [] [])) result }
+        ensures shows { HasTrouble trouble (ShowsOnLine (place_on_line place.Output [] [])) result }
         ensures stream { result.stream ≡ stream }
     {
         ProgramFault {
@@ -114,14 +114,14 @@ impl<'a> ProgramFault<'a> {
         database: String,
         stream: Cause,
     ) -> ProgramFault<'a>
-        ensures { IsFaultOf trouble (ShowsOnLine
+        ensures { HasTrouble trouble (ShowsOnLine
             (place_on_line (place_of trouble) file.now (string_bytes database))) result }
     {
         match trouble.end().place {
-            Place::Nothing => ProgramFault::unnamed(trouble),
-            Place::Database => ProgramFault::named(database, trouble),
-            Place::File => ProgramFault::of_file(file, trouble, stream),
-            Place::Output => ProgramFault::of_output(trouble, stream),
+            TroublePlace::Nothing => ProgramFault::unnamed(trouble),
+            TroublePlace::Database => ProgramFault::named(database, trouble),
+            TroublePlace::File => ProgramFault::of_file(file, trouble, stream),
+            TroublePlace::Output => ProgramFault::of_output(trouble, stream),
         }
     }
 
@@ -153,8 +153,9 @@ impl<'a> ProgramFault<'a> {
         }
     }
 
-    /// Says the fault in one line to `errors`, as standard error: all of it or, if a write fails,
-    /// its beginning and not all. Gives the status of its trouble in either case.
+    /// Says the fault in one line to `errors`, such as standard error, as `write_all` does: all of
+    /// it or, if a write fails, its beginning and not all. Gives the status of its trouble in
+    /// either case.
     pub fn tell<E: Writer>(self, errors: &mut E) -> u8
         ensures says { TakesSome (E.told errors.old) (E.told errors.new)
             (fault_line self.entry.about self.entry.trouble self.entry.stream) }

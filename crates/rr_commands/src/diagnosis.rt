@@ -27,8 +27,8 @@ use sqlite::{Alter, Row};
 use sqlite_schema::schema::Schema;
 use std::alloc::{AllocError, Global};
 
-/// What a file has, in its order: each of the three tables is followed by the index of its key. A
-/// row has the number of its tree and one more.
+/// What a file has, in its order: each of the three tables is followed by the index of its key. The
+/// number of a row is that of its tree, plus one.
 const LISTED: &str = "SELECT name, type, tbl_name, sql, rowid FROM sqlite_schema ORDER BY rowid";
 
 /// The rows of `meta`.
@@ -41,9 +41,10 @@ const OBJECTS: &str = "SELECT class, okey, body FROM object ORDER BY class, okey
 const NAMES_ALONE: &str = "SELECT class, okey FROM named EXCEPT SELECT class, okey FROM object \
     ORDER BY class, okey LIMIT 1";
 
-/// What is the matter with a database whose registry was not opened for this reason. Where that is
-/// to be seen is added to `found`: the class and key of a row, a table, or what was added to one.
-/// Its rows are looked at if a copy of the source was made.
+/// What is the matter with a database whose registry was not opened for this reason: that reason,
+/// or what a look at the database may find, which commits nothing. Where that is to be seen is
+/// added to `found`: the class and key of a row, a table, or what was added to one. Its rows are
+/// looked at if a copy of the source was made.
 #[tactic(auto, using(crate::proofs::FoundLemmas::tables_unopened))]
 pub(crate) fn trouble_with<S: Alter>(
     alloc: Global,
@@ -123,8 +124,8 @@ fn keys_beside(version: Version) -> Trouble
     }
 }
 
-/// What is told of how a migration ended: that, or what is found the matter with a database
-/// that was refused, as above. No other database is looked at.
+/// What is told of how a migration ended: that, or what a look at a database that was refused may
+/// find, as above. The look commits nothing, and no other database is looked at.
 pub(crate) fn told_of<S: Alter>(
     alloc: Global,
     conn: &mut IdleConnection<S>,

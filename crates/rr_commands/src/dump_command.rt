@@ -20,10 +20,12 @@ use sqlite::Alter;
 use std::alloc::Global;
 
 /// Prints the dump of the registry that the settings name, with all of each object if it is to be
-/// full, and else with their public forms. The status is 0. The desk stays as it was, and a
-/// missing database is not made. The fault is why there are no settings or no desk, the latter as
-/// [`open_desk`] tells it, and then nothing is printed. Or it is that a write failed or memory ran
-/// out, and the beginning of the dump is printed, not all.
+/// full, and else with their public forms. The status is 0. The desk stays as it was, and its
+/// database is closed then; a missing one is not made. The fault is why there are no settings, and
+/// then no database is opened, or why there is no desk, as [`open_desk`] tells it. In both cases
+/// nothing is printed. Or it is that a write failed, or that memory ran out and none failed: the
+/// beginning of the dump is printed, not all. The fault names what its trouble is about: the
+/// settings file, the database, standard output or nothing.
 pub fn dump<'a, D: Databases, F: Files, W: Output>(
     host: &mut Host<'_, D, W>,
     files: &F,
@@ -60,7 +62,8 @@ fn dump_at<D: Databases, W: Output>(
 }
 
 /// Writes the dump of a desk that runs, full if that is asked for, and gives the status 0. The
-/// trouble is that a write failed or memory ran out: the beginning of it is written, not all.
+/// trouble is that a write failed, or that memory ran out and none failed: the beginning of the
+/// dump is written, not all.
 pub fn dump_to<S: Alter, W: Writer>(
     alloc: Global,
     desk: &Desk<S>,

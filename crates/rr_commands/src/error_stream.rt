@@ -7,7 +7,8 @@ use std::io::{IsTerminal, Stderr, Write};
 use std::time::Instant;
 
 /// Standard error, with a clock. It gives no way to standard output or to a file, so what is told
-/// while a command runs goes nowhere else. No clause says what is a terminal or what is shown.
+/// while a command runs goes nowhere else. No clause says what is a terminal, what is shown, or
+/// what time it is.
 #[derive(Clone, Copy)]
 pub struct ErrorStream<'a> {
     rt: &'a HostRuntime,

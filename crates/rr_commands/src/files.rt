@@ -22,23 +22,24 @@ pub trait Files {
     ghost calls: { Self → FileCalls };
 
     /// Opens the file at a path to read it. The error is that it cannot be opened, or that memory
-    /// ran out. `calls` says what is to be read then, or what the error is.
+    /// ran out. Of the bytes that are to be read then, and of the error, clauses say what
+    /// `calls.opens` says.
     fn open(&self, path: &str) -> io::Result<Self::File>
         ensures opened { IfOk result (λ file.
             (calls self.now).opens path.now (Ok (Self.File.remaining file))) }
         ensures refused { IfErr result (λ error. (calls self.now).opens path.now (Err error)) };
 
     /// Whether the file at a path can be read again from its beginning, as one on a disk can. It is
-    /// for a message, and no clause says which.
+    /// for a message, and no clause says whether it can.
     fn is_kept(&self, path: &str) -> bool;
 
-    /// Closes a file that was opened at a path. `calls` says what is true then, by the count of its
-    /// failed reads.
+    /// Closes a file that was opened at a path. `calls.closes` says what is true then, by the count
+    /// of its failed reads.
     fn close(&self, path: &str, file: Counted<Self::File>)
         ensures { (calls self.now).closes path.now (counted_failed_reads file) };
 }
 
-/// The files of this machine.
+/// The files of this machine, of which no clause says what they have.
 #[derive(Clone, Copy)]
 pub struct SystemFiles<'a> {
     rt: &'a HostRuntime,

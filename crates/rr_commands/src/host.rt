@@ -27,7 +27,7 @@ pub struct Host<'h, D, W> {
 /// The database that settings name, and what was found in it, for a message: a row, a table, or
 /// what was added to one.
 #[derive(Drop)]
-pub struct Store {
+pub struct NamedDatabase {
     /// Its path.
     pub path: String,
     /// What was found in it, as it stands after the path; nothing at first.

@@ -19,9 +19,11 @@ use std::alloc::Global;
 
 /// Makes the registry that opens with the settings of a file, in the database that they name, and
 /// says so. A missing database is made; one that exists is to have nothing in it, or the three
-/// tables and no row. The status is 0. The fault is why there are no settings, no database or no
-/// registry, and then nothing is printed. Or it is that the line was not printed whole, and then
-/// the registry is made.
+/// tables and no row. At the end the database is closed as [`Desk::create`] leaves it. The status
+/// is 0. The fault is why there are no settings, and then no database is opened, or why there is no
+/// database or no registry. In these cases nothing is printed. Or it is that the line was not
+/// printed whole, and then the registry is made. The fault names what its trouble is about: the
+/// settings file, the database, standard output or nothing.
 pub fn init<'a, D: Databases, F: Files, W: Output>(
     host: &mut Host<'_, D, W>,
     files: &F,

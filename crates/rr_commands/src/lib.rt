@@ -38,7 +38,7 @@ pub use command_fault::ProgramFault;
 pub use dump_command::{dump, dump_to};
 pub use error_stream::ErrorStream;
 pub use files::{Files, SystemFiles};
-pub use host::{Host, Store, Tools};
+pub use host::{Host, NamedDatabase, Tools};
 pub use init_command::{create_to, init};
 pub use load_command::{load, load_to};
 pub use migrate_command::{migrate, migrate_to};

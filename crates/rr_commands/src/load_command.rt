@@ -2,7 +2,7 @@
 
 ghost use Rattle.std.specs.Prelude.{◌≡◌, IfErr, IfOk, length, string_bytes};
 ghost use Rattle.std.specs.FinMap.{values};
-ghost use Rattle.rr_commands.specs.Commands.{EndsAs, InDatabase};
+ghost use Rattle.rr_commands.specs.Commands.{EndsAlike, InDatabase};
 ghost use Rattle.rr_commands.specs.Faults.{IsAboutDump};
 ghost use Rattle.rr_commands.specs.Loaded.{Loads, LoadsBy, LoadsIn, TellsLoaded, loaded_line};
 ghost use Rattle.rr_commands.specs.Loaded.{loading_trouble};
@@ -11,7 +11,7 @@ ghost use Rattle.rr_commands.specs.Worlds.{at, deed, done_by, named, ports};
 
 use crate::command_fault::ProgramFault;
 use crate::files::{FileAt, Files, open_file};
-use crate::host::{Host, Store, Tools};
+use crate::host::{Host, NamedDatabase, Tools};
 use crate::output::{Output, cause_of, ended, tell};
 use crate::places::about_paragraph;
 use crate::progress::{Reading, Shown};
@@ -29,10 +29,15 @@ use std::alloc::{AllocError, Global};
 
 /// Makes the registry of a dump in the database that the settings name. A missing database is made,
 /// even if the dump then cannot be opened. One that exists is to have nothing in it, or the three
-/// tables and no row. Says how many objects the registry has or, without memory to count them, that
-/// it was loaded: no clause says which. The status is 0. The fault is why there are no settings, no
-/// database, no file or no registry, and then nothing is printed. Or it is that the line was not
-/// printed whole, and then the registry is made.
+/// tables and no row. At the end the database is closed as [`Desk::load`] leaves it, or as it was
+/// if the dump cannot be opened. Says how many objects the registry has or, without memory to count
+/// them, that it was loaded: no clause says which. The status is 0.
+///
+/// The fault is why there are no settings, and then no database is opened, or why there is no
+/// database, no file or no registry. In these cases nothing is printed. Or it is that the line was
+/// not printed whole, and then the registry is made. Without settings the fault names their file.
+/// Otherwise it names what its trouble is about: the dump, and maybe a place in it, the database,
+/// standard output or nothing.
 pub fn load<'a, D: Databases, F: Files, W: Output>(
     host: &mut Host<'_, D, W>,
     files: &F,
@@ -53,9 +58,9 @@ fn ended_in_dump<'a, D: Databases, F: Files, W: Output>(
     files: &F,
     end: Result<u8, Trouble>,
     file: &'a str,
-    store: Store,
+    store: NamedDatabase,
 ) -> Result<u8, ProgramFault<'a>>
-    ensures ends { EndsAs end result }
+    ensures ends { EndsAlike end result }
     ensures about { IfErr result
         (IsAboutDump file.now (string_bytes store.path) (string_bytes store.found)) }
 {

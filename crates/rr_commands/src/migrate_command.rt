@@ -19,11 +19,16 @@ use sqlite::Alter;
 use std::alloc::Global;
 
 /// Turns the tables of version 1, in the database that the settings name, into those of version 2,
-/// and says so. The block of the AS numbers above 65535 is added. A missing database is not made.
-/// The status is 0. The fault is why there are no settings or no database, or why the tables were
-/// not migrated, and nothing is printed then. In place of the last it may be what a further look
-/// may find, which commits nothing; no clause says that it is so. Or it is that the line was not
-/// printed whole, and then they are migrated.
+/// and says so. The block of the AS numbers above 65535 is added. A missing database is not made;
+/// one that is opened is closed as [`Desk::migrate`], or a further look at it, leaves it. The
+/// status is 0.
+///
+/// The fault is why there are no settings, and then no database is opened, or why there is no
+/// database, or why the tables were not migrated. In these cases nothing is printed. In place of
+/// the last cause it may be what a further look at the database may find, which commits nothing; no
+/// clause says that it is so. Or it is that the line was not printed whole, and then the tables are
+/// migrated. The fault names what its trouble is about: the settings file, the database, standard
+/// output or nothing.
 pub fn migrate<'a, D: Databases, F: Files, W: Output>(
     host: &mut Host<'_, D, W>,
     files: &F,

@@ -3,7 +3,7 @@
 
 ghost use Rattle.std.specs.Prelude.{◌≡◌, IfErr, IsTrue};
 ghost use Rattle.std.specs.Option.{option_copied};
-ghost use Rattle.rr_commands.specs.ObjectRows.{AreMostlyOfOther, IsOfOther, IsTextOfOther};
+ghost use Rattle.rr_commands.specs.ObjectRows.{AreMostlyOfOther, IsOfOtherSource, IsTextOfOther};
 ghost use Rattle.rr_commands.specs.ObjectRows.{row_numbered};
 
 use crate::shown::push_key;
@@ -71,7 +71,7 @@ pub(crate) fn are_mostly_others(
 
 /// Whether a row has an object of another source. Of `false` no clause speaks.
 fn is_of_other(alloc: Global, row: &Row, source: &Name, version: Version) -> bool
-    ensures { IsTrue result → IsOfOther source.now row.now }
+    ensures { IsTrue result → IsOfOtherSource source.now row.now }
 {
     match object_of(alloc, row, source, version) {
         Err(RowFault::OtherSource) => true,
@@ -131,7 +131,8 @@ fn fault_of(alloc: Global, row: &Row, source: &Name, version: Version) -> Option
 
 /// The object of a row.
 fn object_of(alloc: Global, row: &Row, source: &Name, version: Version) -> Result<Object, RowFault>
-    ensures { IfErr result (λ fault. fault ≡ RowFault.OtherSource → IsOfOther source.now row.now) }
+    ensures { IfErr result
+        (λ fault. fault ≡ RowFault.OtherSource → IsOfOtherSource source.now row.now) }
 {
     let body: Result<Vec<u8>, sqlite::Error> = row.get(2);
     match body {

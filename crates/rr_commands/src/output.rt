@@ -2,16 +2,16 @@
 //! commands and `rr_cli`.
 
 ghost use Rattle.std.specs.Prelude.{◌≡◌, ◌++◌, ℕ, IfErr, IfOk, List, string_bytes};
-ghost use Rattle.rr_commands.specs.Commands.{EndsAs};
-ghost use Rattle.rr_commands.specs.Faults.{IsAbout, IsFaultOf, IsShownAs, NamesPath};
+ghost use Rattle.rr_commands.specs.Commands.{EndsAlike};
+ghost use Rattle.rr_commands.specs.Faults.{IsAbout, HasTrouble, IsShownAs, NamesPath};
 ghost use Rattle.rr_commands.specs.Printed.{Prints, Tells};
 
 use crate::cause::Cause;
 use crate::command_fault::ProgramFault;
-use crate::host::{Host, Store};
+use crate::host::{Host, NamedDatabase};
 use crate::progress::Shown;
 use crate::shown::shown_name;
-use crate::trouble::{Place, Trouble};
+use crate::trouble::{Trouble, TroublePlace};
 use rr_io::{Reader, Writer, write_all};
 use std::alloc::{AllocError, Global};
 
@@ -38,8 +38,8 @@ pub trait Output: Writer {
 
 /// What commands read.
 pub trait Input: Reader {
-    /// Why the last read that failed did so, or that it has no end if none did. It is for a
-    /// message, and no contract says which it is.
+    /// Why the last read that failed did so, or that the input has no end if none failed. It is for
+    /// a message, and no contract says which it is.
     fn cause(&self) -> Cause;
 }
 
@@ -47,7 +47,7 @@ pub trait Input: Reader {
 fn is_about_file(end: Result<u8, Trouble>) -> bool {
     match end {
         Ok(_) => false,
-        Err(trouble) => matches!(trouble.end().place, Place::File),
+        Err(trouble) => matches!(trouble.end().place, TroublePlace::File),
     }
 }
 
@@ -86,16 +86,17 @@ pub(crate) fn tell<W: Writer>(writer: &mut W, text: &[u8]) -> Result<u8, Trouble
 }
 
 /// How a command ended that read this file and used the database at this path: with the same
-/// status, or a fault with the same trouble. The fault shows what that is about. Of the database
-/// that is its path, as a line shows it, and then what was found in it, which is to be text that a
-/// line shows. Or it is the path as it is: so it is without memory, but no clause says when.
+/// status, or a fault with the same trouble. The fault names what its trouble is about: the file,
+/// the database, standard output or nothing. The database is named by its path, as a line shows it,
+/// and then what was found in it, which is to be text that a line shows. Or it is named by the path
+/// as it is: so it is without memory, but no clause says when.
 pub fn ended<'a, D, W: Output>(
     host: &Host<'_, D, W>,
     end: Result<u8, Trouble>,
     file: &'a str,
-    store: Store,
+    store: NamedDatabase,
 ) -> Result<u8, ProgramFault<'a>>
-    ensures ends { EndsAs end result }
+    ensures ends { EndsAlike end result }
     ensures about { IfErr result
         (IsAbout file.now (string_bytes store.path) (string_bytes store.found)) }
 {
@@ -113,10 +114,10 @@ pub(crate) fn placed<'a>(
     alloc: Global,
     trouble: Trouble,
     file: &'a str,
-    store: Store,
+    store: NamedDatabase,
     stream: Cause,
 ) -> ProgramFault<'a>
-    ensures { IsFaultOf trouble
+    ensures { HasTrouble trouble
         (IsAbout file.now (string_bytes store.path) (string_bytes store.found)) result }
 {
     let shown = shown_database(alloc, store.path, store.found.as_str());

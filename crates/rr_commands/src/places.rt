@@ -2,7 +2,7 @@
 //! which line and key that is.
 
 ghost use Rattle.std.specs.Prelude.{◌≤◌, ℕ, IfSome, List, length, string_bytes};
-ghost use Rattle.rr_commands.specs.Faults.{IsFaultOf, NamesPath, ShowsFile};
+ghost use Rattle.rr_commands.specs.Faults.{HasTrouble, NamesPath, ShowsFile};
 
 use crate::command_fault::ProgramFault;
 use crate::files::Files;
@@ -26,7 +26,7 @@ pub(crate) fn about_paragraph<'a, F: Files>(
     number: u64,
     trouble: Trouble,
 ) -> ProgramFault<'a>
-    ensures { IsFaultOf trouble (ShowsFile file.now) result }
+    ensures { HasTrouble trouble (ShowsFile file.now) result }
 {
     match named_place(alloc, files, file, number) {
         Some(name) => ProgramFault::named(name, trouble),

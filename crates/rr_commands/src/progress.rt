@@ -29,7 +29,7 @@ pub enum Shown {
 }
 
 /// A writer, as standard output, of which standard error shows on a terminal how much passed; it
-/// keeps why the last write that failed did so.
+/// keeps why the last write that failed did so. Contracts see nothing of it but the writer.
 #[derive(Drop)]
 pub struct Progress<'a, W> {
     errors: ErrorStream<'a>,
@@ -97,6 +97,7 @@ impl<W: Writer> Output for Progress<'_, W> {
 }
 
 /// A reader whose bytes may be counted, and which keeps why the last read that failed did so.
+/// Contracts see nothing of it but the reader.
 #[derive(Drop)]
 pub struct Reading<'a, R> {
     reader: R,
@@ -167,27 +168,27 @@ impl<R: Reader> Input for Reading<'_, R> {
 
 /// A line that stands on a terminal until it is taken away: its type is not `Drop`, so whoever has
 /// one takes it away, or does not compile.
-struct Line<'a> {
+struct TerminalLine<'a> {
     errors: ErrorStream<'a>,
 }
 
-impl<'a> Line<'a> {
+impl<'a> TerminalLine<'a> {
     /// Writes the line.
-    fn draw(errors: ErrorStream<'a>, text: &[u8]) -> Line<'a> {
+    fn draw(errors: ErrorStream<'a>, text: &[u8]) -> TerminalLine<'a> {
         errors.show(text);
-        Line { errors }
+        TerminalLine { errors }
     }
 
     /// Takes it away.
     fn clear(self) {
-        let Line { errors } = self;
+        let TerminalLine { errors } = self;
         errors.show(CLEARED);
     }
 }
 
 /// A line on a terminal that says, of a large database, that it is being opened.
 pub(crate) struct Opening<'a> {
-    line: Option<Line<'a>>,
+    line: Option<TerminalLine<'a>>,
 }
 
 impl<'a> Opening<'a> {
@@ -198,7 +199,7 @@ impl<'a> Opening<'a> {
     {
         let is_shown = size >= LARGE && errors.is_terminal();
         let line = if is_shown {
-            Some(Line::draw(errors, b"opening the database"))
+            Some(TerminalLine::draw(errors, b"opening the database"))
         } else {
             None
         };

@@ -21,9 +21,11 @@ use std::alloc::Global;
 const ERROR: u8 = 1;
 
 /// Asks the registry that the settings name, and prints the answer: the status is 0, or 1 if the
-/// answer is an error. The desk stays as it was, and a missing database is not made. The fault is
-/// why there are no settings or no desk, the latter as [`open_desk`] tells it, and then nothing is
-/// printed. Or it is that a write failed, and the beginning of the answer is printed, not all.
+/// answer is an error. The desk stays as it was and keeps its rows, and its database is closed
+/// then; a missing one is not made. The fault is why there are no settings, and then no database is
+/// opened, or why there is no desk, as [`open_desk`] tells it. In both cases nothing is printed. Or
+/// it is that a write failed, and the beginning of the answer is printed, not all. The fault names
+/// what its trouble is about: the settings file, the database or standard output.
 pub fn query<'a, D: Databases, F: Files, W: Output>(
     host: &mut Host<'_, D, W>,
     files: &F,

@@ -15,7 +15,8 @@ pub struct Readable<R> {
 }
 
 impl<R: Read> Readable<R> {
-    /// The reader, with its failed reads counted.
+    /// The reader, with its failed reads counted from now on; no clause says that none is counted
+    /// yet.
     pub fn new(reader: R) -> Readable<R>
         ensures { counted_inner result.counted ≡ reader }
     {

@@ -44,9 +44,9 @@ const JOURNAL: &str = "-journal";
 /// What is done if a path leads to no database.
 #[derive(Clone, Copy)]
 pub enum Absent {
-    /// It is refused.
+    /// The path is refused.
     Refused,
-    /// It is made.
+    /// A database is made there.
     Made,
 }
 
@@ -59,7 +59,8 @@ pub trait Databases {
     ghost calls: { DatabaseCalls Self Self.Disk };
 
     /// Opens the database at a path; `absent` says what is done if there is none. The error is why
-    /// it cannot be opened or made. `calls` says what becomes of databases in either case.
+    /// it cannot be opened or made. Of the connection, of the error, and of what becomes of
+    /// databases, clauses say what `calls.opens` says.
     fn open(
         &mut self,
         path: &str,
@@ -71,17 +72,17 @@ pub trait Databases {
     /// on a terminal as a large one is opened, and no clause says which it is.
     fn size(&self, path: &str) -> u64;
 
-    /// Closes the database of this connection. No clause says what is done if there is none, or
-    /// what `conn` is after. Call the function `close` of this module, which takes the connection
-    /// by value: an impl of a method that takes a connection of a named store by value cannot be
-    /// proved.
+    /// Closes the database of this connection; `calls.closes` says what is true then. No clause
+    /// says what is done if there is no connection, or what `conn` is after. Call the function
+    /// `close` of this module, which takes the connection by value. An impl of a method that takes
+    /// a connection of a named store by value cannot be proved.
     fn close(&mut self, conn: &mut Option<IdleConnection<Self::Disk>>)
         ensures { (held : Held Self.Disk) → conn.old ≡ Some held
             → calls.closes held self.old self.new };
 }
 
-/// The databases in files. A file that is made is readable by its owner alone, and so is the log
-/// beside it, though no clause says so.
+/// The databases in files, of which no clause says what they have. A file that is made is readable
+/// by its owner alone, and so is the log beside it, though no clause says so.
 #[derive(Clone, Copy)]
 pub struct DatabaseFiles<'a> {
     rt: &'a HostRuntime,
@@ -129,8 +130,9 @@ impl Databases for DatabaseFiles<'_> {
     }
 }
 
-/// Closes the database of a connection. Of one in a file, no clause speaks of its log: what the
-/// commits left there goes into the file or, if that fails, stays for the next opening.
+/// Closes the database of a connection; `calls` says what is true then. Of one in a file it says
+/// nothing: what the commits left in the log goes into the file or, if that fails, stays for the
+/// next opening.
 pub fn close<D: Databases>(databases: &mut D, conn: IdleConnection<D::Disk>)
     ensures { D.calls.closes conn databases.old databases.new }
 {
@@ -342,13 +344,14 @@ fn make_file(rt: &HostRuntime, path: &str) -> Result<(), DatabaseCause> {
     }
 }
 
-/// Opens the desk of the registry in the database at a path; if there is none, none is made. The
-/// desk runs with these settings, and nothing was committed; where the disk gives back what was
-/// written, the connection was open and the registry's rows are those of the database. The trouble
-/// is why there is no desk: no database was given, or the registry of these settings was not opened
-/// in it, and it is closed. The trouble may then be one that a look at the database may find, which
-/// commits nothing; no clause says that it is so. `found` is for the message, as a line on a
-/// terminal is while a large one is opened, and no clause speaks of these.
+/// Opens the desk of the registry in the database at a path; if there is no database, none is made.
+/// The desk runs with these settings, and its registry is of their source. Nothing was committed;
+/// where the disk gives back what was written, the connection was open, the tables are as they
+/// were, and their rows are those of the registry. The trouble is why there is no desk: no database
+/// was given, or the registry of these settings was not opened in it, and the database is closed.
+/// The trouble may then be one that a look at the database may find, which commits nothing; no
+/// clause says that it is so. `found` is for the message, as a line on a terminal is while a large
+/// one is opened, and no clause speaks of these.
 pub fn open_desk<D: Databases>(
     tools: Tools<'_>,
     databases: &mut D,

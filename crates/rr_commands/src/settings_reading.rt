@@ -8,12 +8,12 @@ ghost use Rattle.rr_commands.specs.Commands.{ReadsFile, unread_trouble};
 ghost use Rattle.rr_commands.specs.Faults.{ShowsOnLine, place_on_line};
 ghost use Rattle.rr_commands.specs.SettingsFiles.{AreNoSettings, IsToldOf, settings_of_text};
 ghost use Rattle.rr_commands.specs.Worlds.{named};
-ghost use Rattle.rr_commands.specs.declared.trouble.Place.TheVariants as place;
+ghost use Rattle.rr_commands.specs.declared.trouble.TroublePlace.TheVariants as place;
 
 use crate::cause::Cause;
 use crate::command_fault::ProgramFault;
 use crate::files::Files;
-use crate::host::Store;
+use crate::host::NamedDatabase;
 use crate::readable::Readable;
 use crate::settings_file::{SettingsFault, read_settings};
 use crate::trouble::Trouble;
@@ -26,14 +26,16 @@ use std::io::{ErrorKind, Read};
 /// The most bytes of a settings file (profile).
 const MOST_BYTES: u64 = 1_048_576;
 
-/// The settings in a file of at most 1,048,576 bytes, and the path of the database, in which
-/// nothing is found yet. The fault names the file. It is that the file cannot be read, or why its
-/// bytes are no settings (status 3), or that memory ran out (status 5).
+/// The settings in a file of at most 1,048,576 bytes, and the path of their database, with nothing
+/// found in it yet. The fault names the file. It is that the file cannot be opened or a read of it
+/// failed, or why its bytes are no settings (status 3). Or it is that memory ran out (status 5).
+/// The file is closed after a failed read, and where memory ran out as it was read; otherwise no
+/// clause says whether it is. Nor does one say which line is told of a text that is not TOML.
 pub fn read_settings_file<'a, F: Files>(
     alloc: Global,
     files: &F,
     file: &'a str,
-) -> Result<(Settings, Store), ProgramFault<'a>>
+) -> Result<(Settings, NamedDatabase), ProgramFault<'a>>
     ensures read { IfOk result (λ read. HasSettings (F.calls files.now) file.now
         (named read.0 (string_bytes read.1.path))) }
     ensures unfound { IfOk result (λ read. string_bytes read.1.found ≡ []) }
@@ -44,7 +46,7 @@ pub fn read_settings_file<'a, F: Files>(
     match read_at(alloc, files, file) {
         Ok((settings, path)) => Ok((
             settings,
-            Store {
+            NamedDatabase {
                 path,
                 found: String::new(alloc),
             },

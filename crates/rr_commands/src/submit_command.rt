@@ -14,13 +14,13 @@ ghost use Rattle.rr_commands.specs.Submitted.{done_status, plain_trouble};
 use crate::cause::DatabaseCause;
 use crate::command_fault::ProgramFault;
 use crate::files::{FileAt, Files, open_file};
-use crate::host::{Host, Store, Tools};
+use crate::host::{Host, NamedDatabase, Tools};
 use crate::output::{Input, Output, cause_of, ended, placed};
 use crate::progress::{Reading, Shown};
 use crate::registry_databases::{Databases, close, open_desk};
 use crate::settings_reading::read_settings_file;
 use crate::trouble::Trouble;
-use rr_desk::{Desk, DeskFault, Done, Settings};
+use rr_desk::{Desk, Done, Settings, SubmissionFault};
 use rr_io::{Counted, Reader, Writer};
 use rr_store::IdleConnection;
 use sqlite::{Alter, Connection};
@@ -31,8 +31,9 @@ const REFUSED: u8 = 1;
 
 /// Submits `input` to a registry in memory, which opens with the built-in settings, and prints the
 /// report: the status is 0, or 1 if an item was refused. The fault is that memory ran out, which is
-/// told of faults of the database too, or how the submission was cut short. It names standard
-/// input, standard output or nothing. If no registry was made, nothing is read or printed.
+/// told of faults of the database too, or how the submission was cut short. The fault names what
+/// its trouble is about: standard input, standard output or nothing. If no registry was made,
+/// nothing is read or printed.
 pub fn plain<'a, R: Input, W: Output>(
     alloc: Global,
     input: &mut R,
@@ -44,7 +45,7 @@ pub fn plain<'a, R: Input, W: Output>(
     match submit_plain(alloc, input, output) {
         Ok(status) => Ok(status),
         Err(trouble) => {
-            let store = Store {
+            let store = NamedDatabase {
                 path: String::new(alloc),
                 found: String::new(alloc),
             };
@@ -67,17 +68,21 @@ fn plain_trouble(trouble: Trouble) -> Trouble
 {
     match trouble {
         Trouble::Creating(_)
-        | Trouble::Submission(DeskFault::StoreFault { .. } | DeskFault::Stopped, _) => {
-            Trouble::Memory
-        }
+        | Trouble::Submission(
+            SubmissionFault::LedgerStopped { .. } | SubmissionFault::Stopped,
+            _,
+        ) => { Trouble::Memory }
         _ => trouble,
     }
 }
 
 /// Submits a file to the registry that the settings name, and prints the report: the status is 0,
-/// or 1 if an item was refused. A missing database is not made. The fault is why there are no
-/// settings, no desk (as [`open_desk`] tells it) or no file, and then nothing is printed; without
-/// the file the desk stays as it was. Or it is how the submission was cut short.
+/// or 1 if an item was refused. A missing database is not made. At the end the database is closed
+/// as [`Desk::submit`] leaves it, or as it was if the file cannot be opened. The fault is why there
+/// are no settings, and then no database is opened; or why there is no desk (as [`open_desk`] tells
+/// it) or no file. In these cases nothing is printed. Or it is how the submission was cut short.
+/// Without settings the fault names their file. Otherwise it names what its trouble is about: the
+/// file that is submitted, the database, standard output or nothing.
 pub fn submit<'a, D: Databases, F: Files, W: Output>(
     host: &mut Host<'_, D, W>,
     files: &F,
@@ -185,7 +190,8 @@ fn plain_desk<S: Alter + Drop>(alloc: Global, conn: IdleConnection<S>) -> Result
 
 /// Submits what the reader gives to a desk that runs, and writes the report. The status is 0, or 1
 /// if an item was refused. The trouble is how the submission was cut short, with why the database
-/// failed if it did. Only a fault of the store stops the desk.
+/// failed if it did. The desk is left as [`Desk::submit`] leaves it: only a fault of the store
+/// stops it.
 pub fn submit_to<S: Alter, R: Reader, W: Writer>(
     alloc: Global,
     desk: &mut Desk<S>,

@@ -1,5 +1,6 @@
 //! What went wrong: the status that it ends the program with, and what it is about. Commands and
-//! `rr_cli` end by one, `words` has the words of each, and `command_fault` writes its line.
+//! `rr_cli` end by one, `words` has the words of each, and `command_fault` writes its line. A new
+//! one is added here, in `words`, in the definitions of both, and in docs/MESSAGES.md.
 
 ghost use Rattle.std.specs.Prelude.{◌≡◌};
 ghost use Rattle.rr_commands.specs.Troubles.{cause_words, paragraph_in, trouble_cause};
@@ -7,7 +8,9 @@ ghost use Rattle.rr_commands.specs.Troubles.{trouble_end, trouble_number};
 
 use crate::cause::{Cause, DatabaseCause};
 use crate::settings_file::SettingKey;
-use rr_desk::{CreateFault, DeskDumpFault, DeskFault, DumpReadFault, MigrateFault, OpenFault};
+use rr_desk::{
+    CreateFault, DeskDumpFault, DumpReadFault, MigrateFault, OpenFault, SubmissionFault,
+};
 use rr_registry::LoadFault;
 
 /// The status at wrong arguments.
@@ -81,7 +84,7 @@ pub enum Trouble {
     /// A file cannot be opened.
     FileUnopened(Cause),
     /// A submission was cut short: how, and why the database failed if it did.
-    Submission(DeskFault, DatabaseCause),
+    Submission(SubmissionFault, DatabaseCause),
     /// A dump was cut short.
     Dumping(DeskDumpFault),
     /// A dump was not read.
@@ -106,7 +109,7 @@ pub enum Trouble {
 
 /// What trouble is about.
 #[derive(Clone, Copy)]
-pub enum Place {
+pub enum TroublePlace {
     /// Nothing that has a name.
     Nothing,
     /// The database.
@@ -119,40 +122,43 @@ pub enum Place {
 
 /// How the program ends by trouble.
 #[derive(Clone, Copy)]
-pub struct Ending {
+pub struct TroubleEnd {
     /// The status: 2 at wrong arguments, 3 at wrong settings. It is 4 at trouble with the database,
     /// also if SQLite lacks memory once it is open, or if the desk is stopped. It is else 5, also
     /// if other memory ran out (profile).
     pub status: u8,
     /// What the line on standard error is about.
-    pub place: Place,
+    pub place: TroublePlace,
 }
 
 impl Trouble {
-    /// The status and the place of each trouble.
-    pub fn end(self) -> Ending
+    /// How the program ends by this trouble: its status, as `TroubleEnd` says, and what its line is
+    /// about. That is the database at status 4, and also if memory ran out as that or its registry
+    /// was opened. It is the settings file at status 3, another file at trouble with that or with
+    /// what it has, and standard output if a write failed. Else it is nothing (profile).
+    pub fn end(self) -> TroubleEnd
         ensures { result ≡ trouble_end self }
     {
         match self {
             Trouble::BadArguments
             | Trouble::BadPort
             | Trouble::BadCount
-            | Trouble::ArgumentsNotText => Ending {
+            | Trouble::ArgumentsNotText => TroubleEnd {
                 status: WRONG_ARGUMENTS,
-                place: Place::Nothing,
+                place: TroublePlace::Nothing,
             },
             Trouble::SettingsUnread(_)
             | Trouble::SettingsNotText
             | Trouble::SettingsTooLong
             | Trouble::SettingsNotToml(_)
-            | Trouble::SettingBad(_) => Ending {
+            | Trouble::SettingBad(_) => TroubleEnd {
                 status: WRONG_SETTINGS,
-                place: Place::File,
+                place: TroublePlace::File,
             },
             Trouble::Database(cause) => database_end(cause),
-            Trouble::Opening(OpenFault::Memory) => Ending {
+            Trouble::Opening(OpenFault::Memory) => TroubleEnd {
                 status: FAILED,
-                place: Place::Database,
+                place: TroublePlace::Database,
             },
             Trouble::Opening(OpenFault::WrongVersion(_) | OpenFault::BadRow | OpenFault::Store(_))
             | Trouble::OtherSource
@@ -170,25 +176,28 @@ impl Trouble {
             | Trouble::Obstacle
             | Trouble::ServedInVain(_)
             | Trouble::Creating(CreateFault::NotEmpty | CreateFault::Store(_))
-            | Trouble::Submission(DeskFault::StoreFault { .. } | DeskFault::Stopped, _)
+            | Trouble::Submission(
+                SubmissionFault::LedgerStopped { .. } | SubmissionFault::Stopped,
+                _,
+            )
             | Trouble::Dumping(DeskDumpFault::Stopped)
             | Trouble::Migrating(
                 MigrateFault::WrongVersion(_)
                 | MigrateFault::BadRow
                 | MigrateFault::NoRoot
                 | MigrateFault::Store(_),
-            ) => Ending {
+            ) => TroubleEnd {
                 status: DATABASE_TROUBLE,
-                place: Place::Database,
+                place: TroublePlace::Database,
             },
             Trouble::Unwritten
             | Trouble::Dumping(DeskDumpFault::Write)
-            | Trouble::Submission(DeskFault::WriteFault { .. }, _) => Ending {
+            | Trouble::Submission(SubmissionFault::WriteFault { .. }, _) => TroubleEnd {
                 status: FAILED,
-                place: Place::Output,
+                place: TroublePlace::Output,
             },
             Trouble::FileUnopened(_)
-            | Trouble::Submission(DeskFault::ReadFault { .. }, _)
+            | Trouble::Submission(SubmissionFault::ReadFault { .. }, _)
             | Trouble::DumpUnread(
                 DumpReadFault::Read
                 | DumpReadFault::Endless
@@ -197,12 +206,12 @@ impl Trouble {
             )
             | Trouble::DumpUntaken(
                 LoadFault::Duplicate(_) | LoadFault::Overlap(_) | LoadFault::Unnamed(_),
-            ) => Ending {
+            ) => TroubleEnd {
                 status: FAILED,
-                place: Place::File,
+                place: TroublePlace::File,
             },
             Trouble::Creating(CreateFault::Memory)
-            | Trouble::Submission(DeskFault::Memory, _)
+            | Trouble::Submission(SubmissionFault::Memory, _)
             | Trouble::Dumping(DeskDumpFault::Memory)
             | Trouble::DumpUnread(DumpReadFault::Memory)
             | Trouble::DumpUntaken(LoadFault::Memory)
@@ -210,9 +219,9 @@ impl Trouble {
             | Trouble::ListenerUnopened(_)
             | Trouble::Unaccepted(_)
             | Trouble::ProbeFailed(_)
-            | Trouble::Memory => Ending {
+            | Trouble::Memory => TroubleEnd {
                 status: FAILED,
-                place: Place::Nothing,
+                place: TroublePlace::Nothing,
             },
         }
     }
@@ -229,9 +238,10 @@ impl Trouble {
             | Trouble::Unaccepted(cause)
             | Trouble::ProbeFailed(cause)
             | Trouble::Database(DatabaseCause::Refused(cause)) => Some(cause),
-            Trouble::Submission(DeskFault::ReadFault { .. } | DeskFault::WriteFault { .. }, _) => {
-                Some(stream)
-            }
+            Trouble::Submission(
+                SubmissionFault::ReadFault { .. } | SubmissionFault::WriteFault { .. },
+                _,
+            ) => { Some(stream) }
             Trouble::Unwritten
             | Trouble::Dumping(DeskDumpFault::Write)
             | Trouble::DumpUnread(DumpReadFault::Read) => Some(stream),
@@ -245,7 +255,7 @@ impl Trouble {
         ensures { result.now ≡ cause_words self cause }
     {
         match self {
-            Trouble::Submission(DeskFault::StoreFault { .. }, cause)
+            Trouble::Submission(SubmissionFault::LedgerStopped { .. }, cause)
             | Trouble::ServedInVain(cause) => cause.text(),
             _ => match cause {
                 Some(cause) => cause.text(),
@@ -264,9 +274,9 @@ impl Trouble {
             Trouble::Migrating(MigrateFault::WrongVersion(version)) => Some(u64::from(version)),
             Trouble::DumpUnread(_) | Trouble::DumpUntaken(_) => self.paragraph(),
             Trouble::Submission(
-                DeskFault::ReadFault { items }
-                | DeskFault::WriteFault { items }
-                | DeskFault::StoreFault { items },
+                SubmissionFault::ReadFault { items }
+                | SubmissionFault::WriteFault { items }
+                | SubmissionFault::LedgerStopped { items },
                 _,
             ) => Some(items),
             _ => None,
@@ -290,17 +300,17 @@ impl Trouble {
 }
 
 /// The status and the place of a database that cannot be used for this cause.
-fn database_end(cause: DatabaseCause) -> Ending
+fn database_end(cause: DatabaseCause) -> TroubleEnd
     ensures { result ≡ trouble_end (Trouble.Database cause) }
 {
     match cause {
-        DatabaseCause::Memory | DatabaseCause::Refused(Cause::Memory) => Ending {
+        DatabaseCause::Memory | DatabaseCause::Refused(Cause::Memory) => TroubleEnd {
             status: FAILED,
-            place: Place::Database,
+            place: TroublePlace::Database,
         },
-        _ => Ending {
+        _ => TroubleEnd {
             status: DATABASE_TROUBLE,
-            place: Place::Database,
+            place: TroublePlace::Database,
         },
     }
 }

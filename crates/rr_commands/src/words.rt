@@ -10,7 +10,9 @@ ghost use Rattle.rr_commands.specs.Words.{refused_words, setting_words, submissi
 use crate::cause::DatabaseCause;
 use crate::settings_file::SettingKey;
 use crate::trouble::Trouble;
-use rr_desk::{CreateFault, DeskDumpFault, DeskFault, DumpReadFault, MigrateFault, OpenFault};
+use rr_desk::{
+    CreateFault, DeskDumpFault, DumpReadFault, MigrateFault, OpenFault, SubmissionFault,
+};
 use rr_object::Code;
 use rr_registry::LoadFault;
 use rr_store::{OLD_VERSION, VERSION};
@@ -105,9 +107,9 @@ pub(crate) fn before_number(trouble: Trouble) -> &'static str
 {
     match trouble {
         Trouble::Submission(
-            DeskFault::ReadFault { .. }
-            | DeskFault::WriteFault { .. }
-            | DeskFault::StoreFault { .. },
+            SubmissionFault::ReadFault { .. }
+            | SubmissionFault::WriteFault { .. }
+            | SubmissionFault::LedgerStopped { .. },
             _,
         ) => "; items decided before that: ",
         _ => "",
@@ -188,18 +190,19 @@ fn opening_words(fault: OpenFault) -> &'static str
     }
 }
 
-fn submission_words(fault: DeskFault) -> &'static str
+fn submission_words(fault: SubmissionFault) -> &'static str
     ensures { result.now ≡ submission_words fault }
 {
     match fault {
-        DeskFault::ReadFault { .. } =>
+        SubmissionFault::ReadFault { .. } =>
             "the submission could not be read to its end, so submit the whole text again: ",
-        DeskFault::WriteFault { .. } => {
+        SubmissionFault::WriteFault { .. } => {
             "the report could not be written, so submit the whole text again: "
         }
-        DeskFault::StoreFault { .. } => "the database failed, so submit the whole text again: ",
-        DeskFault::Memory => OUT_OF_MEMORY,
-        DeskFault::Stopped => STOPPED,
+        SubmissionFault::LedgerStopped { .. } =>
+            "the database failed, so submit the whole text again: ",
+        SubmissionFault::Memory => OUT_OF_MEMORY,
+        SubmissionFault::Stopped => STOPPED,
     }
 }
 

@@ -48,8 +48,8 @@ abbrev pub IsRootedOn : {T : Type 0} → PrefixParts → Bool → Tree T → Typ
 IsRootedOn p side Empty = Unit {0}
 IsRootedOn p side (Fork' a prefix value lower upper) = lies_on p side (span_of prefix) ≡ true
 
--- The prefixes below a node lie in the halves of its own: so each is longer, and a tree has 33
--- levels at most.
+-- A node's prefix has at most 32 bits, with only zeros after them. The prefixes below the node lie
+-- in the halves of its own: so each is longer, and a tree has 33 levels at most.
 pub record IsFork {T : Type 0} (prefix : PrefixParts) (lower upper : Tree T) : Type 0 where
   pub masked : IsMasked prefix
   pub low : IsRootedOn prefix false lower

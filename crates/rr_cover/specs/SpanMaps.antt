@@ -1,5 +1,6 @@
 -- Maps from spans to values: which spans of a map cross or cover a span, which is closest to it,
--- and what putting a value in and taking one out leave.
+-- and what insertions and removals leave. For `PrefixTree`, `SpanNest`, and the crates that keep
+-- them.
 use Rattle.std.specs.Prelude.{◌≡◌, ◌↔◌, Bool, true, false, ◌≤◌, List, filter, Option, Some}
 use Rattle.std.specs.Prelude.{Result, Err, IfOk, IfErr, OnOk, OnErr}
 use Rattle.std.specs.List.{list_any}
@@ -39,17 +40,18 @@ pub record NoneCovers {T : Type 0} (m : SpanMap T) (s : Ends) : Type 0 where
 abbrev pub covering : {T : Type 0} → SpanMap T → Ends → List Ends
 covering m s = filter (λ t. covers t s) (keys m)
 
--- The value is put at the span, and what stood there, if anything did, comes back; or nothing
--- changes (profile).
+-- Where it is `Ok`, the value is put at the span, what stands at other spans stays, and what stood
+-- there, if anything did, comes back. Where it is `Err`, nothing changes (profile).
 pub record Inserts {T E : Type 0} (old : SpanMap T) (s : Ends) (value : T) (new : SpanMap T)
     (result : Result (Option T) E) : Type 0 where
   pub stood : IfOk result (λ before. before ≡ get old s)
   pub ok : OnOk result (new ≡ insert old s value)
   pub err : OnErr result (new ≡ old)
 
--- The value is put at the span, and what stood there, if anything did, comes back; or nothing
--- changes, and the value comes back with the fault. This is `Overlap` exactly where the span
--- crosses one that is held, and else `Memory` (profile).
+-- Where it is `Ok`, the value is put at the span, what stands at other spans stays, and what stood
+-- there, if anything did, comes back. Where it is `Err`, nothing changes, and the value comes back
+-- with the fault. This is `Overlap` exactly where the span crosses one that is held, and else
+-- `Memory` (profile).
 pub record InsertsApart {T : Type 0} (old : SpanMap T) (s : Ends) (value : T) (new : SpanMap T)
     (result : Result (Option T) (InsertFault T)) : Type 0 where
   pub inserts : Inserts old s value new result
@@ -57,7 +59,7 @@ pub record InsertsApart {T : Type 0} (old : SpanMap T) (s : Ends) (value : T) (n
   pub back : IfErr result (λ fault. value_of fault ≡ value)
 
 -- What stood at the span, if anything did, is taken out of the map, and comes back; what stands at
--- others stays (profile).
+-- other spans stays (profile).
 pub record Removes {T : Type 0} (old : SpanMap T) (s : Ends) (new : SpanMap T)
     (result : Option T) : Type 0 where
   pub value : result ≡ get old s

@@ -1,5 +1,4 @@
-//! Why the nest or the tree did not insert a value: a load of `rr_registry` reports it, and
-//! `rr_index`, whose prefixes never cross, that memory ran out.
+//! Why the nest did not insert a value: a load of `rr_registry` reports it.
 
 /// Why a value was not inserted at a span. The value comes back with the fault.
 #[derive(Debug, Drop, PartialEq, Eq)]

@@ -5,7 +5,6 @@ ghost use Rattle.std.specs.FinMap as span_map;
 ghost use Rattle.rr_number.specs.Prefixes.{span_of};
 ghost use Rattle.rr_cover.specs.SpanMaps.{covering, IsClosest, NoneCovers};
 ghost use Rattle.rr_cover.specs.SpanMaps.{Inserts, Removes};
-ghost use Rattle.rr_cover.specs.declared.insert_fault.InsertFault.TheVariants.{Memory};
 
 mod adding;
 mod changes;
@@ -13,13 +12,12 @@ mod lists;
 mod parting;
 mod reading;
 
-use crate::insert_fault::InsertFault;
 use adding::set;
 use changes::take;
 use lists::{push_covering, put_in_order};
 use reading::{levels, smallest_cover};
 use rr_number::{Prefix, Span};
-use std::alloc::{AllocError, Global};
+use std::alloc::{AllocError, AllocFailed, Global};
 use std::marker::Model;
 
 /// Values kept by prefix: a binary tree in which each prefix has those of its lower half on one
@@ -78,8 +76,8 @@ impl<T> PrefixTree<T> {
         }
     }
 
-    /// The longest prefix held that covers the prefix, with its value, if any covers it. An equal
-    /// one counts (RFC 2725, 9).
+    /// The smallest prefix held that covers the prefix, which is the longest one, with its value;
+    /// `None` where none covers it. An equal one counts (RFC 2725, 9).
     pub fn closest(&self, prefix: Prefix) -> Option<(Prefix, &T)>
         ensures { MatchOption result (NoneCovers self.now (span_of prefix))
             (λ p. IsClosest self.now (span_of prefix) (span_of p.0) p.1.now) }
@@ -87,8 +85,8 @@ impl<T> PrefixTree<T> {
         smallest_cover(&self.root, prefix)
     }
 
-    /// The prefixes held that cover the span, in order of first, then last address (profile),
-    /// unless memory runs out. An equal one counts.
+    /// The prefixes held that cover the span, each once, in order of first, then last address
+    /// (profile). An equal one counts. The error is that memory ran out.
     pub fn covering(&self, alloc: Global, span: Span) -> Result<Vec<Prefix>, AllocError>
         ensures { IfOk result (λ prefixes. map span_of prefixes.items ≡ covering self.now span) }
     {
@@ -109,23 +107,23 @@ impl<T> PrefixTree<T> {
 
 impl<T: Drop> PrefixTree<T> {
     /// Puts the value at the prefix, and gives back the value that stood there, if any did
-    /// (profile). If memory runs out, nothing changes, and the value comes back with the fault,
-    /// which is `Memory`.
-    pub fn insert(&mut self, prefix: Prefix, value: T) -> Result<Option<T>, InsertFault<T>>
+    /// (profile). What stands at other prefixes stays. If memory runs out, nothing changes, and the
+    /// value comes back with the fault.
+    pub fn insert(&mut self, prefix: Prefix, value: T) -> Result<Option<T>, AllocFailed<T>>
         ensures inserts { Inserts self.old (span_of prefix) value self.new result }
-        ensures back { IfErr result (λ fault. fault ≡ Memory value) }
+        ensures back { IfErr result (λ refused. refused.value ≡ value) }
     {
         // the contract of `length` says that the prefix has only zeros after its bits
         let _length = prefix.length();
         let alloc = self.alloc;
         match set(&mut self.root, alloc, prefix, value) {
             Ok(old) => Ok(old),
-            Err(value) => Err(InsertFault::Memory(value)),
+            Err(value) => Err(AllocFailed { value }),
         }
     }
 
-    /// Takes the prefix out, and gives back the value that stood there, if it was held. All others
-    /// stay, those inside it too (profile).
+    /// Takes the prefix out, if it is held, and gives back the value that stood there. All others
+    /// stay with their values, those inside it too (profile).
     pub fn remove(&mut self, prefix: Prefix) -> Option<T>
         ensures { Removes self.old (span_of prefix) self.new result }
     {

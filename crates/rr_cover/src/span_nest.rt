@@ -88,9 +88,9 @@ impl<T> SpanNest<T> {
         crosses_any(&self.root, span)
     }
 
-    /// The smallest span held that covers the span, with its value, if any covers it. An equal one
-    /// counts (RFC 2725, 9). The last number of the span asked for is not below its first, and is
-    /// below 2^32.
+    /// The smallest span held that covers the span, with its value; `None` where none covers it. An
+    /// equal one counts (RFC 2725, 9). The last number of the span asked for is not below its
+    /// first, and is below 2^32.
     pub fn closest(&self, span: Span) -> Option<(Span, &T)>
         ensures closest { MatchOption result (NoneCovers self.now span)
             (λ p. IsClosest self.now span p.0 p.1.now) }
@@ -99,8 +99,8 @@ impl<T> SpanNest<T> {
         smallest_cover(&self.root, span)
     }
 
-    /// The spans held that cover the span, in order of first, then last number (profile), unless
-    /// memory runs out. An equal one counts.
+    /// The spans held that cover the span, each once, in order of first, then last number
+    /// (profile). An equal one counts. The error is that memory ran out.
     pub fn covering(&self, alloc: Global, span: Span) -> Result<Vec<Span>, AllocError>
         ensures { IfOk result (λ spans. spans.items ≡ covering self.now span) }
     {
@@ -119,9 +119,9 @@ impl<T> SpanNest<T> {
 
 impl<T: Drop> SpanNest<T> {
     /// Puts the value at the span, and gives back the value that stood there, if any did (profile).
-    /// The span is refused with `Overlap` exactly if it crosses one that is held; any other fault
-    /// is `Memory`, that memory ran out. After either fault nothing is changed, and the value comes
-    /// back with it.
+    /// What stands at other spans stays. The span is refused with `Overlap` exactly if it crosses
+    /// one that is held; any other fault is `Memory`, that memory ran out. After either fault
+    /// nothing is changed, and the value comes back with it.
     pub fn insert(&mut self, span: Span, value: T) -> Result<Option<T>, InsertFault<T>>
         ensures { InsertsApart self.old span value self.new result }
     {
@@ -135,8 +135,9 @@ impl<T: Drop> SpanNest<T> {
     }
 
     /// Puts the value at the span, and gives back the value that stood there, if any did (profile).
-    /// The span must cross none that is held: unlike [`SpanNest::insert`], this does not look. If
-    /// memory runs out, nothing changes, and the value comes back with the fault.
+    /// What stands at other spans stays. The span must cross none that is held: unlike
+    /// [`SpanNest::insert`], this does not look. If memory runs out, nothing changes, and the value
+    /// comes back with the fault.
     pub fn insert_uncrossed(&mut self, span: Span, value: T) -> Result<Option<T>, AllocFailed<T>>
         requires { crosses_some self.old span ≡ false }
         ensures inserts { Inserts self.old span value self.new result }
@@ -149,8 +150,8 @@ impl<T: Drop> SpanNest<T> {
         }
     }
 
-    /// Takes the span out, and gives back the value that stood there, if it was held. All others
-    /// stay, those inside it too (profile).
+    /// Takes the span out, if it is held, and gives back the value that stood there. All others
+    /// stay with their values, those inside it too (profile).
     pub fn remove(&mut self, span: Span) -> Option<T>
         ensures { Removes self.old span self.new result }
     {

@@ -9,7 +9,7 @@ use Rattle.rr_answer.specs.declared.query_fault.QueryFault.{QueryFault}
 use Rattle.rr_answer.specs.declared.query_fault.QueryFault.TheVariants.{Bad, TooLong, TooMany}
 use Rattle.rr_answer.specs.declared.query_fault.QueryFault.TheVariants.{Memory}
 use Rattle.rr_answer.specs.declared.query_fault.QueryFault.TheVariants.{Stopped}
-use Rattle.rr_answer.specs.declared.found.Found.{Found}
+use Rattle.rr_answer.specs.declared.found.Findings.{Findings}
 use Rattle.rr_answer.specs.Answers.{IsAnswerTo, answer_bytes}
 use Rattle.rr_answer.specs.Founds.{found_text}
 use Rattle.rr_answer.specs.Queries.{is_too_long}
@@ -19,7 +19,7 @@ use Rattle.rr_desk.specs.Answering.{Answers, IsAnswered, IsAnswerWhere, IsRunnin
 use Rattle.rr_desk.specs.Answering.{made_answer, told_number}
 
 -- what a registry found is its answer, or memory ran out
-registry_answers : (r : Reg) (limit : ℕ) (text : List ℕ) (found : Result Found QueryFault) →
+registry_answers : (r : Reg) (limit : ℕ) (text : List ℕ) (found : Result Findings QueryFault) →
     IfOk found (λ f. IsAnswerTo r limit text (Ok (found_text f)))
     → IfErr found (λ fault. fault ≢ Memory → IsAnswerTo r limit text (Err fault)) →
     IsRunningAnswer r limit text (made_answer found)
@@ -32,7 +32,7 @@ registry_answers r limit text (Err Stopped) ok fault = inl (fault (λ same. cc))
 
 -- so is what a desk that runs found, also of a text that is too long
 pub running : (r : Reg) (limit : ℕ) (text : List ℕ) (stopped : Bool)
-    (found : Result Found QueryFault) → stopped ≡ false →
+    (found : Result Findings QueryFault) → stopped ≡ false →
     IfOk found (λ f. IsAnswerTo r limit text (Ok (found_text f)))
     → IfErr found (λ fault. fault ≢ Memory → IsAnswerTo r limit text (Err fault)) →
     (is_too_long text ≡ true → found ≡ Err TooLong) → IsAnswered r limit text stopped
@@ -47,7 +47,7 @@ running r limit text stopped found was ok fault long =
 
 -- what was found was written
 pub written : (r : Reg) (limit : ℕ) (text : List ℕ) (stopped : Bool)
-    (found : Result Found QueryFault) {old new : Told} {result : Result Answered WriteFault} →
+    (found : Result Findings QueryFault) {old new : Told} {result : Result Answered WriteFault} →
     IsAnswered r limit text stopped (made_answer found)
     → Writes old new (answer_bytes (made_answer found)) result →
     IfOk result (λ done. done.error ≡ told_number (made_answer found)) → Answers r limit text

@@ -25,13 +25,15 @@ use Rattle.rr_store.specs.Maps.{HasRows}
 use Rattle.rr_store.specs.Calls.{database}
 use Rattle.rr_store.specs.declared.store_fault.MigrateFault.{MigrateFault}
 use Rattle.rr_store.specs.declared.store_fault.OpenFault.{OpenFault}
-use Rattle.rr_submission.specs.declared.submission.DeskFault.{DeskFault}
-use Rattle.rr_submission.specs.declared.submission.DeskFault.TheVariants.{ReadFault, WriteFault}
-use Rattle.rr_submission.specs.declared.submission.DeskFault.TheVariants.{StoreFault, Memory}
-use Rattle.rr_submission.specs.declared.submission.DeskFault.TheVariants.{Stopped}
+use Rattle.rr_submission.specs.declared.submission.SubmissionFault.{SubmissionFault}
+use Rattle.rr_submission.specs.declared.submission.SubmissionFault.TheVariants.{ReadFault}
+use Rattle.rr_submission.specs.declared.submission.SubmissionFault.TheVariants.{WriteFault}
+use Rattle.rr_submission.specs.declared.submission.SubmissionFault.TheVariants.{LedgerStopped}
+use Rattle.rr_submission.specs.declared.submission.SubmissionFault.TheVariants.{Memory}
+use Rattle.rr_submission.specs.declared.submission.SubmissionFault.TheVariants.{Stopped}
 use Rattle.rr_submission.specs.declared.submission.Done.{Done}
 use Rattle.rr_submission.specs.Handled.{StopsAt}
-use Rattle.rr_submission.specs.Submissions.{Submits, SubmitsText, UnlessStoreFault, sides}
+use Rattle.rr_submission.specs.Submissions.{Submits, SubmitsText, UnlessLedgerStopped, sides}
 use Rattle.rr_desk.specs.declared.desk.Desk.{Desk}
 use Rattle.rr_desk.specs.Answering.{IsAnswered, IsAnswerWhere}
 use Rattle.rr_desk.specs.Desks.{GivesAnswer}
@@ -177,10 +179,10 @@ module _ {S : Type 0} (g : Ghosts S) where
 
   module _ (by : SettingsParts) (old new : Desk S) (ro rn wo wn : Told) where
     -- a submission that was not stopped
-    stays : (result : Result Done DeskFault) → SubmitsText (plain_ledger by)
+    stays : (result : Result Done SubmissionFault) → SubmitsText (plain_ledger by)
         (running by old.stock.registry) (running by new.stock.registry) by.source ro rn wo wn
         result
-        → UnlessStoreFault result (running by new.stock.registry ≡ running by new.stock.registry)
+        → UnlessLedgerStopped result (running by new.stock.registry ≡ running by new.stock.registry)
         → RunsWith g by new new.stock.registry
         → Goes (running by old.stock.registry) (submitted ro rn wo wn result) (at_desk new)
     stays result it on runs = record {
@@ -190,9 +192,9 @@ module _ {S : Type 0} (g : Ghosts S) where
       stands = runs;
     }
 
-    goes_on : (result : Result Done DeskFault) → Submits (stock_ledger g) old.stock new.stock
+    goes_on : (result : Result Done SubmissionFault) → Submits (stock_ledger g) old.stock new.stock
         by.source (sides ro rn wo wn old.stock.registry new.stock.registry) result
-        → UnlessStoreFault result (new.stock.stopped ≡ false)
+        → UnlessLedgerStopped result (new.stock.stopped ≡ false)
         → new.settings ≡ by
         → (new.stock.stopped ≡ false → RunsWith g by new new.stock.registry)
         → Goes (running by old.stock.registry) (submitted ro rn wo wn result) (at_desk new)
@@ -201,14 +203,14 @@ module _ {S : Type 0} (g : Ghosts S) where
         (runs on)
     goes_on (Err (WriteFault count)) it on settings runs = stays (Err (WriteFault count)) it refl
         (runs on)
-    goes_on (Err (StoreFault count)) it on settings runs =
+    goes_on (Err (LedgerStopped count)) it on settings runs =
         let h = it.handles in
         let halt = has_stopped h.middle new.stock h.last.secrets h.last.request.action h.stops in
         let next =
         halted by (that_registry h.middle.registry ∷ (that_registry new.stock.registry ∷ []))
         in record {
           next = next;
-          moves_there = decides by old.stock.registry next ro rn wo wn (Err (StoreFault count))
+          moves_there = decides by old.stock.registry next ro rn wo wn (Err (LedgerStopped count))
               (record {
                 prefix = it.prefix;
                 reads = it.reads;
@@ -235,7 +237,7 @@ module _ {S : Type 0} (g : Ghosts S) where
     goes_on (Err Stopped) it on settings runs = absurd it
 
   module _ (old new : Desk S) where
-    after_submission : (ro rn wo wn : Told) (result : Result Done DeskFault) (mode : Mode) →
+    after_submission : (ro rn wo wn : Told) (result : Result Done SubmissionFault) (mode : Mode) →
         IsSubmission g old new ro rn wo wn result → Stands g (at_desk old) mode
         → Goes mode (submitted ro rn wo wn result) (at_desk new)
     after_submission ro rn wo wn result (running by r) is s =

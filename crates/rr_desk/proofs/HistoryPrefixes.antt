@@ -16,14 +16,16 @@ use Rattle.rr_auth.specs.declared.item.Item.{Item}
 use Rattle.rr_registry.specs.declared.outcome.Outcome.{Outcome}
 use Rattle.rr_registry.specs.Runs.{Decides, Run}
 use Rattle.rr_registry.proofs.Running.{run_more}
-use Rattle.rr_submission.specs.declared.submission.DeskFault.{DeskFault}
-use Rattle.rr_submission.specs.declared.submission.DeskFault.TheVariants.{ReadFault, WriteFault}
-use Rattle.rr_submission.specs.declared.submission.DeskFault.TheVariants.{StoreFault, Memory}
-use Rattle.rr_submission.specs.declared.submission.DeskFault.TheVariants.{Stopped}
+use Rattle.rr_submission.specs.declared.submission.SubmissionFault.{SubmissionFault}
+use Rattle.rr_submission.specs.declared.submission.SubmissionFault.TheVariants.{ReadFault}
+use Rattle.rr_submission.specs.declared.submission.SubmissionFault.TheVariants.{WriteFault}
+use Rattle.rr_submission.specs.declared.submission.SubmissionFault.TheVariants.{LedgerStopped}
+use Rattle.rr_submission.specs.declared.submission.SubmissionFault.TheVariants.{Memory}
+use Rattle.rr_submission.specs.declared.submission.SubmissionFault.TheVariants.{Stopped}
 use Rattle.rr_submission.specs.declared.submission.Done.{Done}
 use Rattle.rr_submission.specs.Handled.{HandlesStopped, HandlesUnwritten, ReadsItems, StopsAt}
-use Rattle.rr_submission.specs.SubmissionItems.{AreItems, ItemRequest, submitted as submitted_of}
-use Rattle.rr_submission.specs.Submissions.{SubmitsText, UnlessStoreFault}
+use Rattle.rr_submission.specs.SubmissionItems.{AreItems, ItemRequest, submitted_item}
+use Rattle.rr_submission.specs.Submissions.{SubmitsText, UnlessLedgerStopped}
 use Rattle.rr_desk.specs.Events.{counted}
 use Rattle.rr_desk.specs.HistoryLaws.{KeepsReported, ReportedIsKept}
 use Rattle.rr_desk.specs.Modes.{IsOneOf, MayOpen, Mode, decides, halted, plain_ledger, registry_in}
@@ -72,12 +74,12 @@ module _ (by : SettingsParts) (r s : Reg) (ro rn wo wn : Told) where
   all_kept : (text : List ℕ) (es : List (Result (List Field) TextFault)) (items : List ItemRequest)
       (outcomes : List Outcome) (after : Reg) (count : ℕ) → Begins ro text
       → (es ≡ entries text) ⊎ (es ≡ whole_entries text) → AreItems by.source [] es items →
-      Run r (map submitted_of items) outcomes after → count ≡ length items → s ≡ after
+      Run r (map submitted_item items) outcomes after → count ≡ length items → s ≡ after
       → KeepsReported by.source ro count r s
   all_kept text es items outcomes after count begins are is runs counts same = record {
     items = items;
     outcomes = outcomes;
-    runs = subst (Run r (map submitted_of items) outcomes) (sym same) runs;
+    runs = subst (Run r (map submitted_item items) outcomes) (sym same) runs;
     are_first = inl (record {
       text = text;
       begins = begins;
@@ -92,15 +94,15 @@ module _ (by : SettingsParts) (r s : Reg) (ro rn wo wn : Told) where
 
   -- those told, and one more
   one_more : (told : List ItemRequest) (last : ItemRequest) (outcomes : List Outcome)
-      (outcome : Outcome) (middle after : Reg) → Run r (map submitted_of told) outcomes middle
+      (outcome : Outcome) (middle after : Reg) → Run r (map submitted_item told) outcomes middle
       → Decides middle last.secrets last.request.action outcome after → s ≡ after →
-      Run r (map submitted_of (told ++ last ∷ [])) (outcomes ++ outcome ∷ []) s
+      Run r (map submitted_item (told ++ last ∷ [])) (outcomes ++ outcome ∷ []) s
   one_more told last outcomes outcome middle after runs decided same =
-      subst (λ (x : Reg). Run r (map submitted_of (told ++ last ∷ [])) (outcomes ++ outcome ∷ [])
+      subst (λ (x : Reg). Run r (map submitted_item (told ++ last ∷ [])) (outcomes ++ outcome ∷ [])
       x) (sym same)
       (subst (λ items. Run r items (outcomes ++ outcome ∷ []) after)
-      (sym (map-append submitted_of told (last ∷ [])))
-      (run_more r middle after (map submitted_of told) (submitted_of last) outcomes outcome runs
+      (sym (map-append submitted_item told (last ∷ [])))
+      (run_more r middle after (map submitted_item told) (submitted_item last) outcomes outcome runs
       decided))
 
   -- where it stopped, it is the registry before the last item or the one after it
@@ -133,7 +135,7 @@ module _ (by : SettingsParts) (r s : Reg) (ro rn wo wn : Told) where
         | inl same ↦ record {
           items = h.told;
           outcomes = h.outcomes;
-          runs = subst (Run r (map submitted_of h.told) h.outcomes) (sym same) h.runs;
+          runs = subst (Run r (map submitted_item h.told) h.outcomes) (sym same) h.runs;
           are_first = inl (record {
             text = it.prefix;
             begins = read_begins ro rn it.prefix it.reads;
@@ -170,7 +172,7 @@ module _ (by : SettingsParts) (r s : Reg) (ro rn wo wn : Told) where
       let counts : count ≡ length h.told + 1 = h.counted in record {
         items = h.told ++ h.last ∷ [];
         outcomes = h.outcomes ++ h.outcome ∷ [];
-        runs = subst (Run r (map submitted_of (h.told ++ h.last ∷ []))
+        runs = subst (Run r (map submitted_item (h.told ++ h.last ∷ []))
             (h.outcomes ++ h.outcome ∷ [])) (sym same) h.runs;
         are_first = inl (record {
           text = it.prefix;
@@ -188,9 +190,9 @@ module _ (by : SettingsParts) (r s : Reg) (ro rn wo wn : Told) where
   none_kept : s ≡ r → KeepsReported by.source ro 0 r s
   none_kept same = record { items = []; outcomes = []; runs = same; are_first = inr (refl, refl) }
 
-  kept : (next : Mode) (result : Result Done DeskFault) → SubmitsText (plain_ledger by)
+  kept : (next : Mode) (result : Result Done SubmissionFault) → SubmitsText (plain_ledger by)
       (running by r) next by.source ro rn wo wn result
-      → UnlessStoreFault result (next ≡ running by (registry_in next)) → MayOpen next s →
+      → UnlessLedgerStopped result (next ≡ running by (registry_in next)) → MayOpen next s →
       KeepsReported by.source ro (counted result) r s
   kept next (Ok done) it on may = all_kept it.text (entries it.text) it.items it.outcomes
       (registry_in next) done.items (begun ro rn it.text Whole it.reads) (inl refl) it.are_items
@@ -203,7 +205,7 @@ module _ (by : SettingsParts) (r s : Reg) (ro rn wo wn : Told) where
   kept next (Err (WriteFault count)) (inr it) on may = all_kept it.text (entries it.text) it.items
       it.outcomes (registry_in next) count (begun ro rn it.text Whole it.reads) (inl refl)
       it.are_items it.runs it.counted (runs_on next on may)
-  kept next (Err (StoreFault count)) it on may = kept_stopped next count it may
+  kept next (Err (LedgerStopped count)) it on may = kept_stopped next count it may
   kept next (Err Memory) it on may = none_kept (runs_on next on may ∙ it.same)
   kept next (Err Stopped) it on may = absurd it
 

@@ -10,7 +10,8 @@ use Rattle.rr_object.specs.Objects.{Obj}
 use Rattle.rr_object.specs.OldKeys.{old_key_bytes}
 use Rattle.rr_auth.specs.Registries.{Reg}
 use Rattle.rr_store.specs.Contents.{AreNumbered, IsTidy, contents, meta_row, meta_rows}
-use Rattle.rr_store.specs.Entries.{AreRowsOf, Entry, TreesOf, entry_of, named_rows, object_row}
+use Rattle.rr_store.specs.Entries.{AreRowsOf, StoredEntry, TreesOf, entry_of, named_rows}
+use Rattle.rr_store.specs.Entries.{object_row}
 use Rattle.rr_store.specs.Made.{IsVacant}
 use Rattle.rr_store.specs.Maps.{AreOldStored, HasRows, HasVersion, current_version, entry_in}
 use Rattle.rr_store.specs.Maps.{old_version}
@@ -22,7 +23,7 @@ use Rattle.rr_desk.specs.Events.{IsMadeBy, Making}
 use Rattle.rr_desk.specs.HistoryLaws.{BareTreesAreOfNone, RowsTellTheRegistry, TreesTellTheRegistry}
 use Rattle.rr_desk.specs.Histories.{AreOf, AreOfOne, HaveFound, ListsTables}
 use Rattle.rr_desk.specs.Migrating.{IsGrown}
-use Rattle.rr_desk.specs.Modes.{Found, IsFound, IsGrownOf, IsGrownOfOne, IsOneOf, may_be_none}
+use Rattle.rr_desk.specs.Modes.{Found, MayBeFound, IsGrownOf, IsGrownOfOne, IsOneOf, may_be_none}
 use Rattle.rr_desk.specs.Modes.{no_registry, old_tables, one_grown, one_made, that_registry}
 use Rattle.rr_desk.specs.Modes.{with_grown, with_made}
 use Rattle.rr_desk.specs.Settings.{SettingsParts}
@@ -45,7 +46,7 @@ tidy_there db other same has tidy = record {
   named = subst (λ (t : Trees). AreNumbered (t named_tree)) (sym same) tidy.named;
 }
 
-entries_there : (es : List Entry) (db other : Database) → db.trees ≡ other.trees →
+entries_there : (es : List StoredEntry) (db other : Database) → db.trees ≡ other.trees →
     HasTables db.schema → AreRowsOf es other → AreRowsOf es db
 entries_there es db other same has rows = record {
   tidy = tidy_there db other same has rows.tidy;
@@ -108,12 +109,12 @@ not_both db first second one two now old =
 
 -- a registry that is opened is the one that may be found
 opened_of : (found : Found) (r : Reg) (db : Database) → HasRows r db → HaveFound found db.trees →
-    IsFound found r
-opened_of found r db rows held = subst (IsFound found) (sym (trees_tell held.0 r db held.2 rows))
+    MayBeFound found r
+opened_of found r db rows held = subst (MayBeFound found) (sym (trees_tell held.0 r db held.2 rows))
     held.1
 
 opened_as : (found : Found) (r : Reg) (db : Database) → HasRows r db → AreOf found db.trees →
-    IsFound found r
+    MayBeFound found r
 opened_as no_registry r db rows held = absurd (held.none r (db, rows, refl))
 opened_as (that_registry s) r db rows held = opened_of (that_registry s) r db rows held
 opened_as (one_made how) r db rows held = opened_of (one_made how) r db rows held

@@ -18,14 +18,16 @@ use Rattle.rr_submission.proofs.Asking.{AreItems-read}
 use Rattle.rr_answer.specs.Answers.{answer_bytes}
 use Rattle.rr_answer.specs.Dumps.{dump}
 use Rattle.rr_answer.specs.Queries.{is_too_long}
-use Rattle.rr_submission.specs.declared.submission.DeskFault.{DeskFault}
-use Rattle.rr_submission.specs.declared.submission.DeskFault.TheVariants.{ReadFault, WriteFault}
-use Rattle.rr_submission.specs.declared.submission.DeskFault.TheVariants.{StoreFault, Memory}
-use Rattle.rr_submission.specs.declared.submission.DeskFault.TheVariants.{Stopped}
+use Rattle.rr_submission.specs.declared.submission.SubmissionFault.{SubmissionFault}
+use Rattle.rr_submission.specs.declared.submission.SubmissionFault.TheVariants.{ReadFault}
+use Rattle.rr_submission.specs.declared.submission.SubmissionFault.TheVariants.{WriteFault}
+use Rattle.rr_submission.specs.declared.submission.SubmissionFault.TheVariants.{LedgerStopped}
+use Rattle.rr_submission.specs.declared.submission.SubmissionFault.TheVariants.{Memory}
+use Rattle.rr_submission.specs.declared.submission.SubmissionFault.TheVariants.{Stopped}
 use Rattle.rr_submission.specs.Handled.{StopsAt}
-use Rattle.rr_submission.specs.Submissions.{SubmitsText, UnlessStoreFault}
+use Rattle.rr_submission.specs.Submissions.{SubmitsText, UnlessLedgerStopped}
 use Rattle.rr_submission.specs.declared.submission.Done.{Done}
-use Rattle.rr_submission.specs.SubmissionItems.{ItemRequest, submitted as submitted_of}
+use Rattle.rr_submission.specs.SubmissionItems.{ItemRequest, submitted_item}
 use Rattle.rr_desk.specs.Events.{Event, Making, asked, closed, counted, dumped, made, migrated}
 use Rattle.rr_desk.specs.Events.{opened, stopped, submitted, unmade, unmigrated, unopened}
 use Rattle.rr_desk.specs.HistoryLaws.{AreFirstItems, AreSubmittedIn, HistoriesAreConfined}
@@ -46,7 +48,7 @@ formed_action source (Ok item) read = read_item source item read
 formed_action source (Err code) read = tt
 
 formed_items : (source : List ℕ) (items later : List ItemRequest) →
-    AreReadIn source (map submitted_of (items ++ later)) → AreFormed (map submitted_of items)
+    AreReadIn source (map submitted_item (items ++ later)) → AreFormed (map submitted_item items)
 formed_items source [] later read = tt
 formed_items source (i ∷ is) later read = (
   formed_action source i.request.action read.0,
@@ -58,10 +60,10 @@ AreCounted source start count items = (AreFirstItems source start count items)
     ⊎ ((items ≡ []) × (count ≡ 0))
 
 formed_first : (source : List ℕ) (start : Told) (count : ℕ) (items : List ItemRequest) →
-    AreCounted source start count items → AreFormed (map submitted_of items)
+    AreCounted source start count items → AreFormed (map submitted_item items)
 formed_first source start count items (inl first) = formed_items source items first.later
     (AreItems-read source first.are_items)
-formed_first source start count items (inr none) = subst (λ is. AreFormed (map submitted_of is))
+formed_first source start count items (inr none) = subst (λ is. AreFormed (map submitted_item is))
     (sym none.0) tt
 
 both_formed : (first others : List Submitted) → AreFormed first → AreFormed others →
@@ -74,7 +76,7 @@ all_formed : (events : List Event) (all : List Submitted) → AreSubmittedIn eve
     AreFormed all
 all_formed [] all are = subst AreFormed (sym are) tt
 all_formed (submitted start now old new result ∷ later) all are =
-    subst AreFormed (sym are.3) (both_formed (map submitted_of are.1) are.2
+    subst AreFormed (sym are.3) (both_formed (map submitted_item are.1) are.2
     (formed_first are.0 start (counted result) are.1 are.4) (all_formed later are.2 are.5))
 all_formed (asked text bytes ∷ later) all are = all_formed later all are
 all_formed (dumped full bytes ∷ later) all are = all_formed later all are
@@ -144,7 +146,7 @@ record Runs (mode : Mode) (events : List Event) (s : Reg) : Type 0 where
 
 -- what begins with a submission
 with_submission : (by : SettingsParts) (r s : Reg) (next : Mode) (ro rn wo wn : Told)
-    (result : Result Done DeskFault) (later : List Event)
+    (result : Result Done SubmissionFault) (later : List Event)
     → Moves (running by r) (submitted ro rn wo wn result) next → Runs next later s →
     Runs (running by r) (submitted ro rn wo wn result ∷ later) s
 with_submission by r s next ro rn wo wn result later moves rest =
@@ -152,10 +154,10 @@ with_submission by r s next ro rn wo wn result later moves rest =
     record {
       first = r;
       may = refl;
-      all = map submitted_of kept.items ++ rest.all;
+      all = map submitted_item kept.items ++ rest.all;
       outcomes = kept.outcomes ++ rest.outcomes;
       are_submitted = (by.source, kept.items, rest.all, refl, kept.are_first, rest.are_submitted);
-      runs = run_append r rest.first s (map submitted_of kept.items) rest.all kept.outcomes
+      runs = run_append r rest.first s (map submitted_item kept.items) rest.all kept.outcomes
           rest.outcomes kept.runs rest.runs;
     }
 
@@ -166,13 +168,14 @@ stop_known by middle new secrets (Ok item) halts = subst IsKnown (sym halts.halt
 stop_known by middle new secrets (Err code) halts = absurd halts
 
 submitted_known : (by : SettingsParts) (r : Reg) (new : Mode) (ro rn wo wn : Told)
-    (result : Result Done DeskFault) → SubmitsText (plain_ledger by) (running by r) new by.source
+    (result : Result Done SubmissionFault) → SubmitsText (plain_ledger by) (running by r) new
+    by.source
     ro rn wo wn result
-    → UnlessStoreFault result (new ≡ running by (registry_in new)) → IsKnown new
+    → UnlessLedgerStopped result (new ≡ running by (registry_in new)) → IsKnown new
 submitted_known by r new ro rn wo wn (Ok done) it on = subst IsKnown (sym on) tt
 submitted_known by r new ro rn wo wn (Err (ReadFault count)) it on = subst IsKnown (sym on) tt
 submitted_known by r new ro rn wo wn (Err (WriteFault count)) it on = subst IsKnown (sym on) tt
-submitted_known by r new ro rn wo wn (Err (StoreFault count)) it on =
+submitted_known by r new ro rn wo wn (Err (LedgerStopped count)) it on =
     stop_known by it.handles.middle new it.handles.last.secrets it.handles.last.request.action
     it.handles.stops
 submitted_known by r new ro rn wo wn (Err Memory) it on = subst IsKnown (sym on) tt

@@ -24,13 +24,15 @@ use Rattle.rr_registry.specs.Loading.{IsTaken, gathered}
 use Rattle.rr_registry.specs.Runs.{Decides, Run}
 use Rattle.rr_registry.proofs.Running.{run_more}
 use Rattle.rr_store.specs.Maps.{IsObjectOf}
-use Rattle.rr_submission.specs.declared.submission.DeskFault.{DeskFault}
-use Rattle.rr_submission.specs.declared.submission.DeskFault.TheVariants.{ReadFault, WriteFault}
-use Rattle.rr_submission.specs.declared.submission.DeskFault.TheVariants.{StoreFault, Memory}
-use Rattle.rr_submission.specs.declared.submission.DeskFault.TheVariants.{Stopped}
+use Rattle.rr_submission.specs.declared.submission.SubmissionFault.{SubmissionFault}
+use Rattle.rr_submission.specs.declared.submission.SubmissionFault.TheVariants.{ReadFault}
+use Rattle.rr_submission.specs.declared.submission.SubmissionFault.TheVariants.{WriteFault}
+use Rattle.rr_submission.specs.declared.submission.SubmissionFault.TheVariants.{LedgerStopped}
+use Rattle.rr_submission.specs.declared.submission.SubmissionFault.TheVariants.{Memory}
+use Rattle.rr_submission.specs.declared.submission.SubmissionFault.TheVariants.{Stopped}
 use Rattle.rr_submission.specs.declared.submission.Done.{Done}
 use Rattle.rr_submission.specs.Handled.{StopsAt, HandlesStopped}
-use Rattle.rr_submission.specs.SubmissionItems.{submitted}
+use Rattle.rr_submission.specs.SubmissionItems.{submitted_item}
 use Rattle.rr_submission.specs.Submissions.{Submits}
 use Rattle.rr_submission.proofs.Keeping.{items_keep_the_source}
 use Rattle.rr_desk.specs.declared.desk.Desk.{Desk}
@@ -106,15 +108,15 @@ module _ {S : Type 0} (g : store.Ghosts S) (source : List ℕ) (old new : StockP
   stopped_of_source start now before after count served of =
       let s = served.handles in
       let last = decided s.middle s.last.secrets s.last.request.action s.stops in
-      let run = run_more old.registry s.middle.registry new.registry (map submitted s.told)
-      (submitted s.last) s.outcomes last.0 s.runs last.1 in
+      let run = run_more old.registry s.middle.registry new.registry (map submitted_item s.told)
+      (submitted_item s.last) s.outcomes last.0 s.runs last.1 in
       items_keep_the_source source (entries served.prefix) (s.told ++ s.last ∷ []) old.registry
       new.registry (s.outcomes ++ last.0 ∷ []) of s.are_items
       (subst (λ items. Run old.registry items (s.outcomes ++ last.0 ∷ []) new.registry)
-      (sym (map-append submitted s.told (s.last ∷ []))) run)
+      (sym (map-append submitted_item s.told (s.last ∷ []))) run)
 
   -- a submission leaves the registry one of its source
-  kept_of_source : (start now before after : Told) (result : Result Done DeskFault)
+  kept_of_source : (start now before after : Told) (result : Result Done SubmissionFault)
       → Submits (stock_ledger g) old new source
       (record {
         reader_before = start;
@@ -135,7 +137,8 @@ module _ {S : Type 0} (g : store.Ghosts S) (source : List ℕ) (old new : StockP
       new.registry (s.outcomes ++ s.outcome ∷ []) of s.are_items s.runs
   kept_of_source start now before after (Err (WriteFault count)) (inr h) of = items_keep_the_source
       source (entries h.text) h.items old.registry new.registry h.outcomes of h.are_items h.runs
-  kept_of_source start now before after (Err (StoreFault count)) h of = stopped_of_source start now
+  kept_of_source start now before after (Err (LedgerStopped count)) h of = stopped_of_source start
+      now
       before after count h of
   kept_of_source start now before after (Err Memory) h of = subst (IsRegistryOf source)
       (sym h.same) of
@@ -143,7 +146,7 @@ module _ {S : Type 0} (g : store.Ghosts S) (source : List ℕ) (old new : StockP
 
   -- and so does one that was refused
   submitted_where : (stopped : Bool) (start now before after : Told)
-      (result : Result Done DeskFault) → (stopped ≡ true → new ≡ old)
+      (result : Result Done SubmissionFault) → (stopped ≡ true → new ≡ old)
       → (stopped ≡ false → Submits (stock_ledger g) old new source
       (record {
         reader_before = start;
@@ -159,7 +162,7 @@ module _ {S : Type 0} (g : store.Ghosts S) (source : List ℕ) (old new : StockP
   submitted_where false start now before after result same submits of = kept_of_source start now
       before after result (submits refl) of
 
-  pub submitted_of_source : (start now before after : Told) (result : Result Done DeskFault) →
+  pub submitted_of_source : (start now before after : Told) (result : Result Done SubmissionFault) →
       (old.stopped ≡ true → new ≡ old)
       → (old.stopped ≡ false → Submits (stock_ledger g) old new source
       (record {

@@ -13,7 +13,8 @@ use Rattle.rr_io.specs.declared.streams.Writer as writers
 use Rattle.rr_desk.specs.Desks.{desk_state}
 use Rattle.rr_desk.specs.Lasting.{database_still}
 use Rattle.rr_desk.specs.TurnParts.{TakesTurn}
-use Rattle.rr_desk.specs.Turns.{ConnEnd, Does, DoesAll, InOrder, IsAccepted, IsClosed, IsNextTurn}
+use Rattle.rr_desk.specs.Turns.{ConnEnd, Does, DoesAll, InOrder, IsAccepted, ClosesConnection}
+use Rattle.rr_desk.specs.Turns.{IsNextTurn}
 use Rattle.rr_desk.specs.Turns.{IsUnaccepted, Serving, StaysServed, TakesTurns, Tally, Turn, Visit}
 use Rattle.rr_desk.specs.Turns.{closed, conn_visit, given_in, is_served, turn_of, with_turn}
 
@@ -124,7 +125,7 @@ pub served_turn : {S C : Type 0} (g : Ghosts S) (serves : Serving) (reader : rea
     IsAccepted first between given (reader.told old) (writer.told old) →
     serves S g before after (conn_visit reader writer old new ended) →
     StaysServed g before after →
-    IsClosed given (writer.told new).bytes between last →
+    ClosesConnection given (writer.told new).bytes between last →
     TakesTurn g serves before after first last well
 served_turn g serves reader writer before after first between last given old new ended well is
     accepted served stays closes =

@@ -5,7 +5,7 @@ use Rattle.rr_io.specs.Told.{Told}
 use Rattle.rr_auth.specs.Registries.{Reg}
 use Rattle.rr_answer.specs.declared.query_fault.QueryFault.{QueryFault}
 use Rattle.rr_answer.specs.declared.query_fault.QueryFault.TheVariants.{TooLong, Memory, Stopped}
-use Rattle.rr_answer.specs.declared.found.Found.{Found}
+use Rattle.rr_answer.specs.declared.found.Findings.{Findings}
 use Rattle.rr_answer.specs.Answers.{IsAnswerTo, answer_bytes}
 use Rattle.rr_answer.specs.Faults.{error_number}
 use Rattle.rr_answer.specs.Founds.{found_text}
@@ -14,7 +14,7 @@ use Rattle.rr_desk.specs.declared.desk_answering.Answered.{Answered}
 use Rattle.rr_desk.specs.declared.desk_answering.WriteFault.{WriteFault}
 
 -- what was found, or the error, as an answer
-abbrev pub made_answer : Result Found QueryFault → Result (List ℕ) QueryFault
+abbrev pub made_answer : Result Findings QueryFault → Result (List ℕ) QueryFault
 made_answer (Ok found) = Ok (found_text found)
 made_answer (Err fault) = Err fault
 

@@ -6,8 +6,8 @@ use Rattle.sqlite.specs.Held.{state}
 use Rattle.sqlite.specs.State.{State}
 use Rattle.rr_io.specs.Told.{Told}
 use Rattle.rr_auth.specs.Sources.{IsRegistryOf}
-use Rattle.rr_submission.specs.Submissions.{SubmitsText, UnlessStoreFault}
-use Rattle.rr_submission.specs.declared.submission.DeskFault.{DeskFault}
+use Rattle.rr_submission.specs.Submissions.{SubmitsText, UnlessLedgerStopped}
+use Rattle.rr_submission.specs.declared.submission.SubmissionFault.{SubmissionFault}
 use Rattle.rr_submission.specs.declared.submission.Done.{Done}
 use Rattle.rr_answer.specs.declared.query_fault.QueryFault.{QueryFault}
 use Rattle.rr_desk.specs.declared.desk_answering.Answered.{Answered}
@@ -27,18 +27,18 @@ IsOfItsSource desk = IsRegistryOf desk.settings.source desk.stock.registry
 -- what a submission does to a desk that runs, and to its reader and its writer, by its answer
 abbrev pub SubmitsTo : {S : Type 0} → Ghosts S → Desk S → Desk S → Told → Told → Told
     → Told
-    → Result Done DeskFault → Type 0
+    → Result Done SubmissionFault → Type 0
 SubmitsTo g old new reader_old reader_new writer_old writer_new result =
     SubmitsText (stock_ledger g) old.stock new.stock old.settings.source reader_old reader_new
     writer_old writer_new result
 
--- what a submission leaves of a desk: only a fault of the store stops it; until it is stopped, its
--- rows are those of its registry, which stays one of its source; what is to last of its database
--- lasts, and its settings stay (profile)
+-- what a submission leaves of a desk: only a fault of the store stops it, and until it is stopped,
+-- its rows are those of its registry. A registry of its settings' source stays one of it. What is
+-- to last of its database lasts, and its settings stay (profile)
 pub record LeavesDesk {S : Type 0} (g : Ghosts S) (old new : Desk S)
-    (result : Result Done DeskFault) : Type 0 where
+    (result : Result Done SubmissionFault) : Type 0 where
   pub runs_on : old.stock.stopped ≡ false
-      → UnlessStoreFault result (new.stock.stopped ≡ false)
+      → UnlessLedgerStopped result (new.stock.stopped ≡ false)
   pub rows : StoresUntilStopped g new.stock
   pub of_source : IsOfItsSource old → IsOfItsSource new
   pub lasts : DatabaseLasts (desk_state g old) (desk_state g new)

@@ -1,4 +1,4 @@
--- What private functions promise each other. No public clause cites these.
+-- What private functions that read dumps promise each other. No public clause cites these.
 use Rattle.std.specs.Prelude.{◌≡◌, ◌⊎◌, ℕ, List, ◌++◌, [], ◌∷◌, Option}
 use Rattle.std.specs.Prelude.{Some, None, Result, Ok, Err}
 use Rattle.rr_io.specs.Told.{Told}

@@ -5,8 +5,8 @@ use Rattle.rr_io.specs.Told.{Told}
 use Rattle.rr_auth.specs.Registries.{Reg}
 use Rattle.rr_store.specs.declared.store_fault.MigrateFault.{MigrateFault}
 use Rattle.rr_store.specs.declared.store_fault.OpenFault.{OpenFault}
-use Rattle.rr_submission.specs.declared.submission.DeskFault.{DeskFault}
-use Rattle.rr_submission.specs.declared.submission.DeskFault.TheVariants as fault
+use Rattle.rr_submission.specs.declared.submission.SubmissionFault.{SubmissionFault}
+use Rattle.rr_submission.specs.declared.submission.SubmissionFault.TheVariants as fault
 use Rattle.rr_submission.specs.declared.submission.Done.{Done}
 use Rattle.rr_desk.specs.Loaded.{IsLoaded}
 use Rattle.rr_desk.specs.Opening.{IsOpeningRegistry}
@@ -27,7 +27,7 @@ IsMadeBy (of_dump source start now) r = IsLoaded source start now r
 -- one thing that was done to a database
 pub data Event : Type 0 where
   -- a submission: what its reader told before and after it, what its writer did, and its answer
-  submitted : Told → Told → Told → Told → Result Done DeskFault → Event
+  submitted : Told → Told → Told → Told → Result Done SubmissionFault → Event
   -- the text of a query, and the bytes of its answer, whole
   asked : List ℕ → List ℕ → Event
   -- a dump, full or public, and its bytes, whole
@@ -47,10 +47,10 @@ pub data Event : Type 0 where
 
 -- how many items the answer to a submission counts; none where memory ran out before the first, or
 -- where the desk had stopped
-abbrev pub counted : Result Done DeskFault → ℕ
+abbrev pub counted : Result Done SubmissionFault → ℕ
 counted (Ok done) = done.items
 counted (Err (fault.ReadFault items)) = items
 counted (Err (fault.WriteFault items)) = items
-counted (Err (fault.StoreFault items)) = items
+counted (Err (fault.LedgerStopped items)) = items
 counted (Err fault.Memory) = 0
 counted (Err fault.Stopped) = 0

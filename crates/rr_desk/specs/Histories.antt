@@ -20,7 +20,7 @@ use Rattle.rr_store.specs.Tables.{HasTables, meta_tree}
 use Rattle.rr_store.specs.Calls.{OnCleanDisk, WhileOpen, database}
 use Rattle.rr_store.specs.declared.store_fault.MigrateFault.{MigrateFault}
 use Rattle.rr_store.specs.declared.store_fault.OpenFault.{OpenFault}
-use Rattle.rr_submission.specs.declared.submission.DeskFault.{DeskFault}
+use Rattle.rr_submission.specs.declared.submission.SubmissionFault.{SubmissionFault}
 use Rattle.rr_submission.specs.declared.submission.Done.{Done}
 use Rattle.rr_submission.specs.Submissions.{RefusesSubmission}
 use Rattle.rr_desk.specs.declared.desk.Desk.{Desk}
@@ -30,7 +30,7 @@ use Rattle.rr_desk.specs.Events.{of_dump, of_settings, opened, stopped, submitte
 use Rattle.rr_desk.specs.Events.{unmigrated, unopened}
 use Rattle.rr_desk.specs.Loaded.{HasLoadedRows}
 use Rattle.rr_desk.specs.Migrating.{FailsToMigrateTables, MigratesTables}
-use Rattle.rr_desk.specs.Modes.{Found, IsFound, Mode, RunsAs, halted, no_registry, old_tables}
+use Rattle.rr_desk.specs.Modes.{Found, MayBeFound, Mode, RunsAs, halted, no_registry, old_tables}
 use Rattle.rr_desk.specs.Modes.{one_grown, one_made, resting, running, that_registry}
 use Rattle.rr_desk.specs.Opened.{FailsToOpenTables, HasOpeningRows, IsRunning, MakesNone}
 use Rattle.rr_desk.specs.Opened.{MakesTables, OpensTables}
@@ -59,7 +59,7 @@ ListsTables db = (version : List ℕ) → HasVersion version db → HasTables db
 
 -- trees have the rows of a registry that is what may be found
 abbrev pub HaveFound : Found → Trees → Type 0
-HaveFound found trees = (r : Reg) × IsFound found r × TreesOf (HasRows r) trees
+HaveFound found trees = (r : Reg) × MayBeFound found r × TreesOf (HasRows r) trees
 
 -- trees are the rows of no registry, nor of objects in tables of version 1
 pub record AreOfNone (trees : Trees) : Type 0 where
@@ -85,7 +85,7 @@ AreOfOne (found ∷ others) trees = AreOf found trees ⊎ AreOfOne others trees
 module _ {S : Type 0} (g : Ghosts S) where
   -- what `Desk::submit` promises of a submission, clause by clause
   pub record IsSubmission (old new : Desk S) (reader_old reader_new writer_old writer_new : Told)
-      (result : Result Done DeskFault) : Type 0 where
+      (result : Result Done SubmissionFault) : Type 0 where
     pub refuses : old.stock.stopped ≡ true
         → RefusesSubmission old new reader_old reader_new writer_old writer_new result
     pub submits : old.stock.stopped ≡ false
@@ -107,7 +107,7 @@ module _ {S : Type 0} (g : Ghosts S) where
   -- are the opening, making or migration of a registry, or that it failed. A stop comes at either
   pub data Happens : Place S → Event → Place S → Type 0 where
     submission : (old new : Desk S) (reader_old reader_new writer_old writer_new : Told)
-        (result : Result Done DeskFault) →
+        (result : Result Done SubmissionFault) →
         IsSubmission old new reader_old reader_new writer_old writer_new result →
         Happens (at_desk old) (submitted reader_old reader_new writer_old writer_new result)
         (at_desk new)
@@ -201,14 +201,15 @@ module _ {S : Type 0} (g : Ghosts S) where
 
   -- where the disk gives back what was written, the first table of the database has no row, as that
   -- of a new one has none: while the connection is open, and in what a stop leaves
-  pub record IsBlank (conn : Held S) : Type 0 where
+  pub record HasEmptyMeta (conn : Held S) : Type 0 where
     pub rows : WhileOpen g conn ((database g conn).trees meta_tree ≡ [])
     pub leaves : OnCleanDisk g conn
         ((trees : Trees) → (state g conn).may_leave trees → trees meta_tree ≡ [])
 
-  -- a connection to such a database (`IsBlank`) stands as no registry
+  -- a connection to such a database (`HasEmptyMeta`) stands as no registry
   abbrev pub BlanksStand : Type 0
-  BlanksStand = (conn : Held S) → IsBlank conn → Stands (at_rest conn) (resting (no_registry ∷ []))
+  BlanksStand = (conn : Held S) → HasEmptyMeta conn → Stands (at_rest conn)
+      (resting (no_registry ∷ []))
 
   -- what making a registry did, by its answer
   abbrev pub MakesEvent : {E : Type 0} → SettingsParts → Making → Held S

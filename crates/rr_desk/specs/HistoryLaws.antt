@@ -18,9 +18,9 @@ use Rattle.rr_answer.specs.declared.query_fault.QueryFault.TheVariants as query_
 use Rattle.rr_store.specs.Entries.{TreesOf}
 use Rattle.rr_store.specs.Maps.{HasRows}
 use Rattle.rr_store.specs.Tables.{meta_tree}
-use Rattle.rr_submission.specs.declared.submission.DeskFault.{DeskFault}
+use Rattle.rr_submission.specs.declared.submission.SubmissionFault.{SubmissionFault}
 use Rattle.rr_submission.specs.declared.submission.Done.{Done}
-use Rattle.rr_submission.specs.SubmissionItems.{AreItems, ItemRequest, submitted as submitted_of}
+use Rattle.rr_submission.specs.SubmissionItems.{AreItems, ItemRequest, submitted_item}
 use Rattle.rr_desk.specs.Events.{Event, asked, closed, counted, dumped, made, migrated}
 use Rattle.rr_desk.specs.Events.{opened, stopped, submitted, unmade, unmigrated, unopened}
 use Rattle.rr_desk.specs.Histories.{AreOfNone}
@@ -61,7 +61,7 @@ pub record AreFirstItems (source : List ℕ) (start : Told) (count : ℕ) (items
 pub record KeepsReported (source : List ℕ) (start : Told) (count : ℕ) (r s : Reg) : Type 0 where
   pub items : List ItemRequest
   pub outcomes : List Outcome
-  pub runs : Run r (map submitted_of items) outcomes s
+  pub runs : Run r (map submitted_item items) outcomes s
   pub are_first : (AreFirstItems source start count items) ⊎ ((items ≡ []) × (count ≡ 0))
 
 -- whatever becomes of a submission to a registry that runs, the next opening has the registry after
@@ -69,7 +69,7 @@ pub record KeepsReported (source : List ℕ) (start : Told) (count : ℕ) (r s :
 abbrev pub ReportedIsKept : Type 0
 ReportedIsKept =
     (by : SettingsParts) (r s : Reg) (next : Mode)
-    (reader_old reader_new writer_old writer_new : Told) (result : Result Done DeskFault)
+    (reader_old reader_new writer_old writer_new : Told) (result : Result Done SubmissionFault)
     → Moves (running by r) (submitted reader_old reader_new writer_old writer_new result) next
     → MayOpen next s → KeepsReported by.source reader_old (counted result) r s
 
@@ -79,7 +79,7 @@ abbrev pub AreSubmittedIn : List Event → List Submitted → Type 0
 AreSubmittedIn [] all = all ≡ []
 AreSubmittedIn (submitted start now old new result ∷ later) all =
     (source : List ℕ) × (items : List ItemRequest) × (others : List Submitted)
-    × (all ≡ map submitted_of items ++ others)
+    × (all ≡ map submitted_item items ++ others)
     × ((AreFirstItems source start (counted result) items)
     ⊎ ((items ≡ []) × (counted result ≡ 0)))
     × AreSubmittedIn later others
@@ -95,8 +95,9 @@ AreSubmittedIn (unmigrated by fault ∷ later) all = AreSubmittedIn later all
 AreSubmittedIn (stopped ∷ later) all = AreSubmittedIn later all
 
 -- all that was submitted in a history (`AreSubmittedIn`) is one run from its first registry to its
--- last. Where a prefix is held, and each of this is foreign to its holders or their own, the run
--- answers them as if nobody else had submitted anything
+-- last. Let a prefix be held, and each of this be foreign to its holders or their own. Then the run
+-- answers those not foreign as if nobody else had submitted anything. What the holders hold ends as
+-- it then would, and the prefix stays held
 pub record IsOneRun (r : Reg) (events : List Event) (s : Reg) : Type 0 where
   pub all : List Submitted
   pub outcomes : List Outcome

@@ -69,9 +69,10 @@ pub record IsRootless (settings : SettingsParts) (old : Database) : Type 0 where
   pub sound : AreRegistry objects
   pub missing : has_mntner settings.root objects ≡ false
 
--- why tables are not migrated: they are of another version, which comes first; no registry of the
--- source has their rows; or the root is not a maintainer in theirs; of a database without the three
--- tables, that and nothing else is told (profile)
+-- why tables are not migrated. A row of `meta` says another version. Or none says another of 32
+-- bits, and no registry of the source has their rows in version 1. Or one has, and the root is not
+-- a maintainer in it. All are told only where the three tables are there; where they are not, that
+-- is told (profile)
 pub record RefusesOldRegistry (settings : SettingsParts) (db : Database) (fault : MigrateFault)
     : Type 0 where
   pub wrong_version : (number : ℕ) → fault ≡ WrongVersion number → SaysOther Old number db
@@ -99,9 +100,9 @@ abbrev pub CommitsMigrated : {S : Type 0} → Ghosts S → SettingsParts → Hel
 CommitsMigrated g settings conn =
     WhereOpen g conn (TreesOf (IsMigratedTo settings (database g conn)))
 
--- tables of version 1 were migrated to those of this registry, over a connection that was open, and
--- a stop of the process leaves the old ones or the new ones. This holds where the disk gives back
--- what was written (profile)
+-- tables of version 1 were migrated to those of this registry, over a connection that was open. A
+-- stop of the process leaves what it left before or the new ones. This holds where the disk gives
+-- back what was written (profile)
 pub record MigratesTables {S : Type 0} (g : Ghosts S) (settings : SettingsParts) (conn : Held S)
     (stored : StockParts S) : Type 0 where
   pub was_open : OnCleanDisk g stored.store (IsTrue (state g conn).is_open)
@@ -111,8 +112,8 @@ pub record MigratesTables {S : Type 0} (g : Ghosts S) (settings : SettingsParts)
       (IsMigratedBy settings (database g conn) (database g stored.store))
   pub crash : Survives (state g conn) (state g stored.store) (CommitsMigrated g settings conn)
 
--- where the rows have numbers of their own and the disk gives back what was written, an error of
--- the database has a cause outside them, or there is a registry as which they are to be written
+-- let the rows have numbers of their own, and the disk give back what was written. Then an error of
+-- the database has a cause outside the rows, or there is a registry as which they are to be written
 -- anew (profile)
 abbrev pub FailsMigrating : {S : Type 0} → Ghosts S → SettingsParts → Held S → Held S
     → MigrateFault → Type 0
@@ -120,9 +121,9 @@ FailsMigrating g settings conn left fault =
     (error : Error) → fault ≡ Store error → IsTidy (database g conn) → OnCleanDisk g left
     (IsCaused (state g conn) (state g left) error ⊎ CanGrow settings (database g conn))
 
--- the tables were not migrated, and the fault says why: what there was stands, and a stop of the
--- process leaves that or, where they could be migrated, the new ones. This holds where the disk
--- gives back what was written (profile)
+-- the tables were not migrated, the fault says why, and what there was stands. A stop of the
+-- process leaves what it left before or, where the connection was open and they could be migrated,
+-- the new ones. This holds where the disk gives back what was written (profile)
 pub record FailsToMigrateTables {S : Type 0} (g : Ghosts S) (settings : SettingsParts)
     (conn left : Held S) (fault : MigrateFault) : Type 0 where
   pub none : GivesBack g (CommitsMigrated g settings conn) conn left

@@ -18,9 +18,9 @@ use Rattle.rr_answer.specs.declared.query_fault.QueryFault.TheVariants as query_
 use Rattle.rr_store.specs.declared.store_fault.MigrateFault.{MigrateFault}
 use Rattle.rr_store.specs.declared.store_fault.OpenFault.{OpenFault}
 use Rattle.rr_submission.specs.declared.ledger.Ledger as ledger
-use Rattle.rr_submission.specs.declared.submission.DeskFault.{DeskFault}
+use Rattle.rr_submission.specs.declared.submission.SubmissionFault.{SubmissionFault}
 use Rattle.rr_submission.specs.declared.submission.Done.{Done}
-use Rattle.rr_submission.specs.Submissions.{RefusesSubmission, SubmitsText, UnlessStoreFault}
+use Rattle.rr_submission.specs.Submissions.{RefusesSubmission, SubmitsText, UnlessLedgerStopped}
 use Rattle.rr_desk.specs.Answering.{IsAnswered}
 use Rattle.rr_desk.specs.Events.{Event, IsMadeBy, Making, asked, closed, dumped, made, migrated}
 use Rattle.rr_desk.specs.Events.{opened, stopped, submitted, unmade, unmigrated, unopened}
@@ -46,17 +46,17 @@ pub record IsGrownOf (by : SettingsParts) (objects : List Obj) (r : Reg) : Type 
   pub grown : HasUpper by ordered r
 
 -- a registry is what may be found
-abbrev pub IsFound : Found → Reg → Type 0
-IsFound no_registry r = ⊥
-IsFound (that_registry s) r = r ≡ s
-IsFound (one_made making) r = IsMadeBy making r
-IsFound (old_tables objects) r = ⊥
-IsFound (one_grown by objects) r = IsGrownOf by objects r
+abbrev pub MayBeFound : Found → Reg → Type 0
+MayBeFound no_registry r = ⊥
+MayBeFound (that_registry s) r = r ≡ s
+MayBeFound (one_made making) r = IsMadeBy making r
+MayBeFound (old_tables objects) r = ⊥
+MayBeFound (one_grown by objects) r = IsGrownOf by objects r
 
 -- a registry is one of those that may be found
 abbrev pub IsOneOf : List Found → Reg → Type 0
 IsOneOf [] r = ⊥
-IsOneOf (found ∷ others) r = IsFound found r ⊎ IsOneOf others r
+IsOneOf (found ∷ others) r = MayBeFound found r ⊎ IsOneOf others r
 
 -- there may be no registry
 abbrev pub may_be_none : List Found → Bool
@@ -146,13 +146,13 @@ halted_reply false = Err query_fault.Stopped
 pub data Moves : Mode → Event → Mode → Type 0 where
   -- it decides the items of a submission in order, until it stops; once stopped it takes none
   decides : (by : SettingsParts) (r : Reg) (new : Mode)
-      (reader_old reader_new writer_old writer_new : Told) (result : Result Done DeskFault) →
+      (reader_old reader_new writer_old writer_new : Told) (result : Result Done SubmissionFault) →
       SubmitsText (plain_ledger by) (running by r) new by.source reader_old reader_new writer_old
       writer_new result
-      → UnlessStoreFault result (new ≡ running by (registry_in new)) →
+      → UnlessLedgerStopped result (new ≡ running by (registry_in new)) →
       Moves (running by r) (submitted reader_old reader_new writer_old writer_new result) new
   refuses : (by : SettingsParts) (found : List Found)
-      (reader_old reader_new writer_old writer_new : Told) (result : Result Done DeskFault) →
+      (reader_old reader_new writer_old writer_new : Told) (result : Result Done SubmissionFault) →
       RefusesSubmission (halted by found) (halted by found) reader_old reader_new
       writer_old writer_new result →
       Moves (halted by found)

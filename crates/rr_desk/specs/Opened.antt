@@ -40,7 +40,8 @@ pub record HasOpeningRows (settings : SettingsParts) (db : Database) : Type 0 wh
   pub is_opening : IsOpeningRegistry settings registry
   pub rows : HasRows registry db
 
--- where other tables stand in place of the three, the database's error says that (profile)
+-- where something stands, but not the three tables, the database's error is that a table is not
+-- there (profile)
 abbrev pub TellsOtherTables : Database → Error → Type 0
 TellsOtherTables db error = ¬ HasTables db.schema → db.schema ≢ no_schema → error ≡ no_tables
 
@@ -52,9 +53,9 @@ pub record IsRunning {S : Type 0} (g : Ghosts S) (by : SettingsParts) (desk : De
   pub of_source : IsRegistryOf by.source desk.stock.registry
   pub holds : StoresRows g desk.stock
 
--- why tables are not opened: they are of another version, which comes first, or no registry of the
--- source has their rows; of a database without the three tables, that and nothing else is told
--- (profile)
+-- why tables are not opened: a row of `meta` says another version; or none says another of 32 bits,
+-- and no registry of the source has their rows. Both are told only where the three tables are
+-- there; where they are not, that is told (profile)
 pub record RefusesRegistry (source : List ℕ) (db : Database) (fault : OpenFault) : Type 0 where
   pub wrong_version : (number : ℕ) → fault ≡ WrongVersion number → SaysOther Current number db
   pub bad_row : fault ≡ BadRow → HasNoRegistry source db
@@ -63,7 +64,9 @@ pub record RefusesRegistry (source : List ℕ) (db : Database) (fault : OpenFaul
   pub untabled : ¬ HasTables db.schema → fault ≡ opened.Store no_tables
 
 -- What these say of rows, of tables that were opened or made, and that a connection was open, holds
--- where the disk gives back what was written.
+-- where the disk gives back what was written. Each `crash` also says (`Survives`) that no fault of
+-- the disk is forgotten, and nothing but such a fault shuts the connection. Its limit of steps and
+-- its tests of reads stay.
 module _ {S : Type 0} (g : Ghosts S) where
   -- tables were opened, over a connection that was open: their rows are those of the registry, and
   -- nothing was changed or committed (profile)
@@ -73,9 +76,9 @@ module _ {S : Type 0} (g : Ghosts S) where
     pub same : OnCleanDisk g opened.store (database g opened.store ≡ database g conn)
     pub crash : CommitsNothing (state g conn) (state g opened.store)
 
-  -- what may be committed where tables are made: in a database that had room for them, over a
-  -- connection that was open, the tables of a new store with these rows, and all else as it was
-  -- (profile)
+  -- what may be committed where tables are made in a database that had room for them, over a
+  -- connection that was open. It is the tables of a new store with these rows, and all else as it
+  -- was (profile)
   abbrev pub CommitsTables : (Database → Type 0) → Held S → Trees → Type 0
   CommitsTables rows conn = WhereOpen g conn (TreesOf (IsMadeWith rows (database g conn)))
 
@@ -89,7 +92,8 @@ module _ {S : Type 0} (g : Ghosts S) where
     pub crash : Survives (state g conn) (state g made) (CommitsTables rows conn)
 
   -- a connection is given back in no transaction: while it is open, it was open before and what
-  -- there was stands. A stop of the process leaves that or what may have been committed (profile)
+  -- there was stands. A stop of the process leaves what it left before or what may have been
+  -- committed (profile)
   pub record GivesBack (commits : Trees → Type 0) (conn left : Held S) : Type 0 where
     pub autocommit : left.in_transaction ≡ false
     pub was_open : WhileOpen g left (IsTrue (state g conn).is_open)
@@ -100,8 +104,8 @@ module _ {S : Type 0} (g : Ghosts S) where
   abbrev pub OpensNone : Held S → Held S → Type 0
   OpensNone = GivesBack (λ _. ⊥)
 
-  -- no tables were made: what there was stands, and a stop of the process leaves that or, where
-  -- there was room for them, tables with these rows
+  -- no tables were made, and what there was stands. A stop of the process leaves what it left
+  -- before or, where the connection was open and there was room for them, tables with these rows
   abbrev pub MakesNone : (Database → Type 0) → Held S → Held S → Type 0
   MakesNone rows conn = GivesBack (CommitsTables rows conn) conn
 
@@ -113,9 +117,9 @@ module _ {S : Type 0} (g : Ghosts S) where
     pub why : OnCleanDisk g left (RefusesRegistry source (database g conn) fault)
     pub store : IfStore (FailsOverTidy g conn left) fault
 
-  -- no tables with these rows were made; that there is a row is told only where one of the three
-  -- tables has one, and where one has, an error of the database has a cause outside the rows; where
-  -- other tables stand in place of the three, the error says that (profile)
+  -- no tables with these rows were made. `NotEmpty` is told only where one of the three tables has
+  -- a row, and where one has, an error of the database has a cause outside the rows. Where
+  -- something stands, but not the three, such an error is that a table is not there (profile)
   pub record FailsToMakeTables (rows : Database → Type 0) (conn left : Held S) (fault : CreateFault)
       : Type 0 where
     pub none : MakesNone rows conn left

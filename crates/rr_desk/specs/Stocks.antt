@@ -40,19 +40,18 @@ abbrev pub stock_of : {S : Type 0} → Reg → Held S → Option Error → Stock
 stock_of registry store cause =
     record { registry = registry; store = store; stopped = is_some cause; cause = cause }
 
--- where the disk gives back what was written, the store of a stock holds the rows of its registry
--- (profile)
+-- where the disk gives back what was written, the store of a stock is open and holds the rows of
+-- its registry. A stop of the process then leaves these and no others (profile)
 abbrev pub StoresRows : {S : Type 0} → store.Ghosts S → StockParts S → Type 0
 StoresRows g s = OnCleanDisk g s.store (Holds s.registry (state g s.store))
 
--- until a stock is stopped its store holds the rows of its registry, where the disk gives back what
--- was written
+-- until a stock is stopped its store holds the rows of its registry (`StoresRows`)
 abbrev pub StoresUntilStopped : {S : Type 0} → store.Ghosts S → StockParts S → Type 0
 StoresUntilStopped g s = s.stopped ≡ false → StoresRows g s
 
--- what lasts of a connection, whatever is committed in between: a disk that is clean was clean, and
--- the count of its faults did not fall; where each later read is tested against a digest, it still
--- is; the limit of steps stays. Where the disk is clean, nothing but a fault of it shuts the
+-- what lasts of a connection, whatever is committed in between. A disk that is clean was clean, and
+-- the count of its faults did not fall. Where each later read is tested against a digest, it still
+-- is, and the limit of steps stays. Where the disk is clean, nothing but a fault of it shuts the
 -- connection. One that is open then was open, and has all as it was beside the rows of the three
 -- tables (profile)
 pub record DatabaseLasts (old now : State) : Type 0 where

@@ -72,7 +72,7 @@ pub record IsUnaccepted (before after : Tally) : Type 0 where
 
 -- a connection was closed, which is a turn, told where turns are told with the bytes that are noted
 -- as given and those that it was answered; the connections that are to come stay
-pub record IsClosed (given answered : Option (List ℕ)) (before after : Tally) : Type 0 where
+pub record ClosesConnection (given answered : Option (List ℕ)) (before after : Tally) : Type 0 where
   pub counts : CountsTurn (closed given answered) before after
   pub waiting : after.waiting ≡ before.waiting
 

@@ -20,18 +20,25 @@ use rr_index::IndexedBook;
 use rr_io::{Reader, Writer};
 use rr_registry::Registry;
 use rr_store::{CreateFault, IdleConnection, OpenFault};
-use rr_submission::{DeskFault, Done};
+use rr_submission::{Done, SubmissionFault};
 use sqlite::{Alter, Error};
 use std::alloc::Global;
 
 /// A registry by its settings, kept in tables. A fault of the store stops it until it is opened
-/// again. What its functions say of rows, of the rest of the file, and of a connection that was
+/// again. What its functions say of tables, rows, the rest of the file, and a connection that was
 /// open, holds where the disk gives back what was written. Where they say that its rows are those
-/// of its registry, the connection is open, and a stop of the process leaves these rows too. That a
-/// fault leaves rows or tables as they were holds while also the connection is open, and then it
-/// was open before. No call forgets a fault of the disk, and nothing but such a fault shuts the
-/// connection. What a call did, or why it did nothing, is also an event of the history of its
-/// database, as its clause `event` says.
+/// of its registry, the connection is open, and the tables hold no other rows. A stop of the
+/// process leaves these rows too. That a fault leaves rows or tables as they were holds while also
+/// the connection is open, and then it was open before.
+///
+/// No call forgets a fault of the disk, and nothing but such a fault shuts the connection. Its
+/// limit of steps stays, and reads that are tested against a digest still are. What a call did, or
+/// why it did nothing, is also an event of the history of its database, as its clause `event` says.
+///
+/// A registry of the settings' source is sound, and each object in it is what its paragraph reads
+/// as there. A cause outside the rows is one of these: memory ran out, the disk failed or refused,
+/// the connection was shut, or a limit of steps interrupted the call. The rest of the file is its
+/// schema, the rows of its tables beside the three, and each other tree that is not an index's.
 #[derive(Drop)]
 pub struct Desk<S: Alter> {
     pub(crate) settings: Settings,
@@ -39,15 +46,22 @@ pub struct Desk<S: Alter> {
 }
 
 impl<S: Alter> Desk<S> {
-    /// The desk of the registry that opens with these settings, and runs with them, in a database
-    /// with nothing in it or with the three tables and no row. The connection was open then. In a
-    /// database with nothing in it, the tables of a new store are made; in another, all beside the
-    /// rows of the three stays. The rows are written whole or not at all. After a fault the
-    /// connection is given back, in no transaction and with all tables as they were. A stop of the
-    /// process leaves these or, where there was room for them, the new ones whole. `NotEmpty` says
-    /// that the three tables are there, and one of them has a row. Where other tables stand in
-    /// their place, the error of the database says that. Where one of the three has a row, that
-    /// error has a cause outside the rows.
+    /// The desk of the registry that opens with these settings. Its objects are the root
+    /// maintainer, the two blocks of AS numbers and the span of all addresses. The desk runs with
+    /// the settings, its registry is one of their source, and its rows are those of it. The
+    /// database had no table, index or view, or the three tables and no row in them, and the
+    /// connection was open. Where nothing stood, the tables of a new store are made, and nothing
+    /// else; where the three stood, the rest of the file stays.
+    ///
+    /// After a fault the connection is given back, in no transaction and with all tables as they
+    /// were. `NotEmpty` comes only where the three tables are there, and one of them has a row.
+    /// Where one has, an error of the database has a cause outside the rows. Where something
+    /// stands, but not the three, such an error says that a table is not there. When `Memory`
+    /// comes, no clause says.
+    ///
+    /// The rows are written whole or not at all. A stop of the process during the call leaves what
+    /// one before it left. Or, where the connection was open and there was room for them, it leaves
+    /// the new tables whole.
     pub fn create(
         alloc: Global,
         conn: IdleConnection<S>,
@@ -71,13 +85,18 @@ impl<S: Alter> Desk<S> {
         }
     }
 
-    /// The desk of the registry of the settings' source whose rows the tables hold; it runs with
-    /// these settings. The connection was open then, and nothing is changed or committed. After a
-    /// fault it is given back, in no transaction and with all tables as they were, and nothing was
-    /// committed. The fault is that the tables are of another version, which comes first, or that
-    /// their rows are those of no registry of the source. Or the database refused, for a cause
-    /// outside the rows if each row has its own number; or memory ran out. Of a database without
-    /// the three tables, that and nothing else is told.
+    /// The desk of the registry of the settings' source whose rows, and no others, the tables of
+    /// version 2 hold. It runs with these settings, and its rows are those of its registry. The
+    /// connection was open, and nothing is changed or committed.
+    ///
+    /// After a fault the connection is given back, in no transaction and with all tables as they
+    /// were, and nothing was committed. `WrongVersion` gives another version that a row of `meta`
+    /// says. `BadRow` says that no row of `meta` says another version of 32 bits. The tables then
+    /// hold the rows of no registry of the source in version 2. Both come only where the three
+    /// tables are there. Where they are not, the fault is an error of the database, that a table is
+    /// not there. Where they are, and each row has its own number, such an error has a cause
+    /// outside the rows. When `Memory` comes, no clause says. A stop of the process during the call
+    /// leaves what one before it left.
     pub fn open(
         alloc: Global,
         conn: IdleConnection<S>,
@@ -95,17 +114,19 @@ impl<S: Alter> Desk<S> {
         }
     }
 
-    /// Submits what the reader gives, and writes the report. The items are decided one by one, in
-    /// order, each before its line is written, and its rows are written whole or not at all. `Done`
-    /// counts the items and those refused; a fault, where it counts, the items that stand. A
-    /// stopped desk answers `Stopped`, stays as it is, and reads and writes nothing.
+    /// Submits what the reader gives, and writes the report. The items are read in the settings'
+    /// source and decided one by one, in order. Each is decided before its line is written, and its
+    /// rows are written whole or not at all. `Done` counts the items and those refused; a fault,
+    /// where it counts, the items that stand. A stopped desk answers `Stopped`, stays as it is, and
+    /// reads and writes nothing.
     ///
     /// If a read fails, or the text has no end within 16,777,216 reads, the items that came whole
-    /// are decided. A last line says so, or is cut short. If the line of an item cannot be written,
-    /// that item and those before it stand, and those after it are not decided. Up to 4,096 bytes
-    /// after it may have been read. If the last line cannot be written, all items stand. If memory
-    /// runs out before the first item, nothing is read, and a last line says so or is cut short.
-    /// Later it refuses the item, or counts as a fault of the store; no clause says when.
+    /// are decided, and their lines written. A last line says so, or is cut short. If the line of
+    /// an item cannot be written, that item and those before it stand, and those after it are not
+    /// decided. Up to 4,096 bytes after it may have been read. If the last line cannot be written,
+    /// all items stand. If memory runs out before the first item, nothing is read, and a last line
+    /// says so or is cut short. Later it refuses the item, or counts as a fault of the store; no
+    /// clause says when.
     ///
     /// Only a fault of the store stops the desk, at an item that was to add, change or delete an
     /// object. The items before it stand. The registry in memory has that item too, and the rows do
@@ -113,22 +134,24 @@ impl<S: Alter> Desk<S> {
     /// before it, or these with that item whole, and the rest of the file as it was. At that item a
     /// line with E91 and a last line are written as far as they can be. The items after it are not
     /// decided, though up to 4,096 bytes after it may have been read. Until the desk is stopped,
-    /// its rows are those of the registry, which stays one of its source.
+    /// its rows are those of its registry. If the registry was one of the settings' source, it
+    /// still is, stopped or not.
     ///
     /// Where a prefix is held, and each item is foreign to its holders or their own, those not
     /// foreign are answered as if nobody else had submitted anything. What the holders hold ends as
     /// it then would, and the prefix stays held. Where a fault of the store stops the desk, this is
-    /// said of the items before that one. That one, if foreign, leaves what they hold as it was.
+    /// said of the items before that one. That one, if foreign, leaves what they hold as it was,
+    /// and the prefix held.
     ///
     /// However the submission ends, no fault of the disk is forgotten, and nothing but such a fault
-    /// shuts the connection. The settings stay. While the connection is open, all of the file
-    /// beside the rows of the three tables is as it was.
+    /// shuts the connection. The settings stay. While the connection is open, it was open before,
+    /// and the rest of the file is as it was.
     pub fn submit<R: Reader, W: Writer>(
         &mut self,
         alloc: Global,
         reader: &mut R,
         writer: &mut W,
-    ) -> Result<Done, DeskFault>
+    ) -> Result<Done, SubmissionFault>
         ensures stopped { self.old.stock.stopped ≡ true → RefusesSubmission
             self.old self.new reader.old reader.new writer.old writer.new result }
         ensures submits { self.old.stock.stopped ≡ false → SubmitsTo S.Store self.old self.new
@@ -150,7 +173,7 @@ impl<S: Alter> Desk<S> {
         &self.settings
     }
 
-    /// Whether a fault of the store stopped the desk; until then the rows are those of its
+    /// Whether a fault of the store stopped the desk; until then its rows are those of its
     /// registry.
     pub fn stopped(&self) -> bool
         ensures told { result ≡ self.now.stock.stopped }
@@ -159,8 +182,8 @@ impl<S: Alter> Desk<S> {
         self.stock.stopped()
     }
 
-    /// Whether its rows are those of its registry until a fault of the store stops it: they always
-    /// are. `prove!` asks this where a proof needs it and the code does not.
+    /// Always true. Until a fault of the store stops the desk, its rows are those of its registry:
+    /// `prove!` asks this where a proof needs it and the code does not.
     pub fn keeps_its_rows(&self) -> bool
         ensures always { result ≡ true }
         ensures rows { StoresUntilStopped S.Store self.now.stock }
@@ -168,7 +191,8 @@ impl<S: Alter> Desk<S> {
         self.stock.stopped() == self.stock.cause().is_some()
     }
 
-    /// The error of the database that stopped the desk; none until it is stopped.
+    /// The error of the database that stopped the desk. There is one exactly where the desk is
+    /// stopped.
     pub fn cause(&self) -> Option<Error>
         ensures cause { result ≡ self.now.stock.cause }
         ensures stopped { self.now.stock.stopped ≡ is_some result }

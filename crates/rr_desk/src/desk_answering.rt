@@ -14,7 +14,7 @@ ghost use Rattle.rr_desk.specs.Rows.{KeepsRows};
 ghost use Rattle.rr_desk.specs.Stocks.{StoresUntilStopped};
 
 use crate::desk::Desk;
-use rr_answer::{Found, QueryFault, find_for, is_too_long};
+use rr_answer::{Findings, QueryFault, find_for, is_too_long};
 use rr_io::{Writer, write_all};
 use sqlite::Alter;
 use std::alloc::Global;
@@ -31,12 +31,12 @@ pub struct Answered {
 pub struct WriteFault;
 
 impl<S: Alter> Desk<S> {
-    /// Answers the text of a query, without the LF that ended it. What the registry has is written,
-    /// found under the limit of the settings; or one line `% error n` is. Its number is 2 if the
-    /// text has more than 1,024 bytes, and otherwise 6 if the desk is stopped. Of a desk that runs
-    /// it is 1 if the text is not a query, 3 for an expansion over the limit, or 4 if memory ran
-    /// out (profile). The number is returned, or 0 where there is no error. After a write fault the
-    /// writer has taken the beginning of the answer, and not all of it. The event has the whole
+    /// Answers the text of a query, given without the LF that ended it. What the registry answers
+    /// under the limit of the settings is written, or one line `% error n`. The number n is 2 if
+    /// the text has more than 1,024 bytes, and otherwise 6 if the desk is stopped. Of a desk that
+    /// runs it is 1 if the text is not a query, 3 for an expansion over the limit, or 4 if memory
+    /// ran out (profile). The number is returned, or 0 where there is no error. After a write fault
+    /// the writer has taken the beginning of the answer, and not all of it. The event has the whole
     /// answer all the same. Until the desk is stopped, its rows are those of its registry.
     #[tactic(auto, using(crate::proofs::AnswerLemmas::written))]
     pub fn answer<W: Writer>(
@@ -60,7 +60,7 @@ impl<S: Alter> Desk<S> {
     /// What the text of a query finds, or the error. Until the desk is stopped its rows are those
     /// of its registry.
     #[tactic(auto, using(crate::proofs::AnswerLemmas::running))]
-    fn found(&self, alloc: Global, text: &[u8]) -> Result<Found<'_>, QueryFault>
+    fn found(&self, alloc: Global, text: &[u8]) -> Result<Findings<'_>, QueryFault>
         ensures gives { GivesAnswer self.now text.now (made_answer result) }
         ensures rows { StoresUntilStopped S.Store self.now.stock }
         ensures keeps { self.now.stock.stopped ≡ false
@@ -77,7 +77,7 @@ impl<S: Alter> Desk<S> {
     }
 
     /// What the text of a query finds in the registry, or the error.
-    fn found_running(&self, alloc: Global, text: &[u8]) -> Result<Found<'_>, QueryFault>
+    fn found_running(&self, alloc: Global, text: &[u8]) -> Result<Findings<'_>, QueryFault>
         ensures ok { IfOk result (λ found. IsAnswerTo self.now.stock.registry
             self.now.settings.limit text.now (Ok (found_text found))) }
         ensures fault { IfErr result (λ fault. fault ≢ Memory → IsAnswerTo
@@ -92,7 +92,7 @@ impl<S: Alter> Desk<S> {
 /// Writes what was found part by part, or the line of the error.
 fn write_found<W: Writer>(
     alloc: Global,
-    found: &Result<Found<'_>, QueryFault>,
+    found: &Result<Findings<'_>, QueryFault>,
     writer: &mut W,
 ) -> Result<Answered, WriteFault>
     ensures writes { Writes (W.told writer.old) (W.told writer.new)

@@ -40,11 +40,12 @@ impl From<rr_answer::DumpFault> for DeskDumpFault {
 }
 
 impl<S: Alter> Desk<S> {
-    /// Writes a dump of the registry: its objects by class and key, each with an empty line, and a
-    /// last line that counts them. `full` prints all their text, otherwise their public forms
-    /// (profile). It answers how many there are. After `Write` or `Memory` the writer has taken the
-    /// beginning of the dump, and not all of it. A stopped desk alone answers `Stopped`, and writes
-    /// nothing. The event of a desk that runs has the whole dump, also where not all was written.
+    /// Writes a dump of the registry: its objects by class and key, each with an empty line after
+    /// it, and a last line that counts them. `full` prints all their text, otherwise their public
+    /// forms (profile). It returns how many objects there are. After `Write` or `Memory` the writer
+    /// has taken the beginning of the dump, and not all of it. A stopped desk alone answers
+    /// `Stopped`, and writes nothing. The event of a desk that runs has the whole dump, also where
+    /// not all was written.
     pub fn dump<W: Writer>(
         &self,
         alloc: Global,

@@ -24,19 +24,27 @@ use sqlite::Alter;
 use std::alloc::{AllocError, Global};
 
 impl<S: Alter> Desk<S> {
-    /// The desk of the registry of the objects of tables of version 1, and of the block of the AS
-    /// numbers of more than 16 bits. The root, whose mntner is one of these objects, maintains the
-    /// block (RFC 6793). All rows are written anew as those of version 2, whole or not at all, and
-    /// all else in the file stays. The connection was open then. The settings say the source and
-    /// the root, and the desk runs with them.
+    /// The desk of the registry to which tables of version 1 are migrated. They held the rows of
+    /// the objects of a sound registry, and no others. All of these were of the settings' source,
+    /// with keys that have texts in version 1, and one was the root's mntner. The new registry has
+    /// these objects and the block of the AS numbers of more than 16 bits, which the root
+    /// maintains, and no others (RFC 6793). All rows are written anew as those of version 2, whole
+    /// or not at all, and the rest of the file stays. The connection was open. The desk runs with
+    /// the settings, which say the source and the root. Its registry is one of that source, and its
+    /// rows are those of it.
     ///
     /// After a fault the connection is given back, in no transaction and with all tables as they
-    /// were. A stop of the process leaves these or, where they could be migrated, the new ones
-    /// whole. That the tables are of another version comes first, then that their rows are those of
-    /// no registry of the source, then that the root is not registered. Of a database without the
-    /// three tables, that and nothing else is told. Where they are there, and each row has its own
-    /// number, an error of the database has a cause outside the rows. But where they could be
-    /// migrated, no clause says why it failed.
+    /// were. `WrongVersion` gives another version that a row of `meta` says. `BadRow` says that no
+    /// row of `meta` says one of 32 bits other than 1. The tables then hold the rows of no registry
+    /// of the source in version 1. `NoRoot` says that they hold those of a sound registry, all of
+    /// the source, without the root's mntner. All three come only where the three tables are there.
+    /// Where they are not, the fault is an error of the database, that a table is not there. Where
+    /// they are, and each row has its own number, such an error has a cause outside the rows. But
+    /// where the tables could be migrated, no clause says why it came. When `Memory` comes, no
+    /// clause says.
+    ///
+    /// A stop of the process during the call leaves what one before it left. Or, where the
+    /// connection was open and the tables could be migrated, it leaves the new ones whole.
     pub fn migrate(
         alloc: Global,
         conn: IdleConnection<S>,

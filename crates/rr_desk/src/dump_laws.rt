@@ -3,8 +3,8 @@
 
 ghost use Rattle.rr_desk.specs.DumpLaws.{DumpsAreOfTheirSource, FullDumpsAreRead};
 
-/// The full dump of a registry that can be read again (`IsDumpable`) reads as its objects, and is a
-/// dump of that registry and of no other.
+/// The full dump of a registry that can be read again (`IsDumpable`) reads, in its source, as its
+/// objects in their order. It is a dump of that registry and of no other.
 pub fn full_dumps_are_read()
     ensures { FullDumpsAreRead }
 {}

@@ -6,7 +6,7 @@ ghost use Rattle.rr_desk.specs.declared.dump_read_fault.DumpReadFault.TheVariant
 use rr_object::Code;
 use std::alloc::AllocError;
 
-/// Why a dump was not read. Entries are counted from 1; those before the one that is told are
+/// Why a dump was not read. Entries are counted from 1; those before the one that a fault names are
 /// objects of the source.
 #[derive(Clone, Copy, Debug, PartialEq, Eq)]
 pub enum DumpReadFault {
@@ -18,7 +18,7 @@ pub enum DumpReadFault {
     Text(u64),
     /// This entry is not an object of the source; a submission of it is refused with this code.
     Object(u64, Code),
-    /// Memory ran out.
+    /// Memory ran out: the dump was read to its end, or nothing of it was.
     Memory,
 }
 

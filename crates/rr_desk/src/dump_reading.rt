@@ -18,11 +18,12 @@ use rr_object::{Object, ObjectFault};
 use rr_text::{Paragraph, Paragraphs, TextFault};
 use std::alloc::Global;
 
-/// The objects of the dump that this reader gives, in its order, as those of a registry of this
-/// source. The fault is the first entry that is not such an object. The dump is any RPSL text, and
-/// is read to its end even then. So a failed read, and too many reads, are told in place of it.
-/// If memory runs out, the whole dump was read, or nothing of it was, and that may be told in place
-/// of an entry's fault.
+/// The objects that the entries of the reader's text are, in their order: each is read in this
+/// source. The dump may be any RPSL text, and nothing asks whether the objects are a registry. The
+/// fault is that of the first entry that is no object of the source. The dump is read to its end
+/// even then. So a failed read, or no end within 16,777,216 reads, is told in place of it. If
+/// memory runs out, the whole dump was read, or nothing of it was, and that may be told in place of
+/// an entry's fault.
 pub fn read_dump<R: Reader>(
     alloc: Global,
     reader: &mut R,

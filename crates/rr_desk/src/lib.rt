@@ -30,7 +30,7 @@ pub use dump_reading::read_dump;
 pub use loading::DeskLoadFault;
 pub use peers::{AcceptFault, ConnFault, Peers};
 pub use rr_store::{CreateFault, MigrateFault, OpenFault};
-pub use rr_submission::{DeskFault, Done};
+pub use rr_submission::{Done, SubmissionFault};
 pub use service::Service;
 pub use settings::{GREATEST_LIMIT, Setting, Settings, ValueFault};
 pub use turn_serving::{Served, serve_all};

@@ -22,15 +22,15 @@ use sqlite::Alter;
 use std::alloc::Global;
 
 /// Why no desk was made from a dump: while the connection is open, its tables are as they were.
-/// Entries and objects are counted from 1. A failed read, or no end within 16,777,216 reads, comes
-/// first. Then comes the first entry that is not an object of the source, then the first key that
-/// stands twice or span that crosses. Then comes the first name of a maintainer who is not there.
-/// The store is asked last.
+/// Entries and objects are counted from 1. A failed read, or no end within 16,777,216 reads, is
+/// judged first, then the first entry that is not an object of the source. Then comes the first
+/// object whose key one before it has, or whose span crosses that of one before it. Then comes the
+/// first object that names a maintainer who is not among the objects. The store is asked last.
 #[derive(Clone, Copy, Debug, PartialEq, Eq)]
 pub enum DeskLoadFault {
-    /// The dump was not read.
+    /// The dump was not read, or an entry of it is not an object of the source.
     Unread(DumpReadFault),
-    /// The dump was read to its end, and its objects are not a registry.
+    /// The dump was read to its end, and its objects are not a registry, or memory ran out.
     Untaken(LoadFault),
     /// The dump is that of a registry, and no store of it was made.
     Unmade(CreateFault),
@@ -59,16 +59,23 @@ impl From<LoadFault> for DeskLoadFault {
 }
 
 impl<S: Alter> Desk<S> {
-    /// The desk of the registry whose dump this reader gives, in a database with nothing in it or
-    /// with the three tables and no row. It runs with the settings, and the connection was open
-    /// then. The dump is read to its end, and its rows are written whole or not at all. It is any
-    /// RPSL text whose entries are the objects of a sound registry of the settings' source. In a
-    /// database with nothing in it, the tables of a new store are made; in another, all beside the
-    /// rows of the three stays. After a fault the connection is given back, in no transaction and
-    /// with all tables as they were. A stop of the process leaves these or, where there was room
-    /// for them, the new ones whole. Where other tables stand in place of the three, the error of
-    /// the database says that. Where one of the three has a row, that error has a cause outside the
-    /// rows.
+    /// The desk of the registry whose dump this reader gives. The dump is read to its end: any RPSL
+    /// text whose entries are the objects of a sound registry, each as it is read in the settings'
+    /// source. The desk runs with the settings, its registry is one of their source, and its rows
+    /// are those of it. The database had no table, index or view, or the three tables and no row in
+    /// them, and the connection was open. Where nothing stood, the tables of a new store are made,
+    /// and nothing else; where the three stood, the rest of the file stays.
+    ///
+    /// After a fault the connection is given back, in no transaction and with all tables as they
+    /// were. `Unread` and `Untaken` say why the dump gives no registry, as [`DeskLoadFault`] has
+    /// it. `Unmade` comes only of a dump of a registry that was read to its end. In it `NotEmpty`
+    /// comes only where the three tables are there, and one of them has a row. Where one has, an
+    /// error of the database has a cause outside the rows. Where something stands, but not the
+    /// three, such an error says that a table is not there. When memory runs out, no clause says.
+    ///
+    /// The rows are written whole or not at all. A stop of the process during the call leaves what
+    /// one before it left. Or, where the connection was open and there was room for them, it leaves
+    /// the new tables whole.
     pub fn load<R: Reader>(
         alloc: Global,
         conn: IdleConnection<S>,

@@ -3,7 +3,7 @@
 
 ghost use Rattle.std.specs.Prelude.{◌≡◌, ◌+◌, ◌<◌, ◌^◌, ℕ, List, Option, Some};
 ghost use Rattle.std.specs.Prelude.{length, IfOk, OnErr};
-ghost use Rattle.rr_desk.specs.Turns.{IsAccepted, IsClosed, IsUnaccepted, Tally, Turn};
+ghost use Rattle.rr_desk.specs.Turns.{IsAccepted, ClosesConnection, IsUnaccepted, Tally, Turn};
 
 use rr_io::Connection;
 use std::alloc::Global;
@@ -36,10 +36,12 @@ pub trait Peers {
     // The bytes that the reader of that connection told when it was accepted, where it tells them.
     ghost given: { Self → Option (List ℕ) };
 
-    /// The next connection, of which no call has failed and to which nothing was written. It is
-    /// open then, and no turn yet; what its reader tells is kept as `given`. The allocator is for
-    /// what keeps the connection. An error is a turn; where connections to come are told, none is
-    /// to come then. The turns there were and this one are within `u64`.
+    /// The next connection: where those to come are told, the first of them, and the others are
+    /// still to come; where not, they stay untold. No call of it has failed, and nothing was
+    /// written to it, where that is told. It is open then, and no turn yet; the bytes that its
+    /// reader tells are kept as `given`. An error is a turn, and told where turns are told; where
+    /// connections to come are told, none is to come then. The turns there were and this one must
+    /// be within `u64`. The allocator is for what keeps the connection.
     fn accept(&mut self, alloc: Global) -> Result<Self::Conn, AcceptFault>
         requires { (tally self.old).turns + 1 < 2 ^ 64 }
         ensures accepted { IfOk result (λ conn. IsAccepted (tally self.old) (tally self.new)
@@ -47,13 +49,14 @@ pub trait Peers {
         ensures open { IfOk result (λ conn. IsOpen self.new) }
         ensures refused { OnErr result (IsUnaccepted (tally self.old) (tally self.new)) };
 
-    /// Closes the connection that was accepted last and is open, which is a turn. Where turns are
-    /// told, it is told with `given`, what the connection had to give, and with the bytes written
-    /// to it. The connections to come stay. The turns there were and this one are within `u64`.
+    /// Closes a connection, which is a turn; one must have been accepted and not closed yet
+    /// (`IsOpen`). Where turns are told, it is told with `given`, the bytes that the accepted one
+    /// had to give, and with the bytes that were written to this one. The connections to come stay.
+    /// The turns there were and this one must be within `u64`.
     fn close(&mut self, conn: Self::Conn)
         requires open { IsOpen self.old }
         requires room { (tally self.old).turns + 1 < 2 ^ 64 }
-        ensures { IsClosed (given self.old) (Self.Conn.Writer.told conn).bytes
+        ensures { ClosesConnection (given self.old) (Self.Conn.Writer.told conn).bytes
             (tally self.old) (tally self.new) };
 
     /// How many turns there were, told or not.

@@ -16,10 +16,17 @@ pub trait Service {
     // What serving a connection does.
     ghost serves: { Serving };
 
-    /// Serves a connection. What that does, and what the result says, `serves` says: of `Both` that
-    /// it reads what is asked, asks the desk and writes the reply, and that the error is a failed
-    /// read or write. The settings of the desk stay, its database lasts, and unless a fault of the
-    /// store stopped it, its rows are those of its registry.
+    /// Serves a connection. What that does to the desk and to the connection, and what the result
+    /// says, is what `serves` says of this visit (`conn_visit`). Of `Both`, for one, it says that
+    /// what is asked is read, the desk is asked, and the reply is written. The error is then a
+    /// failed read or write.
+    ///
+    /// The settings of the desk stay, and until a fault of the store stops it, its rows are those
+    /// of its registry. Its database lasts (`DatabaseLasts`): no fault of the disk is forgotten,
+    /// and nothing but such a fault shuts the connection to it. The limit of steps and the tests of
+    /// reads stay. While that connection is open, it was open before, and the file stays but for
+    /// the rows of the three tables. What is said of rows, of the file and of that connection holds
+    /// where the disk gives back what was written.
     fn serve<S: Alter, C: Connection>(
         &self,
         alloc: Global,

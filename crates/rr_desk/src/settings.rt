@@ -50,9 +50,12 @@ impl From<AllocError> for ValueFault {
 }
 
 /// What a registry opens with: its source, and its root maintainer with the salt and digest of its
-/// secret. And the limit of expansions, 1 to [`GREATEST_LIMIT`]: the most names that one may reach,
-/// and for a route-set the most pairs of a set and a range (profile). All settings are good
-/// (`IsSettings`), and the clauses `good` say it where a proof needs it.
+/// secret. And the limit of expansions: the most names that one may reach, and for a route-set the
+/// most pairs of a set and a range (profile).
+///
+/// All settings are good (`IsSettings`), and the clauses `good` say it where a proof needs it. The
+/// source is a name and the root a maintainer's, both in upper case. The digest is one of SHA-256,
+/// with a salt. The limit is 1 to [`GREATEST_LIMIT`].
 #[derive(Debug, Drop)]
 pub struct Settings {
     source: Name,
@@ -73,8 +76,8 @@ impl Model for Settings {
 
 impl Settings {
     /// The settings that these values are: a name, a maintainer's name, a value of `auth` of the
-    /// scheme `SHA256-PW`, and a limit of 1 to [`GREATEST_LIMIT`]. `None` if one of them is not
-    /// good; the error is that memory ran out.
+    /// scheme `SHA256-PW`, and a limit of 1 to [`GREATEST_LIMIT`]. Names are put in upper case.
+    /// `None` if one of the values is not good; the error is that memory ran out.
     pub fn new(
         alloc: Global,
         source: &str,
@@ -92,8 +95,9 @@ impl Settings {
         }
     }
 
-    /// The settings that these values are, of which some may be missing. The fault is the first
-    /// setting, in the order of `Setting`, that is missing or bad, or that memory ran out.
+    /// The settings that these values are, as at [`Settings::new`]; some may be missing. The fault
+    /// is the first setting, in the order of `Setting`, that is missing or bad, or that memory ran
+    /// out.
     #[tactic(auto, unfolding(crate::specs::Settings::settings_of))]
     pub fn read(
         alloc: Global,
@@ -120,8 +124,9 @@ impl Settings {
         })
     }
 
-    /// The settings of the program without arguments: `TEST`, `ROOT-MNT` with the password `bc`,
-    /// and the limit 10,000 (profile); the error is that memory ran out.
+    /// The settings of the program without arguments: the source `TEST`, the root `ROOT-MNT` with
+    /// the password `bc` and the salt `a`, and the limit 10,000 (profile). The error is that memory
+    /// ran out.
     #[tactic(auto, using(crate::proofs::GoodSettings::built_in_read))]
     pub fn built_in(alloc: Global) -> Result<Settings, AllocError>
         ensures { IfOk result (λ settings. settings ≡ built_in) }
@@ -131,7 +136,9 @@ impl Settings {
         Ok(settings.unwrap())
     }
 
-    /// The source of the registry; the settings are good.
+    /// The source of the registry. The settings are good (`IsSettings`): the source is a name and
+    /// the root a maintainer's, both in upper case. The digest is one of SHA-256, with a salt, and
+    /// the limit is 1 to [`GREATEST_LIMIT`].
     pub fn source(&self) -> &Name
         ensures source { result.now ≡ self.now.source }
         ensures good { IsSettings self.now }
@@ -139,7 +146,7 @@ impl Settings {
         &self.source
     }
 
-    /// The name of the root maintainer; the settings are good.
+    /// The name of the root maintainer. The settings are good, as at [`Settings::source`].
     pub fn root(&self) -> &Name
         ensures root { result.now ≡ self.now.root }
         ensures good { IsSettings self.now }
@@ -155,7 +162,7 @@ impl Settings {
     }
 
     /// The most names that an expansion may reach, and for a route-set the most pairs of a set and
-    /// a range, 1 to [`GREATEST_LIMIT`]; the settings are good.
+    /// a range. The settings are good, as at [`Settings::source`].
     pub(crate) fn limit(&self) -> u64
         ensures limit { result ≡ self.now.limit }
         ensures good { IsSettings self.now }

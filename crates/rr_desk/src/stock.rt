@@ -60,9 +60,9 @@ impl<S: Alter> Stock<S> {
         }
     }
 
-    /// Whether a fault of the store stopped it; until then the store holds the rows of the
-    /// registry, where the disk gives back what was written, and a stop of the process leaves
-    /// these.
+    /// Whether a fault of the store stopped it. Until then, where the disk gives back what was
+    /// written, the store is open and holds the rows of the registry and no others. A stop of the
+    /// process leaves these.
     pub fn stopped(&self) -> bool
         ensures told { result ≡ self.now.stopped }
         ensures held { StoresUntilStopped S.Store self.now }
@@ -72,7 +72,7 @@ impl<S: Alter> Stock<S> {
         self.cause.is_some()
     }
 
-    /// The error of the database that stopped it; none until it is stopped.
+    /// The error of the database that stopped it. There is one exactly where it is stopped.
     pub fn cause(&self) -> Option<Error>
         ensures cause { result ≡ self.now.cause }
         ensures stopped { self.now.stopped ≡ is_some result }

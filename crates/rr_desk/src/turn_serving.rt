@@ -10,8 +10,8 @@ use crate::service::Service;
 use sqlite::Alter;
 use std::alloc::Global;
 
-/// How many turns were served, and how many failed: by a connection that could not be accepted, or
-/// of which a read or a write failed.
+/// How many turns were served, and how many failed, because no connection could be accepted, or
+/// because a read or a write of one failed.
 #[derive(Clone, Copy, Debug, PartialEq, Eq)]
 pub struct Served {
     /// The turns that were served.
@@ -21,11 +21,14 @@ pub struct Served {
 }
 
 /// Takes so many turns of the listener, one after the other: accepts a connection, serves it, and
-/// closes it. A turn that fails is counted, and the next one follows. It gives how many were served
-/// and how many failed. Where connections to come are told, they are accepted in their order; where
-/// turns are told, each is. A turn without a connection leaves the desk as it is. The settings of
-/// the desk stay, its database lasts, and until a fault of the store stops it, its rows are those
-/// of its registry. The turns there were and these are within `u64`.
+/// closes it. What serving does is what `serves` of the service says, from when the connection was
+/// accepted: no call of it had failed, and nothing was written to it. A turn that fails is counted,
+/// and the next one follows. It gives how many turns were served and how many failed.
+///
+/// Where connections to come are told, they are accepted in their order; where turns are told, each
+/// is. All are counted. A turn without a connection leaves the desk as it is. The settings of the
+/// desk stay, its database lasts, and until a fault of the store stops it, its rows are those of
+/// its registry, all as at [`Service::serve`]. The turns there were and these must be within `u64`.
 pub fn serve_all<S: Alter, P: Peers, V: Service>(
     alloc: Global,
     desk: &mut Desk<S>,

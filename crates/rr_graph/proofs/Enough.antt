@@ -20,7 +20,7 @@ use Rattle.std.proofs.lemmas.List.Elements.{Contains-push_cases}
 use Rattle.std.proofs.lemmas.Map.Lookups.{CmpEqualImpliesEq}
 use Rattle.std.proofs.lemmas.Map.Views.{btree_set_contains_iff, tells_apart}
 use Rattle.rr_graph.specs.EffectParts.{AddsAtMost, IsChoice, IsCovered, IsDistinct, IsEnough}
-use Rattle.rr_graph.specs.EffectParts.{IsKnown, IsMadeBut, Makes, changed}
+use Rattle.rr_graph.specs.EffectParts.{AreChoices, IsMadeBut, Makes, changed}
 use Rattle.rr_graph.specs.ReversedParts.{LeadsBack}
 use Rattle.rr_graph.specs.declared.effects.Choice.{Choice}
 use Rattle.rr_graph.specs.declared.labels.Edge.{Edge}
@@ -334,10 +334,11 @@ module _ {N L V : Type 0} (keeps : L → Bool) (passed : L → V → Option V) w
         (all : N → List (Edge N L)) (old new : N × K → Option (Choice N L)) (node : N) (value : V)
         (choice : Choice N L) where
       -- one more node and kind
-      pub IsKnown-entered : IsKnown keeps passed kind_of all old → IsChoice keeps passed (all node)
+      pub AreChoices-entered : AreChoices keeps passed kind_of all old → IsChoice keeps passed
+          (all node)
           value choice → ((key : N × K) → new key ≡ cond (is_at (cmp (node, kind_of value)) key)
-          (Some choice) (old key)) → IsKnown keeps passed kind_of all new
-      IsKnown-entered before chosen step n v k has =
+          (Some choice) (old key)) → AreChoices keeps passed kind_of all new
+      AreChoices-entered before chosen step n v k has =
           elim (cases_Bool (is_at (cmp (node, kind_of value)) (n, kind_of v))) [
             | inl same ↦
                 let it : (node, kind_of value) ≡ (n, kind_of v) = tells_apart exact

@@ -28,7 +28,8 @@ use Rattle.rr_graph.specs.Answered.{ListsInOrder}
 use Rattle.rr_graph.specs.Carried.{IsFound, IsFoundPair, IsLabelledChain, IsReachedFrom}
 use Rattle.rr_graph.specs.Carried.{put_through}
 use Rattle.rr_graph.specs.Chain.{HasNoRepeats, MoreThan}
-use Rattle.rr_graph.specs.SettledParts.{HoldsAllValues, IsAmong, IsFoundAmong, IsHeld, IsHeldOr}
+use Rattle.rr_graph.specs.SettledParts.{HoldsAllValues, IsAmong, IsFoundAmong, IsKnownValue}
+use Rattle.rr_graph.specs.SettledParts.{IsKnownValueOr}
 use Rattle.rr_graph.specs.SettledParts.{IsPassed, IsTallied}
 use Rattle.rr_graph.specs.declared.labels.Edge.{Edge}
 use Rattle.rr_graph.proofs.Backwards.{Contains-take, Contains-take_cases}
@@ -104,15 +105,16 @@ module _ {N V : Type 0} (at : N → Option (List V)) (node : N) (values : List V
       (new : N → Option (List V)) (step : (other : N) → new other ≡ cond (is_at (cmp node) other)
       (Some values) (at other)) where
     -- what is held once the node has its values
-    pub IsHeld-entered : (p : N × V) → IsHeld new p ↔ IsHeldOr at node (Contains values) p
-    IsHeld-entered p = (on, from) where
+    pub IsKnownValue-entered : (p : N × V) → IsKnownValue new p ↔ IsKnownValueOr at node
+        (Contains values) p
+    IsKnownValue-entered p = (on, from) where
       at_node : is_at (cmp node) p.0 ≡ true → new p.0 ≡ Some values
       at_node same = step p.0 ∙ ap (λ b. cond b (Some values) (at p.0)) same
 
       elsewhere : is_at (cmp node) p.0 ≡ false → new p.0 ≡ at p.0
       elsewhere other = step p.0 ∙ ap (λ b. cond b (Some values) (at p.0)) other
 
-      on : IsHeld new p → IsHeldOr at node (Contains values) p
+      on : IsKnownValue new p → IsKnownValueOr at node (Contains values) p
       on (held, is, has) = elim (cases_Bool (is_at (cmp node) p.0)) [
         | inl same ↦
             let both : Some held ≡ Some values = sym is ∙ at_node same in
@@ -125,7 +127,7 @@ module _ {N V : Type 0} (at : N → Option (List V)) (node : N) (values : List V
         | inr other ↦ inl (held, sym (elsewhere other) ∙ is, has)
       ]
 
-      from : IsHeldOr at node (Contains values) p → IsHeld new p
+      from : IsKnownValueOr at node (Contains values) p → IsKnownValue new p
       from (inl (held, is, has)) = elim (cases_Bool (is_at (cmp node) p.0)) [
         | inl same ↦
             let wrong : None ≡ Some held =
@@ -157,11 +159,11 @@ module _ {N V : Type 0} (at : N → Option (List V)) (node : N) (values : List V
     joined_once =
         once_entered value_order node before.pairs values before.once
         (λ v there _.
-        let held : IsHeld at (node, v) = (before.same (node, v)).0 there in
+        let held : IsKnownValue at (node, v) = (before.same (node, v)).0 there in
         let wrong : None ≡ Some held.0 = sym absent ∙ held.1 in
         cc) sorted
 
-    joined_same : (p : N × V) → Contains joined p ↔ IsHeldOr at node (Contains values) p
+    joined_same : (p : N × V) → Contains joined p ↔ IsKnownValueOr at node (Contains values) p
     joined_same p = (
       λ has. elim (Contains-append_cases before.pairs (map (λ v. (node, v)) values) p has) [
         | inl earlier ↦ inl ((before.same p).0 earlier)
@@ -197,21 +199,21 @@ module _ {N V : Type 0} (at : N → Option (List V)) (node : N) (values : List V
       few = fits;
       once = joined_once;
       same = λ p. (
-        λ has. (IsHeld-entered order exact new step p).1 ((joined_same p).0 has),
-        λ held. (joined_same p).1 ((IsHeld-entered order exact new step p).0 held),
+        λ has. (IsKnownValue-entered order exact new step p).1 ((joined_same p).0 has),
+        λ held. (joined_same p).1 ((IsKnownValue-entered order exact new step p).0 held),
       );
     }
 
     -- a node for whose values there is no room
     pub MoreThan-entered : limit < count + length values →
-        MoreThan limit (IsHeldOr at node (Contains values))
+        MoreThan limit (IsKnownValueOr at node (Contains values))
     MoreThan-entered full =
         let fits : limit + 1 ≤ length joined = rw joined_long (omega arith) in (
           take (limit + 1) joined,
           length-take-le (limit + 1) joined fits,
           HasNoRepeats-take (limit + 1) joined fits joined_once,
-          All-take (IsHeldOr at node (Contains values)) (limit + 1) joined
-              (All-weaker (Contains joined) (IsHeldOr at node (Contains values))
+          All-take (IsKnownValueOr at node (Contains values)) (limit + 1) joined
+              (All-weaker (Contains joined) (IsKnownValueOr at node (Contains values))
               (λ p. (joined_same p).0) joined (All-contains_itself joined)),
         )
 
@@ -227,7 +229,7 @@ module _ {N L V : Type 0} (passed : L → V → Option V) (at : N → Option (Li
       i < length edges → e ≡ get_or edges i e →
       ((v : V) → Contains old v ↔ (Contains starts v ⊎ IsPassed passed at (take i edges) v)) →
       ((v : V) → Contains new v
-      ↔ (Contains old v ⊎ ((w : V) × IsHeld at (e.to, w) × (passed e.label w ≡ Some v)))) →
+      ↔ (Contains old v ⊎ ((w : V) × IsKnownValue at (e.to, w) × (passed e.label w ≡ Some v)))) →
       (v : V) → Contains new v ↔ (Contains starts v ⊎ IsPassed passed at (take (i + 1) edges) v)
   IsPassed-more starts old new edges i e inside is before added v = (
     λ has. elim ((added v).0 has) [
@@ -244,7 +246,8 @@ module _ {N L V : Type 0} (passed : L → V → Option V) (at : N → Option (Li
         | inr same ↦
             (added v).1
             (inr
-            (subst (λ (x : Edge N L). (w : V) × IsHeld at (x.to, w) × (passed x.label w ≡ Some v))
+            (subst (λ (x : Edge N L). (w : V) × IsKnownValue at (x.to, w)
+            × (passed x.label w ≡ Some v))
             (sym same) r.2))
       ]
     ],
@@ -253,7 +256,7 @@ module _ {N L V : Type 0} (passed : L → V → Option V) (at : N → Option (Li
   -- what an edge to a known node adds
   pub IsPassed-known : (old new held : List V) (e : Edge N L) → at e.to ≡ Some held →
       new ≡ old ++ filter_map (passed e.label) held → (v : V) → Contains new v
-      ↔ (Contains old v ⊎ ((w : V) × IsHeld at (e.to, w) × (passed e.label w ≡ Some v)))
+      ↔ (Contains old v ⊎ ((w : V) × IsKnownValue at (e.to, w) × (passed e.label w ≡ Some v)))
   IsPassed-known old new held e known is v = (
     λ has. elim (Contains-append_cases old (filter_map (passed e.label) held) v
         (subst (λ (l : List V). Contains l v) is has)) [
@@ -274,7 +277,7 @@ module _ {N L V : Type 0} (passed : L → V → Option V) (at : N → Option (Li
 
   -- an edge to another node adds nothing
   pub IsPassed-unknown : (old : List V) (e : Edge N L) → at e.to ≡ None → (v : V) → Contains old v
-      ↔ (Contains old v ⊎ ((w : V) × IsHeld at (e.to, w) × (passed e.label w ≡ Some v)))
+      ↔ (Contains old v ⊎ ((w : V) × IsKnownValue at (e.to, w) × (passed e.label w ≡ Some v)))
   IsPassed-unknown old e unknown v = (
     λ has. inl has,
     λ both. elim both [
@@ -417,7 +420,7 @@ module _ {N L V : Type 0} (edge : N → N → L → Type 0) (own : N → V → T
   -- what is held and what is found at a node is found at the nodes
   pub IsFoundAmong-held : (nodes : List N) (node : N) → HoldsAllValues edge own passed value_cmp at
       → IsAmong nodes at → Contains nodes node → (p : N × V) →
-      IsHeldOr at node (IsFound edge own passed node) p → IsFoundAmong edge own passed nodes p
+      IsKnownValueOr at node (IsFound edge own passed node) p → IsFoundAmong edge own passed nodes p
   IsFoundAmong-held nodes node settled among there p (inl (held, is, has)) =
       (among p.0 held is, ((settled p.0 held is).all p.1).0 has)
   IsFoundAmong-held nodes node settled among there p (inr (same, found)) = (

@@ -1,11 +1,12 @@
--- Values that labelled edges carry back. What is found at the node to which an edge leads is found
--- at the node that it leaves too, once the edge's label has passed it.
+-- Values that labelled edges carry back: for `gather`, and for route-sets of `rr_sets`. What is
+-- found at the node to which an edge leads is found at the node that it leaves too, once the edge's
+-- label has passed it.
 use Rattle.std.specs.Prelude.{◌≡◌, ◌↔◌, ◌⊎◌, ◌∷◌, ℕ, List, [], Option}
 use Rattle.std.specs.Prelude.{Contains, Some, option_and_then}
 use Rattle.std.specs.declared.cmp.Ordering.{Ordering}
 use Rattle.rr_graph.specs.Answered.{ListsInOrder}
 use Rattle.rr_graph.specs.Chain.{AreReached, IsReached, MoreThan}
-use Rattle.rr_graph.specs.declared.gathering.Gathered.{Gathered}
+use Rattle.rr_graph.specs.declared.gathering.NodesAndValues.{NodesAndValues}
 use Rattle.rr_graph.specs.declared.labels.Edge.{Edge}
 
 module _ {N L : Type 0} (edge : N → N → L → Type 0) where
@@ -65,7 +66,7 @@ module _ {N L V : Type 0} (edge : N → N → L → Type 0) (own : N → V → T
   -- What is gathered at the start: the nodes to which chains of edges lead from it, itself among
   -- them, each listed once; and the values that are found at it, each once, in ascending order.
   -- (profile)
-  pub record IsGathered (cmp : V → V → Ordering) (start : N) (gathered : Gathered N V)
+  pub record IsGatheredFrom (cmp : V → V → Ordering) (start : N) (gathered : NodesAndValues N V)
       : Type 0 where
     pub nodes : AreMetFrom edge start gathered.nodes.items
     pub values : ListsInOrder cmp (IsFound start) gathered.values.items

@@ -1,5 +1,5 @@
--- What a graph's edges reach. An edge is a relation between nodes: nothing here says how nodes are
--- found.
+-- What a graph's edges reach: for `reach` and `gather`, and for the sets of `rr_sets`. An edge is a
+-- relation between nodes: nothing here says how nodes are found.
 use Rattle.std.specs.Prelude.{◌≡◌, ◌≢◌, ◌↔◌, ℕ, ◌+◌, List, [], ◌∷◌, length}
 use Rattle.std.specs.Prelude.{Contains, All, AllPairs}
 

@@ -32,9 +32,9 @@ module _ {N L V : Type 0} (keeps : L → Bool) (passed : L → V → Option V) w
         (λ kept. IsEnough (changed keeps passed) edges value kept.items)
 
   -- What is known of a node and a kind is enough for each value of that kind.
-  abbrev pub IsKnown : {K : Type 0} → (V → K) → (N → List (Edge N L))
+  abbrev pub AreChoices : {K : Type 0} → (V → K) → (N → List (Edge N L))
       → (N × K → Option (Choice N L)) → Type 0
-  IsKnown kind_of all at = (node : N) (value : V) (choice : Choice N L)
+  AreChoices kind_of all at = (node : N) (value : V) (choice : Choice N L)
       → at (node, kind_of value) ≡ Some choice → IsChoice (all node) value choice
 
   -- The pairs are what the edges make of the value, but may lack what those that change values do,
@@ -45,8 +45,8 @@ module _ {N L V : Type 0} (keeps : L → Bool) (passed : L → V → Option V) w
     pub whole : (p : N × V) → Makes passed value edges p.0 p.1
         → Contains pairs p ⊎ (IsTrue before × Makes (changed keeps passed) value edges p.0 p.1)
 
-  -- Of each value whose node, kind and group are marked all is there that edges which change values
-  -- make.
+  -- Of each value whose node, kind and group are marked, all is there that edges which change
+  -- values make of it.
   abbrev pub IsCovered : {K R : Type 0} → (V → K) → (V → R) → (N → List (Edge N L))
       → ((N × K) × R → Bool) → (N × V → Type 0) → Type 0
   IsCovered kind_of group_of all marked There = (node : N) (value : V)
@@ -57,8 +57,7 @@ module _ {N L V : Type 0} (keeps : L → Bool) (passed : L → V → Option V) w
 abbrev pub AddsAtMost : {M : Type 0} → (M → Bool) → (M → Bool) → M → Type 0
 AddsAtMost {M} old new mark = (m : M) → IsTrue (new m) → IsTrue (old m) ⊎ (mark ≡ m)
 
--- No mark but this one is added, and it is told whether it is the first, which was not there
--- before.
+-- No mark but this one is added, and `first` says whether it was lacking before.
 pub record SetsMark {M : Type 0} (old new : M → Bool) (mark : M) (first : Bool) : Type 0 where
   pub is_first : first ≡ not (old mark)
   pub marked : AddsAtMost old new mark

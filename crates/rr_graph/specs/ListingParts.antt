@@ -7,7 +7,7 @@ use Rattle.std.specs.BTreeSet.{BTreeSet, contains}
 use Rattle.rr_graph.specs.Chain.{HasNoRepeats, MoreThan}
 use Rattle.rr_graph.specs.declared.ReachFault.{ReachFault}
 use Rattle.rr_graph.specs.declared.ReachFault.TheVariants.{TooMany}
-use Rattle.rr_graph.specs.declared.walk.Found.{Found}
+use Rattle.rr_graph.specs.declared.walk.FoundNodes.{FoundNodes}
 
 -- The index has exactly the listed nodes, of which there are at most `limit`, each once.
 pub record IsListing {N : Type 0} (cmp : N → N → Ordering) (limit : ℕ) (list : List N)
@@ -26,7 +26,7 @@ pub record Lists {N : Type 0} (old nodes new : List N) : Type 0 where
 -- A walk that keeps a listing adds the nodes to it, unless memory runs out, or they and its own are
 -- too many.
 pub record AddsListed {N X : Type 0} (cmp : N → N → Ordering) (limit : ℕ) (nodes : List N)
-    (old new : Found N) (result : Result X ReachFault) : Type 0 where
+    (old new : FoundNodes N) (result : Result X ReachFault) : Type 0 where
   pub listing : OnOk result (IsListing cmp limit new.list.items new.index)
   pub added : OnOk result (Lists old.list.items nodes new.list.items)
   pub many : result ≡ Err TooMany

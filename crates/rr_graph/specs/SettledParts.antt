@@ -18,26 +18,26 @@ module _ {N V : Type 0} where
   values_at cmp map node = option_map (λ values. values.items) (get cmp map node)
 
   -- The node is known, and the value is one of its values.
-  abbrev pub IsHeld : (N → Option (List V)) → N × V → Type 0
-  IsHeld at p = (values : List V) × (at p.0 ≡ Some values) × Contains values p.1
+  abbrev pub IsKnownValue : (N → Option (List V)) → N × V → Type 0
+  IsKnownValue at p = (values : List V) × (at p.0 ≡ Some values) × Contains values p.1
 
-  -- The value is one of the node, or was held before.
-  abbrev pub IsHeldOr : (N → Option (List V)) → N → (V → Type 0) → N × V → Type 0
-  IsHeldOr at node P p = IsHeld at p ⊎ ((p.0 ≡ node) × P p.1)
+  -- The value is one of the node, or was known before.
+  abbrev pub IsKnownValueOr : (N → Option (List V)) → N → (V → Type 0) → N × V → Type 0
+  IsKnownValueOr at node P p = IsKnownValue at p ⊎ ((p.0 ≡ node) × P p.1)
 
--- So many pairs are held, and no more than the limit.
+-- So many pairs are known, and no more than the limit.
 pub record IsTallied {N V : Type 0} (at : N → Option (List V)) (limit count : ℕ) : Type 0 where
   pub pairs : List (N × V)
   pub long : length pairs ≡ count
   pub few : count ≤ limit
   pub once : HasNoRepeats pairs
-  pub same : (p : N × V) → Contains pairs p ↔ IsHeld at p
+  pub same : (p : N × V) → Contains pairs p ↔ IsKnownValue at p
 
 -- An edge leads to a known node, of whose values the label makes this one.
 abbrev pub IsPassed : {N L V : Type 0} → (L → V → Option V) → (N → Option (List V))
     → List (Edge N L) → V → Type 0
 IsPassed {N} {L} {V} passed at edges v = (e : Edge N L) × Contains edges e
-    × ((w : V) × IsHeld at (e.to, w) × (passed e.label w ≡ Some v))
+    × ((w : V) × IsKnownValue at (e.to, w) × (passed e.label w ≡ Some v))
 
 module _ {N L V : Type 0} (edge : N → N → L → Type 0) (own : N → V → Type 0)
     (passed : L → V → Option V) where

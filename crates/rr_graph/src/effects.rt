@@ -7,7 +7,8 @@ ghost use Rattle.std.specs.BTreeMap.{get};
 ghost use Rattle.std.specs.BTreeSet.{contains};
 ghost use Rattle.std.specs.List.{filter_map};
 ghost use Rattle.std.specs.Option.{option_map};
-ghost use Rattle.rr_graph.specs.EffectParts.{AddsAtMost, IsChoice, IsDistinct, IsEnough, IsKnown};
+ghost use Rattle.rr_graph.specs.EffectParts.{AddsAtMost, IsChoice, IsDistinct, IsEnough};
+ghost use Rattle.rr_graph.specs.EffectParts.{AreChoices};
 ghost use Rattle.rr_graph.specs.EffectParts.{IsMadeBut, SetsMark, changed};
 ghost use Rattle.rr_graph.specs.declared.labels.Edge.{Edge};
 
@@ -17,7 +18,7 @@ use std::collections::{BTreeMap, BTreeSet};
 
 /// A node with edges that lead to it, over which its values are carried back.
 #[derive(Drop)]
-pub(crate) struct Head<'a, N, L> {
+pub(crate) struct EdgesTo<'a, N, L> {
     pub(crate) node: &'a N,
     pub(crate) edges: &'a [Edge<N, L>],
 }
@@ -63,17 +64,17 @@ impl<'a, G: Labelled> Effects<'a, G> {
     pub(crate) fn made(
         &mut self,
         alloc: Global,
-        head: &Head<'_, G::Node, G::Label>,
+        head: &EdgesTo<'_, G::Node, G::Label>,
         value: G::Value,
     ) -> Result<Vec<(G::Node, G::Value)>, AllocError>
         ensures made { (all : G.Node → List (Edge G.Node G.Label))
             → all head.now.node.now ≡ head.now.edges.now
-            → IsKnown G.keeps G.passed G.kind_of all
+            → AreChoices G.keeps G.passed G.kind_of all
             (get ⟦<(G::Node, G::Kind) as Ord>⟧.cmp self.old.map) → IfOk result
             (λ pairs. IsMadeBut G.keeps G.passed head.now.edges.now value
             (contains ⟦<((G::Node, G::Kind), G::Group) as Ord>⟧.cmp self.old.marks
             ((head.now.node.now, G.kind_of value), G.group_of value)) pairs.items
-            × IsKnown G.keeps G.passed G.kind_of all
+            × AreChoices G.keeps G.passed G.kind_of all
             (get ⟦<(G::Node, G::Kind) as Ord>⟧.cmp self.new.map)) }
         ensures marked { OnOk result (AddsAtMost
             (contains ⟦<((G::Node, G::Kind), G::Group) as Ord>⟧.cmp self.old.marks)
@@ -103,13 +104,13 @@ impl<'a, G: Labelled> Effects<'a, G> {
     fn note(
         &mut self,
         alloc: Global,
-        head: &Head<'_, G::Node, G::Label>,
+        head: &EdgesTo<'_, G::Node, G::Label>,
         value: G::Value,
         first: bool,
     ) -> Result<(), AllocError>
         ensures known { (all : G.Node → List (Edge G.Node G.Label))
-            → all head.now.node.now ≡ head.now.edges.now → IsKnown G.keeps G.passed G.kind_of all
-            (get ⟦<(G::Node, G::Kind) as Ord>⟧.cmp self.old.map) → OnOk result (IsKnown G.keeps
+            → all head.now.node.now ≡ head.now.edges.now → AreChoices G.keeps G.passed G.kind_of all
+            (get ⟦<(G::Node, G::Kind) as Ord>⟧.cmp self.old.map) → OnOk result (AreChoices G.keeps
             G.passed G.kind_of all (get ⟦<(G::Node, G::Kind) as Ord>⟧.cmp self.new.map)) }
         ensures marks { self.new.marks ≡ self.old.marks }
     {
@@ -124,7 +125,7 @@ impl<'a, G: Labelled> Effects<'a, G> {
     fn lacking(
         &self,
         alloc: Global,
-        head: &Head<'_, G::Node, G::Label>,
+        head: &EdgesTo<'_, G::Node, G::Label>,
         value: G::Value,
         first: bool,
     ) -> Result<Option<Choice<G::Node, G::Label>>, AllocError>
@@ -163,12 +164,12 @@ impl<'a, G: Labelled> Effects<'a, G> {
     fn chosen(
         &self,
         alloc: Global,
-        head: &Head<'_, G::Node, G::Label>,
+        head: &EdgesTo<'_, G::Node, G::Label>,
         value: G::Value,
         first: bool,
     ) -> Result<Vec<(G::Node, G::Value)>, AllocError>
         ensures { (all : G.Node → List (Edge G.Node G.Label))
-            → all head.now.node.now ≡ head.now.edges.now → IsKnown G.keeps G.passed G.kind_of all
+            → all head.now.node.now ≡ head.now.edges.now → AreChoices G.keeps G.passed G.kind_of all
             (get ⟦<(G::Node, G::Kind) as Ord>⟧.cmp self.now.map) → IfOk result
             (λ pairs. IsMadeBut G.keeps G.passed head.now.edges.now value (not first) pairs.items) }
     {
@@ -270,7 +271,7 @@ fn distinct<G: Labelled>(
     ensures { IfOk result
         (λ kept. IsEnough (changed G.keeps G.passed) edges.now value kept.items) }
 {
-    let mut kept = Kept::<G>::new(alloc);
+    let mut kept = KeptEdges::<G>::new(alloc);
     for edge in edges {
         kept.add(alloc, graph, edge, value)?;
     }
@@ -290,18 +291,18 @@ fn changed<G: Labelled>(graph: &G, label: G::Label, value: G::Value) -> Option<G
 
 /// Edges, and what they make of a value.
 #[derive(Drop)]
-struct Kept<G: Labelled> {
+struct KeptEdges<G: Labelled> {
     edges: Vec<Edge<G::Node, G::Label>>,
     made: BTreeSet<(G::Node, G::Value)>,
 }
 
-impl<G: Labelled> Kept<G> {
+impl<G: Labelled> KeptEdges<G> {
     /// No edges.
     fn new(alloc: Global) -> Self
         ensures edges { result.edges.items ≡ [] }
         ensures made { result.made.keys ≡ [] }
     {
-        Kept {
+        KeptEdges {
             edges: Vec::new(alloc),
             made: BTreeSet::new(alloc),
         }

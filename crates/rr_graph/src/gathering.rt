@@ -3,7 +3,7 @@
 ghost use Rattle.std.specs.Prelude.{◌≡◌, ◌↔◌, Contains, IfOk, map};
 ghost use Rattle.rr_graph.specs.Answered.{FindsWithin, ListsInOrder};
 ghost use Rattle.rr_graph.specs.Carried.{AreMetFrom, AreReachedFrom, HasManyPairs, IsFound};
-ghost use Rattle.rr_graph.specs.Carried.{IsGathered, IsReachedFrom, IsTooMany, Leads};
+ghost use Rattle.rr_graph.specs.Carried.{IsGatheredFrom, IsReachedFrom, IsTooMany, Leads};
 ghost use Rattle.rr_graph.specs.Chain.{MoreThan};
 ghost use Rattle.rr_graph.specs.ReversedParts.{IsCarriedPair};
 
@@ -62,9 +62,9 @@ fn reached_from<G: Labelled>(
     reach(alloc, &Unlabelled { graph }, starts, limit)
 }
 
-/// What is found from a node of a labelled graph.
+/// What is found from a node of a labelled graph: `gather` makes it, as its fields say.
 #[derive(Drop)]
-pub struct Gathered<N, V> {
+pub struct NodesAndValues<N, V> {
     /// The nodes that are reached, each once, in no promised order.
     pub nodes: Vec<N>,
     /// The values that are found at the node, each once, in ascending order.
@@ -72,30 +72,32 @@ pub struct Gathered<N, V> {
 }
 
 /// Lists exactly what is found at `start`. The nodes are those to which chains of edges lead from
-/// it, itself included. The values are what the labels of such a chain, from the last to the first,
-/// make of one that the node at its end has by itself, unless a label drops it.
+/// it, itself included, each once and in no promised order. The values are what the labels of such
+/// a chain make of a value that the node at its end has by itself. The last label comes first, and
+/// a value that a label drops is not found. The values come each once, in ascending order.
 ///
-/// The edges of each node are listed twice. The steps are O((KE + F) log F), of which no clause
-/// speaks. E counts the edges that are listed, K the kinds of values that are found at one node.
-/// F counts the pairs of a node and a value that edges make. Edges that keep values make one of
-/// each value found at the node to which they lead. The others make one of each kind and group of
-/// these values, and a pair is counted once, however many of them make it.
+/// No clause says how long this takes. The edges of each node are listed twice, and the steps are
+/// O((KE + F) log F). E counts the edges that are listed, K the kinds of values that are found at
+/// one node. F counts the pairs of a node and a value that edges make. Edges that keep values make
+/// one of each value found at the node to which they lead. The others make one of each kind and
+/// group of these values, and a pair is counted once, however many of them make it.
 ///
-/// Unless memory runs out, the fault is `TooMany` exactly if more than `limit` nodes are reached,
-/// or there are more than `limit` pairs of one and a value found at it.
+/// Unless memory runs out, the fault is `TooMany` exactly in two cases. More than `limit` nodes are
+/// reached, or there are more than `limit` pairs of such a node and a value found at it. When
+/// memory runs out, no clause says.
 pub fn gather<G: Labelled>(
     alloc: Global,
     graph: &G,
     start: &G::Node,
     limit: usize,
-) -> Result<Gathered<G::Node, G::Value>, ReachFault>
+) -> Result<NodesAndValues<G::Node, G::Value>, ReachFault>
     ensures { FindsWithin
-        (IsGathered (G.edge graph.now) (G.own graph.now) G.passed G.Value.cmp start.now)
+        (IsGatheredFrom (G.edge graph.now) (G.own graph.now) G.passed G.Value.cmp start.now)
         (IsTooMany (G.edge graph.now) (G.own graph.now) G.passed limit start.now) result }
 {
     let nodes = reached_from(alloc, graph, start, limit)?;
     let values = found_among(alloc, graph, &nodes, start, limit)?;
-    Ok(Gathered { nodes, values })
+    Ok(NodesAndValues { nodes, values })
 }
 
 /// The values that are found at the start, in ascending order, by the places of the nodes that are

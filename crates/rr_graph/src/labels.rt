@@ -27,12 +27,12 @@ pub trait Labelled {
     /// A value. Two values compare `Equal` only where they are the same.
     type Value: Ord + Copy + Drop;
 
-    /// What a label that changes values looks at in one, as the least length of a range. Two kinds
-    /// compare `Equal` only where they are the same.
+    /// What a label that changes values looks at in a value, such as the least length of a range.
+    /// Two kinds compare `Equal` only where they are the same.
     type Kind: Ord + Copy + Drop;
 
-    /// What such a label leaves of the value, as the prefix of a range. Two groups compare `Equal`
-    /// only where they are the same.
+    /// What else decides what such a label makes of a value, such as the prefix of a range. Two
+    /// groups compare `Equal` only where they are the same.
     type Group: Ord + Copy + Drop;
 
     /// An edge with this label leads from the first node to the second.
@@ -41,22 +41,22 @@ pub trait Labelled {
     /// The node has the value by itself.
     ghost own: { Self → Self.Node → Self.Value → Type 0 };
 
-    /// What the label makes of the value; nothing where it drops it.
+    /// What the label makes of the value; `None` where it drops it.
     ghost passed: { Self.Label → Self.Value → Option Self.Value };
 
-    /// The label counts as one that leaves values as they are: only the time of a search depends on
-    /// whether it does. What is said below of labels that change values is said of all others.
+    /// The label counts as one that leaves values as they are; all others are the labels that
+    /// change values. Only the time of a search depends on which count so.
     ghost keeps: { Self.Label → Bool };
 
     /// What labels that change values look at in the value.
     ghost kind_of: { Self.Value → Self.Kind };
 
-    /// What labels that change values leave of the value.
+    /// What else decides what labels that change values make of the value.
     ghost group_of: { Self.Value → Self.Group };
 
-    /// Lists the edges that leave the node, in any order, where one may come twice; the error is
-    /// that memory ran out. `gather` keeps to the steps that it states if those to one node stand
-    /// side by side.
+    /// Lists exactly the edges that leave the node, in any order, where one may come more than
+    /// once; the error is that memory ran out. `gather` keeps to the steps that it states if those
+    /// to one node stand side by side, which no clause asks.
     fn edges(
         &self,
         alloc: Global,
@@ -65,13 +65,13 @@ pub trait Labelled {
         ensures { IfOk result (λ edges. (to : Self.Node) (label : Self.Label) → Contains
             edges.items (record { to = to; label = label }) ↔ edge self.now node.now to label) };
 
-    /// Lists the values that the node has by itself, in any order, where one may come twice; the
-    /// error is that memory ran out.
+    /// Lists exactly the values that the node has by itself, in any order, where one may come more
+    /// than once; the error is that memory ran out.
     fn values(&self, alloc: Global, node: &Self::Node) -> Result<Vec<Self::Value>, AllocError>
         ensures { IfOk result (λ values. (value : Self.Value)
             → Contains values.items value ↔ own self.now node.now value) };
 
-    /// What the label makes of the value; nothing where it drops it.
+    /// What the label makes of the value; `None` where it drops it.
     fn pass(&self, label: Self::Label, value: Self::Value) -> Option<Self::Value>
         ensures { result ≡ passed label value };
 
@@ -83,7 +83,7 @@ pub trait Labelled {
     fn kind(&self, value: Self::Value) -> Self::Kind
         ensures { result ≡ kind_of value };
 
-    /// What labels that change values leave of the value.
+    /// What else decides what labels that change values make of the value.
     fn group(&self, value: Self::Value) -> Self::Group
         ensures { result ≡ group_of value };
 
@@ -91,28 +91,28 @@ pub trait Labelled {
     fn copy(&self, alloc: Global, node: &Self::Node) -> Result<Self::Node, AllocError>
         ensures { IfOk result (λ same. same ≡ node.now) };
 
-    /// The order tells nodes apart.
+    /// Nodes that compare `Equal` are the same.
     ghost exact_nodes: { CmpEqualImpliesEq Self.Node.cmp };
 
-    /// The order tells values apart.
+    /// Values that compare `Equal` are the same.
     ghost exact_values: { CmpEqualImpliesEq Self.Value.cmp };
 
-    /// The order tells kinds apart.
+    /// Kinds that compare `Equal` are the same.
     ghost exact_kinds: { CmpEqualImpliesEq Self.Kind.cmp };
 
-    /// The order tells groups apart.
+    /// Groups that compare `Equal` are the same.
     ghost exact_groups: { CmpEqualImpliesEq Self.Group.cmp };
 
-    /// Labels that change values, and make the same of one, make the same of each value of its
-    /// kind.
+    /// Two labels that change values, and do the same to one value, do the same to each value of
+    /// its kind. They make the same value of it, or both drop it.
     ghost alike: { (l m : Self.Label) (v w : Self.Value) → keeps l ≡ false → keeps m ≡ false
         → kind_of v ≡ kind_of w → passed l v ≡ passed m v → passed l w ≡ passed m w };
 
-    /// A label that changes values, and drops one, drops each value of its kind.
+    /// A label that changes values, and drops a value, drops each value of its kind.
     ghost dropped: { (l : Self.Label) (v w : Self.Value) → keeps l ≡ false
         → kind_of v ≡ kind_of w → passed l v ≡ None → passed l w ≡ None };
 
-    /// A label that changes values makes the same of all values of one kind and group.
+    /// A label that changes values does the same to all values of one kind and group.
     ghost same: { (l : Self.Label) (v w : Self.Value) → keeps l ≡ false → kind_of v ≡ kind_of w
         → group_of v ≡ group_of w → passed l v ≡ passed l w };
 }

@@ -19,11 +19,11 @@ mod settled;
 mod settling;
 mod walk;
 
-pub use gathering::{Gathered, gather};
+pub use gathering::{NodesAndValues, gather};
 pub use labels::{Edge, Labelled};
 pub use order::{ascending, put_in_order};
 use std::alloc::{AllocError, AllocFailed, Global};
-use walk::Found;
+use walk::FoundNodes;
 
 /// A directed graph whose successors can be listed.
 pub trait Graph {
@@ -33,8 +33,8 @@ pub trait Graph {
     /// An edge leads from the first node to the second.
     ghost edge: { Self → Self.Node → Self.Node → Type 0 };
 
-    /// Lists the nodes to which an edge leads from `node`, in any order, where a node may come
-    /// twice; the error is that memory ran out.
+    /// Lists exactly the nodes to which an edge leads from `node`, in any order, where one may come
+    /// more than once; the error is that memory ran out.
     fn successors(&self, alloc: Global, node: &Self::Node) -> Result<Vec<Self::Node>, AllocError>
         ensures { IfOk result (λ nodes. (next : Self.Node)
             → Contains nodes.items next ↔ edge self.now node.now next) };
@@ -43,19 +43,21 @@ pub trait Graph {
     fn copy(&self, alloc: Global, node: &Self::Node) -> Result<Self::Node, AllocError>
         ensures { IfOk result (λ same. same ≡ node.now) };
 
-    /// The order tells nodes apart.
+    /// Nodes that compare `Equal` are the same.
     ghost exact: { CmpEqualImpliesEq Self.Node.cmp };
 }
 
 /// Why what is reached is not listed.
 #[derive(Clone, Copy, Debug, PartialEq, Eq)]
 pub enum ReachFault {
-    /// More nodes are reached than the limit, or more pairs of a node and a value at it.
+    /// More nodes are reached than the limit, or, for `gather`, more pairs of a node and a value
+    /// found at it.
     TooMany,
     /// Memory ran out.
     Memory,
 }
 
+/// The fault is that memory ran out.
 impl From<AllocError> for ReachFault {
     ghost use Rattle.std.specs.Prelude.{◌≡◌};
     ghost use Rattle.rr_graph.specs.declared.ReachFault.TheVariants.{Memory};
@@ -67,6 +69,7 @@ impl From<AllocError> for ReachFault {
     }
 }
 
+/// The fault is that memory ran out.
 impl<T: Drop> From<AllocFailed<T>> for ReachFault {
     ghost use Rattle.std.specs.Prelude.{◌≡◌};
     ghost use Rattle.rr_graph.specs.declared.ReachFault.TheVariants.{Memory};
@@ -83,7 +86,7 @@ impl<T: Drop> From<AllocFailed<T>> for ReachFault {
 /// steps for V nodes reached and E edges between them; no clause says so.
 ///
 /// The fault is `TooMany` exactly where more than `limit` nodes are reached, unless memory runs
-/// out.
+/// out; when it does, no clause says.
 pub fn reach<G: Graph>(
     alloc: Global,
     graph: &G,
@@ -93,7 +96,7 @@ pub fn reach<G: Graph>(
     ensures { FindsWithin (λ nodes. AreReached (G.edge graph.now) starts.items nodes.items)
         (MoreThan limit (IsReached (G.edge graph.now) starts.items)) result }
 {
-    let mut found = Found::new(alloc);
+    let mut found = FoundNodes::new(alloc);
     found.add_all(alloc, graph, starts, limit)?;
     let mut done = 0;
     while done < found.list.len() {

@@ -15,8 +15,8 @@ pub fn ascending<T: Ord + Drop>(alloc: Global, set: BTreeSet<T>) -> Result<Vec<T
     set.into_iter().collect(alloc)
 }
 
-/// Puts the list in ascending order, without repeats. It still has the same things, if only equal
-/// ones compare as equal.
+/// Puts the list in ascending order, without repeats. It still has exactly the same things, if
+/// things compare `Equal` only where they are the same.
 pub fn put_in_order<T: Ord + Drop>(list: &mut Vec<T>)
     ensures { PutsInOrder T.cmp list.old.items list.new.items }
 {

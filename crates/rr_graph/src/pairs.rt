@@ -6,14 +6,14 @@ ghost use Rattle.rr_graph.specs.Answered.{FindsWithin};
 ghost use Rattle.rr_graph.specs.Chain.{IsReached, MoreThan};
 ghost use Rattle.std.specs.BTreeMap.{get};
 ghost use Rattle.std.specs.BTreeSet.{contains};
-ghost use Rattle.rr_graph.specs.EffectParts.{AddsAtMost, IsKnown, IsMadeBut};
+ghost use Rattle.rr_graph.specs.EffectParts.{AddsAtMost, AreChoices, IsMadeBut};
 ghost use Rattle.std.proofs.lemmas.Map.Lookups.{exact_pairs};
 ghost use Rattle.rr_graph.specs.ReversedParts.{edges_at, IsOwnPair, LeadsBack};
 
 use crate::backward::Backward;
-use crate::effects::{Effects, Head, carried};
+use crate::effects::{EdgesTo, Effects, carried};
 use crate::labels::Labelled;
-use crate::walk::Found;
+use crate::walk::FoundNodes;
 use crate::{Graph, ReachFault};
 use std::alloc::{AllocError, Global};
 
@@ -61,10 +61,11 @@ fn carried_back<G: Labelled>(
     effects: &mut Effects<'_, G>,
     pair: &(G::Node, G::Value),
 ) -> Result<Vec<(G::Node, G::Value)>, AllocError>
-    requires { IsKnown G.keeps G.passed G.kind_of (edges_at G.Node.cmp pairs.now.backward.now.map)
+    requires { AreChoices G.keeps G.passed G.kind_of
+        (edges_at G.Node.cmp pairs.now.backward.now.map)
         (get ⟦<(G::Node, G::Kind) as Ord>⟧.cmp effects.old.map) }
     ensures known { OnOk result
-        (IsKnown G.keeps G.passed G.kind_of (edges_at G.Node.cmp pairs.now.backward.now.map)
+        (AreChoices G.keeps G.passed G.kind_of (edges_at G.Node.cmp pairs.now.backward.now.map)
         (get ⟦<(G::Node, G::Kind) as Ord>⟧.cmp effects.new.map)) }
     ensures marked { OnOk result (AddsAtMost
         (contains ⟦<((G::Node, G::Kind), G::Group) as Ord>⟧.cmp effects.old.marks)
@@ -79,7 +80,7 @@ fn carried_back<G: Labelled>(
     if edges.len() <= FEW {
         return carried(alloc, pairs.graph, edges, pair.1);
     }
-    let head = Head {
+    let head = EdgesTo {
         node: &pair.0,
         edges,
     };
@@ -102,7 +103,7 @@ pub(crate) fn reach_back<G: Labelled>(
         result }
 {
     let mut effects = Effects::<G>::new(alloc, pairs.graph);
-    let mut found = Found::new(alloc);
+    let mut found = FoundNodes::new(alloc);
     found.add_all(alloc, pairs, starts, limit)?;
     let mut done = 0;
     while done < found.list.len() {

@@ -7,7 +7,7 @@ ghost use Rattle.std.specs.BTreeMap.{is_at};
 ghost use Rattle.std.specs.List.Sorted.{IsStrictlySortedBy};
 ghost use Rattle.std.specs.Option.{option_copied};
 ghost use Rattle.rr_graph.specs.Chain.{MoreThan};
-ghost use Rattle.rr_graph.specs.SettledParts.{IsHeldOr, IsTallied, values_at};
+ghost use Rattle.rr_graph.specs.SettledParts.{IsKnownValueOr, IsTallied, values_at};
 
 use crate::ReachFault;
 use crate::labels::Labelled;
@@ -61,7 +61,7 @@ impl<G: Labelled> Settled<G> {
             → values_at G.Node.cmp self.new.values other ≡ (if is_at (G.Node.cmp node) other
             then Some values.items else values_at G.Node.cmp self.old.values other)) }
         ensures many { result ≡ Err ReachFault.TooMany → MoreThan limit
-            (IsHeldOr (values_at G.Node.cmp self.old.values) node (Contains values.items)) }
+            (IsKnownValueOr (values_at G.Node.cmp self.old.values) node (Contains values.items)) }
     {
         let room = limit.saturating_sub(self.pairs);
         if values.len() > room {

@@ -9,12 +9,12 @@ ghost use Rattle.std.proofs.lemmas.Map.Lookups.{CmpEqualImpliesEq};
 ghost use Rattle.rr_graph.specs.Answered.{ListsInOrder};
 ghost use Rattle.rr_graph.specs.Carried.{IsFound};
 ghost use Rattle.rr_graph.specs.Chain.{MoreThan};
-ghost use Rattle.rr_graph.specs.SettledParts.{IsAmong, IsFoundAmong, IsHeldOr, IsMade};
+ghost use Rattle.rr_graph.specs.SettledParts.{IsAmong, IsFoundAmong, IsKnownValueOr, IsMade};
 ghost use Rattle.rr_graph.specs.SettledParts.{HoldsAllValues, IsPassed, IsRun};
 ghost use Rattle.rr_graph.specs.SettledParts.{IsTallied, values_at};
 
 use crate::ReachFault;
-use crate::effects::{Effects, Head};
+use crate::effects::{EdgesTo, Effects};
 use crate::labels::{Edge, Labelled};
 use crate::order::put_in_order;
 use crate::settled::Settled;
@@ -76,7 +76,7 @@ fn settle<G: Labelled>(
         → is_some (values_at G.Node.cmp settled.new.values other) ≡ true → (is_some
         (values_at G.Node.cmp settled.old.values other) ≡ true) ⊎ (node.now ≡ other)) }
     ensures many { result ≡ Err ReachFault.TooMany
-        → MoreThan limit (IsHeldOr (values_at G.Node.cmp settled.old.values) node.now
+        → MoreThan limit (IsKnownValueOr (values_at G.Node.cmp settled.old.values) node.now
         (IsFound (G.edge graph.now) (G.own graph.now) G.passed node.now)) }
 {
     if settled.at(node).is_some() {
@@ -170,7 +170,7 @@ fn add_passed<G: Labelled>(
             return Ok(false);
         };
         let next = done + 1 + run_length(node, &edges[done + 1..]);
-        let head = Head {
+        let head = EdgesTo {
             node,
             edges: &edges[done..next],
         };
@@ -197,7 +197,7 @@ fn run_length<N: Ord + Drop, L: Drop>(node: &N, edges: &[Edge<N, L>]) -> usize
 fn pass_run<G: Labelled>(
     alloc: Global,
     graph: &G,
-    head: &Head<'_, G::Node, G::Label>,
+    head: &EdgesTo<'_, G::Node, G::Label>,
     starts: &[G::Value],
     collected: &mut Collected<G::Value>,
 ) -> Result<(), AllocError>

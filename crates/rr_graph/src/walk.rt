@@ -9,18 +9,18 @@ use std::collections::BTreeSet;
 
 /// The nodes found, in the order in which they were, and an index that tells which they are.
 #[derive(Drop)]
-pub(crate) struct Found<N: Ord + Drop> {
+pub(crate) struct FoundNodes<N: Ord + Drop> {
     pub(crate) list: Vec<N>,
     pub(crate) index: BTreeSet<N>,
 }
 
-impl<N: Ord + Drop> Found<N> {
+impl<N: Ord + Drop> FoundNodes<N> {
     /// No nodes.
     pub(crate) fn new(alloc: Global) -> Self
         ensures list { result.list.items ≡ [] }
         ensures index { result.index.keys ≡ [] }
     {
-        Found {
+        FoundNodes {
             list: Vec::new(alloc),
             index: BTreeSet::new(alloc),
         }
@@ -71,7 +71,7 @@ impl<N: Ord + Drop> Found<N> {
     pub(crate) fn into_list(self) -> Vec<N>
         ensures { result ≡ self.list }
     {
-        let Found { list, index: _ } = self;
+        let FoundNodes { list, index: _ } = self;
         list
     }
 }

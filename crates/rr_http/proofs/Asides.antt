@@ -11,8 +11,8 @@ use Rattle.rr_io.specs.Receiving.{BreaksOff, Reads}
 use Rattle.rr_io.specs.Sending.{TakesPrefix, TakesSome, Writes}
 use Rattle.rr_submission.specs.declared.ledger.Ledger as ledger
 use Rattle.rr_submission.specs.declared.submission.Done.{Done}
-use Rattle.rr_submission.specs.declared.submission.DeskFault.{DeskFault}
-use Rattle.rr_submission.specs.declared.submission.DeskFault.TheVariants as fault
+use Rattle.rr_submission.specs.declared.submission.SubmissionFault.{SubmissionFault}
+use Rattle.rr_submission.specs.declared.submission.SubmissionFault.TheVariants as fault
 use Rattle.rr_submission.specs.Submissions.{Sides, Submits}
 use Rattle.rr_desk.specs.declared.desk_dumping.DeskDumpFault.{DeskDumpFault}
 use Rattle.rr_desk.specs.declared.desk_dumping.DeskDumpFault.TheVariants as dump_fault
@@ -25,7 +25,8 @@ use Rattle.rr_http.specs.declared.registrar.Registrar.{Ghosts}
 use Rattle.rr_http.specs.Answering.{AnswersDump, AnswersQuery, RepliesWithAnswer, WritesReply}
 use Rattle.rr_http.specs.Answering.{body_sides}
 use Rattle.rr_http.specs.Bodies.{ReadsBody}
-use Rattle.rr_http.specs.Serving.{IsBroken, IsTakenIn, IsUntouched, Replies, Serves, SubmitsRead}
+use Rattle.rr_http.specs.Serving.{IsBroken, TakesSubmission, IsUntouched, Replies, Serves}
+use Rattle.rr_http.specs.Serving.{SubmitsRead}
 use Rattle.rr_http.specs.Serving.{visit_of}
 use Rattle.rr_http.specs.ServingParts.{ServesHead}
 use Rattle.rr_http.specs.Wants.{BreaksHead, ReadsHead}
@@ -89,7 +90,8 @@ query_aside Answers stopped query before after old new result (inr (running, inr
 
 -- a submission, by what it did
 pub reader_aside : {D : Type 0} (g : ledger.Ghosts D) (before after : D) (source : List ℕ)
-    (sides : Sides) (result : Result Done DeskFault) → Submits g before after source sides result →
+    (sides : Sides) (result : Result Done SubmissionFault) → Submits g before after source sides
+    result →
     sides.reader_after.aside ≡ sides.reader_before.aside
 reader_aside g before after source sides (Ok done) did = did.reads.0.aside
 reader_aside g before after source sides (Err (fault.ReadFault items)) did =
@@ -98,13 +100,15 @@ reader_aside g before after source sides (Err (fault.WriteFault items)) (inl did
     did.reads.gives.aside
 reader_aside g before after source sides (Err (fault.WriteFault items)) (inr did) =
     did.reads.0.aside
-reader_aside g before after source sides (Err (fault.StoreFault items)) did = did.reads.gives.aside
+reader_aside g before after source sides (Err (fault.LedgerStopped items)) did =
+    did.reads.gives.aside
 reader_aside g before after source sides (Err fault.Memory) did =
     ap (λ (told : Told). told.aside) did.unread
 reader_aside g before after source sides (Err fault.Stopped) did = absurd did
 
 writer_aside : {D : Type 0} (g : ledger.Ghosts D) (before after : D) (source : List ℕ)
-    (sides : Sides) (result : Result Done DeskFault) → Submits g before after source sides result →
+    (sides : Sides) (result : Result Done SubmissionFault) → Submits g before after source sides
+    result →
     sides.writer_after.aside ≡ sides.writer_before.aside
 writer_aside g before after source sides (Ok done) did = did.writes.aside
 writer_aside g before after source sides (Err (fault.ReadFault items)) did =
@@ -113,7 +117,7 @@ writer_aside g before after source sides (Err (fault.WriteFault items)) (inl did
     cut_aside did.handles.between sides.writer_after _ did.handles.cut ∙ did.handles.writes.aside
 writer_aside g before after source sides (Err (fault.WriteFault items)) (inr did) =
     cut_aside did.between sides.writer_after _ did.cut ∙ did.writes.aside
-writer_aside g before after source sides (Err (fault.StoreFault items)) did =
+writer_aside g before after source sides (Err (fault.LedgerStopped items)) did =
     some_aside did.handles.between sides.writer_after _ did.handles.ends ∙ did.handles.writes.aside
 writer_aside g before after source sides (Err fault.Memory) did =
     some_aside sides.writer_before sides.writer_after _ did.writes
@@ -218,7 +222,7 @@ module _ {C : Type 0} (reader : readers.Ghosts C) (writer : writers.Ghosts C)
       ReadsBody (reader.told old) (reader.told middle) buffered size body end →
       SubmitsRead registrar body size end before after (writer.told middle) (writer.told new)
       result →
-      IsTakenIn registrar buffered size before after (conn_visit reader writer old new result)
+      TakesSubmission registrar buffered size before after (conn_visit reader writer old new result)
   taken_in registrar buffered body size end before after old middle new result running reads
       submits =
       let read = body_aside _ _ buffered size body end reads in

@@ -10,8 +10,8 @@ use Rattle.rr_io.specs.declared.receiving.ReadEnd.{ReadEnd}
 use Rattle.rr_io.specs.declared.receiving.ReadEnd.TheVariants.{Whole, Broken, Endless}
 use Rattle.rr_submission.specs.declared.ledger.Ledger.{Ghosts}
 use Rattle.rr_submission.specs.declared.submission.Done.{Done}
-use Rattle.rr_submission.specs.declared.submission.DeskFault.{DeskFault}
-use Rattle.rr_submission.specs.declared.submission.DeskFault.TheVariants as fault
+use Rattle.rr_submission.specs.declared.submission.SubmissionFault.{SubmissionFault}
+use Rattle.rr_submission.specs.declared.submission.SubmissionFault.TheVariants as fault
 use Rattle.rr_submission.specs.Handled.{ReadsItems}
 use Rattle.rr_submission.specs.Submissions as submissions
 use Rattle.rr_submission.specs.Submissions.{Sides, Submits}
@@ -155,7 +155,7 @@ module _ (body rest : List ℕ) (missing faults reads : ℕ) where
       after = g.registry after;
     }
 
-    made : (result : Result Done DeskFault)
+    made : (result : Result Done SubmissionFault)
         (p : Submits g before after source (sides plain_start plain_end) result) →
         TellsMissing g source (sides plain_start plain_end) before after rest missing result p →
         SubmitsBody g source body missing before after old new result
@@ -168,7 +168,7 @@ module _ (body rest : List ℕ) (missing faults reads : ℕ) where
     }
 
     -- what is submitted is a body
-    pub submits_body : (result : Result Done DeskFault) → length body ≤ 1048576 →
+    pub submits_body : (result : Result Done SubmissionFault) → length body ≤ 1048576 →
         (0 < faults → (0 < missing) × (rest ≡ [])) →
         Submits g before after source (sides start end) result → SubmitsBody g source body missing
         before after old new result
@@ -220,7 +220,8 @@ module _ (body rest : List ℕ) (missing faults reads : ℕ) where
           cut = p.cut;
           counted = p.counted;
         })) (none_missing p.reads.1)
-    submits_body (Err (fault.StoreFault items)) small fails p = made (Err (fault.StoreFault items))
+    submits_body (Err (fault.LedgerStopped items)) small fails p =
+        made (Err (fault.LedgerStopped items))
         (record {
           prefix = p.prefix;
           reads = prefix_plain p.prefix p.reads;
@@ -242,7 +243,7 @@ same_told xs ys m n f h r s a b c d =
 
 -- what is submitted by this reader is a body
 pub body_submitted : {D : Type 0} (g : Ghosts D) (source bytes : List ℕ) (missing : ℕ)
-    (before after : D) (old new : Told) (result : Result Done DeskFault) (fresh used : Body) →
+    (before after : D) (old new : Told) (result : Result Done SubmissionFault) (fresh used : Body) →
     length bytes ≤ 1048576 → body_rest fresh ≡ bytes → body_missing fresh ≡ missing →
     body_failed fresh ≡ 0 → body_reads fresh ≡ 0 →
     Submits g before after source (record {

@@ -8,10 +8,10 @@ use Rattle.rr_io.specs.Told.{Told}
 use Rattle.rr_object.specs.declared.code.Code.{Code}
 use Rattle.rr_auth.specs.declared.item.Item.{Item}
 use Rattle.rr_submission.specs.declared.submission.Done.{Done}
-use Rattle.rr_submission.specs.declared.submission.DeskFault.{DeskFault}
-use Rattle.rr_submission.specs.declared.submission.DeskFault.TheVariants as fault
+use Rattle.rr_submission.specs.declared.submission.SubmissionFault.{SubmissionFault}
+use Rattle.rr_submission.specs.declared.submission.SubmissionFault.TheVariants as fault
 use Rattle.rr_submission.specs.Handled.{StopsAt, HandlesThenStops}
-use Rattle.rr_submission.specs.Submissions.{Sides, Submits, UnlessStoreFault}
+use Rattle.rr_submission.specs.Submissions.{Sides, Submits, UnlessLedgerStopped}
 use Rattle.rr_desk.specs.declared.desk.Desk.{Desk}
 use Rattle.rr_desk.specs.declared.desk_dumping.DeskDumpFault.{DeskDumpFault}
 use Rattle.rr_desk.specs.declared.desk_dumping.DeskDumpFault.TheVariants.{Stopped}
@@ -51,13 +51,13 @@ stopped_whole {S} g source entries old new before after count stopped =
 
 -- what a submission does to the registry and the store of a desk, it does to the desk
 pub submits_whole : {S : Type 0} (g : store.Ghosts S) (old new : Desk S) (source : List ℕ)
-    (sides : Sides) (result : Result Done DeskFault) →
+    (sides : Sides) (result : Result Done SubmissionFault) →
     Submits (stock_ledger g) old.stock new.stock source sides result → Submits (desk_ledger g)
     old new source sides result
 submits_whole g old new source sides (Ok done) submits = submits
 submits_whole g old new source sides (Err (fault.ReadFault items)) submits = submits
 submits_whole g old new source sides (Err (fault.WriteFault items)) submits = submits
-submits_whole g old new source sides (Err (fault.StoreFault items)) submits = record {
+submits_whole g old new source sides (Err (fault.LedgerStopped items)) submits = record {
   prefix = submits.prefix;
   reads = submits.reads;
   handles = stopped_whole g source _ old new _ _ items submits.handles;
@@ -66,12 +66,12 @@ submits_whole g old new source sides (Err fault.Memory) submits = submits
 submits_whole g old new source sides (Err fault.Stopped) submits = submits
 
 -- a fact that always holds does so after any end of a submission
-pub unless_always : (result : Result Done DeskFault) (fact : Type 0) → fact →
-    UnlessStoreFault result fact
+pub unless_always : (result : Result Done SubmissionFault) (fact : Type 0) → fact →
+    UnlessLedgerStopped result fact
 unless_always (Ok done) fact holds = holds
 unless_always (Err (fault.ReadFault items)) fact holds = holds
 unless_always (Err (fault.WriteFault items)) fact holds = holds
-unless_always (Err (fault.StoreFault items)) fact holds = tt
+unless_always (Err (fault.LedgerStopped items)) fact holds = tt
 unless_always (Err fault.Memory) fact holds = holds
 unless_always (Err fault.Stopped) fact holds = holds
 

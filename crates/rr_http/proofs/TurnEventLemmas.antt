@@ -8,10 +8,12 @@ use Rattle.rr_object.specs.declared.code.Code.{Code}
 use Rattle.rr_auth.specs.declared.item.Item.{Item}
 use Rattle.rr_answer.specs.Dumps as dumps
 use Rattle.rr_submission.specs.declared.submission.Done.{Done}
-use Rattle.rr_submission.specs.declared.submission.DeskFault.{DeskFault}
-use Rattle.rr_submission.specs.declared.submission.DeskFault.TheVariants.{ReadFault, WriteFault}
-use Rattle.rr_submission.specs.declared.submission.DeskFault.TheVariants.{StoreFault, Memory}
-use Rattle.rr_submission.specs.declared.submission.DeskFault.TheVariants.{Stopped}
+use Rattle.rr_submission.specs.declared.submission.SubmissionFault.{SubmissionFault}
+use Rattle.rr_submission.specs.declared.submission.SubmissionFault.TheVariants.{ReadFault}
+use Rattle.rr_submission.specs.declared.submission.SubmissionFault.TheVariants.{WriteFault}
+use Rattle.rr_submission.specs.declared.submission.SubmissionFault.TheVariants.{LedgerStopped}
+use Rattle.rr_submission.specs.declared.submission.SubmissionFault.TheVariants.{Memory}
+use Rattle.rr_submission.specs.declared.submission.SubmissionFault.TheVariants.{Stopped}
 use Rattle.rr_submission.specs.Handled.{StopsAt}
 use Rattle.rr_submission.specs.Submissions.{Sides, Submits}
 use Rattle.rr_desk.specs.declared.desk.Desk.{Desk}
@@ -26,7 +28,7 @@ use Rattle.rr_http.specs.Answering.{AnswersDump, AnswersQuery, AnswersRunning, I
 use Rattle.rr_http.specs.Answering.{in_memory}
 use Rattle.rr_http.specs.DeskRegistrars.{IsDeskAnswer, desk_ledger, desk_registrar, serves_desk}
 use Rattle.rr_http.specs.Requests.{Asks, refused, submission, query, dump}
-use Rattle.rr_http.specs.Serving.{IsSubmitted, IsTakenIn, Serves, ServesAsks, ServesBody}
+use Rattle.rr_http.specs.Serving.{IsSubmitted, TakesSubmission, Serves, ServesAsks, ServesBody}
 use Rattle.rr_http.specs.Serving.{ServesWants, SubmitsRead, visit_from}
 use Rattle.rr_http.specs.TurnEvents.{IsAskedTurn, IsTurn, IsWantedTurn, TurnsAreEvents}
 use Rattle.rr_http.specs.Wants.{Wants, whois, http}
@@ -83,12 +85,13 @@ module _ {S : Type 0} (g : store.Ghosts S) where
   stops_alike middle after secrets (Err code) stops = absurd stops
 
   as_stock : (before after : Desk S) (source : List ℕ) (sides : Sides)
-      (result : Result Done DeskFault) → Submits (desk_ledger g) before after source sides result →
+      (result : Result Done SubmissionFault) → Submits (desk_ledger g) before after source sides
+      result →
       Submits (stock_ledger g) before.stock after.stock source sides result
   as_stock before after source sides (Ok done) it = it
   as_stock before after source sides (Err (ReadFault items)) it = it
   as_stock before after source sides (Err (WriteFault items)) it = it
-  as_stock before after source sides (Err (StoreFault items)) it =
+  as_stock before after source sides (Err (LedgerStopped items)) it =
       let h = it.handles in record {
         prefix = it.prefix;
         reads = it.reads;
@@ -134,7 +137,7 @@ module _ {S : Type 0} (g : store.Ghosts S) where
 
   module _ (before after : Desk S) (stays : StaysServed g before after) where
     of_taken : (buffered : List ℕ) (size : ℕ) (visit : Visit)
-        (taken : IsTakenIn (desk_registrar g) buffered size before after visit)
+        (taken : TakesSubmission (desk_registrar g) buffered size before after visit)
         → SubmitsRead (desk_registrar g) taken.body size taken.end before after visit.writer_before
         visit.writer_after visit.ended
         → Turned (IsAskedTurn buffered (submission size) visit) before after

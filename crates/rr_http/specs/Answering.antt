@@ -7,8 +7,8 @@ use Rattle.rr_io.specs.Sending.{Takes, TakesPrefix, Writes}
 use Rattle.rr_text.specs.WholePart.{whole_part}
 use Rattle.rr_submission.specs.declared.ledger.Ledger as ledger
 use Rattle.rr_submission.specs.declared.submission.Done.{Done}
-use Rattle.rr_submission.specs.declared.submission.DeskFault.{DeskFault}
-use Rattle.rr_submission.specs.declared.submission.DeskFault.TheVariants as fault
+use Rattle.rr_submission.specs.declared.submission.SubmissionFault.{SubmissionFault}
+use Rattle.rr_submission.specs.declared.submission.SubmissionFault.TheVariants as fault
 use Rattle.rr_submission.specs.Submissions.{Sides, Submits, sides}
 use Rattle.rr_desk.specs.declared.desk_dumping.DeskDumpFault.{DeskDumpFault}
 use Rattle.rr_desk.specs.declared.desk_dumping.DeskDumpFault.TheVariants as dump_fault
@@ -109,7 +109,7 @@ EndsWhole read missing = (whole_part read ≡ read) ⊎ (missing ≡ 0)
 -- failed, after all that came. Where the line of an item could not be written, or the store failed,
 -- what was read ends whole (`EndsWhole`). Of other ends nothing is said (profile)
 abbrev pub TellsMissing : {D : Type 0} (g : ledger.Ghosts D) (source : List ℕ) (sides : Sides)
-    (before after : D) (rest : List ℕ) (missing : ℕ) (result : Result Done DeskFault)
+    (before after : D) (rest : List ℕ) (missing : ℕ) (result : Result Done SubmissionFault)
     → Submits g before after source sides result → Type 0
 TellsMissing g source sides before after rest missing (Ok done) submits = missing ≡ 0
 TellsMissing g source sides before after rest missing (Err (fault.ReadFault items)) submits =
@@ -118,7 +118,7 @@ TellsMissing g source sides before after rest missing (Err (fault.WriteFault ite
     EndsWhole submits.prefix missing
 TellsMissing g source sides before after rest missing (Err (fault.WriteFault items)) (inr submits) =
     missing ≡ 0
-TellsMissing g source sides before after rest missing (Err (fault.StoreFault items)) submits =
+TellsMissing g source sides before after rest missing (Err (fault.LedgerStopped items)) submits =
     EndsWhole submits.prefix missing
 TellsMissing g source sides before after rest missing (Err fault.Memory) submits = Unit {0}
 TellsMissing g source sides before after rest missing (Err fault.Stopped) submits = Unit {0}
@@ -127,7 +127,7 @@ TellsMissing g source sides before after rest missing (Err fault.Stopped) submit
 -- end where none are missing, and ends with a failed read after its bytes where some are; no item
 -- of it is one that misses bytes (profile)
 pub record SubmitsBody {D : Type 0} (g : ledger.Ghosts D) (source body : List ℕ) (missing : ℕ)
-    (before after : D) (old new : Told) (result : Result Done DeskFault) : Type 0 where
+    (before after : D) (old new : Told) (result : Result Done SubmissionFault) : Type 0 where
   pub rest : List ℕ
   pub faults : ℕ
   pub reads : ℕ

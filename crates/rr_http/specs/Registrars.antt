@@ -6,8 +6,8 @@ use Rattle.rr_io.specs.Sending.{Writes}
 use Rattle.rr_auth.specs.Sources.{IsRegistryOf}
 use Rattle.rr_submission.specs.declared.ledger.Ledger as ledger
 use Rattle.rr_submission.specs.declared.submission.Done.{Done}
-use Rattle.rr_submission.specs.declared.submission.DeskFault.{DeskFault}
-use Rattle.rr_submission.specs.Submissions.{UnlessStoreFault}
+use Rattle.rr_submission.specs.declared.submission.SubmissionFault.{SubmissionFault}
+use Rattle.rr_submission.specs.Submissions.{UnlessLedgerStopped}
 use Rattle.rr_desk.specs.declared.desk_answering.WriteFault.{WriteFault}
 use Rattle.rr_desk.specs.Settings.{SettingsParts}
 
@@ -27,13 +27,13 @@ pub record Leaves {D : Type 0} (g : ledger.Ghosts D) (settings : D → SettingsP
   pub lasts : g.Lasts before after
   pub same_settings : settings after ≡ settings before
 
--- what a submission leaves of a registrar that runs: only a fault of the store stops it, and after
--- any other end it keeps what it is to keep, as a desk keeps the rows of its registry; it is left
--- as by any connection, and a registry of its source stays one (profile)
+-- what a submission leaves of a registrar that runs. Only a fault of the store stops it, and after
+-- any other end it keeps what it is to keep, as a desk keeps the rows of its registry. What is to
+-- last of it lasts, its settings stay, and a registry of its source stays one (profile)
 pub record LeavesSubmitted {D : Type 0} (g : ledger.Ghosts D) (settings : D → SettingsParts)
-    (before after : D) (result : Result Done DeskFault) : Type 0 where
-  pub running : UnlessStoreFault result (g.is_stopped after ≡ false)
-  pub kept : UnlessStoreFault result (g.Kept after)
+    (before after : D) (result : Result Done SubmissionFault) : Type 0 where
+  pub running : UnlessLedgerStopped result (g.is_stopped after ≡ false)
+  pub kept : UnlessLedgerStopped result (g.Kept after)
   pub leaves : Leaves g settings before after
   pub of_source : IsRegistryOf (settings before).source (g.registry before)
       → IsRegistryOf (settings after).source (g.registry after)

@@ -12,7 +12,7 @@ use Rattle.rr_registry.specs.Runs.{Run}
 use Rattle.rr_submission.specs.declared.ending.Ending.TheVariants.{Complete}
 use Rattle.rr_submission.specs.declared.submission.Done.{Done}
 use Rattle.rr_submission.specs.Reports.{report}
-use Rattle.rr_submission.specs.SubmissionItems.{AreItems, ItemRequest, submitted}
+use Rattle.rr_submission.specs.SubmissionItems.{AreItems, ItemRequest, submitted_item}
 use Rattle.rr_desk.specs.declared.peers.ConnFault.TheVariants.{Read, Write}
 use Rattle.rr_desk.specs.Turns.{ConnEnd, Visit}
 use Rattle.rr_http.specs.declared.asking.Refusal.TheVariants.{Unavailable}
@@ -138,7 +138,7 @@ pub record IsWholeReport {D : Type 0} (registrar : Ghosts D) (body : List ℕ) (
   pub items : List ItemRequest
   pub outcomes : List Outcome
   pub are_items : AreItems (registrar.settings before).source [] (entries body) items
-  pub runs : Run (registrar.ledger.registry before) (map submitted items) outcomes
+  pub runs : Run (registrar.ledger.registry before) (map submitted_item items) outcomes
       (registrar.ledger.registry after)
   pub is : answered ≡ ok_head ++ report Complete items outcomes
 

@@ -8,7 +8,7 @@ use Rattle.rr_io.specs.Told.{Told}
 use Rattle.rr_io.specs.Receiving.{BreaksOff}
 use Rattle.rr_io.specs.Sending.{Takes, TakesPrefix}
 use Rattle.rr_submission.specs.declared.submission.Done.{Done}
-use Rattle.rr_submission.specs.declared.submission.DeskFault.{DeskFault}
+use Rattle.rr_submission.specs.declared.submission.SubmissionFault.{SubmissionFault}
 use Rattle.rr_desk.specs.declared.peers.ConnFault.TheVariants as conn_fault
 use Rattle.rr_desk.specs.Turns.{ConnEnd, Visit}
 use Rattle.rr_http.specs.declared.body_reading.BodyEnd.{BodyEnd}
@@ -38,7 +38,7 @@ end_by Short false = Ok tt
 pub record IsSubmitted {D : Type 0} (registrar : Ghosts D) (body : List ℕ) (size : ℕ)
     (end : BodyEnd) (before after : D) (old new : Told) (result : ConnEnd) : Type 0 where
   pub between : Told
-  pub done : Result Done DeskFault
+  pub done : Result Done SubmissionFault
   pub head : Takes old between ok_head
   pub submits : SubmitsBody registrar.ledger (registrar.settings before).source body
       (size - length body) before after between new done
@@ -76,7 +76,7 @@ pub record IsUntouched {D : Type 0} (before after : D) (visit : Visit) : Type 0 
   pub unread : visit.reader_after ≡ visit.reader_before
   pub same : after ≡ before
 
--- this text is the whole reply to a connection
+-- the whole reply to a connection is this text (`WritesReply`)
 abbrev pub Replies : List ℕ → Visit → Type 0
 Replies text visit = WritesReply text visit.writer_before visit.writer_after visit.ended
 
@@ -87,7 +87,7 @@ IsVisitUnavailable before after visit =
 
 -- the desk runs, the body was read, and it is submitted unless the head of the reply could not be
 -- written whole
-pub record IsTakenIn {D : Type 0} (registrar : Ghosts D) (buffered : List ℕ) (size : ℕ)
+pub record TakesSubmission {D : Type 0} (registrar : Ghosts D) (buffered : List ℕ) (size : ℕ)
     (before after : D) (visit : Visit) : Type 0 where
   pub running : registrar.ledger.is_stopped before ≡ false
   pub body : List ℕ
@@ -122,7 +122,7 @@ abbrev pub ServesBody : {D : Type 0} → Ghosts D → List ℕ → ℕ → D →
     → Type 0
 ServesBody registrar buffered size before after visit =
     IsTurnedAway registrar size before after visit
-    ⊎ IsTakenIn registrar buffered size before after visit
+    ⊎ TakesSubmission registrar buffered size before after visit
 
 -- what is done of what a request asks; these bytes came with its head
 abbrev pub ServesAsks : {D : Type 0} → Ghosts D → List ℕ → Asks → D → D → Visit

@@ -8,7 +8,7 @@ use Rattle.rr_io.specs.Told.{Told}
 use Rattle.rr_io.specs.Receiving.{BreaksOff}
 use Rattle.rr_io.specs.Sending.{Takes, TakesPrefix}
 use Rattle.rr_submission.specs.declared.submission.Done.{Done}
-use Rattle.rr_submission.specs.declared.submission.DeskFault.{DeskFault}
+use Rattle.rr_submission.specs.declared.submission.SubmissionFault.{SubmissionFault}
 use Rattle.rr_desk.specs.declared.desk.Desk.{Desk}
 use Rattle.rr_desk.specs.declared.peers.ConnFault.TheVariants as conn_fault
 use Rattle.rr_desk.specs.Events.{Event, asked, dumped, submitted}
@@ -55,7 +55,7 @@ pub record IsSubmissionTurn (buffered : List ℕ) (size : ℕ) (visit : Visit) (
   pub between : Told
   pub head : Takes visit.writer_before between ok_head
   pub left : Told
-  pub done : Result Done DeskFault
+  pub done : Result Done SubmissionFault
   pub event : events ≡ submitted (in_memory body 0 0) left between visit.writer_after done ∷ []
 
 -- what became of what a request asks; these bytes came with its head

@@ -15,7 +15,7 @@ use crate::heads::HEAD_LIMIT;
 use crate::registrar::Registrar;
 use crate::replying::{write_ok_head, write_refusal};
 use percent_encoding::percent_decode;
-use rr_desk::{ConnFault, DeskDumpFault, DeskFault, Done};
+use rr_desk::{ConnFault, DeskDumpFault, Done, SubmissionFault};
 use rr_io::Writer;
 use std::alloc::Global;
 
@@ -48,9 +48,10 @@ pub(crate) fn write_answer<D: Registrar, W: Writer>(
     }
 }
 
-/// Answers a query by HTTP, whose percent escapes are read first (RFC 3986, 2.1). If the desk is
-/// stopped it is not asked, and the reply is 503. The error is that a write failed: the writer has
-/// taken the beginning of the reply, and not all.
+/// Answers a query by HTTP, of at most 8,192 bytes, whose percent escapes are read first (RFC 3986,
+/// 2.1). If the desk is stopped it is not asked, and the reply is 503. Nor is it asked if not even
+/// the head of the reply can be written. The error is that a write failed: the writer has taken the
+/// beginning of the reply, and not all.
 pub(crate) fn answer_query<D: Registrar, W: Writer>(
     alloc: Global,
     desk: &mut D,
@@ -136,19 +137,20 @@ fn dump_end(fault: DeskDumpFault) -> Result<(), ConnFault>
     }
 }
 
-/// Submits a body of which these bytes came, and `missing` more did not, and writes the report: no
-/// item is decided that misses bytes. A read fault says that bytes are missing: the items that came
-/// whole are decided. After a write fault those up to the one whose line could not be written are,
-/// or all of them; after a fault of the store, which alone stops the desk, those before the item at
-/// which it came; and if memory ran out before the first item, none. The fault is never that the
-/// desk had stopped.
+/// Submits to a desk that runs a body of which these bytes came, at most 1,048,576, and `missing`
+/// more did not. Writes the report; no item is decided that misses bytes. A read fault says that
+/// bytes are missing: the items that came whole are decided. After a write fault those up to the
+/// one whose line could not be written are, or all of them. After a fault of the store, which alone
+/// stops the desk, those before the item at which it came are. If memory ran out before the first
+/// item, none are. The fault is never that the desk had stopped. What is left of the desk is what
+/// `Registrar::submit` leaves.
 pub(crate) fn submit_body<D: Registrar, W: Writer>(
     alloc: Global,
     desk: &mut D,
     bytes: &[u8],
     missing: usize,
     writer: &mut W,
-) -> Result<Done, DeskFault>
+) -> Result<Done, SubmissionFault>
     requires small { length bytes.now ≤ BODY_LIMIT }
     requires running { D.ledger.is_stopped desk.old ≡ false }
     ensures submits { SubmitsBody D.ledger (D.settings desk.old).source bytes.now missing

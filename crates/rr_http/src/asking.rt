@@ -1,5 +1,6 @@
 //! What a request asks, read from its head: its page, its method, and the size of its body.
-//! `serving` does what it asks.
+//! `serving` does what it asks. A new page is added here, in `serving`, and in the definitions of
+//! both.
 
 ghost use Rattle.std.specs.Prelude.{◌≡◌, Some, codes, length};
 ghost use Rattle.std.specs.Str.{bytes_eq};
@@ -102,21 +103,26 @@ pub enum Refusal {
 
 /// What a request asks.
 #[derive(Clone, Copy, Debug, PartialEq, Eq)]
-pub enum Asked<'a> {
+pub enum Requested<'a> {
     /// Nothing that is done: it is refused.
     Refused(Refusal),
     /// The report on its body, which has this size.
     Submission(BodySize),
-    /// The answer to the query with these percent escapes.
+    /// The answer to this query, whose percent escapes are still to be read.
     Query(&'a [u8]),
     /// The public dump.
     Dump,
 }
 
-/// What is asked by the request whose head this text begins with. A text that begins with none, or
-/// with one of more than 64 fields, is refused as a bad request (RFC 9112, 2.1; profile). A query
-/// has no more bytes than the text.
-pub fn read_request(head: &[u8]) -> Asked<'_>
+/// What is asked by the request whose head this text begins with. If the text begins with no head,
+/// or with one of more than 64 fields, that is refused as `BadRequest` (RFC 9112, 2.1; profile).
+///
+/// Otherwise the first refusal of these is given: for a transfer coding, for a path without a page,
+/// and for another method than the page's. For a submission those follow for no length, for a bad
+/// length or more than one, and for one above 1,048,576 (RFC 9110, 15; profile). If none applies,
+/// what its page is for is asked: the report, the answer to what follows `/query/`, or the dump. A
+/// query that is asked has no more bytes than the text.
+pub fn read_request(head: &[u8]) -> Requested<'_>
     ensures asks { RequestAsks head.now (view_of result) }
     ensures within { HasQueryWithin (length head.now) (view_of result) }
 {
@@ -128,29 +134,29 @@ pub fn read_request(head: &[u8]) -> Asked<'_>
                 target.as_bytes(),
                 Fields::new(head, &fields[..spans.headers]),
             ),
-            Err(_) => Asked::Refused(Refusal::BadRequest),
+            Err(_) => Requested::Refused(Refusal::BadRequest),
         },
-        Ok(Status::Partial) | Err(_) => Asked::Refused(Refusal::BadRequest),
+        Ok(Status::Partial) | Err(_) => Requested::Refused(Refusal::BadRequest),
     }
 }
 
 /// What a request of this method, target and fields asks (RFC 9110; profile).
 #[tactic(auto, unfolding(crate::specs::Requests::asks_of))]
-fn asked_of<'a>(method: &[u8], target: &'a [u8], fields: Fields<'_>) -> Asked<'a>
+fn asked_of<'a>(method: &[u8], target: &'a [u8], fields: Fields<'_>) -> Requested<'a>
     ensures asks { view_of result ≡ asks_of method.now target.now (fields_in fields.entry) }
     ensures within { HasQueryWithin (length target.now) (view_of result) }
 {
     if fields.find(b"Transfer-Encoding").is_some() {
-        return Asked::Refused(Refusal::NotImplemented);
+        return Requested::Refused(Refusal::NotImplemented);
     }
     let (path, _) = cut_before(target, b'?');
     match Page::at(path) {
-        None => Asked::Refused(Refusal::NotFound),
+        None => Requested::Refused(Refusal::NotFound),
         Some(page) => {
             if page.takes(method) {
                 asked_at(path, page, fields)
             } else {
-                Asked::Refused(Refusal::MethodNotAllowed(page))
+                Requested::Refused(Refusal::MethodNotAllowed(page))
             }
         }
     }
@@ -158,18 +164,18 @@ fn asked_of<'a>(method: &[u8], target: &'a [u8], fields: Fields<'_>) -> Asked<'a
 
 /// What a request by the method of the page asks.
 #[tactic(auto, using(crate::proofs::RequestLemmas::query_follows))]
-fn asked_at<'a>(path: &'a [u8], page: Page, fields: Fields<'_>) -> Asked<'a>
+fn asked_at<'a>(path: &'a [u8], page: Page, fields: Fields<'_>) -> Requested<'a>
     requires { page_of path.now ≡ Some page }
     ensures asks { view_of result ≡ asks_page path.now (fields_in fields.entry) page }
     ensures within { HasQueryWithin (length path.now) (view_of result) }
 {
     match page {
         Page::Submissions => match read_size(fields) {
-            Ok(size) => Asked::Submission(size),
-            Err(refusal) => Asked::Refused(refusal),
+            Ok(size) => Requested::Submission(size),
+            Err(refusal) => Requested::Refused(refusal),
         },
-        Page::Query => Asked::Query(&path[QUERY.len()..]),
-        Page::Dump => Asked::Dump,
+        Page::Query => Requested::Query(&path[QUERY.len()..]),
+        Page::Dump => Requested::Dump,
     }
 }
 

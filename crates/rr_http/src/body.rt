@@ -21,7 +21,7 @@ pub(crate) struct Body<'a> {
 impl<'a> Body<'a> {
     ghost use Rattle.rr_http.specs.BodyParts.{body_failed, body_missing, body_reads, body_rest};
 
-    /// The body of which these bytes came, and `missing` more did not.
+    /// The body of which these bytes came, and `missing` more did not; nothing was read of it yet.
     pub(crate) fn new(bytes: &'a [u8], missing: usize) -> Body<'a>
         ensures rest { body_rest result ≡ bytes.now }
         ensures missing { body_missing result ≡ missing }

@@ -21,8 +21,8 @@ pub enum BodyEnd {
 
 /// Reads the body of a request, of this size, the first bytes of which came with its head: they are
 /// `buffered`, up to that size. Gives its bytes, or those that came of it, and how the reading
-/// ended. No byte after the body is read. The error is that memory ran out for a body that is not
-/// empty, and nothing is read then.
+/// ended. Only if the end is `Broken` a read failed, the last one. No byte after the body is read.
+/// The error is that memory ran out for a body that is not empty, and nothing is read then.
 pub fn read_body<R: Reader>(
     alloc: Global,
     reader: &mut R,

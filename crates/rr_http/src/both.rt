@@ -9,7 +9,7 @@ use sqlite::Alter;
 use std::alloc::Global;
 
 /// Serves whois and HTTP on one port, told apart by the first line of a connection (RFC 3912, RFC
-/// 9112; profile).
+/// 9112; profile). It serves each connection as `serve_one` does.
 #[derive(Clone, Copy, Debug, PartialEq, Eq)]
 pub struct Both;
 

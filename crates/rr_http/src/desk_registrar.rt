@@ -5,7 +5,7 @@ ghost use Rattle.rr_http.specs.DeskLeaving.{desk_answer_leaves};
 ghost use Rattle.rr_http.specs.DeskRegistrars.{desk_registrar};
 
 use crate::registrar::Registrar;
-use rr_desk::{Desk, DeskDumpFault, DeskFault, Done, WriteFault};
+use rr_desk::{Desk, DeskDumpFault, Done, SubmissionFault, WriteFault};
 use rr_io::{Reader, Writer};
 use sqlite::Alter;
 use std::alloc::Global;
@@ -47,7 +47,7 @@ impl<S: Alter> Registrar for Desk<S> {
         alloc: Global,
         reader: &mut R,
         writer: &mut W,
-    ) -> Result<Done, DeskFault> {
+    ) -> Result<Done, SubmissionFault> {
         Desk::submit(self, alloc, reader, writer)
     }
 }

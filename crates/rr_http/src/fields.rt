@@ -28,7 +28,8 @@ impl<'a> Fields<'a> {
         Fields { head, spans }
     }
 
-    /// The value of the first field of this name, and the fields after it; `None` if there is none.
+    /// The value of the first field of this name, in any case of letters, and the fields after it;
+    /// `None` if there is none.
     pub(crate) fn find(self, name: &[u8]) -> Option<(&'a [u8], Fields<'a>)>
         ensures { MatchOption result (values_of name.now (fields_in self.entry) ≡ [])
             (λ found. values_of name.now (fields_in self.entry)

@@ -18,18 +18,19 @@ pub const HEAD_LIMIT: usize = 8_192;
 /// What stands at the head of a connection.
 #[derive(Clone, Copy, Debug, PartialEq, Eq)]
 pub enum Head {
-    /// A query by whois, of so many bytes (RFC 3912, 2).
+    /// A query by whois, of so many bytes: the first line without its line end (RFC 3912, 2).
     Whois(usize),
     /// The head of a request by HTTP, of so many bytes (RFC 9112, 2.1).
     Http(usize),
-    /// A first line by HTTP, and no whole head of a request: it is refused.
+    /// A first line by HTTP, and no whole head of a request: it is refused, as `HeadTooLarge` if
+    /// 8,192 bytes were read, otherwise as `BadRequest`.
     Refused(Refusal),
 }
 
 /// Reads the head of a connection into `buf`, which has 8,192 bytes, until it is known what the
-/// connection wants: its first line or the head of its request is whole, `buf` is full, or the
-/// input ended. Gives what stands there, and how many bytes were read, which `buf` then begins
-/// with. The error is a failed read before that is known.
+/// connection wants. By HTTP that is when the head of its request is whole, otherwise when its
+/// first line is; or when `buf` is full, or the input ended. Gives what stands there, and how many
+/// bytes were read, which `buf` then begins with. The error is a failed read before that is known.
 pub fn read_head<R: Reader>(reader: &mut R, buf: &mut [u8]) -> io::Result<(Head, usize)>
     requires { length buf.old ≡ HEAD_LIMIT }
     ensures within { IfOk result (λ read. read.1 ≤ HEAD_LIMIT) }

@@ -20,7 +20,7 @@ mod registrar;
 mod replying;
 mod serving;
 
-pub use asking::{Asked, Page, Refusal, read_request};
+pub use asking::{Page, Refusal, Requested, read_request};
 pub use body_reading::{BodyEnd, read_body};
 pub use body_size::{BODY_LIMIT, BodySize};
 pub use both::Both;

@@ -7,7 +7,7 @@ ghost use Rattle.rr_desk.specs.Dumping.{Dumps, RefusesDump};
 ghost use Rattle.rr_desk.specs.Settings.{SettingsParts};
 ghost use Rattle.rr_http.specs.Registrars.{AnswersInWriting, Leaves, LeavesSubmitted};
 
-use rr_desk::{DeskDumpFault, DeskFault, Done, WriteFault};
+use rr_desk::{DeskDumpFault, Done, SubmissionFault, WriteFault};
 use rr_io::{Reader, Writer};
 use std::alloc::Global;
 
@@ -26,12 +26,13 @@ pub trait Registrar {
     // The public dump.
     ghost dumped: { Self → List ℕ };
 
-    /// Whether it is stopped.
+    /// Whether it is stopped, as `ledger` says.
     fn stopped(&self) -> bool
         ensures { result ≡ ledger.is_stopped self.now };
 
-    /// Answers a query in a text, and is then in a state, as `Answers` says. After a failed write
-    /// the writer has taken the beginning of the text, and not all of it.
+    /// Answers a query with a text, and is in some state then; both are as `Answers` says. `Ok`
+    /// says that the text is written whole. The error is that a write failed: the writer has taken
+    /// the beginning of the text, and not all of it.
     fn answer<W: Writer>(
         &mut self,
         alloc: Global,
@@ -41,26 +42,31 @@ pub trait Registrar {
         ensures { AnswersInWriting Answers query.now self.old self.new
             (W.told writer.old) (W.told writer.new) result };
 
-    /// Writes the public dump. The fault is that it is stopped, and then nothing is written. Or a
-    /// write failed or memory ran out, and then the beginning of the dump is written, and not all.
+    /// Writes the public dump, which is that of `dumped`. If the registrar is stopped, the fault is
+    /// `Stopped`, and nothing is written. Otherwise the fault is that a write failed, or that
+    /// memory ran out and none failed. The beginning of the dump is written then, and not all of
+    /// it.
     fn dump<W: Writer>(&self, alloc: Global, writer: &mut W) -> Result<(), DeskDumpFault>
         ensures stopped { ledger.is_stopped self.now ≡ true
             → RefusesDump writer.old writer.new result }
         ensures dumps { ledger.is_stopped self.now ≡ false
             → Dumps (dumped self.now) (W.told writer.old) (W.told writer.new) result };
 
-    /// Submits what the reader gives, and writes the report; a stopped one refuses that, stays as
-    /// it is, and reads and writes nothing. Only a fault of the store stops it, and after any other
-    /// end it keeps what it is to keep, as a desk the rows of its registry. What is to last of it
-    /// lasts, its settings stay, and a registry of its source stays one. Where a prefix is held,
-    /// and each item up to a fault of the store is foreign to its holders or their own, nobody else
-    /// changes what they hold.
+    /// Submits what the reader gives, in the source of the settings, and writes the report, as
+    /// `rr_submission::submit` says of a ledger. If the registrar is stopped, it answers `Stopped`,
+    /// stays as it is, and reads and writes nothing.
+    ///
+    /// Only a fault of the store (`LedgerStopped`) stops it. After any other end it keeps what it
+    /// is to keep (`Kept` of its ledger), as a desk the rows of its registry. What is to last of it
+    /// (`Lasts`) lasts, its settings stay, and a registry of its source stays one. Where a prefix
+    /// is held, and each item up to a fault of the store is foreign to its holders or their own,
+    /// nobody else changes what they hold.
     fn submit<R: Reader, W: Writer>(
         &mut self,
         alloc: Global,
         reader: &mut R,
         writer: &mut W,
-    ) -> Result<Done, DeskFault>
+    ) -> Result<Done, SubmissionFault>
         ensures stopped { ledger.is_stopped self.old ≡ true → RefusesSubmission
             self.old self.new reader.old reader.new writer.old writer.new result }
         ensures submits { ledger.is_stopped self.old ≡ false

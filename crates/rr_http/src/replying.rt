@@ -11,8 +11,9 @@ use rr_io::{Writer, write_all};
 use rr_submission::ShortText;
 use std::io;
 
-/// Writes the reply to a request that is refused. After a fault the writer has taken the beginning
-/// of it, and not all.
+/// Writes the reply to a request that is refused: a status line, fields, and the status in words as
+/// the body (RFC 9112, 4; profile). The error is that a write failed: the writer has taken the
+/// beginning of the reply, and not all.
 pub fn write_refusal<W: Writer>(writer: &mut W, refusal: Refusal) -> io::Result<()>
     ensures { Writes (W.told writer.old) (W.told writer.new) (refusal_reply refusal) result }
 {

@@ -10,7 +10,7 @@ ghost use Rattle.rr_http.specs.ServingParts.{ServesHead};
 ghost use Rattle.rr_http.specs.Wants.{IsHead};
 
 use crate::answering::{answer_query, give_dump, refuse, submit_body, write_answer};
-use crate::asking::{Asked, Refusal, read_request};
+use crate::asking::{Refusal, Requested, read_request};
 use crate::body_reading::{BodyEnd, read_body};
 use crate::body_size::BodySize;
 use crate::heads::{HEAD_LIMIT, Head, read_head};
@@ -21,21 +21,26 @@ use rr_io::{Connection, Writer};
 use std::alloc::Global;
 
 /// Serves one connection by whois or HTTP: reads what it wants, asks the desk, and writes the reply
-/// (RFC 3912, RFC 9112). The error is that a read of the connection failed, otherwise that a write
-/// did (the law `ends_tell_failed_calls`). Where a read fails before it is known what the
-/// connection wants, nothing is written, and the desk stays as it is.
+/// (RFC 3912, RFC 9112). By whois the reply is the desk's answer to the first line. By HTTP it is a
+/// head and the answer to a query with its percent escapes read, the public dump, or the report on
+/// a submission. Or it is a refusal, and the desk is not asked.
+///
+/// The error is that a read of the connection failed, otherwise that a write did (the law
+/// `ends_tell_failed_calls`). After a failed write only the beginning of the reply is written.
+/// Where a read fails before it is known what the connection wants, nothing is written, and the
+/// desk stays as it is.
 ///
 /// A body is submitted as far as it came, without an item that misses bytes. Of submissions only a
-/// fault of the store stops the desk. After any other end of one it keeps what it is to keep: a
-/// desk over tables, the rows of its registry. A registry of its source stays one. Where a prefix
-/// is held, and each item up to a fault of the store is foreign to its holders or their own, nobody
-/// else changes what they hold.
+/// fault of the store stops the desk. After any other end of one it keeps what it is to keep
+/// (`Kept` of its ledger): a desk over tables, the rows of its registry. A registry of its source
+/// stays one. Where a prefix is held, and each item up to a fault of the store is foreign to its
+/// holders or their own, nobody else changes what they hold.
 ///
 /// By HTTP a stopped desk is not asked, and the reply is 503, unless the request is refused anyway.
 /// The reply is 503, too, where memory runs out for a body, of which nothing more is read then.
-/// Where not even the head of a reply can be written, the desk is not asked. Where memory runs out
-/// for a dump, the reply ends early, which is no error. However it ends, what is to last of the
-/// desk lasts, and its settings stay.
+/// Where not even the head of a reply by HTTP can be written, the desk is not asked. Where memory
+/// runs out for a dump, the reply ends early, which is no error. However serving ends, what is to
+/// last of the desk (`Lasts`) lasts, and its settings stay.
 pub fn serve_one<D: Registrar, C: Connection>(
     alloc: Global,
     desk: &mut D,
@@ -80,7 +85,7 @@ fn serve_asked<D: Registrar, C: Connection>(
     alloc: Global,
     desk: &mut D,
     buffered: &[u8],
-    asked: Asked<'_>,
+    asked: Requested<'_>,
     conn: &mut C,
 ) -> Result<(), ConnFault>
     requires { HasQueryWithin HEAD_LIMIT (view_of asked) }
@@ -88,10 +93,10 @@ fn serve_asked<D: Registrar, C: Connection>(
         (conn_visit C.Reader C.Writer conn.old conn.new result) }
 {
     match asked {
-        Asked::Refused(refusal) => refuse(conn, refusal),
-        Asked::Submission(size) => serve_submission(alloc, desk, buffered, size, conn),
-        Asked::Query(escaped) => answer_query(alloc, desk, escaped, conn),
-        Asked::Dump => give_dump(alloc, desk, conn),
+        Requested::Refused(refusal) => refuse(conn, refusal),
+        Requested::Submission(size) => serve_submission(alloc, desk, buffered, size, conn),
+        Requested::Query(escaped) => answer_query(alloc, desk, escaped, conn),
+        Requested::Dump => give_dump(alloc, desk, conn),
     }
 }
 

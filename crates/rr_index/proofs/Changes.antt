@@ -14,7 +14,7 @@ use Rattle.rr_cover.specs.SpanMaps.{SpanMap}
 use Rattle.rr_index.proofs.Referrers.{put_there}
 use Rattle.rr_index.proofs.Spans.{keys_in}
 use Rattle.rr_index.specs.NameIndexes.{HasNames}
-use Rattle.rr_index.specs.Private.{IsApart}
+use Rattle.rr_index.specs.Private.{IsCrossedByNone}
 use Rattle.rr_index.specs.SpanIndexes.{HasSpans}
 
 -- the keys stay
@@ -52,7 +52,7 @@ module _ (r s : Reg) (same : (q : Key) → contains_key s q ≡ contains_key r q
   names_stay keys has = λ n. has n ∙ ap (λ b. cond b (Some (Mntner n)) None) (sym (same (Mntner n)))
 
 -- no object of a registry crosses one that it stays sound with
-pub apart_of : (r : Reg) (o : Obj) → Sound (insert r o.key o) → IsApart r o.key
+pub apart_of : (r : Reg) (o : Obj) → Sound (insert r o.key o) → IsCrossedByNone r o.key
 apart_of r o sound = record {
   apart = λ l x at.
       let own = put_there r o.key o in

@@ -11,7 +11,7 @@ use Rattle.rr_book.specs.Books.{IsBook, book_of}
 use Rattle.rr_book.specs.SetLists.{names_set}
 use Rattle.rr_index.specs.EnteringParts.{IsUnderNone}
 use Rattle.rr_index.specs.Indexes.{HasIndexes}
-use Rattle.rr_index.specs.Private.{IsApart, is_crossed}
+use Rattle.rr_index.specs.Private.{IsCrossedByNone, is_crossed}
 use Rattle.rr_index.specs.declared.indexes.Indexes.{Indexes}
 use Rattle.rr_index.proofs.Gathered.{next_apart, next_book, next_free}
 use Rattle.rr_index.proofs.Questions.{none_crossed}
@@ -25,7 +25,7 @@ under_none r kept o has free =
     (λ n. sym (ap (λ v. option_map_or (names_set n) v false) free))
 
 -- a key that no registered one crosses crosses no span that is held
-pub uncrossed : (r : Reg) (kept : Indexes) (o : Obj) → HasIndexes r kept → IsApart r o.key →
+pub uncrossed : (r : Reg) (kept : Indexes) (o : Obj) → HasIndexes r kept → IsCrossedByNone r o.key →
     is_crossed kept.spans.inetnums kept.spans.blocks o.key ≡ false
 uncrossed r kept o has apart = none_crossed r kept.spans.inetnums kept.spans.blocks
     kept.spans.routes has.keys.spans o.key apart

@@ -11,7 +11,7 @@ use Rattle.std.specs.declared.cmp.Ordering.TheVariants.{Less, Equal, Greater}
 use Rattle.rr_object.proofs.KeyLaws.{keys_exact, keys_total, tied_key}
 use Rattle.rr_auth.specs.Registries.{Sound}
 use Rattle.rr_book.specs.Books.{book_of, entry, is_in_order}
-use Rattle.rr_index.specs.Private.{IsApart}
+use Rattle.rr_index.specs.Private.{IsCrossedByNone}
 use Rattle.rr_object.specs.declared.key.Key.{Key}
 use Rattle.rr_object.specs.KeyOrders.{key_cmp}
 use Rattle.rr_object.specs.Objects.{Obj}
@@ -119,7 +119,7 @@ module _ (all ys left rest : List Obj) (o : Obj) (order : is_in_order all ≡ tr
       (sym (next_whole ∙ sym whole ∙ ap (λ xs. ys ++ xs) step)) sorted))))
 
   -- the next object crosses none of those before it
-  pub next_apart : Sound (book_of all) → IsApart (book_of ys) o.key
+  pub next_apart : Sound (book_of all) → IsCrossedByNone (book_of ys) o.key
   next_apart sound =
       let split : ys ++ o ∷ rest ≡ all = ap (λ xs. ys ++ xs) (sym step) ∙ whole in
       let all_sound : Sound (book_of (ys ++ o ∷ rest)) =

@@ -14,14 +14,14 @@ use Rattle.rr_auth.proofs.Members.{found_in, none_passes, passing_one, stands_at
 use Rattle.rr_auth.proofs.RouteSpace.{block_key, blocks_exact, blocks_nested, closest_routes_none}
 use Rattle.rr_auth.proofs.RouteSpace.{closest_routes_there, inetnum_key, inetnums_exact}
 use Rattle.rr_auth.proofs.RouteSpace.{inetnums_nested, route_key}
-use Rattle.rr_auth.specs.Closest.{block_span, closest_block, closest_inetnum, closest_routes}
+use Rattle.rr_auth.specs.Closest.{block_span, closest_block, closest_inetnum, closest_route_prefix}
 use Rattle.rr_auth.specs.Closest.{inetnum_span, route_prefix, route_span}
 use Rattle.rr_auth.specs.Conditions.{crosses_registered as crosses_key}
 use Rattle.rr_auth.specs.Registries.{Reg, Sound, keys_cross}
 use Rattle.rr_book.proofs.Crossing.{none_crosses}
 use Rattle.rr_cover.proofs.Ordered.{crosses_found, crosses_missed}
 use Rattle.rr_cover.specs.SpanMaps.{IsClosest, NoneCovers, SpanMap, crosses_some}
-use Rattle.rr_index.specs.Private.{IsApart, is_crossed}
+use Rattle.rr_index.specs.Private.{IsCrossedByNone, is_crossed}
 use Rattle.rr_index.specs.SpanIndexes.{HasSpans}
 
 there_is : {A : Type 0} (v : Option A) → is_some v ≡ true → (x : A) × (v ≡ Some x)
@@ -34,7 +34,8 @@ same_of a false f g = g refl
 
 -- no span that is held crosses a key that none in the registry crosses
 pub none_crossed : (r : Reg) (inetnums blocks routes : SpanMap (Unit {0})) →
-    HasSpans r inetnums blocks routes → (k : Key) → IsApart r k → is_crossed inetnums blocks k
+    HasSpans r inetnums blocks routes → (k : Key) → IsCrossedByNone r k → is_crossed inetnums
+    blocks k
     ≡ false
 none_crossed r inetnums blocks routes has (Mntner n) apart = refl
 none_crossed r inetnums blocks routes has (AsBlock s) apart = crosses_missed blocks s (λ t held.
@@ -107,7 +108,7 @@ module _ (r : Reg) (inetnums blocks routes : SpanMap (Unit {0})) (sound : Sound 
 
   -- the prefix of the closest routes is the one of the closest span
   pub routes_of_closest : (p q : PrefixParts) (v : Unit {0}) → IsMasked q →
-      IsClosest routes (span_of p) (span_of q) v → Some q ≡ closest_routes r p
+      IsClosest routes (span_of p) (span_of q) v → Some q ≡ closest_route_prefix r p
   routes_of_closest p q v masked closest =
       let is = has.routed (span_of q) (ap is_some closest.held) in
       let one = there_is (get r (Route is.prefix is.origin)) is.there in
@@ -123,7 +124,8 @@ module _ (r : Reg) (inetnums blocks routes : SpanMap (Unit {0})) (sound : Sound 
         least = λ k x u f of_class over. closest.least u (routed_span k x u f of_class) over;
       }))
 
-  pub no_routes : (p : PrefixParts) → NoneCovers routes (span_of p) → None ≡ closest_routes r p
+  pub no_routes : (p : PrefixParts) → NoneCovers routes (span_of p) → None ≡ closest_route_prefix r
+      p
   no_routes p none =
       sym
       (closest_routes_none r p sound (λ k x u f of_class.

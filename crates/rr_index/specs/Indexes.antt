@@ -27,6 +27,6 @@ pub record HasIndexes (r : Reg) (kept : Indexes) : Type 0 where
   pub namings : HasNamings r kept.namings.counts
 
 -- A registry is sound, and the indexes are those of its objects (profile).
-pub record IsIndexed (r : Reg) (kept : Indexes) : Type 0 where
+pub record IsIndexedBy (r : Reg) (kept : Indexes) : Type 0 where
   pub sound : Sound r
   pub indexes : HasIndexes r kept

@@ -13,7 +13,7 @@ use Rattle.rr_cover.specs.SpanMaps.{SpanMap, crosses_some}
 use Rattle.rr_index.specs.OriginIndexes.{origin_cmp}
 
 -- No registered inetnum or as-block crosses the key (profile).
-pub record IsApart (r : Reg) (k : Key) : Type 0 where
+pub record IsCrossedByNone (r : Reg) (k : Key) : Type 0 where
   pub apart : (l : Key) (x : Obj) → get r l ≡ Some x → keys_cross l k ≡ false
 
 -- The route lies from the least prefix of the origin to its greatest (profile).

@@ -40,16 +40,16 @@ impl Model for IndexedBook {
 
     ghost coded = { map.code (key.the_row).coded (object.the_row).coded };
 
-    ghost use Rattle.rr_index.specs.Indexes.{IsIndexed};
+    ghost use Rattle.rr_index.specs.Indexes.{IsIndexedBy};
 
     ghost view = { λ b. b.objects };
 
-    ghost invariant = { λ b. IsIndexed b.objects b.indexes };
+    ghost invariant = { λ b. IsIndexedBy b.objects b.indexes };
 }
 
 impl IndexedBook {
-    /// Puts an object in place of the one of its key. The error is that memory ran out, and nothing
-    /// changes.
+    /// Puts an object in place of the one of its key, which must be there; the registry with it
+    /// must be sound. The error is that memory ran out, and nothing changes.
     fn change(&mut self, alloc: Global, object: Object) -> Result<(), AllocError>
         requires sound { Sound (insert self.old object.key object) }
         requires stands { is_some (get self.old object.key) ≡ true }
@@ -67,8 +67,8 @@ impl IndexedBook {
         }
     }
 
-    /// Puts an object of a key under which none stands. The error is that memory ran out, and
-    /// nothing changes.
+    /// Puts an object of a key under which none may stand; the registry with it must be sound. The
+    /// error is that memory ran out, and nothing changes.
     fn add(&mut self, alloc: Global, object: Object) -> Result<(), AllocError>
         requires sound { Sound (insert self.old object.key object) }
         requires free { get self.old object.key ≡ None }
@@ -113,8 +113,8 @@ impl Book for IndexedBook {
         }
     }
 
-    fn closest_routes(&self, prefix: Prefix) -> Option<Prefix> {
-        self.indexes.spans.closest_routes(prefix)
+    fn closest_route_prefix(&self, prefix: Prefix) -> Option<Prefix> {
+        self.indexes.spans.closest_route_prefix(prefix)
     }
 
     fn origins(&self, alloc: Global, prefix: Prefix) -> Result<Vec<AsNumber>, AllocError> {

@@ -29,8 +29,9 @@ use rr_object::Object;
 use std::alloc::{AllocError, Global};
 use std::collections::BTreeSet;
 
-/// The spans of the objects, the routes by origin, and the names of the mntners. Also the keys
-/// under the sets that the objects name in `member-of`, and how often they name each maintainer.
+/// The indexes of a registry: the spans of its objects, its routes by origin, and the names of its
+/// mntners. Also the keys under the sets that the objects name in `member-of`, and how often they
+/// name each maintainer.
 #[derive(Drop)]
 pub(crate) struct Indexes {
     pub(crate) spans: SpanIndex,
@@ -54,8 +55,8 @@ impl Indexes {
         }
     }
 
-    /// The indexes of objects that stand in the order of class and key, and whose registry is
-    /// sound. The error is that memory ran out.
+    /// The indexes of objects that must stand in the order of class and key, no two under one key,
+    /// and whose registry must be sound. The error is that memory ran out.
     pub(crate) fn of(alloc: Global, objects: &[Object]) -> Result<Indexes, AllocError>
         requires { IsBook objects.now }
         ensures { IfOk result (λ indexes. HasIndexes (book_of objects.now) indexes) }
@@ -67,9 +68,10 @@ impl Indexes {
         Ok(indexes)
     }
 
-    /// Enters an object of a key under which none is registered. The key must stand under no set
-    /// that the object names, and cross no span that is held. The error is that memory ran out, and
-    /// it leaves the indexes those of the same objects.
+    /// Enters an object: the indexes of a registry that has none under its key become those of the
+    /// registry with it. The key must stand under no set that the object names, and no inetnum and
+    /// no as-block that is held may cross it. The error is that memory ran out, and the indexes of
+    /// such a registry are still its indexes.
     pub(crate) fn enter(&mut self, alloc: Global, object: &Object) -> Result<(), AllocError>
         requires { CanEnter self.old object.now }
         ensures ok { OnOk result ((r : Reg) → HasIndexes r self.old → get r object.now.key
@@ -157,10 +159,11 @@ impl Indexes {
         }
     }
 
-    /// Enters what an object names that comes in place of another: its key, under the sets that the
-    /// other does not name, and its maintainers. Under none of these sets may the key stand before.
-    /// It gives the sets that the object names; the error is that memory ran out, and it leaves the
-    /// indexes those of the same objects.
+    /// Enters what an object names: its key, under each set that it names and `standing` does not,
+    /// and its namings of maintainers. Other indexes stay. Under none of these sets may the key
+    /// stand before. The result is the sets that the object names. The error is that memory ran
+    /// out. Then the indexes of a registry that has `standing` under the key, or nothing if that is
+    /// none, are still its indexes.
     pub(crate) fn enter_names(
         &mut self,
         alloc: Global,
@@ -189,8 +192,8 @@ impl Indexes {
         }
     }
 
-    /// Takes out what an object names in whose place one came that names these sets: its key, save
-    /// from under those, and its maintainers.
+    /// Takes out what an object names in whose place another came: its key, from under each set
+    /// that it names, save `sets`, and its namings of maintainers. Other indexes stay.
     pub(crate) fn leave_names(&mut self, old: Object, sets: BTreeSet<SetName>)
         ensures { HasUnnamed old (contains (slice_cmp nat_cmp) sets) self.old self.new }
     {
@@ -198,8 +201,9 @@ impl Indexes {
         self.namings.take(&old);
     }
 
-    /// Takes out an object that is no longer among these objects. The indexes were those of
-    /// these and of it, and are then those of these alone.
+    /// Takes out an object that is no longer among these objects, whose registry must be sound. If
+    /// the indexes were those of these objects and of it, they are then those of these objects
+    /// alone.
     pub(crate) fn leave(&mut self, objects: &ObjectMap, gone: &Object)
         requires { Sound objects.now }
         ensures { (r : Reg) → HasIndexes r self.old → get r gone.now.key ≡ Some gone.now
@@ -215,7 +219,7 @@ impl Indexes {
         self.namings.take(gone);
     }
 
-    /// Takes out an object that is no longer among these objects, and frees it.
+    /// Does what `leave` does, and frees the object. The registry of these objects must be sound.
     pub(crate) fn leave_and_free(&mut self, objects: &ObjectMap, gone: Object)
         requires { Sound objects.now }
         ensures { (r : Reg) → HasIndexes r self.old → get r gone.key ≡ Some gone

@@ -23,7 +23,7 @@ pub(crate) struct NameIndex {
 }
 
 impl NameIndex {
-    /// An index without names.
+    /// An index without names: that of a registry without objects.
     pub(crate) fn new(alloc: Global) -> NameIndex
         ensures { HasNames empty result.keys }
     {
@@ -39,8 +39,8 @@ impl NameIndex {
         self.keys.get(name)
     }
 
-    /// Enters the key of an object that is registered. The error is that memory ran out, and the
-    /// names are still those of the registry as it was.
+    /// Enters a key: the names of a registry become those of it with any object put under the key.
+    /// The error is that memory ran out, and the names are still those of the registry.
     pub(crate) fn add(&mut self, alloc: Global, key: &Key) -> Result<(), AllocError>
         ensures { EntersName self.old.keys key.now self.new.keys result }
     {
@@ -62,7 +62,7 @@ impl NameIndex {
         Ok(())
     }
 
-    /// Takes out the key of an object that was registered.
+    /// Takes out a key: the names of a registry become those of it without the object of the key.
     pub(crate) fn take(&mut self, key: &Key)
         ensures { (r : Reg) → HasNames r self.old.keys
             → HasNames (remove r key.now) self.new.keys }

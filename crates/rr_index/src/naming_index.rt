@@ -21,7 +21,7 @@ pub(crate) struct NamingIndex {
 }
 
 impl NamingIndex {
-    /// An index without names.
+    /// An index without counts: that of a registry without objects.
     pub(crate) fn new(alloc: Global) -> NamingIndex
         ensures { HasNamings empty result.counts }
     {
@@ -30,7 +30,7 @@ impl NamingIndex {
         }
     }
 
-    /// Whether the maintainer is named by an object other than its own mntner.
+    /// Whether the counts say that the maintainer is named: its count is above 0.
     pub(crate) fn is_named(&self, name: &Name) -> bool
         ensures { result ≡ nat_lt 0 (count_at self.now.counts name.now) }
     {
@@ -40,8 +40,8 @@ impl NamingIndex {
         }
     }
 
-    /// Counts the maintainers that the object names. The error is that memory ran out, and no count
-    /// changes.
+    /// Adds to the count of each maintainer how often the object names it, unless the object is its
+    /// mntner. The error is that memory ran out, and no count changes.
     pub(crate) fn add(&mut self, alloc: Global, object: &Object) -> Result<(), AllocError>
         ensures ok { OnOk result ((name : List ℕ) → count_at self.new.counts name
             ≡ count_at self.old.counts name + namings_by name object.now) }
@@ -79,7 +79,8 @@ impl NamingIndex {
         Ok(())
     }
 
-    /// Takes back what was counted of the object.
+    /// Takes from the count of each maintainer how often the object names it, unless the object is
+    /// its mntner; no count falls below 0.
     pub(crate) fn take(&mut self, object: &Object)
         ensures { (name : List ℕ) → count_at self.new.counts name
             ≡ count_at self.old.counts name - namings_by name object.now }

@@ -63,8 +63,9 @@ impl Model for ObjectMap {
 }
 
 impl ObjectMap {
-    /// The map of objects that stand in the order of class and key; it compares each only with the
-    /// next. The error is that memory ran out.
+    /// The map of the objects, which must stand in the order of class and key, no two under one
+    /// key. The error is that memory ran out. No clause says that each is compared with the next
+    /// alone.
     pub(crate) fn of(alloc: Global, objects: Vec<Object>) -> Result<ObjectMap, AllocError>
         requires { is_in_order objects.items ≡ true }
         ensures { IfOk result (λ kept. kept ≡ book_of objects.items) }
@@ -79,15 +80,15 @@ impl ObjectMap {
         })
     }
 
-    /// The object of the key.
+    /// The object of the key; none if there is none.
     pub(crate) fn get(&self, key: &Key) -> Option<&Object>
         ensures { option_copied result ≡ get self.now key.now }
     {
         self.entries.get(key)
     }
 
-    /// Puts the object under its key. The error is that memory ran out; nothing changes, and it
-    /// gives the object back.
+    /// Puts the object under its key, in place of one that stood there. The error is that memory
+    /// ran out; nothing changes, and it gives the object back.
     pub(crate) fn add(&mut self, alloc: Global, object: Object) -> Result<(), AllocFailed<Object>>
         ensures puts { PutsObject self.old object self.new result }
         ensures returned { IfErr result (λ refused. refused.value ≡ object) }
@@ -104,8 +105,9 @@ impl ObjectMap {
         }
     }
 
-    /// Puts the object in place of the one of its key, which is given back; it takes no memory.
-    /// Where there is none, nothing changes and the object comes back.
+    /// Puts the object in place of the one of its key, which is given back. Where there is none,
+    /// nothing changes and the object comes back as the error. No clause says that it takes no
+    /// memory.
     pub(crate) fn replace(&mut self, object: Object) -> Result<Object, Object>
         ensures puts { PutsObject self.old object self.new result }
         ensures old { IfOk result (λ old. get self.old object.key ≡ Some old) }
@@ -126,7 +128,7 @@ impl ObjectMap {
         self.entries.remove(key)
     }
 
-    /// The objects in the order of class and key; the error is that memory ran out.
+    /// All objects, in the order of class and key; the error is that memory ran out.
     pub(crate) fn all(&self, alloc: Global) -> Result<Vec<&Object>, AllocError>
         ensures { IfOk result (λ found. lent found.items ≡ values self.now) }
     {
@@ -138,7 +140,7 @@ impl ObjectMap {
     }
 
     /// The objects of those keys that have one, in the order of class and key; the error is that
-    /// memory ran out.
+    /// memory ran out. The keys strictly rise, after an error too.
     pub(crate) fn at_keys(
         &self,
         alloc: Global,
@@ -157,8 +159,9 @@ impl ObjectMap {
         Ok(found)
     }
 
-    /// The objects of the routes that the index has under the origin, in the order of their
-    /// prefixes; the error is that memory ran out.
+    /// The objects of those routes of the origin in the index that have one here, in the order of
+    /// their prefixes; the error is that memory ran out. All routes of the index strictly rise, by
+    /// origin and then by prefix, after an error too.
     pub(crate) fn routes_of(
         &self,
         alloc: Global,
@@ -179,14 +182,15 @@ impl ObjectMap {
         Ok(found)
     }
 
-    /// The object of the route.
+    /// The object of the route; none if there is none.
     fn route(&self, prefix: Prefix, origin: AsNumber) -> Option<&Object>
         ensures { option_copied result ≡ get self.now (Route prefix origin) }
     {
         self.get(&Key::Route(prefix, origin))
     }
 
-    /// The aut-nums, in the order of their numbers; the error is that memory ran out.
+    /// The aut-nums, in the order of their keys; the registry must be sound. The error is that
+    /// memory ran out.
     pub(crate) fn aut_nums(&self, alloc: Global) -> Result<Vec<&Object>, AllocError>
         requires { Sound self.now }
         ensures { IfOk result
@@ -197,7 +201,8 @@ impl ObjectMap {
         self.listed(alloc, Key::AutNum(lowest), Key::AutNum(highest))
     }
 
-    /// The routes, in the order of their keys; the error is that memory ran out.
+    /// The routes, in the order of their keys; the registry must be sound. The error is that memory
+    /// ran out.
     pub(crate) fn routes(&self, alloc: Global) -> Result<Vec<&Object>, AllocError>
         requires { Sound self.now }
         ensures { IfOk result
@@ -233,9 +238,10 @@ impl ObjectMap {
         self.entries.range(first..=last)
     }
 
-    /// The inetnums and routes inside the span, in the order of class and key; the error is that
-    /// memory ran out. It steps over those whose first address lies in the span, and looks at one
-    /// route more at most.
+    /// The inetnums and routes whose addresses lie inside the span, in the order of class and key;
+    /// equal ones count. The registry must be sound, and the error is that memory ran out. It steps
+    /// over those whose first address lies in the span, and looks at one route more at most, which
+    /// no clause says.
     pub(crate) fn inside(&self, alloc: Global, span: Span) -> Result<Vec<&Object>, AllocError>
         requires { Sound self.now }
         ensures { IfOk result (λ found. lent found.items ≡ inside self.now span) }
@@ -288,8 +294,8 @@ impl ObjectMap {
         Ok(found)
     }
 
-    /// The inetnums of these spans and the routes of these prefixes, in the order of class and key;
-    /// the error is that memory ran out.
+    /// The inetnums of these spans and the routes of these prefixes, in the order of class and key.
+    /// The registry must be sound, and the error is that memory ran out.
     pub(crate) fn chosen(
         &self,
         alloc: Global,
@@ -345,7 +351,8 @@ impl ObjectMap {
         Ok(())
     }
 
-    /// The origins of the routes of the prefix, ascending; the error is that memory ran out.
+    /// The origins of the routes of exactly the prefix, in the order of their keys. The registry
+    /// must be sound, and the error is that memory ran out.
     pub(crate) fn origins(&self, alloc: Global, prefix: Prefix) -> Result<Vec<AsNumber>, AllocError>
         requires { Sound self.now }
         ensures { IfOk result (λ v. v.items ≡ origins_among (values self.now) prefix) }
@@ -359,7 +366,9 @@ impl ObjectMap {
         Ok(origins)
     }
 
-    /// Whether a route of the key's prefix is there, where the key is a route's.
+    /// Whether another route of the key's prefix is registered in a registry that becomes this one
+    /// when the key is taken out. Of another key than a route's no clause says anything. This
+    /// registry must be sound.
     pub(crate) fn is_routed(&self, key: &Key) -> bool
         requires { Sound self.now }
         ensures { (r : Reg) → self.now ≡ remove r key.now → IsTold r key.now result }

@@ -22,7 +22,7 @@ pub(crate) struct OriginIndex {
 }
 
 impl OriginIndex {
-    /// An index without routes.
+    /// An index without routes: that of a registry without objects.
     pub(crate) fn new(alloc: Global) -> OriginIndex
         ensures { HasOrigins empty result.routes }
     {
@@ -31,8 +31,8 @@ impl OriginIndex {
         }
     }
 
-    /// Enters an object that is registered under the key. The error is that memory ran out, and the
-    /// origins are still those of the registry as it was.
+    /// Enters a key: the routes of a registry become those of it with any object put under the key.
+    /// The error is that memory ran out, and the routes are still those of the registry.
     pub(crate) fn add(&mut self, key: &Key) -> Result<(), AllocError>
         ensures ok { OnOk result ((r : Reg) (o : Obj) → HasOrigins r self.old.routes
             → HasOrigins (insert r key.now o) self.new.routes) }
@@ -45,7 +45,7 @@ impl OriginIndex {
         Ok(())
     }
 
-    /// Takes out the object that was registered under the key.
+    /// Takes out a key: the routes of a registry become those of it without the object of the key.
     pub(crate) fn take(&mut self, key: &Key)
         ensures { (r : Reg) → HasOrigins r self.old.routes
             → HasOrigins (remove r key.now) self.new.routes }
@@ -55,7 +55,8 @@ impl OriginIndex {
         }
     }
 
-    /// The routes of the origin, in the order of their prefixes.
+    /// The routes that the index has of the origin, in the order of their prefixes. All its routes
+    /// strictly rise, by origin and then by prefix.
     pub(crate) fn routes_of(&self, origin: AsNumber) -> Range<'_, (AsNumber, Prefix)>
         ensures routes { result ≡ filter (is_of_origin origin) self.now.routes.keys }
         ensures ordered { IsStrictlySortedBy origin_cmp self.now.routes.keys }
@@ -65,7 +66,9 @@ impl OriginIndex {
         self.routes.range((origin, least)..=(origin, greatest))
     }
 
-    /// The prefixes of the routes of the origin, in order; the error is that memory ran out.
+    /// The prefixes of the routes that the index has of the origin, in order; the error is that
+    /// memory ran out. All its routes strictly rise, by origin and then by prefix, after an error
+    /// too.
     pub(crate) fn prefixes_of(
         &self,
         alloc: Global,

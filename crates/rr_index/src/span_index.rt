@@ -8,12 +8,12 @@ ghost use Rattle.rr_number.specs.Spans.{IsSpan};
 ghost use Rattle.rr_cover.specs.SpanMaps.{IsClosest, NoneCovers, crosses_some};
 ghost use Rattle.rr_object.specs.Objects.{Obj};
 ghost use Rattle.rr_auth.specs.Registries.{Reg, Sound};
-ghost use Rattle.rr_auth.specs.Closest.{closest_routes};
+ghost use Rattle.rr_auth.specs.Closest.{closest_route_prefix};
 ghost use Rattle.rr_auth.specs.Conditions.{crosses_registered as crosses_key};
 ghost use Rattle.rr_index.specs.Private.{HoldsSpan, IsTold, is_crossed};
 ghost use Rattle.rr_index.specs.SpanIndexes.{HasSpans};
 
-use rr_cover::{InsertFault, PrefixTree, SpanNest};
+use rr_cover::{PrefixTree, SpanNest};
 use rr_number::{Prefix, Span};
 use rr_object::Key;
 use std::alloc::{AllocError, Global};
@@ -27,7 +27,7 @@ pub(crate) struct SpanIndex {
 }
 
 impl SpanIndex {
-    /// An index without spans.
+    /// An index without spans: that of a registry without objects.
     pub(crate) fn new(alloc: Global) -> SpanIndex
         ensures { HasSpans empty result.inetnums result.blocks result.routes }
     {
@@ -38,8 +38,9 @@ impl SpanIndex {
         }
     }
 
-    /// Enters the span of an object that is registered under the key, which no span held crosses.
-    /// The error is that memory ran out, and the spans are still those of the registry as it was.
+    /// Enters the span of a key: the spans of a registry become those of it with any object put
+    /// under the key. No span that is held of the key's class may cross it. The error is that
+    /// memory ran out, and the spans are still those of the registry.
     pub(crate) fn add(&mut self, key: &Key) -> Result<(), AllocError>
         requires { is_crossed self.old.inetnums self.old.blocks key.now ≡ false }
         ensures ok { OnOk result
@@ -61,8 +62,9 @@ impl SpanIndex {
         }
     }
 
-    /// Takes out the span of the object that was registered under the key; the prefix of a route
-    /// stays where another route of it does.
+    /// Takes out the span of a key: the spans of a registry become those of it without the object
+    /// of the key. This is so if `is_routed` says of a route's key whether another route of its
+    /// prefix is registered; such a prefix stays.
     pub(crate) fn take(&mut self, key: &Key, is_routed: bool)
         ensures { (r : Reg) → HasSpans r self.old.inetnums self.old.blocks self.old.routes
             → IsTold r key.now is_routed
@@ -86,8 +88,8 @@ impl SpanIndex {
         }
     }
 
-    /// The span of the closest inetnum to the span; none if none covers it. The ends of the span
-    /// asked about are in order and have 32 bits.
+    /// The span of the closest inetnum to the span, which may be equal; none if none covers it. The
+    /// ends of the span asked about are in order and have 32 bits.
     pub(crate) fn closest_inetnum(&self, span: Span) -> Option<Span>
         ensures found { IfSome result (λ own. IsClosest self.now.inetnums span own tt) }
         ensures none { IfNone result (NoneCovers self.now.inetnums span) }
@@ -99,8 +101,8 @@ impl SpanIndex {
         }
     }
 
-    /// The span of the closest as-block to the span; none if none covers it. The ends of the span
-    /// asked about are in order and have 32 bits.
+    /// The span of the closest as-block to the span, which may be equal; none if none covers it.
+    /// The ends of the span asked about are in order and have 32 bits.
     pub(crate) fn closest_block(&self, span: Span) -> Option<Span>
         ensures found { IfSome result (λ own. IsClosest self.now.blocks span own tt) }
         ensures none { IfNone result (NoneCovers self.now.blocks span) }
@@ -112,10 +114,11 @@ impl SpanIndex {
         }
     }
 
-    /// The prefix of the closest routes to the prefix, in the sound registry whose spans these are.
-    pub(crate) fn closest_routes(&self, prefix: Prefix) -> Option<Prefix>
+    /// The prefix of the closest routes to the prefix, in the sound registry whose spans these are;
+    /// none if no route covers it.
+    pub(crate) fn closest_route_prefix(&self, prefix: Prefix) -> Option<Prefix>
         ensures { (r : Reg) → Sound r → HasSpans r self.now.inetnums self.now.blocks
-            self.now.routes → result ≡ closest_routes r prefix }
+            self.now.routes → result ≡ closest_route_prefix r prefix }
     {
         match closest_prefix(&self.routes, prefix) {
             Some(own) => {
@@ -166,10 +169,6 @@ fn hold(nest: &mut SpanNest<()>, span: Span) -> Result<(), AllocError>
 fn hold_prefix(tree: &mut PrefixTree<()>, prefix: Prefix) -> Result<(), AllocError>
     ensures { HoldsSpan tree.old (span_of prefix) tree.new result }
 {
-    match tree.insert(prefix, ()) {
-        Ok(_) => Ok(()),
-        Err(InsertFault::Memory(_)) => Err(AllocError),
-        // Prefixes never cross.
-        Err(InsertFault::Overlap(_)) => unreachable!(),
-    }
+    tree.insert(prefix, ())?;
+    Ok(())
 }

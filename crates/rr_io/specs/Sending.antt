@@ -1,6 +1,5 @@
 -- What a writer takes: for `Writer` and all that is printed to one. What is said of a writer's
--- bytes
--- holds where it tells them.
+-- bytes holds where it tells them.
 use Rattle.std.specs.Prelude.{◌≡◌, ℕ, ◌<◌, ◌≤◌, List, ◌++◌, length, take, Result, Ok, Err}
 use Rattle.std.specs.Prelude.{Some, ◌⊎◌}
 use Rattle.rr_io.specs.Told.{Told, Fails}

@@ -23,8 +23,8 @@ pub struct Cut<T> {
 impl<T> Cut<T> {
     ghost use Rattle.rr_io.specs.Cut.{cut_inner, cut_left, cut_step, reads_cut, writes_cut};
 
-    /// `inner`, cut after `left` bytes, at most `step` of them in a call, which is at least one. No
-    /// call has failed at the cut so far.
+    /// `inner`, cut after `left` bytes, at most `step` of them in a call; `step` must be at least
+    /// one. No call has failed at the cut so far.
     pub fn new(inner: T, step: usize, left: usize) -> Self
         requires { 0 < step }
         ensures inner { cut_inner result ≡ inner }
@@ -64,9 +64,10 @@ impl<T: Reader> Reader for Cut<T> {
 
     ghost told = { cut_told T.told reads_cut };
 
-    /// Reads at most `step` bytes, and so many fewer are left to pass. Where none is left, it fails
-    /// without a read of what is inside; before that it fails only where this read does. A failure
-    /// is counted where it happens, and leaves what may still pass.
+    /// Reads as `Reader::read` says, at most `step` bytes, and so many fewer are left to pass;
+    /// `step` stays. Where none is left, it fails, and what is inside stays as it is; before that
+    /// it fails only where the read of what is inside does. A failure is counted only where it
+    /// happens, and leaves what may still pass.
     fn read(&mut self, buf: &mut [u8]) -> io::Result<usize>
         ensures reads { ReadsOnce (cut_told T.told reads_cut self.old)
             (cut_told T.told reads_cut self.new) buf.new result }
@@ -92,9 +93,10 @@ impl<T: Writer> Writer for Cut<T> {
 
     ghost told = { cut_told T.told writes_cut };
 
-    /// Takes at most `step` bytes, and so many fewer are left to pass. Where none is left, it fails
-    /// without a write to what is inside; before that it fails only where this write does. A
-    /// failure is counted where it happens, and leaves what may still pass.
+    /// Takes bytes as `Writer::write` says, at most `step`, and so many fewer are left to pass;
+    /// `step` stays. Where none is left, it fails, and what is inside stays as it is; before that
+    /// it fails only where the write to what is inside does. A failure is counted only where it
+    /// happens, and leaves what may still pass.
     fn write(&mut self, bytes: &[u8]) -> io::Result<usize>
         ensures writes { WritesOnce (cut_told T.told writes_cut self.old)
             (cut_told T.told writes_cut self.new) bytes.now result }

@@ -1,6 +1,7 @@
 //! The limits on the reading of a text, and how a reading ends: for `Paragraphs` of `rr_text`, and
 //! for `rr_submission`. `rr_http` reads bodies by `READ_SIZE`. After a reply `rr_listener` makes at
-//! most 512 reads of that size, which are 2 MiB: no proof notes it if this limit changes.
+//! most 512 reads of that size, which are 2 MiB: if `READ_SIZE` changes, so does this limit, and no
+//! proof notes it.
 ghost use Rattle.std.specs.Prelude.{◌≡◌, IsTrue, ◌↔◌};
 
 /// How many reads the reading of a text makes at most (profile). Messages of `rr_commands` have the
@@ -22,7 +23,7 @@ pub enum ReadEnd {
 }
 
 impl ReadEnd {
-    /// Whether the reader came to its end.
+    /// Whether it is `Whole`: the reader came to its end.
     pub fn is_whole(self) -> bool
         ensures { IsTrue result ↔ (self ≡ ReadEnd.Whole) }
     {

@@ -13,18 +13,19 @@ use Rattle.rr_listener.specs.declared.peer_writer.TheConstants.{BYTES_A_SECOND, 
 abbrev pub second : ℕ
 second = 1_000_000_000
 
--- how many nanoseconds a call may wait for a peer that has so many left: 10 seconds at most, and
--- not past the end; `None` if none is left (profile)
+-- how many nanoseconds a call may wait for a peer that has so many left: these, but at most 10
+-- seconds; `None` if none is left (profile)
 abbrev pub wait_of : ℕ → Option ℕ
 wait_of left = if left == 0 then None else Some (min left (LONGEST_WAIT * second))
 
 -- how many nanoseconds the next call may wait for a peer that has so many seconds in all and took
--- so many nanoseconds; `None` if its time is over (profile)
+-- so many nanoseconds. That is what is left, but at most 10 seconds; `None` if nothing is left
+-- (profile)
 abbrev pub next_wait : ℕ → ℕ → Option ℕ
 next_wait seconds taken = wait_of (seconds * second - taken)
 
--- there is a wait, and it stands as the timeout of the next call: it is set, or it stood before
--- (profile)
+-- there is a wait, and it stands as the timeout of the next call: it is to be set, or it was the
+-- one set before (profile)
 pub record SetsWait (wait before after set : Option ℕ) : Type 0 where
   pub there_is : is_some wait ≡ true
   pub stands : after ≡ wait

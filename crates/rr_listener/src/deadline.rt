@@ -29,8 +29,8 @@ impl Wait {
     }
 }
 
-/// How much of its time a peer has taken. Time counts while a call waits for this peer, and not
-/// while the desk works or others are served.
+/// How much of its time a peer has taken, and the timeout that was set last. Time counts while a
+/// call waits for this peer, and not while the desk works or others are served.
 #[derive(Clone, Copy)]
 pub struct Deadline {
     taken: Duration,
@@ -53,8 +53,8 @@ impl Deadline {
     }
 
     /// Ends a wait now, and adds it to the time taken. If the clock cannot be read all time is
-    /// taken, and the error is the system's. Clauses say only that no time is given back, and that
-    /// the timeout stays.
+    /// taken, and the error is the system's. Clauses say only that the time taken does not become
+    /// less, and that the timeout stays.
     pub fn end(&mut self, rt: &HostRuntime, wait: Wait) -> io::Result<()>
         ensures taken { as_nanos self.old.taken ≤ as_nanos self.new.taken }
         ensures timeout { self.new.timeout ≡ self.old.timeout }
@@ -89,10 +89,10 @@ impl Deadline {
         self.taken = Duration::MAX;
     }
 
-    /// The timeout to set before the next call, if the peer is given so many seconds in all: at
-    /// most 10 seconds, and not past the end. None only if the one that was set last is the same.
-    /// In both cases it then stands as the one set last. No time is taken. The error is that the
-    /// time is over; then the deadline stays.
+    /// The timeout to set before the next call, if the peer is given so many seconds in all: what
+    /// is left of these, but at most 10 seconds. `None` only if the one that was set last is the
+    /// same. In both cases it then stands as the one set last. The time taken stays. The error is
+    /// that nothing is left; then the deadline stays.
     pub fn next_timeout(&mut self, seconds: u64) -> io::Result<Option<Duration>>
         ensures sets { IfOk result
             (λ set. SetsTimeout (next_wait seconds (as_nanos self.old.taken))
@@ -119,8 +119,8 @@ impl Deadline {
         Some(wait)
     }
 
-    /// How long the next call may wait, if the peer is given so many seconds in all: at most 10
-    /// seconds, and not past the end. `None` if the time is over.
+    /// How long the next call may wait, if the peer is given so many seconds in all: what is left
+    /// of these, but at most 10 seconds. `None` if nothing is left.
     fn next_wait(&self, seconds: u64) -> Option<Duration>
         ensures { option_map as_nanos result ≡ next_wait seconds (as_nanos self.now.taken) }
     {

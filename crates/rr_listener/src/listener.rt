@@ -13,7 +13,8 @@ use std::io;
 use std::net::{Ipv4Addr, TcpListener};
 
 /// What listens on a port of 127.0.0.1, over TCP. Contracts see how many turns there were, and
-/// neither what these were nor their bytes. It keeps why the last accept failed, for people.
+/// neither what these were nor their bytes. It keeps the error of the last accept if that failed,
+/// for people: contracts see whether it keeps one.
 #[derive(Drop)]
 pub struct Listener<'a> {
     rt: &'a HostRuntime,
@@ -42,7 +43,8 @@ impl<'a> Listener<'a> {
         Ok(self.socket.local_addr()?.port())
     }
 
-    /// The system's error of the last accept, if that failed; each `accept` sets it.
+    /// The error that is kept: the system's of the last accept, if that failed. Each `accept` sets
+    /// it.
     pub fn accept_error(&self) -> Option<&io::Error>
         ensures { option_map (λ error. error.now) result ≡ self.now.accept_error }
     {
@@ -86,9 +88,10 @@ impl<'a> Peers for Listener<'a> {
 
     ghost given = { λ _. None };
 
-    /// The next connection to the port, of which no call has failed; its bytes are not told, and it
-    /// is no turn yet. An error is a turn. Exactly then an error is kept for `accept_error`: the
-    /// system's, though no clause says which. The turns there were and this one are within `u64`.
+    /// The next connection to the port, of which no call has failed, and to which nothing was
+    /// written where that is told. What its peer sends is not told, and it is no turn yet. An error
+    /// is a turn. Exactly then an error is kept for `accept_error`: the system's, though no clause
+    /// says which. The turns there were and this one must be within `u64`.
     fn accept(&mut self, _alloc: Global) -> Result<Stream<'a>, AcceptFault>
         requires { self.old.turns + 1 < 2 ^ 64 }
         ensures accepted { IfOk result (λ conn. IsAccepted

@@ -24,7 +24,8 @@ const DRAIN_TIME: u64 = 1;
 const DRAIN_READS: u32 = 512;
 
 /// The bytes that a peer sends. All that it asks has to come within 60 seconds, and a call waits
-/// for 10 at most, and is made again if the system interrupts it (profile).
+/// for 10 at most, and is made again if the system interrupts it (profile). The clauses of its
+/// public functions do not say so.
 #[derive(Drop)]
 pub struct PeerReader<'a> {
     rt: &'a HostRuntime,
@@ -83,7 +84,7 @@ impl<'a> PeerReader<'a> {
 
 impl Read for PeerReader<'_> {
     /// Reads some bytes, at most as many as `buf` has. The time that earlier reads took stays
-    /// taken. The error is the system's, or that the time is over.
+    /// taken. The error is the system's, or that the time is over; no clause says which.
     fn read(&mut self, buf: &mut [u8]) -> io::Result<usize>
         ensures { SpendsTime (length buf.new) self.old.deadline self.new.deadline result }
     {

@@ -16,14 +16,15 @@ const MOST_CALLS: u32 = 9;
 /// How many seconds a peer is given to take a reply (profile).
 pub const REPLY_TIME: u64 = 60;
 
-/// For how many bytes that went out it is given a second more (profile).
+/// For how many bytes that went out a peer is given one second more (profile).
 pub const BYTES_A_SECOND: u64 = 16_384;
 
 /// The bytes that a peer is sent. It has to take them within 60 seconds and one more for each 16
 /// KiB that went out. A call waits for 10 seconds at most. It is made again if the system
 /// interrupts it, or if its time is over before that of the reply, up to 90 seconds in which no
 /// byte passes. For the system lets a writer go on only once a good part of its buffer is free,
-/// which takes a slow and steady reader longer than 10.
+/// which takes a slow and steady reader longer than 10 (profile). The clauses of its public
+/// functions do not say so.
 #[derive(Drop)]
 pub struct PeerWriter<'a> {
     rt: &'a HostRuntime,
@@ -82,7 +83,7 @@ impl<'a> PeerWriter<'a> {
 
 impl Write for PeerWriter<'_> {
     /// Writes some bytes, at most as many as `buf` has. The time that earlier writes took stays
-    /// taken. The error is the system's, or that the time is over.
+    /// taken. The error is the system's, or that the time is over; no clause says which.
     fn write(&mut self, buf: &[u8]) -> io::Result<usize>
         ensures { SpendsTime (length buf.now) self.old.deadline self.new.deadline result }
     {

@@ -9,7 +9,8 @@ use std::net::{Shutdown, TcpStream};
 use std::time::Duration;
 
 /// A socket that is read and written only while a wait for its peer goes on. Contracts see nothing
-/// of it but how many bytes a call may pass.
+/// of it but how many bytes a read or a write may pass: what its other functions do, no clause
+/// says.
 #[derive(Drop)]
 pub struct PeerSocket(TcpStream);
 

@@ -1,4 +1,5 @@
--- The names `AS-ANY` and `RS-ANY`, which no object has: for names of sets and their members.
+-- The names `AS-ANY` and `RS-ANY`, which no object has for its name: for names of sets and their
+-- members.
 use Rattle.std.specs.Prelude.{ℕ, List, codes}
 
 -- The name of the set of all ASes (RFC 2622, 5).

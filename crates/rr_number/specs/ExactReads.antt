@@ -1,4 +1,5 @@
--- What a text is read as, where it says exactly one thing or nothing: for all that `read` numbers.
+-- What a text is read as, where it spells exactly one value or none: for `read` of addresses, AS
+-- numbers, prefixes, spans, blocks and operators, and for `read_ranged`.
 use Rattle.std.specs.Prelude.{◌≡◌, ℕ, List, Option, Some, IfSome}
 
 -- A text is read as the one value that it spells, and as nothing where it spells none. That is also

@@ -8,7 +8,7 @@ use Rattle.rr_number.specs.SetNames.{components, is_as_number}
 use Rattle.rr_number.specs.declared.set_name.parent.Parent.{Parent}
 use Rattle.rr_number.specs.declared.set_name.parent.Parent.TheVariants.{Number, Set, Bare}
 
--- All parts but the last.
+-- All components but the last.
 abbrev pub but_last : List (List ℕ) → List (List ℕ)
 but_last [] = []
 but_last (c ∷ []) = []

@@ -12,8 +12,8 @@ pub record RangeParts : Type 0 where
   pub low : ℕ
   pub high : ℕ
 
--- A range has a prefix whose bits past its length are zero, a least length not below the prefix's,
--- and a greatest from the least to 32 (RFC 2622, 2).
+-- A range has a prefix with an address below 2^32 and only zeros past its length. Its least length
+-- is not below the prefix's, and its greatest lies from the least to 32 (RFC 2622, 2).
 pub record IsRange (r : RangeParts) : Type 0 where
   pub masked : IsMasked r.prefix
   pub inside : r.prefix.length ≤ r.low

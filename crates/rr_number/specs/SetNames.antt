@@ -18,7 +18,7 @@ abbrev pub word_start : SetKind → List ℕ
 word_start AsSet = codes "AS-"
 word_start RouteSet = codes "RS-"
 
--- The components of a set's name are the parts round its colons (RFC 2622, 5).
+-- The components of a set's name are the texts round its colons (RFC 2622, 5).
 abbrev pub components : List ℕ → List (List ℕ)
 components text = slice_split (λ b. b == 58) text
 

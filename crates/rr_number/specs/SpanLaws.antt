@@ -4,18 +4,18 @@ use Rattle.std.specs.Prelude.{◌≡◌, ℕ, true, false, ◌+◌, ◌<◌, ◌
 use Rattle.std.specs.Prelude.{◌↔◌}
 use Rattle.std.specs.Cmp.{IsTotalOrder}
 use Rattle.std.specs.FinMap.{IsAntisymmetric}
-use Rattle.rr_number.specs.Spans.{Ends, IsSpan, IsIn, covers, meets, crosses, size, span_cmp}
+use Rattle.rr_number.specs.Spans.{Ends, IsSpan, LiesIn, covers, meets, crosses, size, span_cmp}
 
 -- A span covers another exactly where each number of the other lies in it.
 abbrev pub CoveringIsInclusion : Type 0
 CoveringIsInclusion =
-    (s t : Ends) → IsSpan t → (covers s t ≡ true) ↔ ((n : ℕ) → IsIn n t → IsIn n s)
+    (s t : Ends) → IsSpan t → (covers s t ≡ true) ↔ ((n : ℕ) → LiesIn n t → LiesIn n s)
 
 -- Two spans meet exactly where some number lies in both.
 abbrev pub MeetingIsSharing : Type 0
 MeetingIsSharing =
     (s t : Ends) → IsSpan s → IsSpan t
-    → (meets s t ≡ true) ↔ ((n : ℕ) × (IsIn n s × IsIn n t))
+    → (meets s t ≡ true) ↔ ((n : ℕ) × (LiesIn n s × LiesIn n t))
 
 -- Each span covers itself.
 abbrev pub CoversItself : Type 0

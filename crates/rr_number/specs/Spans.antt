@@ -23,7 +23,7 @@ pub record IsSpan (s : Ends) : Type 0 where
   pub fits : s.last < 2 ^ 32
 
 -- A number lies in a span where it is not below the first end and not above the last.
-pub record IsIn (n : ℕ) (s : Ends) : Type 0 where
+pub record LiesIn (n : ℕ) (s : Ends) : Type 0 where
   pub from : s.first ≤ n
   pub to : n ≤ s.last
 

@@ -1,5 +1,5 @@
-//! IPv4 addresses, which are read, printed and ordered here: parts of prefixes, ends of spans, and
-//! what queries ask for.
+//! IPv4 addresses, which are read, printed and ordered here: prefixes and spans are made of them,
+//! and queries ask for them.
 ghost use Rattle.std.specs.Prelude.{◌≡◌, ◌<◌, ◌^◌, Some};
 ghost use Rattle.rr_number.specs.Addresses.{IsAddress, address_of, address_text, joined_of};
 ghost use Rattle.rr_number.specs.Addresses.{octet_of};
@@ -30,7 +30,7 @@ impl Model for Address {
 }
 
 impl Address {
-    /// The address of this number, whose highest byte is the first number of the address's text.
+    /// The address of this number; `text` prints the number's highest byte first.
     pub fn from_bits(bits: u32) -> Self
         ensures { result ≡ bits }
     {
@@ -45,15 +45,15 @@ impl Address {
     }
 
     /// The address that the whole text spells: four numbers below 256, of one to three digits each,
-    /// joined by dots. There is none where the text is spelled otherwise (RFC 2622, 2; digits:
-    /// profile).
+    /// joined by dots. `None` where the text is spelled otherwise (RFC 2622, 2; digits: profile).
     pub fn read(text: &[u8]) -> Option<Address>
         ensures { ReadsExactly IsAddress address_of text.now result }
     {
         read_address(text)
     }
 
-    /// The address as four numbers joined by dots, without leading zeros (RFC 2622, 2).
+    /// The four bytes of the address, the highest first, as decimal numbers without leading zeros,
+    /// joined by dots (RFC 2622, 2).
     pub fn text(self) -> NumberText
         ensures { result ≡ address_text self }
     {

@@ -24,7 +24,8 @@ const GREATEST: u32 = 4_294_967_295;
 /// The most digits that an AS number is spelled in (profile).
 const MOST_DIGITS: usize = 10;
 
-/// The number of an autonomous system. AS numbers are ordered as numbers (profile).
+/// The number of an autonomous system, at most 4294967295. AS numbers are ordered as numbers
+/// (profile).
 #[derive(Clone, Copy, Debug, PartialEq, Eq, PartialOrd, Ord)]
 pub struct AsNumber {
     number: u32,
@@ -58,9 +59,9 @@ impl AsNumber {
         self.number
     }
 
-    /// The AS number that the bytes spell: `AS`, in any letter case, and 1 to 10 digits of a number
-    /// of at most 4294967295. `None` where they spell none (RFC 2622, 2; RFC 6793, 3; the count of
-    /// digits: profile).
+    /// The AS number that the bytes spell: `AS`, in any letter case, and right after it 1 to 10
+    /// digits of a number of at most 4294967295. Leading zeros count as digits. `None` where they
+    /// spell none (RFC 2622, 2; RFC 6793, 3; the count of digits: profile).
     pub fn read(bytes: &[u8]) -> Option<Self>
         ensures { ReadsExactly IsAsNumber as_number_of bytes.now result }
     {
@@ -79,8 +80,8 @@ impl AsNumber {
         text
     }
 
-    /// Writes the printed text. After a fault the writer has taken the beginning of it, and not
-    /// all.
+    /// Writes the printed text, as `write_all` does. The error is that a write failed: the writer
+    /// has then taken the beginning of the text, and not all.
     pub fn print_to<W: Writer>(&self, writer: &mut W) -> io::Result<()>
         ensures { Writes (W.told writer.old) (W.told writer.new)
             (as_number_text self.now) result }

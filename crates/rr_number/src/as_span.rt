@@ -15,7 +15,8 @@ use std::marker::Model;
 use std::{fmt, io};
 
 /// The AS numbers from a first to a last one, both included, as the key of an as-block has them
-/// (RFC 2725, 9). Blocks are ordered by the first number, then by the last (profile).
+/// (RFC 2725, 9). The first is not above the last, which is at most 4294967295. Blocks are ordered
+/// by the first number, then by the last (profile).
 #[derive(Clone, Copy, Debug, PartialEq, Eq, PartialOrd, Ord)]
 pub struct AsSpan {
     span: Span,
@@ -44,31 +45,33 @@ impl AsSpan {
         AsSpan { span }
     }
 
-    /// The span of the block's numbers: AS numbers, the first not above the last.
+    /// The span of the block's numbers: the first is not above the last, which is at most
+    /// 4294967295.
     pub fn span(self) -> Span
         ensures { Shows IsAsSpan self self result }
     {
         self.span
     }
 
-    /// The block that the whole text spells: two AS numbers with `-` between them, the first not
-    /// above the last; blanks (spaces, tabs, CRs) may stand beside the `-`. `None` where it spells
-    /// none (profile).
+    /// The block that the whole text spells: two AS numbers, as `AsNumber::read` reads them, with
+    /// `-` between them. The first is not above the last; blanks (spaces, tabs, CRs) may stand on
+    /// either side of the `-`. `None` where the text spells none (profile).
     pub fn read(text: &[u8]) -> Option<Self>
         ensures { ReadsExactly IsAsSpanText as_span_of text.now result }
     {
         read_block(text)
     }
 
-    /// The printed text: the two AS numbers with ` - ` between them (profile).
+    /// The printed text: the first and the last AS number, as `AsNumber::text` prints them, with
+    /// ` - ` between them (profile).
     pub fn text(self) -> NumberText
         ensures { result ≡ as_span_text self }
     {
         ends_text::<AsNumber>(self.span)
     }
 
-    /// Writes the printed text. After a fault the writer has taken the beginning of it, and not
-    /// all.
+    /// Writes the printed text, as `write_all` does. The error is that a write failed: the writer
+    /// has then taken the beginning of the text, and not all.
     pub fn print_to<W: Writer>(&self, writer: &mut W) -> io::Result<()>
         ensures { Writes (W.told writer.old) (W.told writer.new)
             (as_span_text self.now) result }

@@ -2,8 +2,8 @@
 ghost use Rattle.std.specs.Prelude.{◌≡◌, ◌<◌, ◌≤◌, IfSome};
 ghost use Rattle.rr_number.specs.Numerals.{number_of};
 
-/// The number that the text spells in one to `most` digits, if it is below the limit. A number of
-/// up to 19 digits always fits 64 bits.
+/// The number that the text spells in one to `most` digits, if it is below the limit; otherwise
+/// `None`. `most` must be at most 19: a number of so many digits fits 64 bits.
 #[inline]
 #[tactic(auto, unfolding(crate::specs::Numerals::number_of))]
 pub(crate) fn read_number(text: &[u8], most: usize, limit: u64) -> Option<u64>

@@ -17,17 +17,19 @@ pub(crate) trait End {
     // the number as it is printed
     ghost end_text: { ℕ → List ℕ };
 
-    /// The number that the whole text spells, if it does.
+    /// The number that the whole text spells, as `end_of` says; `None` where it spells none.
     fn read_end(text: &[u8]) -> Option<u32>
         ensures { result ≡ end_of text.now };
 
-    /// Appends the number's text: at most 15 bytes, as an address has. The text has room for 15.
+    /// Appends the number as `end_text` prints it: at most 15 bytes, as an address has. `text` must
+    /// have room for 15.
     fn push_end(number: u32, text: &mut NumberText)
         requires { length text.old + 15 ≤ NUMBER_SIZE }
         ensures { Appends 15 (end_text number) text.old text.new };
 }
 
-/// The span between the ends that two texts spell, if they do and the first is not above the last.
+/// The span between the ends that two texts spell, as `E` says, if they do and the first is not
+/// above the last; otherwise `None`.
 #[inline]
 #[tactic(auto, unfolding(crate::specs::EndsTexts::ends_between))]
 pub(crate) fn read_between<E: End>(first: &[u8], last: &[u8]) -> Option<Span>
@@ -42,7 +44,7 @@ pub(crate) fn read_between<E: End>(first: &[u8], last: &[u8]) -> Option<Span>
     }
 }
 
-/// The span's ends with ` - ` between them.
+/// The span's ends, as `E` prints them, with ` - ` between them.
 pub(crate) fn ends_text<E: End>(span: Span) -> NumberText
     ensures { result ≡ ends_text E.end_text span }
 {

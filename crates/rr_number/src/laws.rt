@@ -1,5 +1,8 @@
-//! What holds of addresses, prefixes, operators, ranges, spans, AS numbers and names together: for
-//! readers, and for the proofs of other crates. Each function states a law and does nothing.
+//! What holds of addresses, prefixes, operators, ranges, spans, blocks, AS numbers and names
+//! together: for readers, and for the proofs of other crates. Each function states a law and does
+//! nothing. What a law says of prefixes, it says of all values of `Prefix`: its clause names them
+//! by what holds of each, `IsMasked`. So it is with the other types. A printed text that spells a
+//! value is read as this value again, by the contract of `read`.
 ghost use Rattle.std.specs.Prelude.{◌≡◌, ℕ, ◌<◌, ◌≤◌, ◌^◌, List, Some};
 ghost use Rattle.std.specs.Ordering.{nat_cmp};
 ghost use Rattle.rr_bytes.specs.LetterCase.{upper};
@@ -32,58 +35,59 @@ use crate::operator::Operator;
 use crate::prefix::Prefix;
 use crate::range::Range;
 
-/// What is printed is read again: the text of an address spells it.
+/// The printed text of each address below 2^32 spells it.
 pub fn printed_addresses_are_read()
     ensures { (address : ℕ) → address < 2 ^ 32 → IsAddress (address_text address) address }
 {}
 
-/// What is printed is read again: the text of a prefix spells it.
+/// The printed text of each value of `Prefix` spells this value.
 pub fn printed_prefixes_are_read()
     ensures { (prefix : PrefixParts) → IsMasked prefix → IsPrefix (prefix_text prefix) prefix }
 {}
 
-/// What is printed is read again: the text of an operator spells it.
+/// The printed text of each value of `Operator` spells this value.
 pub fn printed_operators_are_read()
     ensures { (operator : Operator) → IsOperatorValue operator
         → IsOperator (operator_text operator) operator }
 {}
 
-/// What is printed is read again: the text of a range spells its prefix and the operator printed
-/// for it, which gives the range where it is applied to the prefix alone.
+/// The printed text of each value of `Range` spells its prefix and the operator that is printed for
+/// it. This operator gives the range where it is applied to the prefix alone.
 pub fn printed_ranges_are_read()
     ensures spelled { PrintedRangesAreRead }
     ensures made { PrintedOperatorsMakeRanges }
 {}
 
-/// What is printed is read again: the text of a span of addresses spells it.
+/// The printed text of each value of `Span`, as a span of addresses, spells this value.
 pub fn printed_spans_are_read()
     ensures { (span : Ends) → IsSpan span → IsSpanText (span_text span) span }
 {}
 
-/// What is printed is read again: the text of an AS number spells it, and is read as it.
+/// The printed text of each AS number, at most 4294967295, spells it, and is read as it.
 pub fn as_numbers_are_read_again()
     ensures spelled { (n : ℕ) → n ≤ greatest_as_number → IsAsNumber (as_number_text n) n }
     ensures again { (n : ℕ) → n ≤ greatest_as_number
         → as_number_of (as_number_text n) ≡ Some n }
 {}
 
-/// What is printed is read again: the text of a block spells it.
+/// The printed text of each value of `AsSpan` spells this value.
 pub fn printed_blocks_are_read()
     ensures { (block : Ends) → IsAsSpan block → IsAsSpanText (as_span_text block) block }
 {}
 
-/// A name is read again from its bytes, letter case makes no difference to what is read, and what
-/// is read is a name in upper case.
+/// Each value of `Name` is read again from its bytes. Letter case makes no difference to what is
+/// read from a text, and what is read is a name in upper case.
 pub fn names_are_read_again()
     ensures again { (name : List ℕ) → IsUpperName name → name_of name ≡ Some name }
     ensures case_ignored { (a b : List ℕ) → upper a ≡ upper b → name_of a ≡ name_of b }
     ensures kept { (bs name : List ℕ) → name_of bs ≡ Some name → IsUpperName name }
 {}
 
-/// A set's name is read again from its printed text, and letter case makes no difference to what is
-/// read. What is read has the components of the spelling, each as it is printed. Unless it is
-/// `AS-ANY` or `RS-ANY`, each component is an AS number or a word of its kind, and at least one is
-/// such a word. Where there are several, the text of its parent has all of them but the last.
+/// Each value of `SetName` is read again from its printed text. Letter case makes no difference to
+/// what is read from a text, and what is read has the components of the spelling, each as it is
+/// printed. Unless a value is `AS-ANY` or `RS-ANY`, each of its components is an AS number or a
+/// word of its kind, and at least one is such a word. Where a text has the text of a parent, the
+/// parent's text has all components of the text but the last.
 pub fn set_names_are_read_again()
     ensures again { SetNamesAreReadAgain }
     ensures case_ignored { SetNamesIgnoreCase }

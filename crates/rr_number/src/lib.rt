@@ -1,7 +1,7 @@
 //! The numbers and names of routing: addresses, prefixes, ranges of prefixes with their operators,
-//! AS numbers, spans, names. They are for all crates that speak of objects, and for `rr_cover`.
-//! Each is read from exactly the texts that spell it, a range as a prefix and an operator, and
-//! printed as one of them.
+//! AS numbers and blocks of them, spans, names. They are for all crates that speak of objects, and
+//! for `rr_cover`. Each is read from exactly the texts that spell it, a range as a prefix and an
+//! operator, and printed as one of them. The definition that its `read` cites says what spells it.
 #![tactic(auto)]
 
 mod address;

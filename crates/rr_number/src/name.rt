@@ -1,4 +1,5 @@
-//! Names, of maintainers and sources, and the reserved words, which no maintainer is named by.
+//! Names, of maintainers and sources, for keys, attributes and settings; and the reserved words. No
+//! maintainer is named by one of these, and `set_name` goes by them.
 
 ghost use Rattle.std.specs.Prelude.{◌≡◌, ℕ, IfOk, List, Some};
 ghost use Rattle.std.specs.List.{list_any};
@@ -64,7 +65,8 @@ impl Model for Name {
 
 impl Name {
     /// The name that the bytes spell, in any letter case; `None` where they spell none (RFC 2622,
-    /// 2). It is in upper case, and may be a reserved word. The error is that memory ran out.
+    /// 2). What is read is in upper case, and may be a reserved word. The error is that memory ran
+    /// out.
     pub fn read(alloc: Global, bytes: &[u8]) -> Result<Option<Self>, AllocError>
         ensures { IfOk result (λ name. name ≡ name_of bytes.now) }
     {
@@ -76,9 +78,9 @@ impl Name {
         Ok(Some(Name { text }))
     }
 
-    /// The maintainer's name that the bytes spell, in any letter case; it is in upper case. `None`
-    /// where they spell no name, a reserved word, or a name that begins with `AS-` or `RS-`
-    /// (RFC 2622, 2). The error is that memory ran out.
+    /// The maintainer's name that the bytes spell, in any letter case; what is read is in upper
+    /// case. `None` where they spell no name, a reserved word, or a name that begins with `AS-` or
+    /// `RS-` (RFC 2622, 2). The error is that memory ran out.
     pub fn read_maintainer(alloc: Global, bytes: &[u8]) -> Result<Option<Self>, AllocError>
         ensures { IfOk result (λ name. name ≡ maintainer_name_of bytes.now) }
     {
@@ -112,7 +114,8 @@ impl Name {
         !self.is_reserved() && !bytes.starts_with(b"AS-") && !bytes.starts_with(b"RS-")
     }
 
-    /// Writes the name. After a fault the writer has taken the beginning of it, and not all.
+    /// Writes the name, as `write_all` does. The error is that a write failed: the writer has then
+    /// taken the beginning of the name, and not all.
     pub fn print_to<W: Writer>(&self, writer: &mut W) -> io::Result<()>
         ensures { Writes (W.told writer.old) (W.told writer.new) self.now result }
     {

@@ -1,5 +1,5 @@
 //! What names, of maintainers, sources and sets, have in common: bytes, which are compared and
-//! printed.
+//! printed. For `Name` and `SetName`.
 
 ghost use Rattle.std.specs.Prelude.{nat_eq, Some};
 ghost use Rattle.std.proofs.Common.{rules};

@@ -1,5 +1,5 @@
-//! The printed text of an address, an AS number, an operator, or a value made of them, which lies
-//! on the stack.
+//! The printed text of an address, an AS number, an operator, or a value made of them, on the
+//! stack: what `text` of these types gives.
 ghost use Rattle.std.specs.Prelude.{◌≡◌, ◌+◌, ◌≤◌, [], ◌++◌, length};
 ghost use Rattle.std.specs.Fmt.{decimal};
 ghost use Rattle.rr_number.specs.NumberTextParts.{Appends};
@@ -37,7 +37,7 @@ impl NumberText {
         }
     }
 
-    /// Appends the piece.
+    /// Appends the piece. The whole must have at most 40 bytes.
     pub(crate) fn push_str(&mut self, piece: &str)
         requires { length self.old + length piece.now ≤ NUMBER_SIZE }
         ensures { self.new ≡ self.old ++ piece.now }
@@ -45,7 +45,7 @@ impl NumberText {
         self.text.push_str(piece);
     }
 
-    /// Appends the number's decimal digits.
+    /// Appends the number's decimal digits. The whole must have at most 40 bytes.
     pub(crate) fn push_number(&mut self, number: u32)
         requires { length self.old + length (decimal number) ≤ NUMBER_SIZE }
         ensures { self.new ≡ self.old ++ decimal number }
@@ -54,7 +54,8 @@ impl NumberText {
         self.text.push_str(buffer.format(number));
     }
 
-    /// Appends the decimal digits of a number below 256, at most three.
+    /// Appends the decimal digits of a number below 256, at most three. There must be room for
+    /// three.
     #[tactic(auto, using(crate::proofs::Decimals::three_digits))]
     pub(crate) fn push_byte(&mut self, number: u8)
         requires { length self.old + 3 ≤ NUMBER_SIZE }

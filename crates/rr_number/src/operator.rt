@@ -55,7 +55,7 @@ impl Model for LengthBounds {
 }
 
 impl LengthBounds {
-    /// The bounds that these two are.
+    /// The bounds of these two lengths: `low` must not be above `high`, nor `high` above 32.
     pub(crate) fn between(low: u8, high: u8) -> Self
         requires { IsBounds (record { low = low; high = high }) }
         ensures { result ≡ record { low = low; high = high } }
@@ -79,18 +79,21 @@ impl LengthBounds {
 }
 
 impl Operator {
-    /// The operator that the whole text spells: nothing, `^+`, `^-`, `^n` or `^n-m`. A length has
-    /// one or two digits and is at most 32, and n is not above m. There is none where the text is
-    /// spelled otherwise (RFC 2622, 2; nothing and the digits: profile).
+    /// The operator that the whole text spells: `^+`, `^-`, `^n`, `^n-m`, or nothing, which spells
+    /// `Plain`. A length has one or two digits and is at most 32, and n is not above m; `^n` has n
+    /// as both lengths. `None` where the text is spelled otherwise (RFC 2622, 2; nothing and the
+    /// digits: profile).
     pub fn read(text: &[u8]) -> Option<Operator>
         ensures { ReadsExactly IsOperator operator_of text.now result }
     {
         read_operator(text)
     }
 
-    /// What the operator makes of the range: the same prefix, with the lengths that it makes of the
-    /// range's, as `tabled` says. None where the least of these would be above the greatest: so
-    /// `^8` drops a range of lengths from 16 (RFC 2622, 2).
+    /// What the operator makes of the range: the same prefix, with lengths as follows. `Plain`
+    /// leaves the range's; `^+` goes from its least to 32, `^-` from one above its least to 32.
+    /// `^n-m` goes from n, or the least where this is greater, to m. `None` where the least would
+    /// then be above the greatest or above 32: so `^8` drops a range of lengths from 16 (RFC 2622,
+    /// 2).
     #[tactic(auto, unfolding(crate::specs::Applied::applied, crate::specs::Applied::lengths_under))]
     pub fn apply(self, range: Range) -> Option<Range>
         ensures { result ≡ applied self range }
@@ -106,8 +109,8 @@ impl Operator {
         }
     }
 
-    /// The operator as it is printed: nothing, `^+`, `^-`, `^n-m`, or `^n` where both lengths are
-    /// n, without leading zeros (profile).
+    /// The operator as it is printed: nothing for `Plain`, `^+`, `^-`, `^n-m`, or `^n` where both
+    /// lengths are n, without leading zeros (profile).
     pub fn text(self) -> NumberText
         ensures { result ≡ operator_text self }
     {
@@ -116,7 +119,7 @@ impl Operator {
         text
     }
 
-    /// Appends the operator's text, at most 8 bytes.
+    /// Appends the operator's text, at most 8 bytes, for which `text` must have room.
     #[tactic(auto, unfolding(crate::specs::Operators::operator_text))]
     pub(crate) fn push_to(self, text: &mut NumberText)
         requires { length text.old + 8 ≤ NUMBER_SIZE }

@@ -18,8 +18,9 @@ use rr_bytes::cut_at;
 use std::fmt;
 use std::marker::Model;
 
-/// A prefix: the addresses whose first `length` bits are those of `address`, whose other bits are
-/// zero. The length is at most 32. Prefixes are ordered by address, then by length (profile).
+/// A prefix: the addresses whose first `length` bits are those of `address`. The address is below
+/// 2^32, the length at most 32, and the bits of the address past the length are zero. Prefixes are
+/// ordered by address, then by length (profile).
 #[derive(Clone, Copy, Debug, PartialEq, Eq, PartialOrd, Ord)]
 pub struct Prefix {
     address: Address,
@@ -39,8 +40,8 @@ impl Model for Prefix {
 }
 
 impl Prefix {
-    /// The prefix of this length, which is at most 32, that the address lies in: the bits past the
-    /// length are read as zero (profile).
+    /// The prefix of this length, which must be at most 32, that the address lies in. Its own
+    /// address is this one with the bits past the length set to zero (profile).
     pub fn new(address: Address, length: u8) -> Self
         requires { length ≤ 32 }
         ensures { result ≡ masked address length }
@@ -52,21 +53,23 @@ impl Prefix {
         }
     }
 
-    /// The first address of the prefix.
+    /// The first address of the prefix. It is below 2^32, and its bits past the length are zero;
+    /// the length is at most 32.
     pub fn address(self) -> Address
         ensures { Shows IsMasked self self.address result }
     {
         self.address
     }
 
-    /// How many bits the addresses of the prefix share, at most 32.
+    /// How many of their first bits the addresses of the prefix share, at most 32. The prefix's
+    /// address is below 2^32, and its bits past the length are zero.
     pub fn length(self) -> u8
         ensures { Shows IsMasked self self.length result }
     {
         self.length
     }
 
-    /// The addresses of the prefix, from the first to the last.
+    /// The addresses of the prefix: from its own address on, 2^(32 - length) of them.
     pub fn span(self) -> Span
         ensures { result ≡ span_of self }
     {
@@ -82,16 +85,17 @@ impl Prefix {
         self.span().covers(other.span())
     }
 
-    /// The prefix that the whole text spells: an address, a slash and a length of one or two
-    /// digits, at most 32. Bits past the length are read as zero. There is none where the text is
-    /// spelled otherwise (RFC 2622, 2; the digits and the bits: profile).
+    /// The prefix that the whole text spells: an address, as `Address::read` reads it, a slash and
+    /// a length of one or two digits, at most 32. Bits past the length are read as zero. `None`
+    /// where the text is spelled otherwise (RFC 2622, 2; the digits and the bits: profile).
     pub fn read(text: &[u8]) -> Option<Prefix>
         ensures { ReadsExactly IsPrefix prefix_of text.now result }
     {
         read_prefix(text)
     }
 
-    /// The prefix as its address, a slash and its length (RFC 2622, 2).
+    /// The prefix as its address, as `Address::text` prints it, a slash and its length without
+    /// leading zeros (RFC 2622, 2).
     pub fn text(self) -> NumberText
         ensures { result ≡ prefix_text self }
     {
@@ -100,7 +104,7 @@ impl Prefix {
         text
     }
 
-    /// Appends the prefix's text, at most 19 bytes.
+    /// Appends the prefix's text, at most 19 bytes, for which `text` must have room.
     #[tactic(auto, unfolding(crate::specs::Prefixes::prefix_text))]
     pub(crate) fn push_to(self, text: &mut NumberText)
         requires { length text.old + 19 ≤ NUMBER_SIZE }

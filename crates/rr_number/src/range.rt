@@ -15,7 +15,8 @@ use std::fmt;
 use std::marker::Model;
 
 /// A range of prefixes: those that the prefix covers and whose length lies from `low` to `high`.
-/// Ranges are ordered by address, length, `low` and `high` (profile).
+/// `low` is not below the prefix's length and not above `high`, which is at most 32. Ranges are
+/// ordered by address, length, `low` and `high` (profile).
 #[derive(Clone, Copy, Debug, PartialEq, Eq, PartialOrd, Ord)]
 pub struct Range {
     prefix: Prefix,
@@ -36,7 +37,7 @@ impl Model for Range {
 }
 
 impl Range {
-    /// The range of the prefix alone.
+    /// The range of the prefix alone: its least and its greatest length are the prefix's.
     pub fn of(prefix: Prefix) -> Self
         ensures { result ≡ bare prefix }
     {
@@ -48,8 +49,8 @@ impl Range {
         }
     }
 
-    /// The range of the same prefix with these lengths; none where the least is above the greatest.
-    /// The least is not below the prefix's, and the greatest not above 32.
+    /// The range of the same prefix with these lengths; `None` where the least is above the
+    /// greatest. `low` must not be below the prefix's length, nor `high` above 32.
     pub(crate) fn with_lengths(self, low: u8, high: u8) -> Option<Self>
         requires inside { self.prefix.length ≤ low }
         requires short { high ≤ 32 }
@@ -67,29 +68,34 @@ impl Range {
         }
     }
 
-    /// Whether the range has the prefix: the range's own prefix covers it, and its length is not
-    /// below `low` and not above `high` (RFC 2622, 2).
+    /// Whether the range admits `prefix`: the range's own prefix covers it, and the length of
+    /// `prefix` is not below `low` and not above `high` (RFC 2622, 2).
     pub fn admits(self, prefix: Prefix) -> bool
         ensures { result ≡ admits self prefix }
     {
         self.prefix.covers(prefix) && self.low <= prefix.length() && prefix.length() <= self.high
     }
 
-    /// The range's own prefix.
+    /// The range's own prefix. Its address is below 2^32, and the bits past its length are zero.
+    /// This length is not above the range's least, the least not above the greatest, and the
+    /// greatest not above 32.
     pub fn prefix(self) -> Prefix
         ensures { Shows IsRange self self.prefix result }
     {
         self.prefix
     }
 
-    /// The least length, not below that of the prefix and not above the greatest.
+    /// The range's least length: not below its prefix's, and not above the greatest, which is at
+    /// most 32. The prefix's address is below 2^32, and its bits past the prefix's length are zero.
     pub fn low(self) -> u8
         ensures { Shows IsRange self self.low result }
     {
         self.low
     }
 
-    /// The greatest length, at most 32.
+    /// The range's greatest length: at most 32, and not below the least, which is not below its
+    /// prefix's. The prefix's address is below 2^32, and its bits past the prefix's length are
+    /// zero.
     pub fn high(self) -> u8
         ensures { Shows IsRange self self.high result }
     {
@@ -110,8 +116,9 @@ impl Range {
         }
     }
 
-    /// The range as its prefix and, right after it, the operator that [`Range::operator`] gives
-    /// (profile).
+    /// The range as its prefix and, right after it, an operator: the first of `Plain`, `^+` and
+    /// `^-` that makes the range of its prefix alone. If none of these does, it is the operator of
+    /// the range's lengths (profile).
     #[tactic(auto, unfolding(crate::specs::Applied::range_text))]
     pub fn text(self) -> NumberText
         ensures { result ≡ range_text self }
@@ -131,8 +138,9 @@ impl fmt::Display for Range {
     }
 }
 
-/// The prefix and the operator that the whole text spells, one right after the other; the operator
-/// may be `Plain`. `None` where the text is spelled otherwise, as with two operators (RFC 2622, 2).
+/// The prefix and the operator that the whole text spells, as `Prefix::read` and `Operator::read`
+/// say, one right after the other; where nothing follows the prefix, the operator is `Plain`.
+/// `None` where the text is spelled otherwise, as with two operators (RFC 2622, 2).
 pub fn read_ranged(text: &[u8]) -> Option<(Prefix, Operator)>
     ensures { ReadsExactly IsRangedText ranged_of text.now result }
 {

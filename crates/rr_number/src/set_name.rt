@@ -28,10 +28,11 @@ use std::{fmt, io};
 /// The most bytes that a set's name is spelled in (profile).
 const MOST_BYTES: usize = 255;
 
-/// The name of an as-set or a route-set, as it is printed: components joined by `:`, in upper case
-/// (RFC 2622, 5; the case: profile). Each is an AS number or a name, and at least one is a name.
-/// All names begin with `AS-`, or all with `RS-`; `AS-ANY` and `RS-ANY` stand alone. Names of sets
-/// are ordered by their bytes (profile).
+/// The printed name of an as-set or a route-set: components joined by `:`, in upper case, at most
+/// 255 bytes (RFC 2622, 5; the case and the count: profile). Each component is an AS number without
+/// leading zeros, or a name that is not reserved, and at least one is a name. All names begin with
+/// `AS-`, or all with `RS-`. The reserved `AS-ANY` and `RS-ANY` are names of sets too, by
+/// themselves alone. Names of sets are ordered by their bytes (profile).
 #[derive(Debug, PartialEq, Eq, PartialOrd, Ord, Drop)]
 pub struct SetName {
     text: NameText,
@@ -52,9 +53,9 @@ impl Model for SetName {
 
 impl SetName {
     /// The set's name that the bytes spell, as it is printed; `None` where they spell none
-    /// (RFC 2622, 5). They are at most 255 (profile), in any letter case; AS numbers may have
-    /// leading zeros. `AS-ANY` and `RS-ANY` are names of sets, by themselves alone. The error is
-    /// that memory ran out.
+    /// (RFC 2622, 5). They are in any letter case, and at most 255 (profile); their AS numbers may
+    /// have leading zeros. `AS-ANY` and `RS-ANY` are names of sets, by themselves alone. The error
+    /// is that memory ran out.
     pub fn read(alloc: Global, bytes: &[u8]) -> Result<Option<Self>, AllocError>
         ensures { IfOk result (λ name. name ≡ set_name_of bytes.now) }
     {
@@ -66,7 +67,7 @@ impl SetName {
         Ok(Some(SetName { text }))
     }
 
-    /// The name's bytes, which spell a set's name as it is printed.
+    /// The name's bytes: they spell a set's name, and are as it is printed.
     pub fn as_bytes(&self) -> &[u8]
         ensures { Shows IsSetText self.now self.now result.now }
     {
@@ -107,7 +108,8 @@ impl SetName {
         self.as_bytes() == RS_ANY
     }
 
-    /// Writes the name. After a fault the writer has taken the beginning of it, and not all.
+    /// Writes the name, as `write_all` does. The error is that a write failed: the writer has then
+    /// taken the beginning of the name, and not all.
     pub fn print_to<W: Writer>(&self, writer: &mut W) -> io::Result<()>
         ensures { Writes (W.told writer.old) (W.told writer.new) self.now result }
     {

@@ -19,8 +19,8 @@ use rr_io::{Writer, write_all};
 use std::marker::Model;
 use std::{fmt, io};
 
-/// The numbers from a first to a last one, both included; the first is not above the last.
-/// Spans are ordered by their first number, then by their last (profile).
+/// The numbers from a first to a last one, both included; the first is not above the last, which is
+/// below 2^32. Spans are ordered by their first number, then by their last (profile).
 #[derive(Clone, Copy, Debug, PartialEq, Eq, PartialOrd, Ord)]
 pub struct Span {
     first: u32,
@@ -40,7 +40,7 @@ impl Model for Span {
 }
 
 impl Span {
-    /// The span from `first` to `last`, which is not below it.
+    /// The span from `first` to `last`; `first` must not be above `last`.
     pub fn new(first: u32, last: u32) -> Span
         requires { first ≤ last }
         ensures { result ≡ record { first = first; last = last } }
@@ -83,7 +83,7 @@ impl Span {
         self.first <= other.last && other.first <= self.last
     }
 
-    /// Whether the spans meet and neither covers the other (profile).
+    /// Whether some number lies in both spans, and neither covers the other (profile).
     pub fn crosses(self, other: Span) -> bool
         ensures { result ≡ crosses self other }
     {
@@ -91,15 +91,17 @@ impl Span {
     }
 
     /// The span of addresses that the whole text spells: two addresses with a dash between them, or
-    /// a prefix. The first address is not above the last; blanks (spaces, tabs, CRs) may stand
-    /// beside the dash. There is none where the text is spelled otherwise (profile).
+    /// a prefix, which spells the span of its addresses. The first address is not above the last;
+    /// blanks (spaces, tabs, CRs) may stand on either side of the dash. `None` where the text is
+    /// spelled otherwise (profile).
     pub fn read(text: &[u8]) -> Option<Span>
         ensures { ReadsExactly IsSpanText spelled_span text.now result }
     {
         read_span(text)
     }
 
-    /// The span of addresses as its two ends with ` - ` between them (profile).
+    /// The first and the last address of the span, as `Address::text` prints them, with ` - `
+    /// between them (profile).
     #[tactic(auto, unfolding(crate::specs::SpanTexts::span_text))]
     pub fn text(self) -> NumberText
         ensures { result ≡ span_text self }
@@ -107,8 +109,8 @@ impl Span {
         ends_text::<Address>(self)
     }
 
-    /// Writes the text of the span of addresses. After a fault the writer has taken the beginning
-    /// of it, and not all.
+    /// Writes the text of the span of addresses, as `write_all` does. The error is that a write
+    /// failed: the writer has then taken the beginning of the text, and not all.
     pub fn print_to<W: Writer>(&self, writer: &mut W) -> io::Result<()>
         ensures { Writes (W.told writer.old) (W.told writer.new)
             (span_text self.now) result }

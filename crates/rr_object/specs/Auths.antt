@@ -1,4 +1,5 @@
--- Values of `auth` (RFC 2622, 3; the scheme `SHA256-PW`: profile).
+-- Values of `auth` (RFC 2622, 3; the scheme `SHA256-PW`: profile): for `read_auth`, and for the
+-- reading of objects and settings.
 use Rattle.std.specs.Prelude.{ℕ, Bool, ◌&&◌, nat_le, length, List, [], ◌∷◌, Option}
 use Rattle.std.specs.Prelude.{Some, None, codes, if◌then◌else◌}
 use Rattle.std.specs.Char.{is_ascii_alphanumeric}

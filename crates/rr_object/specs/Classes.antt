@@ -1,4 +1,5 @@
--- The classes of objects.
+-- The classes of objects, with their numbers and names: for keys, and for all that lists objects.
+-- Rows have the numbers.
 use Rattle.std.specs.Prelude.{ℕ, List, [], ◌∷◌, Option, codes, find}
 use Rattle.std.specs.Str.{bytes_eq}
 use Rattle.rr_object.specs.declared.class.Class.{Class}
@@ -30,6 +31,6 @@ class_name Route = codes "route"
 class_name AsSet = codes "as-set"
 class_name RouteSet = codes "route-set"
 
--- the class of this name, in lower case (RFC 2622, 2)
+-- the class of exactly this name; names of classes are in lower case (RFC 2622, 2)
 abbrev pub class_named : List ℕ → Option Class
 class_named name = find (λ class. bytes_eq (class_name class) name) all_classes

@@ -1,4 +1,4 @@
--- The codes of refused items.
+-- The codes of refused items, as reports print them.
 use Rattle.std.specs.Prelude.{ℕ, List, codes}
 use Rattle.rr_object.specs.declared.code.Code.{Code}
 use Rattle.rr_object.specs.declared.code.Code.TheVariants.{E01, E02, E03, E04, E05, E06, E07, E10}

@@ -1,9 +1,11 @@
--- What an object keeps of the attributes that few objects have.
+-- What an object keeps of the attributes that few objects have: for `extra`, and for how contracts
+-- see `Object`.
 use Rattle.std.specs.Prelude.{Bool, [], ◌&&◌, ◌==◌, Box, Option, None, Some, false, length, not}
 use Rattle.rr_object.specs.Parts.{ExtraParts}
 use Rattle.rr_object.specs.declared.extra.Extra.{Extra}
 
--- what an object says that has neither `mnt-lower`, `mnt-routes` and `auth` nor anything of sets
+-- what an object says that has none of `mnt-lower`, `mnt-routes` and `auth`, and says nothing of
+-- sets
 abbrev pub nothing : ExtraParts
 nothing = record {
   lower = [];
@@ -19,7 +21,7 @@ abbrev pub says_nothing_of_sets : ExtraParts → Bool
 says_nothing_of_sets e = length e.members == 0 && not e.by_ref.any
     && length e.by_ref.names == 0 && length e.member_of == 0
 
--- an object has neither `mnt-lower`, `mnt-routes` and `auth` nor anything of sets
+-- an object has none of `mnt-lower`, `mnt-routes` and `auth`, and says nothing of sets
 abbrev pub says_nothing : ExtraParts → Bool
 says_nothing e = says_nothing_of_sets e
     && length e.lower == 0 && length e.routes == 0 && length e.auths == 0

@@ -1,4 +1,5 @@
--- When a paragraph has each fault, and which fault is the first.
+-- When a paragraph has each fault, and which fault is the first: for `the_first_fault_is_told` of
+-- `src/laws.rt`.
 use Rattle.std.specs.Prelude.{◌≡◌, ℕ, Bool, false, not, List, [], ◌∷◌, Option, None}
 use Rattle.std.specs.Prelude.{is_none, find, Ok}
 use Rattle.std.specs.Option.{option_map_or}
@@ -40,11 +41,11 @@ has_fault source fields Memory = false
 abbrev pub fault_order : List ObjectFault
 fault_order = UnknownClass ∷ (BadKey ∷ (BadCount ∷ (BadValue ∷ (OtherSource ∷ []))))
 
--- the first fault that a paragraph has in a registry of a source (profile)
+-- the first fault, in that order, that a paragraph has in a registry of a source (profile)
 abbrev pub first_fault : List ℕ → List Field → Option ObjectFault
 first_fault source fields = find (has_fault source fields) fault_order
 
--- a paragraph is refused for its first fault, and only for a fault (profile)
+-- a paragraph is refused for its first fault in that order, and only for a fault (profile)
 abbrev pub FirstFaultIsTold : Type 0
 FirstFaultIsTold = (fields : List Field) (source : List ℕ)
     → result_err (object_of fields source) ≡ first_fault source fields

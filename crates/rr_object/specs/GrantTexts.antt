@@ -1,4 +1,5 @@
--- How lists of items spell entries of `mnt-routes` (RFC 2725, 10; what follows a name: profile).
+-- How lists of items spell entries of `mnt-routes` (RFC 2725, 10; what follows a name: profile):
+-- for the law `grants_are_read_as_spelled`.
 use Rattle.std.specs.Prelude.{◌≡◌, ℕ, true, false, ◌⊎◌, List, [], ◌∷◌, ◌++◌}
 use Rattle.std.specs.Prelude.{Some, codes}
 use Rattle.rr_number.specs.Names.{maintainer_name_of}

@@ -1,4 +1,5 @@
--- Entries of `mnt-routes` (RFC 2725, 10; what follows a name: profile).
+-- Entries of `mnt-routes`, read item by item (RFC 2725, 10; what follows a name: profile): for the
+-- reading of objects. `GrantTexts` has what this means.
 use Rattle.std.specs.Prelude.{ℕ, Bool, true, false, List, [], ◌∷◌, ◌++◌, Option, Some}
 use Rattle.std.specs.Prelude.{None, codes, if◌then◌else◌}
 use Rattle.std.specs.Option.{option_map, option_and_then, option_to_list}

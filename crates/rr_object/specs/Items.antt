@@ -1,4 +1,5 @@
--- The values of a paragraph's attributes, and the items of lists.
+-- The values of a paragraph's attributes, and the items of lists: for the reading of keys, objects,
+-- queries and settings.
 use Rattle.std.specs.Prelude.{ℕ, Bool, ◌==◌, ◌||◌, List, [], ◌∷◌, ◌++◌, Option}
 use Rattle.std.specs.Prelude.{Some, None, is_some, filter, map, if◌then◌else◌}
 use Rattle.std.specs.List.{flat_map, filter_map, list_all}

@@ -1,4 +1,5 @@
--- The keys that texts and paragraphs spell (RFC 2622, 3 to 6; profile).
+-- The keys that texts and paragraphs spell (RFC 2622, 3 to 6; profile): for queries, submissions,
+-- and the reading of objects.
 use Rattle.std.specs.Prelude.{ℕ, not, ◌&&◌, List, [], ◌∷◌, Option, Some, None, Result}
 use Rattle.std.specs.Prelude.{Ok, Err, if◌then◌else◌}
 use Rattle.std.specs.Option.{option_map, option_and_then}
@@ -24,24 +25,24 @@ use Rattle.rr_object.specs.Items.{only, values_of}
 use Rattle.rr_object.specs.Kinds.{kind_name}
 use Rattle.rr_object.specs.Members.{is_as_set_kind}
 
--- the name of an as-set, but not `AS-ANY` (RFC 2622, 5; profile)
+-- the name of an as-set that a text spells, but not `AS-ANY` (RFC 2622, 5; profile)
 abbrev pub as_set_key_of : List ℕ → Option (List ℕ)
 as_set_key_of text =
     option_and_then (λ name. if is_as_set_kind (kind_of name) && not (is_any_set name)
     then Some name else None) (set_name_of text)
 
--- the name of a route-set, but not `RS-ANY` (RFC 2622, 5; profile)
+-- the name of a route-set that a text spells, but not `RS-ANY` (RFC 2622, 5; profile)
 abbrev pub route_set_key_of : List ℕ → Option (List ℕ)
 route_set_key_of text =
     option_and_then (λ name. if not (is_as_set_kind (kind_of name)) && not (is_any_set name)
     then Some name else None) (set_name_of text)
 
--- a route is named by its prefix and its origin (RFC 2622, 4)
+-- the key of a route that two texts spell, its prefix and its origin (RFC 2622, 4)
 abbrev pub route_key_of : List ℕ → List ℕ → Option Key
 route_key_of prefix origin =
     option_and_then (λ p. option_map (Route p) (as_number_of origin)) (prefix_of prefix)
 
--- the key of a route that two words spell, its prefix and its origin (profile)
+-- the key of a route that these words spell, if they are two: its prefix and its origin (profile)
 abbrev pub route_key_of_words : List (List ℕ) → Option Key
 route_key_of_words [] = None
 route_key_of_words (prefix ∷ []) = None

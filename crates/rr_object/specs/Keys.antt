@@ -1,4 +1,5 @@
--- The keys of objects.
+-- The class of a key, the keys of sets, and which key is a maintainer's: for `Key`, and for all
+-- crates that tell objects by their keys.
 use Rattle.std.specs.Prelude.{ℕ, Bool, false, List}
 use Rattle.std.specs.Str.{bytes_eq}
 use Rattle.rr_number.specs.declared.set_kind.SetKind.{SetKind}

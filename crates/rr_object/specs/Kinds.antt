@@ -1,4 +1,5 @@
--- The interpreted attributes, and how often each stands in an object of each class.
+-- The interpreted attributes, and how often each stands in an object of each class: for the reading
+-- of objects, and of names in rows of `rr_store`.
 use Rattle.std.specs.Prelude.{ℕ, Bool, true, false, List, codes}
 use Rattle.rr_object.specs.declared.class.Class.{Class}
 use Rattle.rr_object.specs.declared.class.Class.TheVariants.{Mntner, AsBlock, AutNum, Inetnum}

@@ -1,4 +1,5 @@
--- Items of `members`, `member-of` and `mbrs-by-ref`, and maintainers' names (RFC 2622, 5).
+-- Items of `members`, `member-of` and `mbrs-by-ref`, and maintainers' names (RFC 2622, 5): for the
+-- reading of objects.
 use Rattle.std.specs.Prelude.{ℕ, Bool, true, false, ◌==◌, is_some, List, Option, Some, None}
 use Rattle.std.specs.Prelude.{if◌then◌else◌}
 use Rattle.std.specs.List.{before_first}

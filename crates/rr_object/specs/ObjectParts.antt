@@ -1,4 +1,4 @@
--- What was read of a paragraph, as the object that it is.
+-- What was read of a paragraph, as the object that it is: for private functions of `object`.
 use Rattle.std.specs.Prelude.{List}
 use Rattle.rr_text.specs.Fields.{Field}
 use Rattle.rr_object.specs.declared.key.Key.{Key}

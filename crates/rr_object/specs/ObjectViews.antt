@@ -1,4 +1,4 @@
--- What an object keeps, as plain data.
+-- What an object keeps, as plain data: how contracts see `Object`.
 use Rattle.rr_object.specs.declared.object.Object.TheInside.{Inside}
 use Rattle.rr_object.specs.Extras.{kept_extra}
 use Rattle.rr_object.specs.Objects.{Obj}

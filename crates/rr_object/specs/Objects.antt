@@ -1,4 +1,4 @@
--- Objects as plain data.
+-- Objects as plain data: contracts see them so.
 use Rattle.std.specs.Prelude.{ℕ, Bool, List, ◌++◌, map}
 use Rattle.std.specs.List.{list_any}
 use Rattle.std.specs.Str.{bytes_eq}

@@ -1,4 +1,5 @@
--- Keys as bytes in tables of version 1, which knew 16-bit AS numbers alone.
+-- Keys as bytes in tables of version 1, which knew 16-bit AS numbers alone: for `rr_store`, which
+-- migrates such tables: so these bytes stay as they are.
 use Rattle.std.specs.Prelude.{◌≡◌, ℕ, Bool, nat_le, List, [], ◌∷◌, Option, Some, None}
 use Rattle.std.specs.Prelude.{if◌then◌else◌}
 use Rattle.std.specs.List.{filter_map, list_all}

@@ -1,4 +1,5 @@
--- The parts of objects as plain data.
+-- The parts of objects as plain data: contracts see grants, lines of `auth` and what `mbrs-by-ref`
+-- says so.
 use Rattle.std.specs.Prelude.{ℕ, Bool, List}
 use Rattle.rr_number.specs.Ranges.{RangeParts}
 use Rattle.rr_object.specs.declared.member.Member.{Member}

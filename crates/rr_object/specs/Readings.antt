@@ -1,5 +1,5 @@
 -- The object that a paragraph is, or its first fault (RFC 2622, 2 to 6; RFC 2725, 10; the order:
--- profile).
+-- profile): for `Object` and all that reads objects.
 use Rattle.std.specs.Prelude.{◌≡◌, ℕ, Bool, false, not, ◌==◌, ◌||◌, List, []}
 use Rattle.std.specs.Prelude.{Option, is_none, unwrap_or, Result, Ok, Err, codes, map, count_by}
 use Rattle.std.specs.Prelude.{if◌then◌else◌}

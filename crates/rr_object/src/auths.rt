@@ -16,8 +16,10 @@ use std::alloc::Global;
 const SALT_BYTES: usize = 16;
 
 /// What a value of `auth` stands for: a salt and a digest, or `None` for another scheme than
-/// SHA256-PW, whatever follows it. The error is `BadValue` where it is badly spelled, or that
-/// memory ran out (RFC 2622, 3; profile).
+/// SHA256-PW, whatever follows that scheme. After SHA256-PW, in any letter case, must stand exactly
+/// one word: a salt of at most 16 ASCII letters and digits, a colon and 64 hexadecimal digits. The
+/// error is `BadValue` where this is not so, or where the value has no word; or it is that memory
+/// ran out (RFC 2622, 3; profile).
 pub fn read_auth(alloc: Global, value: &[u8]) -> Result<Option<Auth>, ObjectFault>
     ensures good { IfOk result (λ read. auth_item value.now ≡ Some read) }
     ensures bad { IfErr result

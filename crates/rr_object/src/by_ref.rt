@@ -28,14 +28,15 @@ impl ByRef {
         ByRef { any, names }
     }
 
-    /// Whether anybody's objects may.
+    /// Whether anybody's objects may say that they belong to the set.
     pub fn any(&self) -> bool
         ensures { result ≡ self.now.any }
     {
         self.any
     }
 
-    /// The maintainers whose objects may.
+    /// The maintainers that are named: their objects may say that they belong to the set. Where
+    /// `any` holds, those of all others may, too.
     pub fn names(&self) -> &[Name]
         ensures { result.now ≡ self.now.names }
     {

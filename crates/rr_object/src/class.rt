@@ -34,8 +34,8 @@ const ALL: [Class; 7] = [
 ];
 
 impl Class {
-    /// The class whose objects begin with an attribute of this name, which is given in lower case;
-    /// `None` where there is none.
+    /// The class whose objects begin with an attribute of exactly this name; `None` where there is
+    /// none. Such names are in lower case.
     pub fn named(name: &[u8]) -> Option<Class>
         ensures { result ≡ class_named name.now }
     {
@@ -44,7 +44,7 @@ impl Class {
             .find(|class| class.name().as_bytes() == name)
     }
 
-    /// The number of the class, 1 to 7 (profile).
+    /// The number of the class, 1 to 7 in the order of `Class` (profile).
     pub fn number(self) -> u8
         ensures value { result ≡ class_number self }
         ensures within { (0 < result) × (result ≤ 7) }

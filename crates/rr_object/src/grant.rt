@@ -7,7 +7,7 @@ use std::alloc::AllocError;
 use std::marker::Model;
 
 /// An entry of `mnt-routes`: a maintainer, and for which prefixes it may authorise routes
-/// (RFC 2725, 10).
+/// (RFC 2725, 10). A range that its operator drops is not read into it.
 #[derive(Debug, Drop)]
 pub struct Grant {
     name: Name,
@@ -48,7 +48,7 @@ impl Grant {
         Ok(Grant { name, any, ranges })
     }
 
-    /// The maintainer.
+    /// The maintainer of the entry.
     pub fn name(&self) -> &Name
         ensures { result.now ≡ self.now.name }
     {
@@ -63,7 +63,7 @@ impl Grant {
     }
 
     /// The ranges of the entry. Unless it is for each prefix, it is for those that one of them
-    /// admits. Reading leaves out a range that its operator drops.
+    /// admits.
     pub fn ranges(&self) -> &[Range]
         ensures { result.now ≡ self.now.ranges }
     {

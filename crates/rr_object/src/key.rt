@@ -9,7 +9,7 @@ use rr_number::{AsNumber, AsSpan, Name, Prefix, SetKind, SetName, Span};
 use std::alloc::{AllocError, Global};
 
 /// What names an object among those of the registry. Keys are ordered by the numbers of their
-/// classes, then by what names the object in its class, which is the order of their bytes
+/// classes, then by the numbers that make them up (`key_cmp`), which is the order of their bytes
 /// (profile).
 #[derive(Debug, PartialEq, Eq, PartialOrd, Ord, Drop)]
 pub enum Key {

@@ -30,8 +30,9 @@ const SPAN_LENGTH: usize = NUMBER_LENGTH + 1 + NUMBER_LENGTH;
 const ROUTE_LENGTH: usize = NUMBER_LENGTH + 1 + 2 + 1 + NUMBER_LENGTH;
 
 impl Key {
-    /// Writes the key as reports print it (profile). After a fault the writer has taken the
-    /// beginning of it, but not all.
+    /// Writes the key, as `write_all` does, in the form of reports: a route as its prefix, a space
+    /// and its origin (profile). The error is that a write failed: the writer has then taken the
+    /// beginning of the text, and not all.
     pub fn print_to<W: Writer>(&self, writer: &mut W) -> io::Result<()>
         ensures { Writes (W.told writer.old) (W.told writer.new) (key_text self.now) result }
     {
@@ -47,8 +48,10 @@ impl Key {
     }
 
     /// The bytes by which the keys of a class are ordered and stored (profile); the error is that
-    /// memory ran out. In either case the parts of the key are names, spans, prefixes and AS
-    /// numbers.
+    /// memory ran out. In either case a name in the key is in upper case, and a set's name as it is
+    /// printed, of whichever kind. The ends of a span are in order, both addresses or both AS
+    /// numbers. A prefix has an address below 2^32, a length of at most 32 and no bit past its
+    /// length. An AS number has 32 bits.
     pub fn bytes(&self, alloc: Global) -> Result<Vec<u8>, AllocError>
         ensures value { IfOk result (λ bytes. bytes.items ≡ key_bytes self.now) }
         ensures parts { HasKeyParts self.now }
@@ -58,7 +61,7 @@ impl Key {
     }
 
     /// The bytes of the key in tables of version 1 (profile); `None` where an AS number in it, also
-    /// in a set's name, has more than two octets. The error is that memory ran out.
+    /// in a set's name, is above 65535. The error is that memory ran out.
     pub fn old_bytes(&self, alloc: Global) -> Result<Option<Vec<u8>>, AllocError>
         ensures { IfOk result
             (λ old. option_map (λ bytes. bytes.items) old ≡ old_key_bytes self.now) }

@@ -15,8 +15,8 @@ use std::alloc::{AllocError, Global};
 
 impl Key {
     /// The key of a class that a text spells, as in a query: for a route by two words, its prefix
-    /// and its origin. `None` where it spells none, as `AS-ANY` and `RS-ANY`; the error is that
-    /// memory ran out (RFC 2622, 3 to 6; profile).
+    /// and its origin. `None` where it spells no key of the class; `AS-ANY` and `RS-ANY` are none.
+    /// The error is that memory ran out (RFC 2622, 3 to 6; profile).
     #[tactic(auto, unfolding(crate::specs::KeySpellings::key_of_text))]
     pub fn read(alloc: Global, class: Class, text: &[u8]) -> Result<Option<Key>, AllocError>
         ensures { IfOk result (λ key. key ≡ key_of_text class text.now) }

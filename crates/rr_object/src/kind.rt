@@ -9,15 +9,16 @@ use crate::class::Class;
 /// An attribute that is read in objects of some class, and not only kept as text.
 #[derive(Clone, Copy, Debug, PartialEq, Eq)]
 pub enum Kind {
-    /// The maintainers whose secrets a change needs (RFC 2622, 3).
+    /// The maintainers: a change needs a secret of one of them (RFC 2622, 3).
     MntBy,
     /// The registry of the object (RFC 2622, 2).
     Source,
     /// How a maintainer is recognised (RFC 2622, 3).
     Auth,
-    /// Whose secrets an object below needs (RFC 2725, 9).
+    /// The maintainers: an object below this one needs a secret of one of them (RFC 2725, 9).
     MntLower,
-    /// Whose secrets a route needs (RFC 2725, 9).
+    /// The maintainers, each for some prefixes or all: a route below this object needs a secret of
+    /// one of them (RFC 2725, 9).
     MntRoutes,
     /// The autonomous system that a route comes from (RFC 2622, 4).
     Origin,

@@ -16,8 +16,9 @@ ghost use Rattle.rr_object.specs.declared.key.Key as keys;
 
 use crate::key::Key;
 
-/// A paragraph is refused for its first fault, and for nothing else. An object has the key of its
-/// paragraph, and says what this says.
+/// In a registry of a source, a paragraph is refused for the first of its faults in the order of
+/// `ObjectFault`, and for nothing else. An object has the key of its paragraph, and says what the
+/// paragraph says.
 pub fn the_first_fault_is_told()
     ensures told { FirstFaultIsTold }
     ensures says { ObjectsSayTheirParagraphs }
@@ -31,7 +32,7 @@ pub fn an_object_is_of_its_paragraph()
         → obj_of fields ≡ Ok object }
 {}
 
-/// An object keeps its whole paragraph.
+/// An object keeps the whole paragraph that it is read from.
 pub fn an_object_keeps_its_paragraph()
     ensures { (fields : List Field) (object : Obj) → obj_of fields ≡ Ok object
         → object.paragraph ≡ fields }
@@ -49,22 +50,26 @@ pub fn an_object_has_a_maintainer()
         → 0 < length object.maintainers }
 {}
 
-/// Keys are ordered by the numbers of their classes, then by the numbers that are their parts, as
-/// in a dictionary.
+/// Keys are ordered by the numbers of their classes, then by the numbers that make up the keys, as
+/// in a dictionary. These are the bytes of a name, the ends of a span, an AS number, or a route's
+/// address, length and origin.
 #[tactic(auto, using(crate::proofs::DerivedOrder::derived_order))]
 pub fn keys_compare_by_their_parts()
     ensures { (a b : keys.Key) → ⟦<Key as Ord>⟧.cmp a b ≡ key_cmp a b }
 {}
 
-/// Well-formed keys are ordered by the numbers of their classes, then by their bytes, and two of a
-/// class have equal bytes only if they are equal.
+/// Well-formed keys are ordered by the numbers of their classes, then by their bytes, as in a
+/// dictionary. Two of a class have equal bytes only if they are equal.
 pub fn keys_compare_as_their_bytes()
     ensures order { (a b : keys.Key) → IsKeyValue a → IsKeyValue b
         → ⟦<Key as Ord>⟧.cmp a b ≡ class_and_bytes_cmp a b }
     ensures told { BytesTellKeys }
 {}
 
-/// The parts of a key are names, spans, prefixes and AS numbers.
+/// A key is made of names, spans, prefixes and AS numbers. Its name is in upper case; that of a set
+/// is as it is printed, of whichever kind. The ends of its span are in order, both addresses or
+/// both AS numbers. Its prefix has an address below 2^32, a length of at most 32 and no bit past
+/// its length. Its AS number has 32 bits.
 pub fn a_key_has_its_parts(key: &Key)
     ensures { HasKeyParts key.now }
 {
@@ -92,8 +97,8 @@ pub fn a_key_has_its_parts(key: &Key)
     }
 }
 
-/// Any two keys are ordered by the numbers of their classes, then by their bytes, and two keys of a
-/// class have equal bytes only if they are equal.
+/// Any two keys are ordered by the numbers of their classes, then by their bytes, as in a
+/// dictionary. Two keys of a class have equal bytes only if they are equal.
 pub fn any_two_keys_compare_as_their_bytes(key: &Key, other: &Key)
     ensures order { ⟦<Key as Ord>⟧.cmp key.now other.now
         ≡ class_and_bytes_cmp key.now other.now }
@@ -105,13 +110,14 @@ pub fn any_two_keys_compare_as_their_bytes(key: &Key, other: &Key)
 
 /// Old bytes are those of tables of version 1. Well-formed keys of a class have equal old bytes
 /// only if they are equal. Well-formed keys that have old bytes are ordered by the numbers of their
-/// classes, then by these bytes.
+/// classes, then by these bytes, as in a dictionary.
 pub fn old_bytes_tell_keys_in_their_order()
     ensures told { OldBytesTellKeys }
     ensures order { OldBytesKeepOrder }
 {}
 
-/// The key that a text or a paragraph spells is well formed, and so is that of an object.
+/// The key that a text spells as one of a class, or that a paragraph spells, is well formed. So is
+/// that of an object that is read in a registry of a source.
 pub fn keys_are_read_well_formed()
     ensures text { (class : Class) (text : List ℕ) (key : keys.Key)
         → key_of_text class text ≡ Some key → IsKeyValue key }

@@ -31,7 +31,8 @@ impl<'a> Model for MaintainersNamed<'a> {
 
 impl Object {
     /// The maintainers that the object names in `mnt-by`, `mnt-lower`, `mnt-routes` and
-    /// `mbrs-by-ref`, in this order and without `ANY` (profile).
+    /// `mbrs-by-ref`, in this order and without `ANY` (profile). One that is named twice comes
+    /// twice.
     pub fn maintainers_named(&self) -> MaintainersNamed<'_>
         ensures { result ≡ names_of self.now }
     {
@@ -59,6 +60,8 @@ impl<'a> Iterator for MaintainersNamed<'a> {
 
     ghost remaining = { item_count (λ names. names) };
 
+    /// The first of the maintainers that are still to come, who is then no longer among them;
+    /// `None` where there is none.
     fn next(&mut self) -> Option<&'a Name> {
         if let Some((first, others)) = self.maintainers.split_first() {
             self.maintainers = others;

@@ -28,8 +28,8 @@ use std::alloc::{AllocError, Global};
 use std::marker::Model;
 
 /// An object: its key, its paragraph, and what the interpreted attributes of it say (RFC 2622, 2 to
-/// 6; RFC 2725, 10). An attribute that its class keeps as text says nothing here. All of it is in a
-/// place of its own, so that lists and maps of objects stay small.
+/// 6; RFC 2725, 10). An attribute that its class keeps as text says nothing here. All of it is in
+/// memory of its own, so that lists and maps of objects stay small.
 #[derive(Debug, Drop)]
 pub struct Object {
     kept: Box<Kept>,
@@ -60,8 +60,9 @@ impl Model for Object {
 }
 
 impl Object {
-    /// The object that a paragraph is in the registry of this source, whose letter case is ignored.
-    /// The fault is the first that fits, in the order of `ObjectFault`, or that memory ran out.
+    /// The object that a paragraph is in the registry of this source; the letter case in which the
+    /// paragraph names its source is ignored. The error is the first of its faults, in the order of
+    /// `ObjectFault`, or that memory ran out.
     #[tactic(auto, using(crate::proofs::Parsed::keyless))]
     pub fn read(alloc: Global, paragraph: Paragraph, source: &Name) -> Result<Object, ObjectFault>
         ensures { GivesUnlessMemory (object_of paragraph source.now) result }
@@ -70,8 +71,9 @@ impl Object {
         Object::read_with_key(alloc, key, paragraph, source)
     }
 
-    /// The object that a paragraph of this key is in the registry of this source, or its first
-    /// fault, or that memory ran out; the class and the key, which were read, have none.
+    /// The object that a paragraph is in the registry of this source, where `key` must be the key
+    /// of the paragraph. The error is the first of its faults, in the order of `ObjectFault`, or
+    /// that memory ran out; the class and the key, which were read, have no fault.
     #[tactic(auto, unfolding(crate::specs::Readings::object_of))]
     pub fn read_with_key(
         alloc: Global,
@@ -103,8 +105,10 @@ impl Object {
         }
     }
 
-    /// What names the object. It is well formed: its parts are names, spans, prefixes and AS
-    /// numbers, and the name of a set is one of its kind, and neither `AS-ANY` nor `RS-ANY`.
+    /// What names the object. It is well formed. A maintainer's name is a name in upper case; a
+    /// set's name is as it is printed, of the key's class, and neither `AS-ANY` nor `RS-ANY`. The
+    /// ends of a span are in order, both addresses or both AS numbers. A prefix has an address
+    /// below 2^32, a length of at most 32 and no bit past its length. An AS number has 32 bits.
     #[tactic(auto, using(crate::proofs::KeyBounds::obj_key_formed))]
     pub fn key(&self) -> &Key
         ensures value { result.now ≡ self.now.key }
@@ -121,14 +125,14 @@ impl Object {
         &self.kept.paragraph
     }
 
-    /// The maintainers in `mnt-by`.
+    /// The maintainers in `mnt-by`, in their order.
     pub fn maintainers(&self) -> &[Name]
         ensures { result.now ≡ self.now.maintainers }
     {
         self.kept.maintainers.as_slice()
     }
 
-    /// The maintainers in `mnt-lower`.
+    /// The maintainers in `mnt-lower`, in their order.
     pub fn lower(&self) -> &[Name]
         ensures { result.now ≡ self.now.lower }
     {
@@ -138,7 +142,7 @@ impl Object {
         }
     }
 
-    /// The entries of `mnt-routes`.
+    /// The entries of `mnt-routes`, in their order.
     pub fn routes(&self) -> &[Grant]
         ensures { result.now ≡ self.now.routes }
     {
@@ -148,7 +152,8 @@ impl Object {
         }
     }
 
-    /// The salts and digests in `auth`; lines of other schemes than SHA256-PW are left out.
+    /// The salts and digests in `auth`, in their order; values of other schemes than SHA256-PW are
+    /// left out.
     pub fn auths(&self) -> &[Auth]
         ensures { result.now ≡ self.now.auths }
     {
@@ -158,7 +163,7 @@ impl Object {
         }
     }
 
-    /// The items of `members`, without the ranges that their operators drop.
+    /// The items of `members`, in their order, without the ranges that their operators drop.
     pub fn members(&self) -> &[Member]
         ensures { result.now ≡ self.now.members }
     {
@@ -168,7 +173,8 @@ impl Object {
         }
     }
 
-    /// Whether anybody's objects may say that they belong to the set.
+    /// Whether anybody's objects may say that they belong to the set: whether `mbrs-by-ref` has
+    /// `ANY`.
     pub fn by_ref_any(&self) -> bool
         ensures { result ≡ self.now.by_ref.any }
     {
@@ -178,7 +184,8 @@ impl Object {
         }
     }
 
-    /// The maintainers whose objects may say that they belong to the set.
+    /// The maintainers in `mbrs-by-ref`, in their order: their objects may say that they belong to
+    /// the set.
     pub fn by_ref(&self) -> &[Name]
         ensures { result.now ≡ self.now.by_ref.names }
     {
@@ -188,7 +195,7 @@ impl Object {
         }
     }
 
-    /// The sets in `member-of`.
+    /// The sets in `member-of`, in their order.
     pub fn member_of(&self) -> &[SetName]
         ensures { result.now ≡ self.now.member_of }
     {

@@ -9,10 +9,10 @@ use crate::code::Code;
 use std::alloc::AllocError;
 
 /// Why a paragraph is not an object of the registry. But for `Memory` these stand in the order in
-/// which they are found.
+/// which a paragraph is judged.
 #[derive(Clone, Copy, Debug, PartialEq, Eq)]
 pub enum ObjectFault {
-    /// It has no attribute, or the first one names no class.
+    /// The paragraph has no attribute, or the first one names no class.
     UnknownClass,
     /// The key is bad; for a route also an origin that is missing, repeated or bad.
     BadKey,

@@ -17,10 +17,10 @@ use crate::object_fault::ObjectFault;
 use rr_text::{Attribute, Paragraph, Text, meaning};
 use std::alloc::{AllocError, Global};
 
-/// The key of a paragraph: its first attribute names the class, and the value of that is the key; a
-/// route's key is the prefix and the one `origin` (RFC 2622, 2 and 4). `UnknownClass` where there
-/// is no attribute or the first names no class; `BadKey` where what it says is not a key of the
-/// class; `Memory` where memory ran out.
+/// The key of a paragraph (RFC 2622, 2 and 4). Its first attribute names the class, and the value
+/// of that attribute is the key; a route's key is this prefix and the one `origin`. `UnknownClass`
+/// where there is no attribute or the first names no class. `BadKey` where these values spell no
+/// key of the class, or a route has not exactly one `origin`. `Memory` where memory ran out.
 pub fn key_of(alloc: Global, paragraph: &Paragraph) -> Result<Key, ObjectFault>
     ensures { GivesUnlessMemory (key_of paragraph.now) result }
 {

@@ -25,9 +25,9 @@ pub fn public(alloc: Global, object: &Object) -> Result<Paragraph, AllocError>
     object.paragraph().with_values(alloc, SECRET, FILTERED)
 }
 
-/// Appends the canonical text of an object's paragraph for public answers, each value of `auth` in
-/// it the line `# filtered`. The error is that memory ran out: then bytes may have been appended,
-/// and what stood before them stays.
+/// Appends the canonical text of an object's paragraph for public answers. There each value of an
+/// attribute named `auth` is the line `# filtered`; the other attributes are as they are. The error
+/// is that memory ran out: then bytes may have been appended, and what stood before them stays.
 #[tactic(auto, unfolding(crate::specs::Readings::public_of))]
 pub fn print_public(out: &mut Vec<u8>, object: &Object) -> Result<(), AllocError>
     ensures { MayAdd (canonical (public_of object.now)) out.old.items out.new.items result }

@@ -12,7 +12,7 @@ use Rattle.rr_number.specs.Spans.{Ends, covers, crosses, size}
 use Rattle.rr_object.specs.declared.key.Key.{Key}
 use Rattle.rr_object.specs.declared.key.Key.TheVariants.{Inetnum, Route}
 use Rattle.rr_object.specs.Objects.{Obj}
-use Rattle.rr_auth.specs.Closest.{closest_inetnum, closest_of, closest_routes, inetnum_span}
+use Rattle.rr_auth.specs.Closest.{closest_inetnum, closest_of, closest_route_prefix, inetnum_span}
 use Rattle.rr_auth.specs.Closest.{is_cover, route_span}
 use Rattle.rr_auth.specs.Registries.{Reg, Sound}
 use Rattle.rr_auth.proofs.Covers.{IsClosestAt, closest_found, closest_none_back, closest_there}
@@ -213,7 +213,7 @@ module _ (h : Holding) (r q : Reg) (agree : Agree h r q) where
 
   -- and they have the same prefix of the closest routes
   pub routes_alike : (p : PrefixParts) → Sound r → Sound q → IsHeld h r → IsHeld h q →
-      covers (space_of h) (span_of p) ≡ true → closest_routes r p ≡ closest_routes q p
+      covers (space_of h) (span_of p) ≡ true → closest_route_prefix r p ≡ closest_route_prefix q p
   routes_alike p sound sound_q held held_q inside =
       let one = route_closest h r sound held p inside in
       closest_routes_there r p one.0 sound one.1

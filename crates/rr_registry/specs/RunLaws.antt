@@ -6,7 +6,8 @@ use Rattle.rr_auth.specs.Sources.{IsReadIn, IsRegistryOf}
 use Rattle.rr_registry.specs.Runs.{Run, Submitted}
 use Rattle.rr_registry.specs.declared.outcome.Outcome.{Outcome}
 
--- A run of a list and then a run of another are one run of both lists.
+-- A run of a list, and then a run of another from where it ended, are one run of both lists, with
+-- the outcomes of both.
 abbrev pub RunsJoin : Type 0
 RunsJoin =
     (r s t : Reg) (first later : List Submitted) (outcomes others : List Outcome)
@@ -14,7 +15,7 @@ RunsJoin =
     → Run r (first ++ later) (outcomes ++ others) t
 
 -- What a run of two lists, one after the other, is made of: a run of the first, and one of the
--- second from where that led.
+-- second from where that led. The outcomes are those of the first and then those of the second.
 pub record IsSplit (r t : Reg) (first later : List Submitted)
     (outcomes : List Outcome) : Type 0 where
   pub between : Reg

@@ -1,5 +1,7 @@
 //! The laws of one item: what the holders of a prefix hold is changed by nobody else, and they are
-//! answered as in a registry that nobody else uses. Nothing calls these functions.
+//! answered as in a registry that nobody else uses. `Holdings` defines who holds a prefix, what is
+//! held, and which items are foreign or own. An item is well formed where the key of an object that
+//! it submits is; of a deletion nothing is asked. Nothing calls these functions.
 
 ghost use Rattle.rr_auth.specs.Registries.{Sound};
 ghost use Rattle.rr_registry.specs.HoldingExample.{example_holding, example_registry};

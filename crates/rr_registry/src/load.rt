@@ -27,7 +27,7 @@ pub enum LoadFault {
     Duplicate(u64),
     /// The span of this object crosses that of an object of its class before it.
     Overlap(u64),
-    /// This object names a maintainer who is not in the list.
+    /// This object names a maintainer whose mntner is not in the list.
     Unnamed(u64),
     /// Memory ran out.
     Memory,
@@ -50,10 +50,11 @@ impl<B: Keeper> Registry<B> {
     ghost use Rattle.rr_registry.specs.Loading.{IsFaultOf, IsTaken};
 
     /// The registry of all these objects, which is sound; there is one only if the list has no
-    /// fault. The fault is of the first object that has the key of one before it or crosses one
-    /// before it, and is `Duplicate` if it does both. If there is none, it is of the first object
-    /// that names a maintainer who is not in the list (profile). Or memory ran out, with any list.
-    /// For n objects and names in them it takes O(n log n) steps, which no clause says.
+    /// fault. The fault is of the first object in the list that has the key of one before it or
+    /// crosses one before it. It is `Duplicate` if that object does both. If there is none, it is
+    /// of the first that names a maintainer whose mntner is not in the list (profile). Or memory
+    /// ran out, with any list. For n objects and names in them it takes O(n log n) steps, which no
+    /// clause says.
     #[tactic(auto, using(crate::proofs::Gathering::clash_is_fault))]
     pub fn from_objects(alloc: Global, objects: Vec<Object>) -> Result<Registry<B>, LoadFault>
         ensures taken { MatchResult result (IsTaken objects.items) (IsFaultOf objects.items) }

@@ -19,8 +19,10 @@ use std::alloc::{AllocError, Global};
 use std::marker::Model;
 
 /// A registry, kept in a book; contracts see the finite map from keys to objects. It is always
-/// sound. It remembers whether the secrets tried last passed the `mnt-by` of objects, which spares
-/// trying them again and changes no verdict.
+/// sound: each object stands under its own key, which is well formed, and each maintainer that it
+/// names is registered. No two inetnums cross, and no two as-blocks. It remembers whether the
+/// secrets tried last passed the `mnt-by` of objects, which spares trying them again and changes no
+/// verdict.
 #[derive(Drop)]
 pub struct Registry<B: Keeper> {
     book: B,
@@ -49,7 +51,7 @@ impl<B: Keeper> Registry<B> {
     ghost use Rattle.rr_book.specs.Listings.{covering, inside};
     ghost use Rattle.rr_sets.specs.Lists.{lent};
 
-    /// The registry of this book, which has to be sound.
+    /// The registry of this book: the same map of objects. It has to be sound.
     pub(crate) fn of(alloc: Global, book: B) -> Registry<B>
         requires { Sound (B.contents book) }
         ensures { result ≡ B.contents book }
@@ -69,7 +71,7 @@ impl<B: Keeper> Registry<B> {
         &self.book
     }
 
-    /// Whether it is sound, as each registry is. `prove!` asks this where a proof needs it and the
+    /// True: the registry is sound, as each is. `prove!` asks this where a proof needs it and the
     /// code does not.
     pub fn is_sound(&self) -> bool
         ensures always { result ≡ true }
@@ -80,15 +82,15 @@ impl<B: Keeper> Registry<B> {
         true
     }
 
-    /// The objects in the order of class and key; the error is that memory ran out. The registry is
-    /// sound.
+    /// All objects, in the order of class and key; the error is that memory ran out. The registry
+    /// is sound, after an error too.
     pub fn objects(&self, alloc: Global) -> Result<Vec<&Object>, AllocError>
         ensures { ListsOf self.now (λ objects. lent objects.items ≡ values self.now) result }
     {
         self.book.objects(alloc)
     }
 
-    /// The inetnums and routes whose addresses cover the span, in the order of class and key; equal
+    /// All inetnums and routes whose addresses cover the span, in the order of class and key; equal
     /// ones count. The error is that memory ran out.
     pub fn covering(&self, alloc: Global, span: Span) -> Result<Vec<&Object>, AllocError>
         ensures { IfOk result (λ found. lent found.items ≡ covering self.now span) }
@@ -96,7 +98,7 @@ impl<B: Keeper> Registry<B> {
         self.book.covering(alloc, span)
     }
 
-    /// The inetnums and routes whose addresses lie inside the span, in the order of class and key;
+    /// All inetnums and routes whose addresses lie inside the span, in the order of class and key;
     /// equal ones count. The error is that memory ran out.
     pub fn inside(&self, alloc: Global, span: Span) -> Result<Vec<&Object>, AllocError>
         ensures { IfOk result (λ found. lent found.items ≡ inside self.now span) }
@@ -104,11 +106,11 @@ impl<B: Keeper> Registry<B> {
         self.book.inside(alloc, span)
     }
 
-    /// Does with the item what its verdict says, over this registry and these secrets, and tells
+    /// Does with the item what its verdict says, over this registry and these secrets, and returns
     /// the outcome (RFC 2725, 9; profile). If memory runs out the item is refused with E90 and
     /// nothing changes. Where a prefix is held and none of the secrets fits a holder's mntner, what
-    /// is held stays as it was, and the prefix held. An object that is submitted has a well-formed
-    /// key. The secrets stay as they were.
+    /// is held (`Holdings`) stays as it was, and the prefix held. An object that is submitted has a
+    /// well-formed key. The secrets stay as they were.
     #[tactic(auto, using(crate::proofs::Judged::carried_out))]
     pub fn apply(&mut self, alloc: Global, secrets: &mut Secrets, item: Item) -> Outcome
         ensures step { IsStep self.old secrets.old item result self.new }

@@ -2,7 +2,7 @@
 use crate::desks::{Office, Trial, expect_kept, expect_report, try_new};
 use crate::stopped::expect_stopped;
 use crate::texts::{THREE, THREE_ADDED};
-use rr_desk::{CreateFault, DeskFault, Done};
+use rr_desk::{CreateFault, Done, SubmissionFault};
 use sqlite::{Constraint, Error, ErrorCode};
 use std::process::Abort;
 use std::test::Fail;
@@ -23,7 +23,7 @@ const REST: &str = "\
 ";
 
 /// The answer to a submission of three items, all of which were decided.
-const ALL: Result<Done, DeskFault> = Ok(Done {
+const ALL: Result<Done, SubmissionFault> = Ok(Done {
     items: 3,
     refused: 0,
 });
@@ -34,7 +34,7 @@ fn expect_submitted<D: Office, R: Abort + AllocGlobal>(
     rt: &R,
     desk: &mut D,
     given: usize,
-    wanted: (Result<Done, DeskFault>, &str, usize),
+    wanted: (Result<Done, SubmissionFault>, &str, usize),
 ) -> Result<(), Fail> {
     let (answer, report, added) = wanted;
     expect_report(rt, desk, (THREE, given), answer, report)?;
@@ -62,7 +62,7 @@ impl Trial for Filling {
         rt: &R,
         mut desk: D,
     ) -> Result<(), Fail> {
-        let unread = Err(DeskFault::ReadFault { items: 2 });
+        let unread = Err(SubmissionFault::ReadFault { items: 2 });
         expect_submitted(rt, &mut desk, THREE.len() - 5, (unread, UNREAD, 2))?;
         expect_rest(rt, desk.after(rt.alloc(), &[])?)
     }
@@ -93,7 +93,7 @@ impl Trial for Room {
         let found = desk.submitted(rt.alloc(), THREE, usize::MAX, room);
         assert_eq!(rt;
             found.answer,
-            Err(DeskFault::WriteFault { items }),
+            Err(SubmissionFault::WriteFault { items }),
             "with room for {room} bytes"
         );
         assert_eq!(rt; found.report.len(), room);
@@ -154,7 +154,7 @@ const TAKEN: Error = Error::SqliteFailure(ErrorCode::ConstraintViolation(Constra
 
 /// Asserts that the second of its items stops a desk whose database has that index.
 fn expect_refused<D: Office, R: Abort + AllocGlobal>(rt: &R, desk: &mut D) -> Result<(), Fail> {
-    let wanted = Err(DeskFault::StoreFault { items: 1 });
+    let wanted = Err(SubmissionFault::LedgerStopped { items: 1 });
     assert_eq!(rt; desk.cause(), None);
     expect_report(rt, desk, (SECOND_REFUSED, usize::MAX), wanted, STOPPED)?;
     assert_eq!(rt; desk.cause(), Some(TAKEN));

@@ -3,8 +3,8 @@
 use crate::memory_peers::{MemoryInput, MemoryPeers};
 use crate::texts::full_dump;
 use rr_desk::{
-    ConnFault, CreateFault, Desk, DeskDumpFault, DeskFault, Done, Served, Settings, WriteFault,
-    serve_all,
+    ConnFault, CreateFault, Desk, DeskDumpFault, Done, Served, Settings, SubmissionFault,
+    WriteFault, serve_all,
 };
 use rr_http::{Both, Registrar, serve_one};
 use rr_io::{Counted, Cut, Reader, Writer};
@@ -18,7 +18,7 @@ use std::test::Fail;
 /// were not read.
 #[derive(Drop)]
 pub struct Submitted {
-    pub answer: Result<Done, DeskFault>,
+    pub answer: Result<Done, SubmissionFault>,
     pub report: Vec<u8>,
     pub left: usize,
 }
@@ -143,7 +143,7 @@ fn submit<S: Alter, R: Reader, W: Writer>(
     desk: &mut Desk<S>,
     reader: &mut R,
     writer: &mut W,
-) -> Result<Done, DeskFault> {
+) -> Result<Done, SubmissionFault> {
     desk.submit(alloc, reader, writer)
 }
 
@@ -250,7 +250,7 @@ pub fn expect_report<D: Office, R: Abort + AllocGlobal>(
     rt: &R,
     desk: &mut D,
     (text, given): (&str, usize),
-    wanted: Result<Done, DeskFault>,
+    wanted: Result<Done, SubmissionFault>,
     report: &str,
 ) -> Result<(), Fail> {
     let found = desk.submitted(rt.alloc(), text, given, usize::MAX);

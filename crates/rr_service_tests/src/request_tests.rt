@@ -1,8 +1,8 @@
 //! What no clause says: that heads are read in pieces of any size, and what worked requests ask and
 //! are replied. What is expected comes from the rules, read by hand.
 use rr_http::{
-    Asked, BodyEnd, BodySize, HEAD_LIMIT, Head, Page, Refusal, read_body, read_head, read_request,
-    write_refusal,
+    BodyEnd, BodySize, HEAD_LIMIT, Head, Page, Refusal, Requested, read_body, read_head,
+    read_request, write_refusal,
 };
 use rr_io::{Counted, Cut, Reader, Writer};
 use std::alloc::{AllocError, Global};
@@ -45,10 +45,10 @@ fn wanted(head: Head, read: &[u8]) -> Seen {
 
 fn summary(place: usize, head: &[u8]) -> Seen {
     match read_request(head) {
-        Asked::Refused(refusal) => Seen::Refused(refusal),
-        Asked::Submission(size) => Seen::Submission(place, size.bytes()),
-        Asked::Query(escaped) => Seen::Query(escaped.len()),
-        Asked::Dump => Seen::Dump,
+        Requested::Refused(refusal) => Seen::Refused(refusal),
+        Requested::Submission(size) => Seen::Submission(place, size.bytes()),
+        Requested::Query(escaped) => Seen::Query(escaped.len()),
+        Requested::Dump => Seen::Dump,
     }
 }
 

@@ -1,7 +1,7 @@
 //! Desks that a fault of the store stopped.
 use crate::desks::{Office, Trial, expect_text, try_in};
 use crate::texts::THREE;
-use rr_desk::{DeskDumpFault, DeskFault};
+use rr_desk::{DeskDumpFault, SubmissionFault};
 use sqlite::{Connection, Files, Options};
 use sqlite_disk::{Disk, Fuse, Memory};
 use std::alloc::Global;
@@ -52,7 +52,7 @@ pub fn stop<D: Office>(alloc: Global, desk: &mut D) -> Result<(), Fail> {
 fn expect_unread<D: Office, R: Abort + AllocGlobal>(rt: &R, desk: &mut D) {
     assert!(rt; desk.stopped());
     let found = desk.submitted(rt.alloc(), THREE, usize::MAX, usize::MAX);
-    assert_eq!(rt; found.answer, Err(DeskFault::Stopped));
+    assert_eq!(rt; found.answer, Err(SubmissionFault::Stopped));
     assert_eq!(rt; (found.report.len(), found.left), (0, THREE.len()));
 }
 

@@ -1,4 +1,4 @@
--- What a fault of a walk is for an expansion.
+-- What a fault of a walk is for an expansion: for `ExpandFault`.
 use Rattle.rr_graph.specs.declared.ReachFault.{ReachFault}
 use Rattle.rr_graph.specs.declared.ReachFault.TheVariants as reach
 use Rattle.rr_sets.specs.declared.members.ExpandFault.{ExpandFault}

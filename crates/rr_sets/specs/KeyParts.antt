@@ -1,4 +1,4 @@
--- The parts of keys that an expansion looks for.
+-- The parts of keys that an expansion looks for: for `SetBook`, `direct` and `ranges`.
 use Rattle.std.specs.Prelude.{ℕ, ◌==◌, Option, None, Some, if◌then◌else◌}
 use Rattle.rr_number.specs.Prefixes.{PrefixParts}
 use Rattle.rr_number.specs.Ranges.{RangeParts, bare}

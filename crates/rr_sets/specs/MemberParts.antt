@@ -1,4 +1,4 @@
--- Members as ranges, and as edges with operators.
+-- Members as ranges, and as edges with operators: for `ranges`, `references` and `route_sets`.
 use Rattle.std.specs.Prelude.{ℕ, List, Option, None, Some, if◌then◌else◌}
 use Rattle.rr_auth.specs.Registries.{Reg}
 use Rattle.rr_graph.specs.declared.labels.Edge.{Edge}

@@ -1,4 +1,4 @@
--- What a registered object says of sets.
+-- What a registered object says of sets: for `AsSets` and `RouteSets`.
 use Rattle.std.specs.Prelude.{ℕ, Bool, ◌||◌, List, Option, None, Some}
 use Rattle.std.specs.List.{list_any}
 use Rattle.std.specs.Str.{bytes_eq}

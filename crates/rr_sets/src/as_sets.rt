@@ -28,20 +28,22 @@ use rr_object::{Member, MemberSet, Object};
 use std::alloc::{AllocError, Global};
 use std::collections::BTreeSet;
 
-/// Lists exactly the AS numbers that an as-set stands for: those that are in it or in a set that it
-/// reaches, by names in `members`. In a set are the numbers that it lists or has by `mbrs-by-ref`;
-/// in `AS-ANY` are all that have an aut-num (RFC 2622, 5). A name that is reached is missing if no
-/// as-set of this name is registered and it is not `AS-ANY`. Both lists are in ascending order,
-/// without repeats.
+/// Lists exactly the AS numbers that an as-set stands for: those that are in a set that it reaches.
+/// It reaches its own name, and each set's name in the `members` of a registered as-set whose name
+/// it reaches. A number is in a registered as-set that lists it. It is also in one that its aut-num
+/// names in `member-of`, if the `mbrs-by-ref` of that set has `ANY` or a maintainer in the
+/// aut-num's `mnt-by`. In `AS-ANY` are all numbers that have an aut-num (RFC 2622, 5). A name that
+/// is reached is missing if no as-set of this name is registered and it is not `AS-ANY`. Both lists
+/// are in ascending order, without repeats.
 ///
 /// The fault is `NoSuchSet` exactly where the name asked for is missing itself. For any other name
-/// it is `TooMany` exactly where more than `limit` names are reached, itself among them. In either
-/// case memory may run out instead.
+/// it is `TooMany` exactly where more than `limit` names are reached, itself among them. Whatever
+/// is reached, the fault may be instead that memory ran out; when it is, no clause says.
 ///
-/// The steps outside the book are O(n log n), where n counts the names reached, the members of
-/// each, listed or by reference, and the names in its `mbrs-by-ref` and in `mnt-by` of its
-/// referrers. The book is asked once for the `referrers` of each set reached that has
-/// `mbrs-by-ref`. No clause counts steps or questions.
+/// The steps outside the book are O(n log n). n counts the names reached, the members of each,
+/// listed or by reference, and the names in its `mbrs-by-ref` and in `mnt-by` of its referrers. The
+/// book is asked once for the `referrers` of each set reached that has `mbrs-by-ref`. No clause
+/// counts steps or questions.
 pub fn expand_as_set<B: SetBook>(
     alloc: Global,
     book: &B,

@@ -4,7 +4,8 @@ use rr_graph::ReachFault;
 use rr_number::SetName;
 use std::alloc::AllocError;
 
-/// What a set stands for, and the names of sets that it reaches and that are missing.
+/// What a set stands for, and the names of sets that it reaches and that are missing: an expansion
+/// makes it, as the fields say.
 #[derive(Drop)]
 pub struct Members<T> {
     /// What is in the set, in ascending order, without repeats.
@@ -25,6 +26,7 @@ pub enum ExpandFault {
     Memory,
 }
 
+/// A walk that goes over its limit is an expansion that does, and memory that ran out stays so.
 impl From<ReachFault> for ExpandFault {
     ghost use Rattle.std.specs.Prelude.{◌≡◌};
     ghost use Rattle.rr_sets.specs.Faults.{expand_fault_of};
@@ -39,6 +41,7 @@ impl From<ReachFault> for ExpandFault {
     }
 }
 
+/// The fault is that memory ran out.
 impl From<AllocError> for ExpandFault {
     ghost use Rattle.std.specs.Prelude.{◌≡◌};
     ghost use Rattle.rr_sets.specs.declared.members.ExpandFault.TheVariants.{Memory};

@@ -4,7 +4,7 @@ ghost use Rattle.std.specs.Prelude.{◌≡◌, true, IfOk};
 ghost use Rattle.std.specs.List.{filter_map};
 ghost use Rattle.std.specs.Option.{option_copied};
 ghost use Rattle.rr_graph.specs.Answered.{FindsWithin};
-ghost use Rattle.rr_graph.specs.Carried.{IsGathered};
+ghost use Rattle.rr_graph.specs.Carried.{IsGatheredFrom};
 ghost use Rattle.rr_number.specs.Applied.{applied};
 ghost use Rattle.rr_number.specs.Ranges.{range_cmp};
 ghost use Rattle.rr_sets.specs.MemberParts.{missing_name};
@@ -16,38 +16,45 @@ use crate::book::SetBook;
 use crate::members::{ExpandFault, Members};
 use crate::ranges::{has_set, ranges_in, ranges_of_origin};
 use crate::references::{Reference, copy_of, references_of};
-use rr_graph::{Gathered, Labelled, ReachFault, gather};
+use rr_graph::{Labelled, NodesAndValues, ReachFault, gather};
 use rr_number::{Operator, Prefix, Range, SetName};
 use rr_object::MemberSet;
 use std::alloc::{AllocError, Global};
 
 /// Lists exactly the ranges of prefixes that a set stands for, of either kind, `AS-ANY` and
-/// `RS-ANY` among them. They are those that it lists, those of the routes that it has by
-/// `mbrs-by-ref`, and those of the sets and ASes to which it refers. Each of the last is put
-/// through the operator of the reference, unless this drops it (RFC 2622, 5). The range of a route
-/// is that of its prefix alone, and the ranges of an AS are those of its routes. An as-set refers
-/// also to the ASes that it has by `mbrs-by-ref`, and `AS-ANY` to all that have an aut-num; the
-/// ranges of `RS-ANY` are those of all routes. A set's name that is reached is missing if no set of
-/// this name is registered and it is neither `AS-ANY` nor `RS-ANY`. Both lists are in ascending
-/// order, without repeats.
+/// `RS-ANY` among them. It reaches the sets and ASes to which chains of references lead, itself by
+/// the empty chain. A range that the set or AS at the end of a chain has itself is put through the
+/// operators of that chain, the last first. The set stands for what they make of it, unless one
+/// drops it (RFC 2622, 5).
+///
+/// A registered set has the ranges in its `members` itself. It also has those of the routes that
+/// name it in `member-of`, if its `mbrs-by-ref` has `ANY` or a maintainer in the route's `mnt-by`.
+/// An AS has those of its routes, and `RS-ANY` those of all routes. The range of a route is that of
+/// its prefix alone. A registered set refers to the sets and ASes in its `members`: a route-set
+/// under their operators, an as-set under none. An as-set refers also to the ASes whose aut-nums
+/// name it in `member-of`, on the same condition of the aut-num's `mnt-by`; `AS-ANY` refers to all
+/// that have an aut-num.
+///
+/// A set's name that is reached is missing if no set of this name is registered and it is neither
+/// `AS-ANY` nor `RS-ANY`. Both lists are in ascending order, without repeats.
 ///
 /// The fault is `NoSuchSet` exactly where the name asked for is missing itself. For any other name
-/// it is `TooMany` exactly where more than `limit` sets and ASes are reached, itself among them, or
-/// there are more than `limit` pairs of one and a range that it stands for. In either case memory
-/// may run out instead.
+/// it is `TooMany` exactly in two cases. More than `limit` sets and ASes are reached, itself among
+/// them, or there are more than `limit` pairs of one reached and a range that it stands for.
+/// Whatever is reached, the fault may be instead that memory ran out; when it is, no clause says.
 ///
 /// The steps outside the book are O((P + KR + F) log P). P counts those pairs, the sets reached,
-/// the members of each, listed or by reference, the names in its `mbrs-by-ref` and in `mnt-by` of
-/// its referrers, and the routes of each AS reached. R counts the references of the sets reached,
-/// and K the least lengths that ranges of one set have, at most 33. F counts, of each set and each
-/// other to which it refers, the ranges that the references make. One without operator makes each
-/// range of the other. Those with operators together make, of each prefix and least length there,
-/// each range once. The m route-sets that each list all the others under all operators, and
-/// `0.0.0.0/0`, have 561m pairs, as that prefix has 561 ranges. F is about 7,100m²: 561 without
-/// operator and 6,545 with, for each two sets. The book is asked at most three times for the
-/// `referrers` of each set reached that has `mbrs-by-ref`, and once for the prefixes of each AS
-/// reached; if sets refer to each other in a ring, at most four times and twice. No clause counts
-/// steps or questions.
+/// and the routes of each AS reached. Of each set reached it counts the members, listed or by
+/// reference, and the names in its `mbrs-by-ref` and in `mnt-by` of its referrers. R counts the
+/// references of the sets reached, and K the least lengths that ranges of one set have, at most 33.
+/// F counts, of each set and each other to which it refers, the ranges that the references make.
+/// One without operator makes each range of the other. Those with operators together make, of each
+/// prefix and least length there, each range once. The m route-sets that each list all the others
+/// under all operators, and `0.0.0.0/0`, have 561m pairs, as that prefix has 561 ranges. F is about
+/// 7,100m²: 561 without operator and 6,545 with, for each two sets. The book is asked at most three
+/// times for the `referrers` of each set reached that has `mbrs-by-ref`, and once for the prefixes
+/// of each AS reached. If sets refer to each other in a ring, it is asked at most four times and
+/// twice. No clause counts steps or questions.
 pub fn expand_route_set<B: SetBook>(
     alloc: Global,
     book: &B,
@@ -169,8 +176,8 @@ fn gathered<B: SetBook>(
     book: &B,
     name: &SetName,
     limit: usize,
-) -> Result<Gathered<MemberSet, Range>, ReachFault>
-    ensures { FindsWithin (IsGathered (Refers (B.contents book.now))
+) -> Result<NodesAndValues<MemberSet, Range>, ReachFault>
+    ensures { FindsWithin (IsGatheredFrom (Refers (B.contents book.now))
         (HasRange (B.contents book.now)) applied range_cmp (MemberSet.Set name.now))
         (HasTooMany (B.contents book.now) limit name.now) result }
 {

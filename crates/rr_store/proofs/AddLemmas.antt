@@ -7,7 +7,8 @@ use Rattle.sqlite.specs.Effect.{Database}
 use Rattle.rr_object.specs.KeyOrders.{IsKeyValue}
 use Rattle.rr_object.specs.Objects.{Obj}
 use Rattle.rr_store.specs.Contents.{contents, meta_rows}
-use Rattle.rr_store.specs.Entries.{Entry, AreRowsOf, IsAdded, entry_of, named_rows, object_row}
+use Rattle.rr_store.specs.Entries.{StoredEntry, AreRowsOf, IsAdded, entry_of, named_rows}
+use Rattle.rr_store.specs.Entries.{object_row}
 use Rattle.rr_store.specs.Maps.{AreOfObjects, IsObject}
 use Rattle.rr_store.proofs.AddedLemmas.{append_none}
 use Rattle.rr_store.proofs.MapEntries.{values_with_new}
@@ -16,7 +17,8 @@ use Rattle.rr_store.proofs.MapKeys.{keys_exact}
 use Rattle.rr_store.proofs.MapRows.{put_keyed, rows_permuted}
 use Rattle.rr_store.specs.Adding.{AddsTo}
 
-one_more : (entry : Entry) (entries : List Entry) (old new : Database) → AreRowsOf entries old →
+one_more : (entry : StoredEntry) (entries : List StoredEntry) (old new : Database) →
+    AreRowsOf entries old →
     IsAdded (entry ∷ []) old new → AreRowsOf (entry ∷ entries) new
 one_more entry entries old new rows added = record {
   tidy = added.tidy;

@@ -11,7 +11,7 @@ use Rattle.sqlite_trees.proofs.ListLemmas.{map-map}
 use Rattle.sqlite.specs.Effect.{Database}
 use Rattle.sqlite.proofs.Callers.{one_permutation}
 use Rattle.rr_store.specs.Contents.{IsTidy, columns, contents, meta_row, meta_rows, meta_values}
-use Rattle.rr_store.specs.Entries.{Entry, object_row, named_rows, AreRowsOf, IsAdded}
+use Rattle.rr_store.specs.Entries.{StoredEntry, object_row, named_rows, AreRowsOf, IsAdded}
 use Rattle.rr_store.specs.Maps.{IsFilled, current_version}
 use Rattle.rr_store.proofs.OtherLemmas.{others_itself, others_then}
 
@@ -39,7 +39,7 @@ both_come xs ys a b c first second =
     (IsPermutation-trans _ _ _ (subst (λ l. IsPermutation l (ys ++ b)) (sym (append_assoc ys xs a))
     (IsPermutation-append_right ys _ _ first)) second)
 
-pub added_then : (es fs : List Entry) (a b c : Database) → IsAdded es a b → IsAdded fs b c →
+pub added_then : (es fs : List StoredEntry) (a b c : Database) → IsAdded es a b → IsAdded fs b c →
     IsAdded (es ++ fs) a c
 added_then es fs a b c first second = record {
   tidy = second.tidy;
@@ -56,7 +56,7 @@ append_none [] = refl
 append_none (x ∷ xs) = ap (λ l. x ∷ l) (append_none xs)
 
 -- what is added to tables without a row is what they hold
-pub rows_added : (entries : List Entry) (old new : Database) → old.trees 2 ≡ [] → old.trees 4
+pub rows_added : (entries : List StoredEntry) (old new : Database) → old.trees 2 ≡ [] → old.trees 4
     ≡ [] → IsAdded entries old new → AreRowsOf entries new
 rows_added entries old new objects named added = record {
   tidy = added.tidy;
@@ -67,7 +67,7 @@ rows_added entries old new objects named added = record {
 }
 
 -- the maintainers may be named in any order
-pub added_renamed : (entry : Entry) (names : List (List ℕ)) (old new : Database) →
+pub added_renamed : (entry : StoredEntry) (names : List (List ℕ)) (old new : Database) →
     IsPermutation entry.names names → IsAdded (record entry { names = names } ∷ []) old new →
     IsAdded (entry ∷ []) old new
 added_renamed entry names old new same added = record {
@@ -93,7 +93,8 @@ first_meta_row name value old new none same =
 
 -- tables without a row, to which the version is added and then these, hold these and are of version
 -- 2
-pub filled_by : (entries : List Entry) (old mid new : Database) → old.trees 0 ≡ [] → old.trees 2
+pub filled_by : (entries : List StoredEntry) (old mid new : Database) → old.trees 0 ≡ [] →
+    old.trees 2
     ≡ [] → old.trees 4 ≡ [] → mid.trees 2 ≡ old.trees 2 → mid.trees 4 ≡ old.trees 4
     → IsPermutation (meta_values (codes "version") current_version ∷ contents (old.trees 0))
     (contents (mid.trees 0)) → IsAdded entries mid new → IsFilled entries new

@@ -8,7 +8,7 @@ use Rattle.rr_store.specs.Contents.{is_object_of, is_named_of, object_values, na
 use Rattle.sqlite_value.specs.Order.{Row}
 use Rattle.std.specs.Prelude.{codes}
 use Rattle.rr_store.specs.Contents.{meta_values}
-use Rattle.rr_store.specs.Entries.{Entry, IsAdded, IsPut, IsTakenOut, named_rows, object_row}
+use Rattle.rr_store.specs.Entries.{StoredEntry, IsAdded, IsPut, IsTakenOut, named_rows, object_row}
 use Rattle.rr_store.specs.Made.{IsBare}
 use Rattle.rr_store.specs.Maps.{AreNamesOf, AreOfObjects, IsFilled, current_version}
 use Rattle.rr_store.proofs.AddedLemmas.{append_none, filled_by}
@@ -42,7 +42,7 @@ four_none : ◌≢◌ {A = ℕ} 4 0
 four_none h = omega arith
 
 -- the old rows of the object go, and the new ones come
-pub put_by : (entry : Entry) (a b c : Database) → IsTakenOut entry.class entry.key a b →
+pub put_by : (entry : StoredEntry) (a b c : Database) → IsTakenOut entry.class entry.key a b →
     IsAdded (entry ∷ []) b c → IsPut entry a c
 put_by entry a b c taken added = record {
   tidy = added.tidy;
@@ -103,7 +103,7 @@ taken_by class key a b c first second = record {
 }
 
 -- the version comes and then the rows of objects, in tables without a row
-pub filled_so : (entries : List Entry) (a b c : Database) → IsBare a →
+pub filled_so : (entries : List StoredEntry) (a b c : Database) → IsBare a →
     Alters a b 0 (Adds (meta_values (codes "version") current_version ∷ [])) → IsAdded entries b c
     → IsFilled entries c
 filled_so entries a b c bare first second = filled_by entries a b c bare.meta bare.object

@@ -8,14 +8,15 @@ use Rattle.sqlite_value.specs.declared.value.Value.TheVariants.{Int, Text}
 use Rattle.sqlite_trees.proofs.ListLemmas.{IsPermutation-filter, filter-map}
 use Rattle.sqlite.specs.Effect.{Database}
 use Rattle.rr_store.specs.Contents.{contents, is_object_of, is_named_of}
-use Rattle.rr_store.specs.Entries.{Entry, object_row, named_rows, AreRowsOf, IsPut, IsTakenOut}
+use Rattle.rr_store.specs.Entries.{StoredEntry, object_row, named_rows, AreRowsOf, IsPut}
+use Rattle.rr_store.specs.Entries.{IsTakenOut}
 
 -- an entry has this class and this key, as SQL compares them
-abbrev pub is_at : ℕ → List ℕ → Entry → Bool
+abbrev pub is_at : ℕ → List ℕ → StoredEntry → Bool
 is_at class key entry = is_object_of class key (object_row entry)
 
 -- those with another class or key
-abbrev pub without_key : ℕ → List ℕ → List Entry → List Entry
+abbrev pub without_key : ℕ → List ℕ → List StoredEntry → List StoredEntry
 without_key class key = filter (λ entry. not (is_at class key entry))
 
 filter_append : {X : Type 0} (p : X → Bool) (xs ys : List X) → filter p (xs ++ ys) ≡ filter p xs ++
@@ -35,13 +36,13 @@ filter_same_test false p (x ∷ xs) h = rw (h.0, filter_same_test false p xs h.1
 
 module _ (class : ℕ) (key : List ℕ) where
   -- the rows of `named` of an entry are of its class and key
-  names_tested : (entry : Entry) (names : List (List ℕ)) →
+  names_tested : (entry : StoredEntry) (names : List (List ℕ)) →
       AllByRecursion (λ row. not (is_named_of class key row) ≡ not (is_at class key entry))
       (map (λ name. Text name ∷ Int (pos entry.class) ∷ Text entry.key ∷ []) names)
   names_tested entry [] = tt
   names_tested entry (name ∷ names) = (refl, names_tested entry names)
 
-  kept_names : (entries : List Entry) → filter (λ row. not (is_named_of class key row))
+  kept_names : (entries : List StoredEntry) → filter (λ row. not (is_named_of class key row))
       (flat_map named_rows entries) ≡ flat_map named_rows (without_key class key entries)
   kept_names [] = refl
   kept_names (entry ∷ entries) =
@@ -53,11 +54,11 @@ module _ (class : ℕ) (key : List ℕ) where
       (cond b (entry ∷ without_key class key entries) (without_key class key entries)))
       [ true ↦ refl | false ↦ refl ])
 
-  kept_objects : (entries : List Entry) → filter (λ row. not (is_object_of class key row))
+  kept_objects : (entries : List StoredEntry) → filter (λ row. not (is_object_of class key row))
       (map object_row entries) ≡ map object_row (without_key class key entries)
   kept_objects entries = filter-map _ object_row entries
 
-  pub taken_rows : (entries : List Entry) (old new : Database) → AreRowsOf entries old →
+  pub taken_rows : (entries : List StoredEntry) (old new : Database) → AreRowsOf entries old →
       IsTakenOut class key old new → AreRowsOf (without_key class key entries) new
   taken_rows entries old new rows taken = record {
     tidy = taken.tidy;
@@ -67,7 +68,8 @@ module _ (class : ℕ) (key : List ℕ) where
         (subst (IsPermutation _) (sym taken.named) (IsPermutation-filter _ _ _ rows.named));
   }
 
-pub put_rows : (entry : Entry) (entries : List Entry) (old new : Database) → AreRowsOf entries old
+pub put_rows : (entry : StoredEntry) (entries : List StoredEntry) (old new : Database) →
+    AreRowsOf entries old
     → IsPut entry old new → AreRowsOf (entry ∷ without_key entry.class entry.key entries) new
 put_rows entry entries old new rows put =
     let objects = filter (λ row. not (is_object_of entry.class entry.key row))

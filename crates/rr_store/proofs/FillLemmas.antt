@@ -9,14 +9,14 @@ use Rattle.sqlite.specs.Held.{Held, state}
 use Rattle.sqlite.proofs.StateLemmas.{survives_then}
 use Rattle.rr_store.specs.Contents.{IsTidy, RunsOn}
 use Rattle.rr_object.specs.Objects.{Obj}
-use Rattle.rr_store.specs.Entries.{Entry, IsAdded, entry_of}
+use Rattle.rr_store.specs.Entries.{StoredEntry, IsAdded, entry_of}
 use Rattle.rr_store.specs.Maps.{IsObject}
 use Rattle.rr_store.specs.StepParts.{IsOver}
 use Rattle.rr_store.proofs.AddedLemmas.{none_added, added_then}
 use Rattle.rr_store.proofs.AddingLemmas.{keeps_itself, survives_itself, keeps_then}
 
 -- the rows of these were added in a transaction that goes on
-pub record HasFilled {S : Type 0} (g : Ghosts S) (old new : Held S) (entries : List Entry) :
+pub record HasFilled {S : Type 0} (g : Ghosts S) (old new : Held S) (entries : List StoredEntry) :
     Type 0 where
   pub done : IsOver g IsTidy old → HasCleanDisk (state g new) → IsTrue (state g old).is_open →
       IsAdded entries (state g old).now (state g new).now
@@ -33,8 +33,8 @@ none_filled g old = record {
   survives = survives_itself (state g old);
 }
 
-pub filled_more : {S : Type 0} (g : Ghosts S) (old mid new : Held S) (entries : List Entry)
-    (entry : Entry) → HasFilled g old mid entries
+pub filled_more : {S : Type 0} (g : Ghosts S) (old mid new : Held S) (entries : List StoredEntry)
+    (entry : StoredEntry) → HasFilled g old mid entries
     → (IsOver g IsTidy mid → HasCleanDisk (state g new) → IsAdded (entry ∷ []) (state g mid).now
     (state g new).now) →
     (HasCleanDisk (state g new) → RunsOn (state g mid) (state g new))

@@ -22,7 +22,7 @@ use Rattle.rr_store.specs.VacancyParts.{SaysBare, SaysEmpty}
 use Rattle.rr_store.specs.Calls.{FailsOverTidy, Rests, database}
 use Rattle.rr_store.specs.CheckParts.{HasBadRow}
 use Rattle.rr_store.specs.Faults.{no_tables}
-use Rattle.rr_store.specs.LookParts.{Counts, IsSeen, IsTabled, Selects}
+use Rattle.rr_store.specs.LookParts.{CountsRows, HoldsOnCleanDisk, IsTabled, Selects}
 use Rattle.rr_store.specs.Opening.{IfStore, Inspects}
 use Rattle.rr_store.specs.StreamParts.{FailsAfterRows, FailsToCount, GivesRest, HasStreamed}
 use Rattle.rr_store.specs.declared.store_fault.OpenFault.{OpenFault}
@@ -122,7 +122,7 @@ module _ {S : Type 0} (g : Ghosts S) (a b : Held S) where
   -- nor where rows were not counted
   pub uncounted : {Y : Type 0} (tree : ℕ) (error : Error) (Read : Database → Y → Type 0)
       (Why : Database → OpenFault → Type 0) → Why (database g a) (Store error) →
-      Counts g tree a b (Err error) → Inspects g a b (Err (Store error)) Read Why
+      CountsRows g tree a b (Err error) → Inspects g a b (Err (Store error)) Read Why
   uncounted tree error Read Why why one = record {
     looks = record { rests = one.looks.rests; same = λ clean. tt };
     read = λ clean. tt;
@@ -178,7 +178,7 @@ untabled g conn Read Bad mode none = record {
 module _ {S : Type 0} (g : Ghosts S) (a b : Held S) (one : Rests g a b)
     (same : HasCleanDisk (state g b) → IsUnchanged (state g a) (state g b)) where
   -- after a call that changed nothing this is still true of the database
-  pub seen_then : (Seen : Database → Type 0) → IsSeen g Seen a → IsSeen g Seen b
+  pub seen_then : (Seen : Database → Type 0) → HoldsOnCleanDisk g Seen a → HoldsOnCleanDisk g Seen b
   seen_then Seen had clean = subst Seen (sym (same clean).0.now_is)
       (had (omega (arith, clean, one.crash.clean)))
 
@@ -212,7 +212,7 @@ module _ {S : Type 0} (g : Ghosts S) (a b : Held S) (one : Rests g a b)
 
 -- whether the three tables have no row is found by asking for each
 pub selects_bare : {S : Type 0} (g : Ghosts S) (old one two new : Held S)
-    (meta object named is : Bool) → IsSeen g IsTabled old →
+    (meta object named is : Bool) → HoldsOnCleanDisk g IsTabled old →
     Selects g old one (Ok meta) (λ db e. SaysEmpty (db.trees meta_tree) e) →
     Selects g one two (Ok object) (λ db e. SaysEmpty (db.trees object_tree) e) →
     Selects g two new (Ok named) (λ db e. SaysEmpty (db.trees named_tree) e) →
@@ -251,7 +251,7 @@ module _ {S : Type 0} (g : Ghosts S) (text : List ℕ) (params : Row) (told : Is
     rested = rests_failed g text params old new plain settled mode
         (λ clean. (error, failed clean)) survives
 
-    pub not_counted : (tree : ℕ) → Counts g tree old new (Err error)
+    pub not_counted : (tree : ℕ) → CountsRows g tree old new (Err error)
     not_counted tree = record {
       looks = record { rests = rested; same = λ clean. tt };
       numbered = λ clean. tt;
@@ -303,7 +303,7 @@ module _ {S : Type 0} (g : Ghosts S) (text : List ℕ) (params : Row) (told : Is
           (tabled (omega (arith, first, b.survives.clean)))
           (λ db rows. IsInRank by_one (map number (db.trees tree)) rows) tells rest gives
 
-      pub counted : Counts g tree old new r
+      pub counted : CountsRows g tree old new r
       counted = record {
         looks = streamed g r old begun new b.same b.survives streams mode settled;
         numbered = λ clean. on_each r _ _ (numbered clean) (λ count rest.

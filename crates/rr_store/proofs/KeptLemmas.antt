@@ -4,7 +4,7 @@ use Rattle.sqlite_trees.specs.declared.store.Store.{Ghosts}
 use Rattle.sqlite.specs.Effect.{Database}
 use Rattle.sqlite.specs.Held.{Held, state}
 use Rattle.rr_object.specs.Objects.{Obj}
-use Rattle.rr_store.specs.Entries.{Entry, IsAdded, IsPut, entry_of}
+use Rattle.rr_store.specs.Entries.{StoredEntry, IsAdded, IsPut, entry_of}
 use Rattle.rr_store.specs.Maps.{AreOfObjects, IsObject}
 use Rattle.rr_store.proofs.ObjectRows.{put_held}
 use Rattle.rr_store.specs.Calls.{Transacts}
@@ -14,12 +14,12 @@ use Rattle.rr_store.proofs.BodyLemmas.{then_ok}
 use Rattle.rr_store.proofs.LookLemmas.{of_both, on_err_as}
 
 -- rows of an entry that is an object's leave rows of some objects
-pub added_told : (object : Obj) (entry : Entry) → entry ≡ entry_of object → IsObject object →
+pub added_told : (object : Obj) (entry : StoredEntry) → entry ≡ entry_of object → IsObject object →
     (old new : Database) → AreOfObjects old → IsAdded (entry ∷ []) old new → AreOfObjects new
 added_told object entry same is old new held added = added_held object is old new held
     (subst (λ e. IsAdded (e ∷ []) old new) same added)
 
-pub put_told : (object : Obj) (entry : Entry) → entry ≡ entry_of object → IsObject object →
+pub put_told : (object : Obj) (entry : StoredEntry) → entry ≡ entry_of object → IsObject object →
     (old new : Database) → AreOfObjects old → IsPut entry old new → AreOfObjects new
 put_told object entry same is old new held put = put_held object is old new held
     (subst (λ e. IsPut e old new) same put)

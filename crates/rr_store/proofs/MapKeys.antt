@@ -17,7 +17,7 @@ use Rattle.rr_object.specs.KeyOrders.{HasKeyParts, class_and_bytes_cmp, key_cmp}
 use Rattle.rr_object.proofs.DerivedOrder.{derived_order}
 pub use Rattle.rr_object.proofs.KeyLaws.{keys_exact}
 use Rattle.rr_object.proofs.KeysByBytes.{ordered_by_bytes}
-use Rattle.rr_store.specs.Entries.{Entry}
+use Rattle.rr_store.specs.Entries.{StoredEntry}
 use Rattle.rr_store.proofs.EntryLemmas.{is_at}
 
 pub ordered_as_bytes : (a b : Key) → HasKeyParts a → HasKeyParts b → key_cmp a b
@@ -55,7 +55,7 @@ both_tie Equal Greater = refl
 both_tie Greater b = refl
 
 -- SQL tells entries by the orders of their classes' numbers and their keys' texts
-pub at_ties : (class : ℕ) (key : List ℕ) (entry : Entry) → is_at class key entry
+pub at_ties : (class : ℕ) (key : List ℕ) (entry : StoredEntry) → is_at class key entry
     ≡ is_eq (ordering_then (nat_cmp entry.class class) (slice_cmp nat_cmp entry.key key))
 at_ties class key entry =
     (λ i. numbers_tie entry.class class i && (texts_tie entry.key key i && true)) ∙ both_tie

@@ -19,7 +19,7 @@ use Rattle.rr_object.specs.Objects.{Obj}
 use Rattle.rr_object.proofs.KeyBounds.{has_parts}
 use Rattle.rr_object.proofs.KeyLaws.{keys_exact, keys_total, same_key}
 use Rattle.rr_store.specs.Contents.{meta_rows}
-use Rattle.rr_store.specs.Entries.{Entry, AreRowsOf, IsPut, IsTakenOut, entry_of, object_row}
+use Rattle.rr_store.specs.Entries.{StoredEntry, AreRowsOf, IsPut, IsTakenOut, entry_of, object_row}
 use Rattle.rr_store.specs.Entries.{named_rows}
 use Rattle.rr_store.specs.Maps.{HasVersion, IsKeyed, IsObject, Puts, TakesOut}
 use Rattle.rr_store.proofs.EntryLemmas.{is_at, put_rows, taken_rows, without_key}
@@ -27,7 +27,8 @@ use Rattle.rr_store.proofs.MapKeys.{at_ties, ordered_as_bytes}
 use Rattle.rr_store.proofs.MapEntries.{each_entry, entries_without, values_with}
 
 -- the rows of entries are those of the same entries in another order
-pub rows_permuted : (es fs : List Entry) (db : Database) → IsPermutation es fs → AreRowsOf es db →
+pub rows_permuted : (es fs : List StoredEntry) (db : Database) → IsPermutation es fs →
+    AreRowsOf es db →
     AreRowsOf fs db
 rows_permuted es fs db same rows =
     let back = IsPermutation-sym _ _ same in

@@ -16,7 +16,7 @@ use Rattle.sqlite.specs.Effect.{Database}
 use Rattle.rr_object.specs.Objects.{Obj}
 use Rattle.rr_store.specs.Contents.{contents, is_name_among, is_named_of, is_object_of}
 use Rattle.rr_store.specs.Contents.{named_values}
-use Rattle.rr_store.specs.Entries.{AreRowsOf, Entry, IsPut, IsTakenOut, entry_of, named_rows}
+use Rattle.rr_store.specs.Entries.{AreRowsOf, StoredEntry, IsPut, IsTakenOut, entry_of, named_rows}
 use Rattle.rr_store.specs.Entries.{object_row}
 use Rattle.rr_store.specs.Maps.{AreNamesOf, AreOfObjects, AreStored, IsFilled, IsObject, IsObjectOf}
 use Rattle.rr_store.proofs.EntryLemmas.{is_at, put_rows, taken_rows}
@@ -63,7 +63,7 @@ of_passing {A} P p (x ∷ xs) all = go (p x) refl (of_passing P p xs) all
 
 module _ (class : ℕ) (key : List ℕ) (names : List (List ℕ)) where
   -- the rows that name one of these are those of the key, where they are the names of its entry
-  names_tell : (e : Entry) (name : List ℕ) → IsIn name e.names →
+  names_tell : (e : StoredEntry) (name : List ℕ) → IsIn name e.names →
       (is_at class key e ≡ true → names ≡ e.names)
       → is_name_among class key names (named_values name e.class e.key) ≡ is_named_of class key
       (named_values name e.class e.key)
@@ -80,7 +80,8 @@ module _ (class : ℕ) (key : List ℕ) (names : List (List ℕ)) where
   abbrev Tells : Row → Type 0
   Tells row = is_name_among class key names row ≡ is_named_of class key row
 
-  entry_tells : (e : Entry) → (is_at class key e ≡ true → names ≡ e.names) → AllByRecursion Tells
+  entry_tells : (e : StoredEntry) → (is_at class key e ≡ true → names ≡ e.names) →
+      AllByRecursion Tells
       (named_rows e)
   entry_tells e told = all-map Tells (λ name. named_values name e.class e.key) e.names
       (all_weaker _ _ (λ name is. names_tell e name is told) e.names (in_itself e.names))

@@ -7,7 +7,7 @@ use Rattle.sqlite_schema.specs.declared.schema.Table.{Table}
 use Rattle.sqlite_trees.proofs.ListLemmas.{all_both, all_of}
 use Rattle.sqlite.specs.Effect.{Database}
 use Rattle.rr_store.specs.Contents.{IsOfOther, KeepsOthers}
-use Rattle.rr_store.specs.Entries.{Entry}
+use Rattle.rr_store.specs.Entries.{StoredEntry}
 use Rattle.rr_store.specs.Made.{HasItsTables, no_schema, with_named}
 use Rattle.rr_store.specs.Maps.{IsFilled}
 use Rattle.rr_store.specs.Tables.{HasTables, laid}
@@ -38,7 +38,7 @@ no_tables schema has none = let e : (laid has.layout).tables ≡ no_schema.table
     ap (λ (s : Schema). s.tables) (sym has.is ∙ none) in absurd (cc)
 
 -- tables that are filled and stay are those that stood
-pub tables_stand : (entries : List Entry) (old new : Database) → IsFilled entries new →
+pub tables_stand : (entries : List StoredEntry) (old new : Database) → IsFilled entries new →
     KeepsOthers old new → HasItsTables old new
 tables_stand entries old new filled others =
     record {

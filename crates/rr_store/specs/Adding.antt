@@ -1,4 +1,4 @@
--- What the added rows of an object do to a map of objects.
+-- What the added rows of an object do to a map of objects: for `Store::add`.
 use Rattle.std.specs.Prelude.{◌≡◌, None}
 use Rattle.std.specs.FinMap.{FinMap, get, insert}
 use Rattle.sqlite.specs.Effect.{Database}

@@ -1,4 +1,5 @@
--- What becomes of a query that is asked in a transaction of its own, which is then rolled back.
+-- What becomes of a query that is asked in a transaction of its own, which is then rolled back: for
+-- `IdleConnection::ask`.
 use Rattle.std.specs.Prelude.{true, ℕ, List, []}
 use Rattle.sqlite_trees.specs.declared.store.Store.{Ghosts}
 use Rattle.sqlite_value.specs.Order.{Row}

@@ -1,4 +1,7 @@
--- What a call leaves of a connection.
+-- What a call leaves of a connection: for the calls of `Store`, and for the desks that make them.
+-- Clauses that cite `Survives` also say that no fault of the disk is forgotten, and that nothing
+-- but such a fault shuts the connection. They say that its limit of steps and its tests of reads
+-- stay.
 use Rattle.std.specs.Prelude.{◌≡◌, ◌⊎◌, false, Result, IsSome, IsTrue, OnErr, OnOk}
 use Rattle.sqlite_trees.specs.declared.error.StoreError.{StoreError}
 use Rattle.sqlite_trees.specs.declared.store.Store.{Ghosts}

@@ -1,4 +1,5 @@
--- The rows of the three tables, and what a statement does to them.
+-- The rows of the three tables, and what a statement does to them: for all that adds, takes out or
+-- reads rows. The order of the columns is that of `Tables`.
 use Rattle.std.specs.Prelude.{ℤ, ◌<ℤ◌, Option, None, Some, ◌≡◌, ◌≢◌, ℕ, pos}
 use Rattle.std.specs.Prelude.{true, not, Bool, List, [], ◌∷◌, ◌++◌, map, filter}
 use Rattle.std.specs.Prelude.{IsPermutation, IsSorted, IsTrue}
@@ -53,7 +54,8 @@ pub record KeepsOthers (old new : Database) : Type 0 where
   pub trees : (tree : ℕ) → IsOfOther tree → IsNoIndex old.schema tree
       → new.trees tree ≡ old.trees tree
 
--- the rows of one of the three tables change in a given way, and all else stays
+-- the rows of one of the three tables change in a given way, and all else stays; each row of the
+-- three has its own number then
 pub record Alters (old new : Database) (tree : ℕ)
     (Change : List Row → List Row → Type 0) : Type 0 where
   pub tidy : IsTidy new
@@ -71,7 +73,8 @@ Adds rows old new = IsPermutation (rows ++ old) new
 abbrev pub RemovesRows : (Row → Bool) → List Row → List Row → Type 0
 RemovesRows test old new = new ≡ filter (λ row. not (test row)) old
 
--- a statement ran in the transaction, which goes on
+-- a statement ran in the transaction, which goes on: the connection is open, and nothing was
+-- committed
 pub record RunsOn (old new : State) : Type 0 where
   pub is_open : IsTrue new.is_open
   pub mode : new.in_transaction ≡ old.in_transaction

@@ -1,4 +1,4 @@
--- What becomes of a call that makes a store.
+-- What becomes of a call that makes a store: for `Store::create`.
 use Rattle.std.specs.Prelude.{◌≡◌, ◌≢◌, false, IsTrue, List, map}
 use Rattle.std.specs.List.{AllByRecursion}
 use Rattle.sqlite_trees.specs.declared.store.Store.{Ghosts}
@@ -49,9 +49,10 @@ module _ {S : Type 0} (g : Ghosts S) (objects : List Obj) (conn : Held S) where
     pub crash : LeavesStore store
 
   -- no transaction is under way, and tables and rows are as they were, while the connection is
-  -- open, which it then was before. Where the three tables had a row, and only there, that is the
-  -- fault, unless the database failed for a cause outside the rows. Where something stood, but not
-  -- the three, that is the fault. A stop leaves what it may leave after a call that makes the store
+  -- open, which it then was before. Where the three tables had a row, and only there, the fault is
+  -- `NotEmpty`, unless the database failed for a cause outside the rows. Where something stood, but
+  -- not the three, the fault is that a table is not there. A stop leaves what it may leave after a
+  -- call that makes the store
   pub record FailsToMake (left : Held S) (fault : CreateFault) : Type 0 where
     pub autocommit : left.in_transaction ≡ false
     pub was_open : WhileOpen g left (IsTrue (state g conn).is_open)

@@ -1,5 +1,5 @@
 -- What the tables keep of an object: its rows, and what becomes of the tables as rows are added,
--- put and taken out.
+-- put and taken out. For `Store::put`, `add` and `remove`, and for `Maps`.
 use Rattle.std.specs.Prelude.{◌≡◌, ℕ, not, List, [], ◌∷◌, ◌++◌, map, filter}
 use Rattle.std.specs.Prelude.{bytes_eq, if◌then◌else◌, IsPermutation}
 use Rattle.std.specs.List.{list_any, flat_map}
@@ -16,7 +16,7 @@ use Rattle.rr_store.specs.Contents.{is_named_of, is_object_of}
 use Rattle.rr_store.specs.Tables.{meta_tree, named_tree, object_tree}
 
 -- what the tables keep of an object: its class, its key, its text and the maintainers that it names
-pub record Entry : Type 0 where
+pub record StoredEntry : Type 0 where
   pub class : ℕ
   pub key : List ℕ
   pub body : List ℕ
@@ -29,7 +29,7 @@ once (name ∷ names) = if list_any (bytes_eq name) names then once names else n
 
 -- the class's number, the bytes of the key, the canonical text, and each maintainer once, however
 -- often it is named (profile)
-abbrev pub entry_of : Obj → Entry
+abbrev pub entry_of : Obj → StoredEntry
 entry_of object = record {
   class = class_number (class_of object.key);
   key =
@@ -39,22 +39,22 @@ entry_of object = record {
 }
 
 -- the row of `object` that is kept of an object
-abbrev pub object_row : Entry → Row
+abbrev pub object_row : StoredEntry → Row
 object_row entry = object_values entry.class entry.key entry.body
 
 -- the rows of `named` that are kept of an object: one for each maintainer that it names
-abbrev pub named_rows : Entry → List Row
+abbrev pub named_rows : StoredEntry → List Row
 named_rows entry = map (λ name. named_values name entry.class entry.key) entry.names
 
 -- the tables have the rows of these entries and no others, each with its own number: `object` one
 -- of each entry, `named` one for each maintainer that an entry names (profile)
-pub record AreRowsOf (entries : List Entry) (db : Database) : Type 0 where
+pub record AreRowsOf (entries : List StoredEntry) (db : Database) : Type 0 where
   pub tidy : IsTidy db
   pub objects : IsPermutation (map object_row entries) (contents (db.trees object_tree))
   pub named : IsPermutation (flat_map named_rows entries) (contents (db.trees named_tree))
 
 -- the rows of these entries are added, and all else stays; each row has its own number then
-pub record IsAdded (entries : List Entry) (old new : Database) : Type 0 where
+pub record IsAdded (entries : List StoredEntry) (old new : Database) : Type 0 where
   pub tidy : IsTidy new
   pub objects : IsPermutation (map object_row entries ++ contents (old.trees object_tree))
       (contents (new.trees object_tree))
@@ -65,7 +65,7 @@ pub record IsAdded (entries : List Entry) (old new : Database) : Type 0 where
 
 -- the rows of the entry take the place of those with its class and key, and all else stays; each
 -- row has its own number then
-pub record IsPut (entry : Entry) (old new : Database) : Type 0 where
+pub record IsPut (entry : StoredEntry) (old new : Database) : Type 0 where
   pub tidy : IsTidy new
   pub objects : IsPermutation (object_row entry
       ∷ filter (λ row. not (is_object_of entry.class entry.key row))

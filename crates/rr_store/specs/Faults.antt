@@ -1,4 +1,6 @@
--- Faults of one kind as those of another: what `?` makes of a fault.
+-- Faults of one kind as those of another, which `?` makes of them; and what is told of a database
+-- without the three tables. For `src/store_fault.rt`, and for calls that make, open or migrate a
+-- store.
 use Rattle.sqlite.specs.declared.error.Error.{Error}
 use Rattle.sqlite.specs.declared.error.Error.TheVariants.{SqlInputError}
 use Rattle.sqlite_resolve.specs.declared.error.CompileError.TheVariants.{NoSuchTable}

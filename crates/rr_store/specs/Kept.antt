@@ -1,4 +1,4 @@
--- What a store keeps true of its connection.
+-- What a store keeps true of its connection: the invariant of `Store`.
 use Rattle.std.specs.Prelude.{◌≡◌, false}
 use Rattle.sqlite_trees.specs.declared.store.Store.{Ghosts}
 use Rattle.sqlite.specs.Held.{Held}

@@ -14,12 +14,12 @@ IsTabled db = HasTables db.schema
 
 module _ {S : Type 0} (g : Ghosts S) where
   -- where the disk has returned what was written, this is true of the database
-  abbrev pub IsSeen : (Database → Type 0) → Held S → Type 0
-  IsSeen Seen conn = OnCleanDisk g conn (Seen (database g conn))
+  abbrev pub HoldsOnCleanDisk : (Database → Type 0) → Held S → Type 0
+  HoldsOnCleanDisk Seen conn = OnCleanDisk g conn (Seen (database g conn))
 
   -- if this is true of the database where the disk has returned what was written, then that is true
   abbrev pub IfSeen : (Database → Type 0) → Held S → Type 0 → Type 0
-  IfSeen Seen conn Then = IsSeen Seen conn → Then
+  IfSeen Seen conn Then = HoldsOnCleanDisk Seen conn → Then
 
   -- a query finds this in the tables, and nothing changes; it fails for a cause outside the rows
   pub record Selects {X : Type 0} (old new : Held S) (result : Result X Error)
@@ -30,7 +30,7 @@ module _ {S : Type 0} (g : Ghosts S) where
 
   -- the rows of a tree, which have numbers of their own, are counted, and nothing changes; over
   -- tidy tables that fails for a cause outside the rows
-  pub record Counts (tree : ℕ) (old new : Held S) (result : Result ℕ Error) : Type 0 where
+  pub record CountsRows (tree : ℕ) (old new : Held S) (result : Result ℕ Error) : Type 0 where
     pub looks : Looks g old new result
     pub numbered : OnCleanDisk g new (OnOk result (AreNumbered ((database g old).trees tree)))
     pub count : OnCleanDisk g new

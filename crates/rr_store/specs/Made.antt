@@ -1,5 +1,6 @@
 -- The schemas that the three CREATE statements make of none, when a database has room for a new
--- store, and which tables that store has.
+-- store, and which tables that store has. For `Store::create`; the texts of the statements are in
+-- `Texts`.
 use Rattle.std.specs.Prelude.{◌≡◌, ◌⊎◌, ℕ, pos, List, [], ◌∷◌}
 use Rattle.std.specs.List.{AllByRecursion}
 use Rattle.sqlite_value.specs.declared.value.Value.TheVariants.{Int}

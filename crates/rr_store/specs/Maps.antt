@@ -1,5 +1,5 @@
 -- The rows of a finite map of objects, of a list of them, and of such a list in tables of version
--- 1.
+-- 1. All contracts that say which objects tables hold cite these.
 use Rattle.std.specs.Prelude.{◌≡◌, ◌≢◌, ℕ, true, List, [], ◌∷◌, Option, Some}
 use Rattle.std.specs.Prelude.{Ok, codes, map, is_some, unwrap_or}
 use Rattle.std.specs.List.{AllByRecursion}
@@ -16,7 +16,7 @@ use Rattle.rr_object.specs.Objects.{Obj}
 use Rattle.rr_object.specs.OldKeys.{old_key_bytes}
 use Rattle.rr_object.specs.Readings.{ReadsAs, obj_of}
 use Rattle.rr_store.specs.Contents.{meta_row, meta_rows}
-use Rattle.rr_store.specs.Entries.{Entry, AreRowsOf, entry_of, object_row}
+use Rattle.rr_store.specs.Entries.{StoredEntry, AreRowsOf, entry_of, object_row}
 use Rattle.rr_store.specs.Tables.{meta_tree}
 
 -- `meta` has one row, `version` and this value (profile)
@@ -34,7 +34,7 @@ abbrev pub old_version : List ℕ
 old_version = codes "1"
 
 -- the tables hold the rows of these entries and no others, and are of version 2 (profile)
-pub record IsFilled (entries : List Entry) (db : Database) : Type 0 where
+pub record IsFilled (entries : List StoredEntry) (db : Database) : Type 0 where
   pub rows : AreRowsOf entries db
   pub version : HasVersion current_version db
 
@@ -101,7 +101,7 @@ abbrev pub KeyForm : Type 0
 KeyForm = Key → Option (List ℕ)
 
 -- what the tables keep of an object, with its key in this form, or empty if it has none there
-abbrev pub entry_in : KeyForm → Obj → Entry
+abbrev pub entry_in : KeyForm → Obj → StoredEntry
 entry_in form object = record (entry_of object) { key = unwrap_or (form object.key) [] }
 
 -- the tables hold the rows of a list of objects of one source and no others, with keys in this

@@ -1,4 +1,5 @@
--- What migration makes of tables of version 1, and what becomes of the call that migrates them.
+-- What migration makes of tables of version 1, and what becomes of the call that migrates them: for
+-- `Store::migrate`. `rr_desk` adds the block to new registries too.
 use Rattle.std.specs.Prelude.{◌≡◌, ◌⊎◌, ℕ, Bool, true, false, List, [], ◌∷◌, ◌++◌}
 use Rattle.std.specs.Prelude.{IsTrue, codes}
 use Rattle.std.specs.List.{list_any}
@@ -68,9 +69,10 @@ IsOfOldRows NoRoot = Unit {0}
 IsOfOldRows (Store error) = ⊥
 IsOfOldRows Memory = ⊥
 
--- what a fault says of tables that are not migrated. They say another version, or have bad rows and
--- say no other version, or lack the root's mntner. Where the three tables are not there, that is
--- told first (profile)
+-- what a fault says of tables that are not migrated. A row of `meta` says another version. Or none
+-- says another of 32 bits, and these are not tables of version 1 with objects of the source. Or
+-- they are, and lack the root's mntner. All are told only where the three tables are there; where
+-- they are not, that is told (profile)
 pub record RefusesOldTables (root source : List ℕ) (db : Database) (fault : MigrateFault)
     : Type 0 where
   pub wrong_version : (number : ℕ) → fault ≡ WrongVersion number → SaysOther Old number db

@@ -4,7 +4,7 @@ use Rattle.sqlite.specs.Effect.{Database}
 use Rattle.rr_object.specs.Objects.{Obj}
 use Rattle.rr_object.specs.Readings.{ReadsAs}
 use Rattle.rr_store.specs.Contents.{KeepsOthers}
-use Rattle.rr_store.specs.Entries.{Entry, entry_of}
+use Rattle.rr_store.specs.Entries.{StoredEntry, entry_of}
 use Rattle.rr_store.specs.Made.{IsBare}
 use Rattle.rr_store.specs.Maps.{IsFilled, IsObjectOf}
 use Rattle.rr_store.specs.Migrating.{upper_block}
@@ -15,7 +15,7 @@ pub record IsCleared (old new : Database) : Type 0 where
   pub others : KeepsOthers old new
 
 -- the tables are of version 2 and hold the rows of these entries and no others, and all else stays
-pub record IsReplaced (entries : List Entry) (old new : Database) : Type 0 where
+pub record IsReplaced (entries : List StoredEntry) (old new : Database) : Type 0 where
   pub filled : IsFilled entries new
   pub others : KeepsOthers old new
 

@@ -1,4 +1,5 @@
--- What becomes of a call that opens a store.
+-- What becomes of a call that opens a store, or reads tables of version 1: for `Store::open_all`
+-- and `Store::old_objects`.
 use Rattle.std.specs.Prelude.{◌≡◌, ◌≢◌, ℕ, ◌<◌, ◌^◌, List, IsTrue, Result, IfErr, IfOk}
 use Rattle.std.specs.List.{AllByRecursion}
 use Rattle.sqlite_trees.specs.declared.store.Store.{Ghosts}
@@ -62,9 +63,9 @@ IsOfRows Memory = ⊥
 abbrev pub IfStore : (Error → Type 0) → OpenFault → Type 0
 IfStore P fault = (error : Error) → fault ≡ Store error → P error
 
--- what a fault says of tables that are not read as those of the version asked for. They say another
--- version, or have bad rows and say no other version. Where the three tables are not there, that is
--- told first (profile)
+-- what a fault says of tables that are not read as those of the version asked for. A row of `meta`
+-- says another version; or none says another of 32 bits, and these are not such tables. Both are
+-- told only where the three tables are there; where they are not, that is told (profile)
 pub record RefusesTables (version : Version) (source : List ℕ) (db : Database) (fault : OpenFault)
     : Type 0 where
   pub wrong_version : (number : ℕ) → fault ≡ WrongVersion number

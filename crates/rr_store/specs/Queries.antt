@@ -1,4 +1,6 @@
--- The queries that the statements on the three tables are, as the resolver reads them.
+-- The queries that the statements on the three tables are, as the resolver reads them: for proofs,
+-- and for the tests of WHERE in `Contents`. Whoever changes a text of `Texts` changes its query
+-- here.
 use Rattle.std.specs.Prelude.{◌≡◌, ℕ, ◌+◌, pos, negsuc, false, List, [], ◌∷◌, map}
 use Rattle.std.specs.Prelude.{None}
 use Rattle.std.specs.List.{range_with_len}

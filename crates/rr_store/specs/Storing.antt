@@ -1,4 +1,4 @@
--- What a call on a store that writes leaves.
+-- What a call on a store that writes leaves: for `Store::put`, `add` and `remove`.
 use Rattle.std.specs.Prelude.{Result}
 use Rattle.sqlite_trees.specs.declared.store.Store.{Ghosts}
 use Rattle.sqlite.specs.Effect.{Database}

@@ -1,4 +1,6 @@
--- The three tables of a registry, and the schemas that have them.
+-- The three tables of a registry, and the schemas that have them: for `has_tables`, and for all
+-- contracts that speak of the tables. Whoever changes a column here changes `Texts`, `Queries`,
+-- `Contents` and `tools/irr/local/tables.py` too.
 use Rattle.std.specs.Prelude.{◌≡◌, ℕ, Bool, true, false, not, ◌&&◌, ◌||◌, List, []}
 use Rattle.std.specs.Prelude.{◌∷◌, codes, None, nat_lt}
 use Rattle.std.specs.List.{list_all}

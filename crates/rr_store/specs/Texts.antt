@@ -1,4 +1,5 @@
--- The SQL texts of the statements on the three tables.
+-- The SQL texts of the statements on the three tables, for proofs: each stands in `src/making.rt`,
+-- `src/statements.rt` or `src/row_reading.rt` too, and is changed there and here.
 use Rattle.std.specs.Prelude.{ℕ, List, ◌++◌, codes}
 
 -- makes the table `meta`, if there is none (profile)

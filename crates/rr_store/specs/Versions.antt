@@ -1,4 +1,4 @@
--- The versions of tables.
+-- The versions of tables: for `Version`, and for all that reads or migrates tables.
 use Rattle.std.specs.Prelude.{ℕ, List, Contains, codes, decimal}
 use Rattle.rr_store.specs.declared.version.TheConstants.{OLD_VERSION, VERSION}
 use Rattle.rr_store.specs.declared.version.Version.{Version}

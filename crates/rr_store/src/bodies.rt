@@ -10,7 +10,7 @@ ghost use Rattle.rr_store.specs.Maps.{AreOfObjects};
 ghost use Rattle.rr_store.specs.Tables.{named_tree};
 ghost use Rattle.rr_store.specs.StepParts.{IsOver, Steps, StepsWhereOpen};
 
-use crate::entry::Entry;
+use crate::entry::StoredEntry;
 use crate::leaving_names::names_of_rows;
 use crate::statements::{add_name, add_object, remove_name, remove_object, rows_of_key};
 use crate::store_fault::StoreFault;
@@ -40,7 +40,7 @@ fn add_names<S: Alter>(
 /// Adds the rows of an object.
 pub(crate) fn add_rows<S: Alter>(
     tx: &mut Transaction<'_, S>,
-    entry: &Entry,
+    entry: &StoredEntry,
 ) -> Result<(), StoreFault>
     ensures { Steps S.Store IsTidy (IsAdded (entry.now ∷ []))
         tx.old tx.new result }
@@ -111,7 +111,7 @@ pub(crate) fn remove_rows<S: Alter>(
 pub(crate) fn put_rows<S: Alter>(
     tx: &mut Transaction<'_, S>,
     alloc: Global,
-    entry: &Entry,
+    entry: &StoredEntry,
 ) -> Result<(), StoreFault>
     requires { IsOver S.Store AreOfObjects tx.old.conn.now }
     ensures { Steps S.Store AreOfObjects (IsPut entry.now) tx.old tx.new result }

@@ -10,7 +10,7 @@ ghost use Rattle.rr_store.specs.Faults.{no_tables};
 ghost use Rattle.rr_object.specs.Objects.{lent};
 ghost use Rattle.rr_store.specs.declared.store_fault.CreateFault.TheVariants.{Memory, NotEmpty};
 ghost use Rattle.rr_store.specs.declared.store_fault.CreateFault.TheVariants.{Store};
-ghost use Rattle.rr_store.specs.LookParts.{IsSeen};
+ghost use Rattle.rr_store.specs.LookParts.{HoldsOnCleanDisk};
 
 use crate::ending::end;
 use crate::filling::{fill, make_filled};
@@ -45,7 +45,7 @@ fn create_in_bare<S: Alter>(
     alloc: Global,
     objects: &[&Object],
 ) -> Result<(), StoreFault>
-    requires { IsSeen S.Store IsBare conn.old }
+    requires { HoldsOnCleanDisk S.Store IsBare conn.old }
     ensures { Transacts S.Store (IsMadeWith (IsStoreOf (lent objects.now)))
         conn.old conn.new result }
 {

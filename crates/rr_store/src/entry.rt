@@ -14,15 +14,15 @@ use std::marker::Model;
 
 /// What the tables keep of an object: its class, its key, its text, and whom it names.
 #[derive(Drop)]
-pub(crate) struct Entry {
+pub(crate) struct StoredEntry {
     class: u8,
     key: Vec<u8>,
     body: Text,
     names: Vec<Name>,
 }
 
-impl Model for Entry {
-    ghost use Rattle.rr_store.specs.Entries.{Entry as Kept};
+impl Model for StoredEntry {
+    ghost use Rattle.rr_store.specs.Entries.{StoredEntry as Kept};
 
     ghost Value = { Kept };
 
@@ -34,10 +34,10 @@ impl Model for Entry {
     } };
 }
 
-impl Entry {
+impl StoredEntry {
     /// The entry of an object, which is such as readers make, under a key of such a form. The error
     /// is that memory ran out.
-    pub(crate) fn of(alloc: Global, object: &Object) -> Result<Entry, AllocError>
+    pub(crate) fn of(alloc: Global, object: &Object) -> Result<StoredEntry, AllocError>
         ensures entry { IfOk result (λ entry. entry ≡ entry_of object.now) }
         ensures object { IsObject object.now }
         ensures formed { IsKeyValue object.now.key }
@@ -47,7 +47,7 @@ impl Entry {
         let key = object.key().bytes(alloc)?;
         let body = Text::from_slice(alloc, text)?;
         let names = maintainers_of(alloc, object)?;
-        Ok(Entry {
+        Ok(StoredEntry {
             class,
             key,
             body,

@@ -13,7 +13,7 @@ ghost use Rattle.rr_object.specs.Objects.{lent};
 ghost use Rattle.rr_store.specs.StepParts.{Steps, StepsWhereOpen};
 
 use crate::bodies::add_rows;
-use crate::entry::Entry;
+use crate::entry::StoredEntry;
 use crate::making::make_tables;
 use crate::statements::add_meta_row;
 use crate::store_fault::StoreFault;
@@ -33,7 +33,7 @@ pub(crate) fn add_objects<S: Alter>(
     ensures read { OnOk result (AllByRecursion IsObject (lent objects.now)) }
 {
     for object in objects {
-        let entry = Entry::of(alloc, object)?;
+        let entry = StoredEntry::of(alloc, object)?;
         add_rows(tx, &entry)?;
     }
     Ok(())

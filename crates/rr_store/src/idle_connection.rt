@@ -13,7 +13,8 @@ use std::marker::Model;
 
 /// A connection to SQLite in no transaction; a contract sees the connection. Where the disk has
 /// returned what was written, one that is shut stays so, and a call shuts one only where the disk
-/// failed or refused.
+/// failed or refused. No call forgets a fault of the disk. The limit of steps stays, and reads that
+/// are tested against a digest still are.
 #[derive(Drop)]
 pub struct IdleConnection<S: Alter> {
     pub(crate) inner: Connection<S>,
@@ -57,11 +58,11 @@ impl<S: Alter> IdleConnection<S> {
         self.inner.schema()
     }
 
-    /// The rows that a query without parameters shows of what stands, or why SQLite shows none. It
-    /// is asked in a transaction of its own. That is then rolled back, of which clauses speak only
-    /// after an error. The connection is in no transaction then, and a stop leaves what one before
-    /// the call left. What is said of rows, errors and a stop is true where the disk has returned
-    /// what was written.
+    /// The rows that a query without parameters shows of the database as it stands, or why SQLite
+    /// shows none. It is asked in a transaction of its own, which is then rolled back; of that,
+    /// clauses speak only after an error. The connection is in no transaction then, and a stop
+    /// leaves what one before the call left. What is said of rows, errors and a stop is true where
+    /// the disk has returned what was written.
     pub fn ask(&mut self, query: &str) -> Result<Vec<Row>, Error>
         ensures autocommit { self.new.in_transaction ≡ false }
         ensures crash { Survives (state S.Store self.old) (state S.Store self.new) (λ _. ⊥) }

@@ -42,8 +42,8 @@ pub(crate) fn other_version(rows: &[Row], version: Version) -> Option<u32>
     None
 }
 
-/// Whether the rows, each a name and a value of `meta`, are the one that says the version asked
-/// for.
+/// Whether the rows, each a name and a value of `meta`, are just one, whose name is `version` and
+/// whose value is the number of the version asked for.
 pub fn is_version_row_alone(rows: &[Row], version: Version) -> bool
     ensures is { IsTrue result
         → rows.now ≡ meta_row (codes "version") (version_text version) ∷ [] }

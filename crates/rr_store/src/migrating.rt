@@ -11,7 +11,7 @@ ghost use Rattle.rr_store.specs.Migrating.{has_mntner};
 ghost use Rattle.rr_store.specs.MigratingParts.{IsCleared, IsReplaced, IsRewritten};
 ghost use Rattle.rr_store.specs.declared.store_fault.MigrateFault.TheVariants.{Store};
 ghost use Rattle.rr_store.specs.StepParts.{Steps};
-ghost use Rattle.rr_store.specs.LookParts.{IsSeen};
+ghost use Rattle.rr_store.specs.LookParts.{HoldsOnCleanDisk};
 
 use crate::ending::end;
 use crate::filling::fill;
@@ -58,7 +58,7 @@ fn replace<S: Alter>(
     alloc: Global,
     objects: &[&Object],
 ) -> Result<(), StoreFault>
-    requires { IsSeen S.Store IsTidy conn.old }
+    requires { HoldsOnCleanDisk S.Store IsTidy conn.old }
     ensures { Transacts S.Store (IsReplaced (map entry_of (lent objects.now)))
         conn.old conn.new result }
 {
@@ -86,7 +86,7 @@ fn rewrite<S: Alter>(
     root: &Name,
     source: &Name,
 ) -> Result<(), StoreFault>
-    requires { IsSeen S.Store IsTidy conn.old }
+    requires { HoldsOnCleanDisk S.Store IsTidy conn.old }
     ensures { Transacts S.Store (IsRewritten root.now source.now objects.items)
         conn.old conn.new result }
 {

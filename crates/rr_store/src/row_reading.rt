@@ -16,7 +16,7 @@ ghost use Rattle.rr_store.specs.Tables.{meta_tree, named_tree, object_tree};
 ghost use Rattle.rr_store.specs.Calls.{Looks, OnCleanDisk};
 ghost use Rattle.rr_store.specs.CheckParts.{NamesAre, TableHoldsNone};
 ghost use Rattle.rr_store.specs.Opening.{AreObjectsOf};
-ghost use Rattle.rr_store.specs.LookParts.{Counts, IfSeen, IsTabled, Selects};
+ghost use Rattle.rr_store.specs.LookParts.{CountsRows, IfSeen, IsTabled, Selects};
 ghost use Rattle.rr_store.specs.Opening.{Inspects};
 ghost use Rattle.rr_store.specs.CheckParts.{HasBadRow, TableGives};
 
@@ -104,7 +104,7 @@ pub(crate) fn named_numbers<S: Alter>(conn: &mut IdleConnection<S>) -> Result<Ve
 /// How many rows `meta` has, which have to have numbers of their own.
 pub(crate) fn count_meta<S: Alter>(conn: &mut IdleConnection<S>) -> Result<usize, Error>
     ensures { IfSeen S.Store IsTabled conn.old
-        (Counts S.Store meta_tree conn.old conn.new result) }
+        (CountsRows S.Store meta_tree conn.old conn.new result) }
 {
     conn.note_committed();
     let mut rows = conn
@@ -116,7 +116,7 @@ pub(crate) fn count_meta<S: Alter>(conn: &mut IdleConnection<S>) -> Result<usize
 /// How many rows `object` has, which have to have numbers of their own.
 pub(crate) fn count_object<S: Alter>(conn: &mut IdleConnection<S>) -> Result<usize, Error>
     ensures { IfSeen S.Store IsTabled conn.old
-        (Counts S.Store object_tree conn.old conn.new result) }
+        (CountsRows S.Store object_tree conn.old conn.new result) }
 {
     conn.note_committed();
     let mut rows = conn
@@ -128,7 +128,7 @@ pub(crate) fn count_object<S: Alter>(conn: &mut IdleConnection<S>) -> Result<usi
 /// How many rows `named` has, which have to have numbers of their own.
 pub(crate) fn count_named<S: Alter>(conn: &mut IdleConnection<S>) -> Result<usize, Error>
     ensures { IfSeen S.Store IsTabled conn.old
-        (Counts S.Store named_tree conn.old conn.new result) }
+        (CountsRows S.Store named_tree conn.old conn.new result) }
 {
     conn.note_committed();
     let mut rows = conn

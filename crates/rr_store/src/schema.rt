@@ -160,10 +160,11 @@ fn are_ours(first: &Table, second: &Table, third: &Table, others: &[Table]) -> b
     is_meta(first) && is_object(second) && is_named(third) && stand_apart(others)
 }
 
-/// Whether the schema begins with the three tables, and each other table has a later tree than
-/// `named` and no foreign key to the three. Each of the three must have its tree and its columns,
-/// and no foreign key, INTEGER PRIMARY KEY, AUTOINCREMENT or default. Its other keys and its checks
-/// are free, and so are the indexes and views of the schema.
+/// Whether the schema begins with the tables `meta`, `object` and `named`, and each other table has
+/// a later tree than `named` and no foreign key to the three. Each of the three must have its tree
+/// and its columns, which are of a STRICT table, take no NULL and are compared as BINARY. It must
+/// have no foreign key, INTEGER PRIMARY KEY, AUTOINCREMENT or default. Its other keys and its
+/// checks are free, and so are the indexes and views of the schema.
 pub fn has_tables(schema: &Schema) -> bool
     ensures is { IsTrue result → HasTables schema.now }
     ensures only { HasTables schema.now → IsTrue result }

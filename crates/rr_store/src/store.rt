@@ -18,7 +18,7 @@ ghost use Rattle.rr_store.specs.Opening.{AreListed, InspectsWith};
 ghost use Rattle.rr_store.specs.Storing.{Stores, WritesRows};
 
 use crate::creating::create_where_vacant;
-use crate::entry::Entry;
+use crate::entry::StoredEntry;
 use crate::idle_connection::IdleConnection;
 use crate::migrating::migrate_rows;
 use crate::opening::stored_objects;
@@ -31,11 +31,19 @@ use sqlite::Alter;
 use std::alloc::Global;
 use std::marker::Model;
 
-/// A connection in no transaction whose tables, while it is open, hold the rows of some objects and
-/// no others; a contract sees the connection. What the calls say of rows and of why SQLite failed
-/// is true where the disk has returned what was written. So is what they say of an open connection,
-/// and of a stop during the call. A connection that is shut stays so, and a call shuts one only
-/// where the disk failed or refused.
+/// A connection in no transaction; a contract sees the connection. While it is open and the disk
+/// has returned what was written, its tables hold the rows of some objects, which are such as
+/// readers make, and no others.
+///
+/// What the calls say of tables, of rows and of why SQLite failed is true where the disk has
+/// returned what was written. So is what they say of an open connection, and of a stop during the
+/// call. A connection that is shut stays so, and a call shuts one only where the disk failed or
+/// refused. No call forgets a fault of the disk. The limit of steps stays, and reads that are
+/// tested against a digest still are.
+///
+/// A cause outside the rows is one of these: memory ran out, the disk failed or refused, the
+/// connection was shut, or a limit of steps interrupted the call. All else in the file is the other
+/// rows, the schema, and each other tree that is not an index's.
 #[derive(Drop)]
 pub struct Store<S: Alter> {
     conn: IdleConnection<S>,
@@ -56,10 +64,13 @@ impl<S: Alter> Model for Store<S> {
 }
 
 impl<S: Alter> Store<S> {
-    /// Makes the store of the objects, by one transaction, in a database with nothing in it or with
-    /// the three tables and no row. The tables are then of version 2. Where nothing stood, it then
-    /// has these tables and no other; where they stood, all beside their rows stays. The connection
-    /// was open then, and stays so. No clause says whether two objects of one key are refused.
+    /// Makes the store of the objects, by one transaction, in a database with no table, index or
+    /// view, or with the three tables and no row in them. The objects are such as readers make. The
+    /// tables are then of version 2, and hold the rows of these objects and no others, each with
+    /// its own number. Where nothing stood, they are the tables of a new store, with no other
+    /// table, index or view; where they stood, all else in the file stays. On success the
+    /// connection was open, and stays so. No clause says whether two objects of one key are
+    /// refused.
     ///
     /// After a fault the connection is given back, and tables and rows are as they were, while it
     /// is open. Where one of the three tables has a row, the fault is `NotEmpty`, or an error of
@@ -86,14 +97,17 @@ impl<S: Alter> Store<S> {
         }
     }
 
-    /// Opens the store of the objects of the source that the tables of version 2 hold, and gives
-    /// these. Whatever the disk returned, those given are of the source, in order of class and key,
-    /// and no two have one key. The connection was open then, and stays so.
+    /// Opens the store of the tables of version 2, which hold the rows of objects of the source and
+    /// no others, and gives these objects. Whatever the disk returned, they are such as readers
+    /// make in a registry of the source. They stand in order of class and key, and no two have one
+    /// key. On success the connection was open, and stays so.
     ///
-    /// After a fault the connection is given back. `WrongVersion` and `BadRow` say why the tables
-    /// are refused, `BadRow` only if no row of `meta` says another version. Where the three are not
-    /// there, the fault is `Store`, of a table that is not there. Where they are, and each of their
-    /// rows has its own number, SQLite's error has a cause outside the rows.
+    /// After a fault the connection is given back. `WrongVersion` gives another version that a row
+    /// of `meta` says. `BadRow` says that no row of `meta` says another version of 32 bits. The
+    /// tables are then not of version 2, or do not hold exactly the rows of such objects. Both come
+    /// only where the three tables are there. Where they are not, the fault is `Store`, of a table
+    /// that is not there. Where they are, and each of their rows has its own number, SQLite's error
+    /// has a cause outside the rows.
     ///
     /// Nothing changes while the connection is open. A stop during the call leaves what one before
     /// it left; one after it, while the connection is open, the rows that stand.
@@ -113,15 +127,17 @@ impl<S: Alter> Store<S> {
         }
     }
 
-    /// The objects of the source that tables of version 1 hold, or why they were not read. Whatever
-    /// the disk returned, those given are of the source, in order of class and key, and no two have
-    /// one key. The connection was open then, and stays so.
+    /// The objects whose rows, and no others, tables of version 1 hold; or why they were not read.
+    /// All are of the source, and their keys have texts in version 1. Whatever the disk returned,
+    /// those given are such as readers make in a registry of the source. They stand in order of
+    /// class and key, and no two have one key. On success the connection was open, and stays so.
     ///
-    /// `WrongVersion` and `BadRow` say why the tables are refused, `BadRow` only if no row of
-    /// `meta` says another version. Where the three are not there, the fault is `Store`, of a table
-    /// that is not there. Where they are, and each of their rows has its own number, SQLite's error
-    /// has a cause outside the rows. Nothing changes while the connection is open, nor does what a
-    /// stop leaves.
+    /// `WrongVersion` gives another version that a row of `meta` says. `BadRow` says that no row of
+    /// `meta` says one of 32 bits other than 1. The tables are then not of version 1, or do not
+    /// hold exactly the rows of such objects. Both come only where the three tables are there.
+    /// Where they are not, the fault is `Store`, of a table that is not there. Where they are, and
+    /// each of their rows has its own number, SQLite's error has a cause outside the rows. Nothing
+    /// changes while the connection is open, and a stop leaves what one before the call left.
     pub fn old_objects(
         alloc: Global,
         conn: &mut IdleConnection<S>,
@@ -135,20 +151,25 @@ impl<S: Alter> Store<S> {
         stored_objects(conn, alloc, source, Version::Old)
     }
 
-    /// The store of the objects of the source that tables of version 1 hold, the root's mntner
-    /// among them, written anew by one transaction as tables of version 2. With them comes the
-    /// block of the AS numbers of more than 16 bits, which the root maintains (RFC 6793). All else
-    /// in the file stays. The connection was open then, and stays so.
+    /// Writes tables of version 1 anew, by one transaction, as those of version 2, and gives the
+    /// store of these. The old ones hold the rows of objects of the source and no others. No two of
+    /// these objects have one key, their keys have texts in version 1, and one is the root's
+    /// mntner. The new ones hold the rows of the same objects and of one more, and no others. That
+    /// one is the block of the AS numbers of more than 16 bits, which the root maintains (RFC
+    /// 6793). All else in the file stays. On success the connection was open, and stays so.
     ///
     /// After a fault the connection is given back, and the rows are as they were, while it is open.
-    /// `WrongVersion`, `BadRow` and `NoRoot` say why the tables are refused, `BadRow` only if no
-    /// row of `meta` says another version. Where the three are not there, the fault is `Store`, of
-    /// a table that is not there. Where they are, and each of their rows has its own number,
-    /// SQLite's error has a cause outside the rows. But where version 1 holds objects of the
-    /// source, the root's mntner among them, no clause says why the call failed.
+    /// `WrongVersion` gives another version that a row of `meta` says. `BadRow` says that no row of
+    /// `meta` says one of 32 bits other than 1. The tables are then not of version 1, or do not
+    /// hold exactly the rows of objects of the source, no two of one key. `NoRoot` says that they
+    /// are of version 1 and hold just such rows, and that the root's mntner is not among the
+    /// objects. All three come only where the three tables are there. Where they are not, the fault
+    /// is `Store`, of a table that is not there. Where they are, and each of their rows has its own
+    /// number, SQLite's error has a cause outside the rows. But where tables of version 1 hold such
+    /// rows, with those of the root's mntner, no clause says why the call failed.
     ///
     /// A stop during the call leaves what one before it left or, where the connection was open, the
-    /// new rows; one after it, while the connection is open, those that stand.
+    /// new rows. One after it, while the connection is open, leaves those that stand.
     pub fn migrate(
         alloc: Global,
         mut conn: IdleConnection<S>,
@@ -167,10 +188,11 @@ impl<S: Alter> Store<S> {
         }
     }
 
-    /// Puts the rows of the object in place of those of its key, by one transaction; all else in
-    /// the file stays. Where the tables hold a map of objects, they then hold it with the object
-    /// under its key. The connection was open then, and stays so. After a fault the rows are as
-    /// they were, while the connection is open. No clause says why it fails.
+    /// Puts the rows of the object in place of those of its class and key, by one transaction. Each
+    /// row then has its own number, and all else in the file stays. Where the tables hold the rows
+    /// of a map of objects by key (`HasRows`), they then hold those of the map with the object
+    /// under its key. On success the connection was open, and stays so. After a fault the rows are
+    /// as they were, while the connection is open. No clause says why it fails.
     ///
     /// A stop during the call leaves what one before it left or, where the connection was open, the
     /// rows after it. One after the call, while the connection is open, leaves those that stand.
@@ -190,12 +212,13 @@ impl<S: Alter> Store<S> {
             self.old self.new result }
     {
         self.conn.note_idle();
-        let entry = Entry::of(alloc, object)?;
+        let entry = StoredEntry::of(alloc, object)?;
         put_entry(&mut self.conn, alloc, &entry)
     }
 
-    /// Adds the rows of an object, by one transaction; all else in the file stays. Where the tables
-    /// hold a map of objects with none under its key, they then hold it with the object under that.
+    /// Adds the rows of an object, by one transaction. Each row then has its own number, and all
+    /// else in the file stays. Where the tables hold the rows of a map of objects by key
+    /// (`HasRows`) that lacks the object's key, they then hold those of the map with the object.
     /// Unlike [`Store::put`] it does not look for rows of that key. Where some stand, the primary
     /// key of the tables that [`Store::create`] makes refuses the new ones, which no clause says.
     /// The connection, and what a fault and a stop leave, are as at [`Store::put`]. No clause says
@@ -216,14 +239,14 @@ impl<S: Alter> Store<S> {
             (AddsTo object.now.key object.now) self.old self.new result }
     {
         self.conn.note_idle();
-        let entry = Entry::of(alloc, object)?;
+        let entry = StoredEntry::of(alloc, object)?;
         insert_entry(&mut self.conn, &entry)
     }
 
-    /// Takes out the rows of this key, by one transaction; all else in the file stays. Where the
-    /// tables hold a map of objects, they then hold it without the object of this key, if it had
-    /// one. The connection, and what a fault and a stop leave, are as at [`Store::put`]. No clause
-    /// says why it fails.
+    /// Takes out the rows of this key and its class, by one transaction. Each row left has its own
+    /// number, and all else in the file stays. Where the tables hold the rows of a map of objects
+    /// by key (`HasRows`), they then hold those of the map without this key. The connection, and
+    /// what a fault and a stop leave, are as at [`Store::put`]. No clause says why it fails.
     pub fn remove(&mut self, alloc: Global, key: &Key) -> Result<(), StoreFault>
         ensures { Stores S.Store
             (IsTakenOut (class_number (class_of key.now)) (key_bytes key.now)) (TakesOut key.now)

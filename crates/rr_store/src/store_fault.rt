@@ -75,8 +75,9 @@ impl From<StoreFault> for CreateFault {
 pub enum OpenFault {
     /// A row of `meta` says this version, which is not the one asked for.
     WrongVersion(u32),
-    /// No row of `meta` says another version, and the tables do not hold exactly the rows of
-    /// objects of the source in the version asked for.
+    /// No row of `meta` says another version of 32 bits. But the tables are not of the version
+    /// asked for, or do not hold exactly the rows of objects of the source, no two of one key. A
+    /// desk also says it of objects that are not a registry.
     BadRow,
     /// SQLite's own error, its lack of memory included; or the three tables are not there.
     Store(Error),
@@ -112,10 +113,12 @@ impl From<Error> for OpenFault {
 pub enum MigrateFault {
     /// A row of `meta` says this version, which is not 1.
     WrongVersion(u32),
-    /// No row of `meta` says a version other than 1, and the tables do not hold exactly the rows of
-    /// objects of the source in version 1.
+    /// No row of `meta` says a version of 32 bits other than 1. But the tables are not of version
+    /// 1, or do not hold exactly the rows of objects of the source, no two of one key. A desk also
+    /// says it of objects that are not a registry.
     BadRow,
-    /// The root's mntner is not among the objects.
+    /// The tables are of version 1 and hold exactly the rows of such objects, and the root's mntner
+    /// is not among these.
     NoRoot,
     /// SQLite's own error, its lack of memory included; or the three tables are not there.
     Store(Error),

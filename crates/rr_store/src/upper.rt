@@ -45,9 +45,10 @@ fn upper_paragraph(alloc: Global, root: &Name, source: &Name) -> Result<Paragrap
     Paragraph::new(alloc, &attributes)
 }
 
-/// The block of the AS numbers of more than 16 bits, in this source, which the root maintains. It
-/// is none exactly where its paragraph reads as no object of the source, as for a root that can be
-/// no maintainer. The error is that memory ran out.
+/// The block of the AS numbers of more than 16 bits (RFC 6793), which the root maintains: what its
+/// paragraph (`upper_block`) reads as in this source. It is such as readers make in a registry of
+/// the source. `None` comes exactly where the paragraph reads as no object there. The error is that
+/// memory ran out.
 pub fn upper_object(alloc: Global, root: &Name, source: &Name) -> Result<Option<Object>, AllocError>
     ensures of_source { IfOk result (λ made. IfSome made (IsObjectOf source.now)) }
     ensures read { IfOk result (λ made. IfSome made

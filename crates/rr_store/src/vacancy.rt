@@ -5,7 +5,7 @@ ghost use Rattle.std.specs.Prelude.{◌≡◌, IsTrue};
 ghost use Rattle.rr_store.specs.Made.{no_schema};
 ghost use Rattle.rr_store.specs.Tables.{meta_tree, named_tree, object_tree};
 ghost use Rattle.rr_store.specs.VacancyParts.{SaysEmpty};
-ghost use Rattle.rr_store.specs.LookParts.{IfSeen, IsSeen, IsTabled, Selects};
+ghost use Rattle.rr_store.specs.LookParts.{IfSeen, HoldsOnCleanDisk, IsTabled, Selects};
 ghost use Rattle.rr_store.specs.VacancyParts.{SaysBare};
 
 use crate::idle_connection::IdleConnection;
@@ -53,7 +53,7 @@ fn named_is_empty<S: Alter>(conn: &mut IdleConnection<S>) -> Result<bool, Error>
 
 /// Whether the three tables have no row.
 pub(crate) fn is_bare<S: Alter>(conn: &mut IdleConnection<S>) -> Result<bool, Error>
-    requires { IsSeen S.Store IsTabled conn.old }
+    requires { HoldsOnCleanDisk S.Store IsTabled conn.old }
     ensures { Selects S.Store conn.old conn.new result SaysBare }
 {
     let meta = meta_is_empty(conn)?;

@@ -36,7 +36,7 @@ impl Version {
         }
     }
 
-    /// The number of the version.
+    /// The number of the version, 1 or 2.
     pub fn number(self) -> u32
         ensures { result ≡ version_number self }
     {
@@ -46,7 +46,7 @@ impl Version {
         }
     }
 
-    /// The number as `meta` has it, in decimal digits.
+    /// The number of the version in decimal digits, as `meta` has it.
     pub fn text(self) -> &'static [u8]
         ensures { result.now ≡ version_text self }
     {

@@ -9,7 +9,7 @@ ghost use Rattle.rr_store.specs.Kept.{IsKeptConnection};
 
 use crate::bodies::{add_rows, put_rows, remove_rows};
 use crate::ending::end;
-use crate::entry::Entry;
+use crate::entry::StoredEntry;
 use crate::idle_connection::IdleConnection;
 use crate::store_fault::StoreFault;
 use sqlite::Alter;
@@ -22,7 +22,7 @@ use std::alloc::Global;
 pub(crate) fn put_entry<S: Alter>(
     conn: &mut IdleConnection<S>,
     alloc: Global,
-    entry: &Entry,
+    entry: &StoredEntry,
 ) -> Result<(), StoreFault>
     requires { IsKeptConnection S.Store conn.old }
     ensures { Transacts S.Store (IsPut entry.now) conn.old conn.new result }
@@ -37,7 +37,7 @@ pub(crate) fn put_entry<S: Alter>(
 /// `put_entry`.
 pub(crate) fn insert_entry<S: Alter>(
     conn: &mut IdleConnection<S>,
-    entry: &Entry,
+    entry: &StoredEntry,
 ) -> Result<(), StoreFault>
     requires { IsKeptConnection S.Store conn.old }
     ensures { Transacts S.Store (IsAdded (entry.now ∷ [])) conn.old conn.new result }

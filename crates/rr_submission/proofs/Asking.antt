@@ -21,7 +21,7 @@ use Rattle.rr_object.proofs.KeyBounds.{key_formed, object_key_formed}
 use Rattle.rr_object.proofs.Parsed.{kept_its_key, kept_paragraph, of_any_source}
 use Rattle.rr_auth.specs.Sources.{IsReadIn, IsReadObject}
 use Rattle.rr_registry.specs.RunLaws.{AreReadIn}
-use Rattle.rr_submission.specs.SubmissionItems.{AreItems, ItemRequest, submitted}
+use Rattle.rr_submission.specs.SubmissionItems.{AreItems, ItemRequest, submitted_item}
 use Rattle.rr_submission.specs.SubmissionItems.AreItems.{at_end, secrets_alone, requested, faulty}
 use Rattle.rr_submission.specs.SubmissionItems.AreItems.{unread_for_memory}
 use Rattle.rr_submission.specs.ItemParts.{ShowsKeyOf}
@@ -156,7 +156,7 @@ read_item source key (Err code) h = tt
 -- so the items of a text are as they are read in the source
 pub AreItems-read : (source : List ℕ) {secrets : List (List ℕ)}
     {es : List (Result (List Field) TextFault)} {items : List ItemRequest} →
-    AreItems source secrets es items → AreReadIn source (map submitted items)
+    AreItems source secrets es items → AreReadIn source (map submitted_item items)
 AreItems-read source at_end = tt
 AreItems-read source (secrets_alone alone rest) = AreItems-read source rest
 AreItems-read source (requested request other is rest) = (

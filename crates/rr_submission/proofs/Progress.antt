@@ -12,8 +12,9 @@ use Rattle.rr_io.specs.Receiving.{IsSpent}
 use Rattle.rr_text.specs.Entries.{entries}
 use Rattle.rr_text.specs.ParagraphReaders.{Entry, HasGiven, KeepsApart, held, reads_of, state_of}
 use Rattle.rr_text.specs.declared.paragraphs.Paragraphs.{Paragraphs}
-use Rattle.rr_text.specs.declared.paragraphs.ReaderState.{ReaderState}
-use Rattle.rr_text.specs.declared.paragraphs.ReaderState.TheVariants.{Open, Ended, Broken, Endless}
+use Rattle.rr_text.specs.declared.paragraphs.ParagraphsState.{ParagraphsState}
+use Rattle.rr_text.specs.declared.paragraphs.ParagraphsState.TheVariants.{Open, Ended, Broken}
+use Rattle.rr_text.specs.declared.paragraphs.ParagraphsState.TheVariants.{Endless}
 use Rattle.rr_text.specs.WholePart.{whole_part}
 use Rattle.rr_text.proofs.ReaderLemmas.{held_few, within_limit}
 use Rattle.rr_submission.specs.ItemParts.{FindsItem}
@@ -28,7 +29,7 @@ use Rattle.rr_submission.specs.declared.handling_fault.HandlingFault.TheVariants
 use Rattle.rr_submission.specs.declared.handling.Course.{Course}
 use Rattle.rr_submission.specs.declared.submission.Done.{Done}
 use Rattle.rr_submission.specs.Requests.{Asked}
-use Rattle.rr_submission.specs.SubmissionItems.{AreItems, ItemRequest, submitted}
+use Rattle.rr_submission.specs.SubmissionItems.{AreItems, ItemRequest, submitted_item}
 use Rattle.rr_submission.specs.SubmissionItems.AreItems.{at_end}
 use Rattle.rr_submission.specs.Refusals.{is_refusal, refusals}
 use Rattle.rr_submission.specs.Reports.{item_line, lines_from, stop_lines}
@@ -46,9 +47,9 @@ pub record GoesOn {L : Type 0} (g : Ghosts L) (old new : L) : Type 0 where
 -- one item more is decided
 pub Run-more : (old between new : Reg) (items : List ItemRequest) (outcomes : List Outcome)
     (item : ItemRequest) (outcome : Outcome) →
-    Run old (map submitted items) outcomes between → Decides between item.secrets
+    Run old (map submitted_item items) outcomes between → Decides between item.secrets
     item.request.action outcome new →
-    Run old (map submitted (items ++ item ∷ [])) (outcomes ++ outcome ∷ []) new
+    Run old (map submitted_item (items ++ item ∷ [])) (outcomes ++ outcome ∷ []) new
 Run-more old between new [] [] item outcome e d = (new, rw (← e) d, refl)
 Run-more old between new [] (o ∷ os) item outcome e d = absurd e
 Run-more old between new (i ∷ is) [] item outcome e d = absurd e
@@ -58,7 +59,7 @@ Run-more old between new (i ∷ is) (o ∷ os) item outcome r d =
 -- and has the next line
 pub lines_from-more : (number : ℕ) (old new : Reg) (items : List ItemRequest)
     (outcomes : List Outcome) (item : ItemRequest) (outcome : Outcome) →
-    Run old (map submitted items) outcomes new →
+    Run old (map submitted_item items) outcomes new →
     lines_from number (items ++ item ∷ []) (outcomes ++ outcome ∷ []) ≡ lines_from number items
     outcomes ++ item_line (number + length items) item.request.key outcome
 unfolding lines_from
@@ -87,7 +88,7 @@ pub record ComesTo (source : List ℕ) (given : List Entry) (old new : Reg) (bef
   pub outcomes : List Outcome
   pub are_items : (more : List Entry) (later : List ItemRequest) → AreItems source secrets more
       later → AreItems source [] (given ++ more) (items ++ later)
-  pub runs : Run old (map submitted items) outcomes new
+  pub runs : Run old (map submitted_item items) outcomes new
   pub writes : Takes before after (lines_from 1 items outcomes)
   pub counted : done.items ≡ length items
   pub refused : done.refused ≡ refusals outcomes
@@ -175,7 +176,8 @@ HandlesAll-end {source} {given} {old} {new} added so none = record {
   refused = so.refused;
 }
 
-apart_by : (state : ReaderState) (now : Told) (prefix left : List ℕ) → KeepsApart state now prefix
+apart_by : (state : ParagraphsState) (now : Told) (prefix left : List ℕ) → KeepsApart state now
+    prefix
     left → (whole_part prefix ≡ prefix) ⊎ ((left ≡ []) × IsSpent now)
 apart_by Open now prefix left keeps = inl keeps
 apart_by Ended now prefix left keeps = inr keeps
@@ -224,7 +226,8 @@ HandlesSome-cut {source} {old} {between} {middle} start now p new after then_sec
     let item : ItemRequest = record { secrets = then_secrets; request = request } in
     let are : AreItems source [] (entries found.has.prefix) (so.items ++ item ∷ []) =
     last_items start now p then_secrets request so found in
-    let run : Run old (map submitted (so.items ++ item ∷ [])) (so.outcomes ++ outcome ∷ []) new =
+    let run : Run old (map submitted_item (so.items ++ item ∷ [])) (so.outcomes ++ outcome ∷ [])
+    new =
     Run-more old between new so.items so.outcomes item outcome so.runs decides in
     record {
       prefix = found.has.prefix;

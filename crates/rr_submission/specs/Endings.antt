@@ -1,4 +1,4 @@
--- The last line of a report (profile).
+-- The last line of a report (profile): for `submit`. `tools/irr` and `web` read it.
 use Rattle.std.specs.Prelude.{ℕ, List, ◌++◌, codes, decimal}
 use Rattle.rr_submission.specs.declared.ending.Ending.{Ending}
 use Rattle.rr_submission.specs.declared.ending.Ending.TheVariants.{Complete, ReadFault, Memory}

@@ -1,4 +1,5 @@
--- The items of the entries of a text decided one by one, each with its line (profile).
+-- The items of the entries of a text decided one by one, each with its line (profile): for
+-- `Submissions`.
 use Rattle.std.specs.Prelude.{◌≡◌, ℕ, ◌+◌, ◌≤◌, ◌⊎◌, false, List, []}
 use Rattle.std.specs.Prelude.{◌∷◌, ◌++◌, length, map, Result, Ok, Err}
 use Rattle.rr_io.specs.Told.{Told}
@@ -14,12 +15,12 @@ use Rattle.rr_auth.specs.Registries.{Reg}
 use Rattle.rr_registry.specs.declared.outcome.Outcome.{Outcome}
 use Rattle.rr_registry.specs.Runs.{Run}
 use Rattle.rr_submission.specs.declared.ledger.Ledger.{Ghosts}
-use Rattle.rr_submission.specs.SubmissionItems.{AreItems, ItemRequest, submitted}
+use Rattle.rr_submission.specs.SubmissionItems.{AreItems, ItemRequest, submitted_item}
 use Rattle.rr_submission.specs.SubmissionLaws.{ConfinesItems}
 use Rattle.rr_submission.specs.Reports.{item_line, lines_from, stop_lines}
 
 -- the last item was decided, and its line could not be written whole: the items before it had been
--- decided and their lines written whole. The count is of all of them
+-- decided and their lines written whole. The count is of all of them, and their run is confined
 pub record HandlesSome (source : List ℕ) (entries : List (Result (List Field) TextFault))
     (old new : Reg) (writer_old writer_new : Told) (count : ℕ) : Type 0 where
   pub told : List ItemRequest
@@ -28,7 +29,7 @@ pub record HandlesSome (source : List ℕ) (entries : List (Result (List Field) 
   pub outcome : Outcome
   pub between : Told
   pub are_items : AreItems source [] entries (told ++ last ∷ [])
-  pub runs : Run old (map submitted (told ++ last ∷ [])) (outcomes ++ outcome ∷ []) new
+  pub runs : Run old (map submitted_item (told ++ last ∷ [])) (outcomes ++ outcome ∷ []) new
   pub confined : ConfinesItems old (told ++ last ∷ []) (outcomes ++ outcome ∷ []) new
   pub writes : Takes writer_old between (lines_from 1 told outcomes)
   pub cut : TakesPrefix between writer_new (item_line count last.request.key outcome)
@@ -41,8 +42,8 @@ StopsAt g old secrets (Ok item) new = g.Stops old secrets item new
 StopsAt g old secrets (Err code) new = ⊥
 
 -- the ledger ran until it stopped at the last item: the items before it, which are counted, had
--- been decided and their lines written whole. Its line with the code E91 and the last line after
--- that were written as far as they could be
+-- been decided and their lines written whole. Their run is confined. The line of the last item,
+-- with the code E91, and the last line after that were written as far as they could be
 pub record HandlesThenStops {L : Type 0} (g : Ghosts L) (source : List ℕ)
     (entries : List (Result (List Field) TextFault)) (old new : L) (writer_old writer_new : Told)
     (count : ℕ) : Type 0 where
@@ -52,7 +53,7 @@ pub record HandlesThenStops {L : Type 0} (g : Ghosts L) (source : List ℕ)
   pub middle : L
   pub between : Told
   pub are_items : AreItems source [] entries (told ++ last ∷ [])
-  pub runs : Run (g.registry old) (map submitted told) outcomes (g.registry middle)
+  pub runs : Run (g.registry old) (map submitted_item told) outcomes (g.registry middle)
   pub confined : ConfinesItems (g.registry old) told outcomes (g.registry middle)
   pub running : g.is_stopped middle ≡ false
   pub stops : StopsAt g middle last.secrets last.request.action new

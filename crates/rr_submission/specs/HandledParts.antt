@@ -18,7 +18,7 @@ use Rattle.rr_submission.specs.declared.handling_fault.HandlingFault.TheVariants
 use Rattle.rr_submission.specs.declared.handling_fault.HandlingFault.TheVariants.{LedgerStopped}
 use Rattle.rr_submission.specs.declared.handling.Course.{Course}
 use Rattle.rr_submission.specs.declared.submission.Done.{Done}
-use Rattle.rr_submission.specs.SubmissionItems.{AreItems, ItemRequest, submitted}
+use Rattle.rr_submission.specs.SubmissionItems.{AreItems, ItemRequest, submitted_item}
 use Rattle.rr_submission.specs.SubmissionLaws.{ConfinesItems}
 use Rattle.rr_submission.specs.Refusals.{is_refusal, refusals}
 use Rattle.rr_submission.specs.Reports.{item_line, lines_from, stop_lines}
@@ -31,17 +31,18 @@ pub record Begins {L : Type 0} (g : Ghosts L) (ledger : L) : Type 0 where
   pub sound : Sound (g.registry ledger)
 
 -- one item more can be counted, refused or not
-pub record CanCount (done : Done) : Type 0 where
+pub record CanCountItem (done : Done) : Type 0 where
   pub items : done.items + 1 < 2 ^ 64
   pub refused : done.refused + 1 < 2 ^ 64
 
--- each item was decided, and its line was written
+-- each item was decided, and its line was written; the run of the items is confined, and the counts
+-- are of them and of those that were refused
 pub record HandlesAll (source : List ℕ) (entries : List (Result (List Field) TextFault))
     (old new : Reg) (writer_old writer_new : Told) (done : Done) : Type 0 where
   pub items : List ItemRequest
   pub outcomes : List Outcome
   pub are_items : AreItems source [] entries items
-  pub runs : Run old (map submitted items) outcomes new
+  pub runs : Run old (map submitted_item items) outcomes new
   pub confined : ConfinesItems old items outcomes new
   pub writes : Takes writer_old writer_new (lines_from 1 items outcomes)
   pub counted : done.items ≡ length items
@@ -90,7 +91,8 @@ UnlessStopped (Err (LedgerStopped count)) fact = Unit {0}
 
 -- what lasts of a ledger lasts, what was so of it between items is so, and unless it stopped at an
 -- item it still runs
-pub record RunsOn {L T : Type 0} (g : Ghosts L) (old new : L) (result : Result T HandlingFault)
+pub record LedgerRunsOn {L T : Type 0} (g : Ghosts L) (old new : L)
+    (result : Result T HandlingFault)
     : Type 0 where
   pub running : UnlessStopped result (g.is_stopped new ≡ false)
   pub lasts : g.Lasts old new

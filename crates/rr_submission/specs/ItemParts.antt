@@ -32,13 +32,13 @@ pub record FindsNone (source : List ℕ) (start now : Told) (given : List Entry)
   pub none : AreItems source secrets_old added []
 
 -- the next item; none where the text was read to its end; or how the reading broke off before that
-abbrev pub Finds : List ℕ → Told → Told → Paragraphs → List Entry → List (List ℕ)
+abbrev pub FindsNextItem : List ℕ → Told → Told → Paragraphs → List Entry → List (List ℕ)
     → List (List ℕ) → Result (Option Asked) ReadEnd → Type 0
-Finds source start now p given secrets_old secrets_new (Ok (Some request)) =
+FindsNextItem source start now p given secrets_old secrets_new (Ok (Some request)) =
     FindsItem source start now p given secrets_old secrets_new request
-Finds source start now p given secrets_old secrets_new (Ok None) =
+FindsNextItem source start now p given secrets_old secrets_new (Ok None) =
     FindsNone source start now given secrets_old Whole
-Finds source start now p given secrets_old secrets_new (Err ended) =
+FindsNextItem source start now p given secrets_old secrets_new (Err ended) =
     (ended ≢ Whole) × FindsNone source start now given secrets_old ended
 
 -- the key that is shown is the one of the item

@@ -1,4 +1,4 @@
--- How many items of a submission were refused (profile).
+-- How many items of a submission were refused (profile): for `submit`.
 use Rattle.std.specs.Prelude.{ℕ, Bool, true, false, List, count_by}
 use Rattle.rr_registry.specs.declared.outcome.Outcome.{Outcome}
 use Rattle.rr_registry.specs.declared.outcome.Outcome.TheVariants.{Added, Changed, Unchanged}

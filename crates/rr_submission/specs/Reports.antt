@@ -1,4 +1,4 @@
--- The report on a submission (profile).
+-- The report on a submission (profile): for `submit`. `tools/irr` and `web` read it.
 use Rattle.std.specs.Prelude.{ℕ, ◌+◌, List, [], ◌∷◌, ◌++◌, length, Option, Some}
 use Rattle.std.specs.Prelude.{None, codes, decimal}
 use Rattle.rr_object.specs.declared.class.Class.{Class}

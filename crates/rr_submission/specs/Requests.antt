@@ -1,4 +1,5 @@
--- What a paragraph of a submission asks, or the code with which it is refused (profile).
+-- What a paragraph of a submission asks, or the code with which it is refused (profile): for
+-- `SubmissionItems`.
 use Rattle.std.specs.Prelude.{◌≡◌, ℕ, Bool, true, false, List, Some, None, Result, Ok, Err}
 use Rattle.std.specs.Prelude.{IfSome, Option, ◌⊎◌}
 use Rattle.rr_io.specs.declared.receiving.ReadEnd.{ReadEnd}
@@ -42,7 +43,8 @@ pub record Asked : Type 0 where
 abbrev pub unread : Code → Asked
 unread code = record { key = None; action = Err code }
 
--- an object is submitted, or refused with the code of its first fault
+-- an object is submitted, or refused with the code of its first fault, in the order in which faults
+-- are judged
 abbrev pub submitted_object : Result Obj ObjectFault → Result Item Code
 submitted_object (Ok object) = Ok (Submit object)
 submitted_object (Err fault) = Err (code_of fault)

@@ -1,4 +1,4 @@
--- The items of a submission (profile).
+-- The items of a submission (profile): for `submit`, and for laws of `src/laws.rt`.
 use Rattle.std.specs.Prelude.{◌≡◌, ℕ, true, false, List, [], ◌∷◌, ◌++◌, Result}
 use Rattle.std.specs.Prelude.{Ok, Err}
 use Rattle.rr_text.specs.Fields.{Field}
@@ -16,8 +16,8 @@ pub record ItemRequest : Type 0 where
 
 -- what is submitted to the registry of an item: its secrets, and what it asks; its key is for the
 -- report alone
-abbrev pub submitted : ItemRequest → Submitted
-submitted item = record { secrets = item.secrets; action = item.request.action }
+abbrev pub submitted_item : ItemRequest → Submitted
+submitted_item item = record { secrets = item.secrets; action = item.request.action }
 
 -- the items that the entries of a text give, after paragraphs that gave these secrets
 pub data AreItems (source : List ℕ) : List (List ℕ) → List (Result (List Field) TextFault)

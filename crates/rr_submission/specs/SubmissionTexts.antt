@@ -1,4 +1,5 @@
--- What the paragraph of a submission holds beside an object (profile).
+-- What the paragraph of a submission holds beside an object (profile): for `Requests` and
+-- `SubmissionItems`.
 use Rattle.std.specs.Prelude.{ℕ, Bool, not, List, codes, filter, map}
 use Rattle.std.specs.List.{list_all, list_any}
 use Rattle.rr_bytes.specs.Parts.{joined_by_space}

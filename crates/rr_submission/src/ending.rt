@@ -1,4 +1,5 @@
 //! The last line of a report, which says how the submission ended. `handling` writes it.
+//! `tools/irr` and `web` read it: who changes it changes them too.
 
 ghost use Rattle.std.specs.Prelude.{◌≡◌};
 ghost use Rattle.rr_io.specs.Sending.{Writes};

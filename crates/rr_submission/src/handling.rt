@@ -7,11 +7,11 @@ ghost use Rattle.rr_registry.specs.Runs.{Decides};
 ghost use Rattle.rr_submission.specs.Refusals.{is_refusal};
 ghost use Rattle.rr_submission.specs.Reports.{stop_lines};
 ghost use Rattle.rr_submission.specs.Handled.{StopsAt};
-ghost use Rattle.rr_submission.specs.HandledParts.{Begins, CanCount, HandlesItems, HandlesOne};
-ghost use Rattle.rr_submission.specs.HandledParts.{RunsOn};
+ghost use Rattle.rr_submission.specs.HandledParts.{Begins, CanCountItem, HandlesItems, HandlesOne};
+ghost use Rattle.rr_submission.specs.HandledParts.{LedgerRunsOn};
 ghost use Rattle.rr_submission.specs.ItemParts.{ShowsKeyOf};
 ghost use Rattle.rr_submission.specs.Submissions.{RefusesSubmission, SubmitsText};
-ghost use Rattle.rr_submission.specs.Submissions.{UnlessStoreFault};
+ghost use Rattle.rr_submission.specs.Submissions.{UnlessLedgerStopped};
 
 use crate::ending::{Ending, write_last_line};
 use crate::handling_fault::HandlingFault;
@@ -20,7 +20,7 @@ use crate::keyed_item::KeyedItem;
 use crate::ledger::{Ledger, Stopped};
 use crate::report_line::write_item_line;
 use crate::request::Request;
-use crate::submission::{DeskFault, Done};
+use crate::submission::{Done, SubmissionFault};
 use rr_auth::{Item, Secrets};
 use rr_io::{ReadEnd, Reader, Writer};
 use rr_number::Name;
@@ -31,21 +31,22 @@ use std::alloc::Global;
 use std::io;
 
 /// Submits what the reader gives, read in this source, to a ledger, and writes the report. The
-/// items are read, decided and reported one by one, in order. Beside the ledger, memory grows only
-/// with the secrets of the text and what is remembered of them, which no clause says. Where all
-/// goes well, the whole report is written, and the result counts the items and those that were
-/// refused. `ReadFault`, `WriteFault` and `StoreFault` count those that were decided.
+/// items are read, decided and reported one by one, in order. At most 16,777,216 reads are made
+/// that do not fail. Beside the ledger, memory grows only with the secrets of the text and what is
+/// remembered of them, which no clause says. Where all goes well, the text is read to its end, the
+/// whole report is written, and the result counts the items and those that were refused.
+/// `ReadFault`, `WriteFault` and `LedgerStopped` count those that were decided.
 ///
 /// - `ReadFault`: where a read fails, or the text has no end within 16,777,216 reads, the items up
 ///   to the last blank line that came are decided and reported. A last line says so, as far as it
 ///   can be written.
-/// - `WriteFault`: where the line of an item cannot be written whole, that item and those before
-///   it stand. Those after it are not decided, though up to 4,096 bytes after it may have been
-///   read. Where only the last line cannot be written whole, all items stand.
-/// - `StoreFault`: where the ledger stops at an item, those before it stand. Its line with the code
-///   E91 and a last line are written as far as they can be. Those after it are not decided, though
-///   up to 4,096 bytes after it may have been read. After every other end a ledger that ran still
-///   runs.
+/// - `WriteFault`: where the line of an item cannot be written whole, that item and those before it
+///   stand. Those after it are not decided, though up to 4,096 bytes after it may have been read.
+///   Where only the last line cannot be written whole, all items stand.
+/// - `LedgerStopped`: where the ledger stops at an item, those before it stand. Its line with the
+///   code E91 and a last line are written as far as they can be. Those after it are not decided,
+///   though up to 4,096 bytes after it may have been read. After every other end a ledger that ran
+///   still runs.
 /// - `Stopped`: where the ledger was stopped before, nothing is read, decided or written.
 /// - `Memory`: where memory runs out before the first item, nothing is read or decided. A last line
 ///   says so, as far as it can be written. Later it is no fault, but an item may be refused with
@@ -63,19 +64,19 @@ pub fn submit<L: Ledger, R: Reader, W: Writer>(
     source: &Name,
     reader: &mut R,
     writer: &mut W,
-) -> Result<Done, DeskFault>
+) -> Result<Done, SubmissionFault>
     ensures stopped { L.is_stopped ledger.old ≡ true → RefusesSubmission
         ledger.old ledger.new reader.old reader.new writer.old writer.new result }
     ensures submits { L.is_stopped ledger.old ≡ false
         → SubmitsText L.Ledger ledger.old ledger.new source.now
         (R.told reader.old) (R.told reader.new) (W.told writer.old) (W.told writer.new) result }
     ensures running { L.is_stopped ledger.old ≡ false
-        → UnlessStoreFault result (L.is_stopped ledger.new ≡ false) }
+        → UnlessLedgerStopped result (L.is_stopped ledger.new ≡ false) }
     ensures lasts { L.Lasts ledger.old ledger.new }
     ensures kept { L.Kept ledger.new }
 {
     if ledger.stopped() {
-        return Err(DeskFault::Stopped);
+        return Err(SubmissionFault::Stopped);
     }
     report(alloc, ledger, source, reader, writer)
 }
@@ -87,11 +88,11 @@ fn report<L: Ledger, R: Reader, W: Writer>(
     source: &Name,
     reader: &mut R,
     writer: &mut W,
-) -> Result<Done, DeskFault>
+) -> Result<Done, SubmissionFault>
     requires { Begins L.Ledger ledger.old }
     ensures submits { SubmitsText L.Ledger ledger.old ledger.new source.now
         (R.told reader.old) (R.told reader.new) (W.told writer.old) (W.told writer.new) result }
-    ensures running { UnlessStoreFault result (L.is_stopped ledger.new ≡ false) }
+    ensures running { UnlessLedgerStopped result (L.is_stopped ledger.new ≡ false) }
     ensures lasts { L.Lasts ledger.old ledger.new }
     ensures kept { L.Kept ledger.old → L.Kept ledger.new }
 {
@@ -100,21 +101,23 @@ fn report<L: Ledger, R: Reader, W: Writer>(
             if end.is_whole() {
                 match write_last_line(writer, Ending::Complete, done.items) {
                     Ok(()) => Ok(done),
-                    Err(_) => Err(DeskFault::WriteFault { items: done.items }),
+                    Err(_) => Err(SubmissionFault::WriteFault { items: done.items }),
                 }
             } else {
                 // The fault that is told is the reader's, whether or not its line could be written.
                 let _ = write_last_line(writer, Ending::ReadFault, done.items);
-                Err(DeskFault::ReadFault { items: done.items })
+                Err(SubmissionFault::ReadFault { items: done.items })
             }
         }
         Err(HandlingFault::Memory) => {
             // The fault that is told is that of memory, whether or not its line could be written.
             let _ = write_last_line(writer, Ending::Memory, 0);
-            Err(DeskFault::Memory)
+            Err(SubmissionFault::Memory)
         }
-        Err(HandlingFault::Unwritten { items }) => Err(DeskFault::WriteFault { items }),
-        Err(HandlingFault::LedgerStopped { items }) => Err(DeskFault::StoreFault { items }),
+        Err(HandlingFault::Unwritten { items }) => Err(SubmissionFault::WriteFault { items }),
+        Err(HandlingFault::LedgerStopped { items }) => Err(SubmissionFault::LedgerStopped {
+            items,
+        }),
     }
 }
 
@@ -138,7 +141,7 @@ fn handle_items<L: Ledger, R: Reader, W: Writer>(
     requires { Begins L.Ledger ledger.old }
     ensures handles { HandlesItems L.Ledger ledger.old ledger.new source.now
         (R.told reader.old) (R.told reader.new) (W.told writer.old) (W.told writer.new) result }
-    ensures lasts { RunsOn L.Ledger ledger.old ledger.new result }
+    ensures lasts { LedgerRunsOn L.Ledger ledger.old ledger.new result }
 {
     let Ok(mut paragraphs) = Paragraphs::new(alloc) else {
         return Err(HandlingFault::Memory);
@@ -168,11 +171,11 @@ fn handle_item<L: Ledger, W: Writer>(
     request: Request,
     writer: &mut W,
 ) -> Result<(), HandlingFault>
-    requires room { CanCount course.old.done }
+    requires room { CanCountItem course.old.done }
     requires running { L.is_stopped ledger.old ≡ false }
     ensures handles { HandlesOne L.Ledger request course.old course.new ledger.old ledger.new
         (W.told writer.old) (W.told writer.new) result }
-    ensures lasts { RunsOn L.Ledger ledger.old ledger.new result }
+    ensures lasts { LedgerRunsOn L.Ledger ledger.old ledger.new result }
     ensures same_secrets { course.new.secrets ≡ course.old.secrets }
 {
     let Request { key, action } = request;
@@ -233,7 +236,7 @@ fn write_stop<W: Writer>(writer: &mut W, items: u64, key: &Option<Key>) -> io::R
 
 /// The counts with one more item.
 fn counted(done: Done, outcome: Outcome) -> Done
-    requires { CanCount done }
+    requires { CanCountItem done }
     ensures items { result.items ≡ done.items + 1 }
     ensures refused { result.refused ≡ done.refused + (if is_refusal outcome then 1 else 0) }
 {

@@ -4,7 +4,7 @@ ghost use Rattle.std.specs.Prelude.{◌≡◌, ◌∷◌, ◌++◌, ◌<◌, [],
 ghost use Rattle.std.specs.Prelude.{OnErr, OnSome};
 ghost use Rattle.rr_io.specs.Told.{Told};
 ghost use Rattle.rr_text.specs.ParagraphReaders.{Entry, HasGiven, left_of};
-ghost use Rattle.rr_submission.specs.ItemParts.{Finds};
+ghost use Rattle.rr_submission.specs.ItemParts.{FindsNextItem};
 ghost use Rattle.rr_submission.specs.Requests.{text_code};
 ghost use Rattle.rr_submission.specs.SubmissionTexts.{secrets_of};
 
@@ -31,7 +31,7 @@ pub(crate) fn next_item<R: Reader>(
 ) -> Result<Option<Request>, ReadEnd>
     ensures finds { (start : Told) (given : List Entry)
         → HasGiven start (R.told reader.old) paragraphs.old given
-        → Finds source.now start
+        → FindsNextItem source.now start
         (R.told reader.new) paragraphs.new given secrets.old secrets.new result }
     ensures nearer { IfOk result
         (λ found. OnSome found (left_of paragraphs.new < left_of paragraphs.old)) }

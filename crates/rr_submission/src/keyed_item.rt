@@ -7,8 +7,8 @@ use rr_auth::Item;
 use rr_object::Key;
 use std::marker::Model;
 
-/// An item with the key of its object, which stays where the item is used up. The key is that of
-/// the item, so that a contract sees the item alone.
+/// An item with the key of its object: the key is still there after the item is used up. It is the
+/// key that the item is about, so that a contract sees the item alone.
 #[derive(Drop)]
 pub struct KeyedItem<'a> {
     key: &'a Key,
@@ -29,7 +29,7 @@ impl<'a> Model for KeyedItem<'a> {
 }
 
 impl<'a> KeyedItem<'a> {
-    /// The item with its key.
+    /// The item with its key, which must be the key that it is about.
     pub(crate) fn of(key: &'a Key, item: Item) -> KeyedItem<'a>
         requires { key.now ≡ key_about item }
         ensures { result ≡ item }

@@ -40,10 +40,11 @@ pub trait Ledger {
         ensures sound { Sound (registry self.now) }
         ensures kept { Kept self.now };
 
-    /// Decides an item that came with these secrets, as a step of its registry; the secrets stay.
-    /// The ledger must run, and still does after `Ok`. The error is that it stopped at the item:
-    /// `Stops` says what that leaves, and whether `is_stopped` is true then. In either case `Lasts`
-    /// is true of the ledger before and after, and `Kept` of the ledger after.
+    /// Decides an item that came with these secrets, as a step of its registry: the verdict on it
+    /// is carried out. Or memory runs out: it is refused with E90 then, and nothing changes. The
+    /// secrets stay. The ledger must run, and still does after `Ok`. The error is that it stopped
+    /// at the item: `Stops` says what that leaves, and whether `is_stopped` is true then. In either
+    /// case `Lasts` is true of the ledger before and after, and `Kept` of the ledger after.
     fn decide(
         &mut self,
         alloc: Global,

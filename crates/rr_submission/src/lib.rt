@@ -23,4 +23,4 @@ pub use handling::submit;
 pub use keyed_item::KeyedItem;
 pub use ledger::{Ledger, Stopped};
 pub use short_text::{SHORT_SIZE, ShortText};
-pub use submission::{DeskFault, Done};
+pub use submission::{Done, SubmissionFault};

@@ -1,4 +1,5 @@
-//! The lines of a report on items. `handling` writes one after each item.
+//! The lines of a report on items. `handling` writes one after each item. `tools/irr` and `web`
+//! read them: who changes them changes those too.
 
 ghost use Rattle.std.specs.Prelude.{◌≡◌, ◌+◌, ◌≤◌, [], ◌++◌, length};
 ghost use Rattle.rr_io.specs.Sending.{Writes};

@@ -47,11 +47,12 @@ impl Request {
         }
     }
 
-    /// What a paragraph asks of a registry of this source: if it has `delete`, that the object of
+    /// What a paragraph asks of a registry of this source. With `delete` it asks that the object of
     /// its key be deleted, and else that this be as the paragraph says. Its attributes `password`
-    /// and `delete` are no part of the object. It is refused with the code of its first fault; of
-    /// one with `delete` the class and the key alone are judged. It shows its key, if it has one.
-    /// Where memory runs out, it is refused with E90, and shows its own key or none.
+    /// and `delete` are no part of the object. It is refused with the code of its first fault, in
+    /// the order in which faults are judged. Of one with `delete` the class and the key alone are
+    /// judged. It shows its key, if it has one. Where memory runs out, it is refused with E90, and
+    /// shows its own key or none.
     pub fn read(alloc: Global, paragraph: Paragraph, source: &Name) -> Request
         ensures { IsRequest source.now paragraph result }
     {

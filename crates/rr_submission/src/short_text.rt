@@ -43,8 +43,8 @@ impl ShortText {
         self.bytes.as_slice()
     }
 
-    /// Appends a piece, for which there must be room: a text has at most 320 bytes, and is longer
-    /// by those of the piece.
+    /// Appends a piece, for which there must be room: a text has at most 320 bytes. It is then
+    /// longer by those of the piece.
     pub fn push(&mut self, piece: &[u8])
         requires { length self.old + length piece.now ≤ SHORT_SIZE }
         ensures value { self.new ≡ self.old ++ piece.now }
@@ -57,7 +57,8 @@ impl ShortText {
         }
     }
 
-    /// Appends a number in decimal digits, at most 20; there must be room for 20.
+    /// Appends a number in decimal digits, which are at most 20; there must be room for 20,
+    /// whatever the number.
     pub fn push_number(&mut self, number: u64)
         requires { length self.old + 20 ≤ SHORT_SIZE }
         ensures value { self.new ≡ self.old ++ decimal number }

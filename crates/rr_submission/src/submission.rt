@@ -11,25 +11,26 @@ pub struct Done {
 
 /// Why a submission was cut short; `items` were decided before that.
 #[derive(Clone, Copy, Debug, PartialEq, Eq)]
-pub enum DeskFault {
+pub enum SubmissionFault {
     /// A read failed, or the text had no end within 16,777,216 reads.
     ReadFault {
         /// The items that were decided.
         items: u64,
     },
-    /// A write of the report failed.
+    /// A write of the report failed, in the line of an item or in the last line.
     WriteFault {
-        /// The items that were decided.
+        /// The items that were decided; if the line of an item could not be written, it is one of
+        /// them.
         items: u64,
     },
     /// The ledger stopped at an item.
-    StoreFault {
+    LedgerStopped {
         /// The items that were decided.
         items: u64,
     },
     /// Memory ran out before the first item.
     Memory,
     /// The ledger was stopped before the submission: nothing was read, decided or written. (The
-    /// ending `Stopped` goes with `StoreFault`.)
+    /// ending `Stopped` goes with `LedgerStopped`.)
     Stopped,
 }

@@ -103,7 +103,10 @@ fn prefix_of(span: Span) -> Prefix {
 /// Spans that are prefixes; those of the others may be any.
 impl Collection for PrefixTree<u32> {
     fn put(&mut self, span: Span, value: u32) -> Result<Option<u32>, InsertFault<u32>> {
-        self.insert(prefix_of(span), value)
+        match self.insert(prefix_of(span), value) {
+            Ok(old) => Ok(old),
+            Err(refused) => Err(InsertFault::Memory(refused.value)),
+        }
     }
 
     fn take(&mut self, span: Span) -> Option<u32> {

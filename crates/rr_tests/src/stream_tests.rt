@@ -5,7 +5,7 @@ use crate::told::expect_text;
 use rr_index::IndexedBook;
 use rr_io::{Counted, Cut, Writer};
 use rr_registry::{Keeper, Registry};
-use rr_submission::{DeskFault, Done, submit};
+use rr_submission::{Done, SubmissionFault, submit};
 use std::alloc::Global;
 use std::io;
 use std::process::Abort;
@@ -57,7 +57,7 @@ fn submit_cut<B: Keeper>(
     alloc: Global,
     registry: &mut Registry<B>,
     (given, room): (usize, usize),
-) -> Result<(Result<Done, DeskFault>, Vec<u8>), Fail> {
+) -> Result<(Result<Done, SubmissionFault>, Vec<u8>), Fail> {
     let source = source(alloc)?;
     let mut reader = Cut::new(Counted::new(THREE.as_bytes()), 7, given);
     let mut writer = Cut::new(Counted::new(Vec::new(alloc)), 5, room);
@@ -81,7 +81,7 @@ fn expect_stand<B: Keeper, R: Abort + AllocGlobal>(
 fn expect_cut<B: Keeper + Drop, R: Abort + AllocGlobal>(
     rt: &R,
     (given, room): (usize, usize),
-    wanted: Result<Done, DeskFault>,
+    wanted: Result<Done, SubmissionFault>,
     told: &str,
     items: u64,
 ) -> Result<(), Fail> {
@@ -107,7 +107,7 @@ fn a_failed_write_leaves_the_items_told(rt: HostRuntime) -> Result<(), Fail> {
     for room in 0..=140 {
         let items = decided(room);
         let wanted = if room < 139 {
-            Err(DeskFault::WriteFault { items })
+            Err(SubmissionFault::WriteFault { items })
         } else {
             Ok(Done { items, refused: 0 })
         };
@@ -129,15 +129,15 @@ fn complete(given: usize) -> (u64, &'static str) {
 fn a_failed_read_leaves_the_items_before_it(rt: HostRuntime) -> Result<(), Fail> {
     for given in 0..=THREE.len() {
         let (items, told) = complete(given);
-        let wanted = Err(DeskFault::ReadFault { items });
+        let wanted = Err(SubmissionFault::ReadFault { items });
         expect_cut::<IndexedBook, HostRuntime>(&rt, (given, usize::MAX), wanted, told, items)?;
     }
     for room in 0..=113 {
         let items = decided(room).min(2);
         let wanted = if room < 86 {
-            DeskFault::WriteFault { items }
+            SubmissionFault::WriteFault { items }
         } else {
-            DeskFault::ReadFault { items }
+            SubmissionFault::ReadFault { items }
         };
         expect_cut::<IndexedBook, HostRuntime>(
             &rt,

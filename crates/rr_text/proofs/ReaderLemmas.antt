@@ -15,14 +15,15 @@ use Rattle.rr_io.proofs.Transfers.{Gives-none, Gives-then}
 use Rattle.rr_text.specs.declared.text_fault.TextFault.{TextFault}
 use Rattle.rr_text.specs.declared.text_fault.TextFault.TheVariants as fault
 use Rattle.rr_text.specs.declared.draft.Draft.{Draft}
-use Rattle.rr_text.specs.declared.paragraphs.ReaderState.{ReaderState}
-use Rattle.rr_text.specs.declared.paragraphs.ReaderState.TheVariants.{Open, Ended, Broken, Endless}
+use Rattle.rr_text.specs.declared.paragraphs.ParagraphsState.{ParagraphsState}
+use Rattle.rr_text.specs.declared.paragraphs.ParagraphsState.TheVariants.{Open, Ended, Broken}
+use Rattle.rr_text.specs.declared.paragraphs.ParagraphsState.TheVariants.{Endless}
 use Rattle.rr_text.specs.declared.paragraphs.Paragraphs.{Paragraphs}
 use Rattle.rr_text.specs.Fields.{Field, AreFields}
 use Rattle.rr_text.specs.Entries.{entries}
 use Rattle.rr_text.specs.WholePart.{whole_part, whole_entries}
 use Rattle.rr_text.specs.DraftParts.{IsUnclosed}
-use Rattle.rr_text.specs.ReaderParts.{TakesAll, FillsMore, Fills, Reading, GathersClosed}
+use Rattle.rr_text.specs.ReaderParts.{TakesAll, FillsMore, Fills, ReadsInCall, GathersClosed}
 use Rattle.rr_text.specs.ReaderParts.{GathersRest, Gathers, GivesFound, GivesLast}
 use Rattle.rr_text.specs.ParagraphReaders.{Entry, state_of, reads_of, held, IsNew, KeepsApart}
 use Rattle.rr_text.specs.ParagraphReaders.{HasGiven, HasEnded, GivesNext, left_of, Nearer, Stays}
@@ -34,16 +35,17 @@ pub record IsGathering (before now : Told) (left : List ℕ) (made : ℕ) (cur :
     Type 0 where
   pub given : List ℕ
   pub prefix : List ℕ
-  pub reading : Reading Open before now made cur given
+  pub reading : ReadsInCall Open before now made cur given
   pub cut : left ++ given ≡ prefix ++ held cur
   pub unclosed : IsUnclosed prefix cur.draft
 
 -- while a reading goes on, no answer is the same for good
-pub open_stays : {R : Type 0} (state : ReaderState) (before after : R) (old new : Paragraphs)
+pub open_stays : {R : Type 0} (state : ParagraphsState) (before after : R) (old new : Paragraphs)
     (answer : Result (Option (List Field)) TextFault) → state ≡ Open →
     Stays state before after old new answer
 open_stays state before after old new answer is =
-    let P : ReaderState → Type 0 = λ s. Stays s before after old new answer in subst P (sym is) tt
+    let P : ParagraphsState → Type 0 = λ s. Stays s before after old new answer in
+    subst P (sym is) tt
 
 -- an entry that is found is the last one
 pub last_found : (text : List ℕ) (answer : Result (Option (List Field)) TextFault) →
@@ -150,7 +152,7 @@ gathering_more before now after left made mid new rest fills draft = record {
 }
 
 -- a read that brought nothing ends the text, or breaks it off
-pub gathers_end : (state : ReaderState) (before now after : Told) (left : List ℕ) (made : ℕ)
+pub gathers_end : (state : ParagraphsState) (before now after : Told) (left : List ℕ) (made : ℕ)
     (mid new : Paragraphs) → GathersRest Open before now left made mid → reads_of mid < 16777216
     → Fills (Some state) now after mid new → new.draft ≡ mid.draft → Gathers state before after
     left made new
@@ -195,7 +197,7 @@ some_head : (prefix : List ℕ) (entry : Entry) → entries prefix ≡ entry ∷
 some_head [] entry e = let none : entries [] ≡ [] = no_entries in cc
 some_head (b ∷ bs) entry e = omega arith
 
-keeps_after : (state : ReaderState) (now : Told) (prefix more left : List ℕ) → whole_part prefix
+keeps_after : (state : ParagraphsState) (now : Told) (prefix more left : List ℕ) → whole_part prefix
     ≡ prefix → KeepsApart state now more left → KeepsApart state now (prefix ++ more) left
 keeps_after Open now prefix more left whole keeps = whole_joined prefix more whole
     ∙ ap (λ r. prefix ++ r) keeps
@@ -206,7 +208,7 @@ keeps_after Endless now prefix more left whole keeps = absurd keeps
 open_whole : (start now : Told) (p : Paragraphs) (given : List Entry)
     (has : HasGiven start now p given) → state_of p ≡ Open → whole_part has.prefix ≡ has.prefix
 open_whole start now p given has is =
-    subst (λ (state : ReaderState). KeepsApart state now has.prefix (held p)) is has.apart
+    subst (λ (state : ParagraphsState). KeepsApart state now has.prefix (held p)) is has.apart
 
 -- the bytes of one call, with what it found of them
 pub record Finds (before after : Told) (old new : Paragraphs) (prefix : List ℕ) : Type 0 where
@@ -345,7 +347,7 @@ closed_finds before after old mid new gathers same reads is = record {
   fruitful = λ _. gathers.reading.fruitful (λ e. cc);
   bounded = gathers.reading.bounded;
   cut = gathers.cut ∙ ap (λ t. gathers.prefix ++ t) (sym same);
-  apart = subst (λ (state : ReaderState). KeepsApart state after gathers.prefix (held new))
+  apart = subst (λ (state : ParagraphsState). KeepsApart state after gathers.prefix (held new))
       (sym is) gathers.closed.apart;
 }
 
@@ -366,7 +368,7 @@ ended_finds before after old mid new gathers same reads is =
       bounded = gathers.reading.bounded;
       cut = sym (append-nil (held old ++ gathers.given))
           ∙ ap (λ t. (held old ++ gathers.given) ++ t) (sym none);
-      apart = subst (λ (state : ReaderState). KeepsApart state after (held old ++ gathers.given)
+      apart = subst (λ (state : ParagraphsState). KeepsApart state after (held old ++ gathers.given)
           (held new)) (sym is) (none, gathers.reading.gives.1);
     }
 
@@ -536,7 +538,7 @@ given_none start p is = record {
   gives = Gives-none start;
   cut = sym is.none_held;
   spelled = no_entries;
-  apart = subst (λ (state : ReaderState). KeepsApart state start [] (held p)) (sym is.state)
+  apart = subst (λ (state : ParagraphsState). KeepsApart state start [] (held p)) (sym is.state)
       no_whole;
   counts = subst (λ (n : ℕ). CountsReads start start n) (sym is.no_read) (counts_none start.reads);
   fruitful = λ _. omega (arith, is.no_read);

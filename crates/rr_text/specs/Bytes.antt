@@ -3,8 +3,8 @@ use Rattle.std.specs.Prelude.{ℕ, Bool, ◌==◌, ◌&&◌, not}
 use Rattle.std.specs.Char.{is_ascii_control}
 use Rattle.rr_bytes.specs.Blanks.{is_blank_or_line_feed}
 
--- a refused byte, which only skipped lines may have, is a control byte other than tab, LF and CR
--- (profile)
+-- a refused byte, which only skipped lines may have, is a control byte of ASCII other than tab, LF
+-- and CR (profile)
 abbrev pub is_refused : ℕ → Bool
 is_refused b = is_ascii_control b && not (is_blank_or_line_feed b)
 

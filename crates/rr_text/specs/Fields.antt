@@ -38,7 +38,7 @@ pub record IsField (field : Field) : Type 0 where
 abbrev pub AreFields : List Field → Type 0
 AreFields fields = AllByRecursion IsField fields
 
--- an attribute has this name, which is given in lower case, as names are kept
+-- an attribute has exactly this name; names are kept in lower case
 abbrev pub has_name : List ℕ → Field → Bool
 has_name name field = bytes_eq field.name name
 

@@ -9,8 +9,9 @@ use Rattle.rr_io.specs.declared.receiving.ReadEnd.{ReadEnd}
 use Rattle.rr_io.specs.declared.receiving.ReadEnd.TheVariants as end
 use Rattle.rr_text.specs.declared.text_fault.TextFault.{TextFault}
 use Rattle.rr_text.specs.declared.text_fault.TextFault.TheVariants as fault
-use Rattle.rr_text.specs.declared.paragraphs.ReaderState.{ReaderState}
-use Rattle.rr_text.specs.declared.paragraphs.ReaderState.TheVariants.{Open, Ended, Broken, Endless}
+use Rattle.rr_text.specs.declared.paragraphs.ParagraphsState.{ParagraphsState}
+use Rattle.rr_text.specs.declared.paragraphs.ParagraphsState.TheVariants.{Open, Ended, Broken}
+use Rattle.rr_text.specs.declared.paragraphs.ParagraphsState.TheVariants.{Endless}
 use Rattle.rr_text.specs.declared.paragraphs.Paragraphs.{Paragraphs}
 use Rattle.rr_text.specs.Fields.{Field, AreFields}
 use Rattle.rr_text.specs.Entries.{entries}
@@ -21,7 +22,7 @@ abbrev pub Entry : Type 0
 Entry = Result (List Field) TextFault
 
 -- how the reading of a text stands: open, ended, broken or endless
-abbrev pub state_of : Paragraphs → ReaderState
+abbrev pub state_of : Paragraphs → ParagraphsState
 state_of p = p.state
 
 -- how many reads were made that did not fail
@@ -32,7 +33,8 @@ reads_of p = p.reads
 abbrev pub held : Paragraphs → List ℕ
 held p = drop p.from (take p.to p.block)
 
--- paragraphs of a text of which nothing was read
+-- paragraphs of a text of which nothing was read: the reading is open, no read was made, and
+-- nothing is held
 pub record IsNew (p : Paragraphs) : Type 0 where
   pub state : state_of p ≡ Open
   pub no_read : reads_of p ≡ 0
@@ -41,7 +43,7 @@ pub record IsNew (p : Paragraphs) : Type 0 where
 -- the prefix whose entries were given is apart from what comes. While the reading is open it is
 -- empty or ends with the LF of a blank line; at the end nothing is held and nothing comes. After a
 -- failed read, and at the limit of reads, this is said of no prefix
-abbrev pub KeepsApart : ReaderState → Told → List ℕ → List ℕ → Type 0
+abbrev pub KeepsApart : ParagraphsState → Told → List ℕ → List ℕ → Type 0
 KeepsApart Open now prefix left = whole_part prefix ≡ prefix
 KeepsApart Ended now prefix left = (left ≡ []) × IsSpent now
 KeepsApart Broken now prefix left = ⊥
@@ -108,7 +110,7 @@ GivesOn before after old new answer = (start : Told) (given : List Entry)
 
 -- at the end, after a failed read or at the limit of reads the answer is the same for good, nothing
 -- is read, and nothing changes
-abbrev pub Stays : {R : Type 0} → ReaderState → R → R → Paragraphs → Paragraphs
+abbrev pub Stays : {R : Type 0} → ParagraphsState → R → R → Paragraphs → Paragraphs
     → Result (Option (List Field)) TextFault → Type 0
 Stays Open before after old new answer = ⊤
 Stays Ended before after old new answer =

@@ -4,8 +4,9 @@ use Rattle.std.specs.Prelude.{[], ◌++◌, length, Option, Some, None, Result, 
 use Rattle.rr_io.specs.Told.{Told, Fails}
 use Rattle.rr_io.specs.Receiving.{Gives, IsSpent, CountsReads, BreaksOff, read_limit, read_size}
 use Rattle.rr_text.specs.declared.text_fault.TextFault.{TextFault}
-use Rattle.rr_text.specs.declared.paragraphs.ReaderState.{ReaderState}
-use Rattle.rr_text.specs.declared.paragraphs.ReaderState.TheVariants.{Open, Ended, Broken, Endless}
+use Rattle.rr_text.specs.declared.paragraphs.ParagraphsState.{ParagraphsState}
+use Rattle.rr_text.specs.declared.paragraphs.ParagraphsState.TheVariants.{Open, Ended, Broken}
+use Rattle.rr_text.specs.declared.paragraphs.ParagraphsState.TheVariants.{Endless}
 use Rattle.rr_text.specs.declared.paragraphs.Paragraphs.{Paragraphs}
 use Rattle.rr_text.specs.Fields.{Field}
 use Rattle.rr_text.specs.Entries.{entries}
@@ -45,7 +46,7 @@ pub record FillsNot (before after : Told) (old new : Paragraphs) : Type 0 where
   pub none : held new ≡ []
 
 -- what a read brings, by whether the text goes on
-abbrev pub Fills : Option ReaderState → Told → Told → Paragraphs → Paragraphs → Type 0
+abbrev pub Fills : Option ParagraphsState → Told → Told → Paragraphs → Paragraphs → Type 0
 Fills None before after old new = FillsMore before after old new
 Fills (Some Open) before after old new = ⊥
 Fills (Some Ended) before after old new = FillsNone before after old new
@@ -53,14 +54,14 @@ Fills (Some Broken) before after old new = FillsNot before after old new
 Fills (Some Endless) before after old new = ⊥
 
 -- the bytes that were given in a call, by how the text stands then
-abbrev pub GivesBy : ReaderState → Told → Told → List ℕ → Type 0
+abbrev pub GivesBy : ParagraphsState → Told → Told → List ℕ → Type 0
 GivesBy Open before after given = Gives before after given
 GivesBy Ended before after given = Gives before after given × IsSpent after
 GivesBy Broken before after given = BreaksOff before after given
 GivesBy Endless before after given = Gives before after given
 
 -- these bytes were read in a call, and its reads are counted with those made before
-pub record Reading (state : ReaderState) (before after : Told) (made : ℕ)
+pub record ReadsInCall (state : ParagraphsState) (before after : Told) (made : ℕ)
     (new : Paragraphs) (given : List ℕ) : Type 0 where
   pub gives : GivesBy state before after given
   pub count : ℕ
@@ -74,20 +75,20 @@ pub record GathersClosed (before after : Told) (left : List ℕ) (made : ℕ)
     (new : Paragraphs) : Type 0 where
   pub given : List ℕ
   pub prefix : List ℕ
-  pub reading : Reading Open before after made new given
+  pub reading : ReadsInCall Open before after made new given
   pub cut : left ++ given ≡ prefix ++ held new
   pub closed : IsClosed prefix new.draft
 
 -- all of the text was read that there is
-pub record GathersRest (state : ReaderState) (before after : Told) (left : List ℕ) (made : ℕ)
+pub record GathersRest (state : ParagraphsState) (before after : Told) (left : List ℕ) (made : ℕ)
     (new : Paragraphs) : Type 0 where
   pub given : List ℕ
-  pub reading : Reading state before after made new given
+  pub reading : ReadsInCall state before after made new given
   pub none : held new ≡ []
   pub unclosed : IsUnclosed (left ++ given) new.draft
 
 -- what was read, by how the text stands then: a failed read comes before the limit of reads
-abbrev pub Gathers : ReaderState → Told → Told → List ℕ → ℕ → Paragraphs → Type 0
+abbrev pub Gathers : ParagraphsState → Told → Told → List ℕ → ℕ → Paragraphs → Type 0
 Gathers Open before after left made new = GathersClosed before after left made new
 Gathers Ended before after left made new = GathersRest Ended before after left made new
 Gathers Broken before after left made new =

@@ -1,4 +1,5 @@
 //! An attribute of a paragraph, as `attributes` gives it: a name, and a value of one line or more.
+//! All that reads submissions and objects asks it.
 
 ghost use Rattle.std.specs.Prelude.{◌≡◌, ◌∷◌, ◌++◌, [], IfOk, IfSome, OnOk, map};
 ghost use Rattle.std.specs.Prelude.{false};
@@ -12,8 +13,8 @@ use std::alloc::{AllocError, Global};
 use std::marker::Model;
 
 /// An attribute of a paragraph: the line that opens it, and the text after that line, whose first
-/// lines continue the value. It is lent from the text of the paragraph. Contracts see the name and
-/// the lines of the value.
+/// lines, perhaps none, continue the value. It is lent from the text of the paragraph. Contracts
+/// see the name and the lines of the value.
 #[derive(Debug, Drop)]
 pub struct Attribute<'a> {
     line: &'a [u8],
@@ -44,14 +45,15 @@ impl<'a> Attribute<'a> {
         Attribute { line, after }
     }
 
-    /// The name as it is kept, which is in lower case in each attribute of a paragraph.
+    /// The name. In each attribute of a paragraph it is in lower case, as `Paragraph::attributes`
+    /// says.
     pub fn name(&self) -> &'a [u8]
         ensures { result.now ≡ self.now.name }
     {
         written_name(self.line)
     }
 
-    /// Whether the name is this one, which is given as names are kept, in lower case.
+    /// Whether the name is exactly this one.
     pub fn has_name(&self, name: &[u8]) -> bool
         ensures { result ≡ has_name name.now self.now }
     {
@@ -59,7 +61,7 @@ impl<'a> Attribute<'a> {
     }
 
     /// The lines of the value. In each attribute of a paragraph there is at least one, and none has
-    /// blanks round it. The error is that memory ran out.
+    /// blanks round it, as `Paragraph::attributes` says. The error is that memory ran out.
     pub fn lines(&self, alloc: Global) -> Result<Vec<&'a [u8]>, AllocError>
         ensures { IfOk result (λ lines. map (λ line. line.now) lines.items ≡ self.now.lines) }
     {

@@ -51,6 +51,8 @@ impl<'a> Iterator for Attributes<'a> {
 
     ghost remaining = { item_count (λ fields. fields) };
 
+    /// The first of the attributes that are still to come, which is then no longer among them;
+    /// `None` where there is none.
     fn next(&mut self) -> Option<Attribute<'a>> {
         if self.line.is_empty() {
             return None;

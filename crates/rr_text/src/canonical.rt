@@ -25,10 +25,10 @@ pub fn print_onto(out: &mut Vec<u8>, paragraph: &Paragraph) -> Result<(), AllocE
     out.extend_from_slice(paragraph.text())
 }
 
-/// Appends the canonical text of the paragraph (profile) in which each attribute of this name,
-/// which is given in lower case, has this one line as its value. Of a line that
-/// [`Paragraph::with_values`] takes, it is the text of what that gives. The error is that memory
-/// ran out: then bytes may have been appended, and what stood before them stays.
+/// Appends the canonical text (profile) of the paragraph in which each attribute of exactly this
+/// name has this one line as its value; the others are as they were. Where the line meets what
+/// [`Paragraph::with_values`] requires, this is the text of what that call gives. The error is that
+/// memory ran out: then bytes may have been appended, and what stood before them stays.
 pub fn print_onto_with_values(
     out: &mut Vec<u8>,
     paragraph: &Paragraph,
@@ -48,8 +48,8 @@ pub fn print_onto_with_values(
 }
 
 /// The paragraph whose canonical text this is (profile), with at least one attribute, all well
-/// formed. `None` comes exactly where the text is that of no such paragraph. There is no bound on
-/// the size. The error is that memory ran out.
+/// formed. `None` comes exactly where the text is that of no such paragraph. The size of the text
+/// has no bound. The error is that memory ran out.
 pub fn read_canonical(alloc: Global, text: &[u8]) -> Result<Option<Paragraph>, AllocError>
     ensures found { IfOk result
         (λ read. IfSome read (λ paragraph. canon.canonical paragraph ≡ text.now)) }

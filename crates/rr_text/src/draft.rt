@@ -58,8 +58,8 @@ impl Draft {
         self.line = LineSoFar::Nothing;
     }
 
-    /// Adds a piece of a line that begins where the text so far ends, and says whether it closes
-    /// the paragraph.
+    /// Adds a piece of a line, not empty, that begins where the text so far ends, and says whether
+    /// it closes the paragraph.
     pub(crate) fn add(&mut self, piece: &[u8]) -> bool
         requires some { 0 < length piece.now }
         requires single { text_lines piece.now ≡ piece.now ∷ [] }
@@ -102,7 +102,8 @@ impl Draft {
         self.started
     }
 
-    /// The entry of the text, a paragraph or its fault; or the error is that memory ran out.
+    /// The entry of the text, a paragraph or its fault, where the text has one block, which is
+    /// whole; or the error is that memory ran out.
     pub(crate) fn entry(&self, alloc: Global) -> Result<Paragraph, TextFault>
         requires { (text : List ℕ) × parts.HasEntry text self.now }
         ensures { (text : List ℕ) → parts.HasEntry text self.now

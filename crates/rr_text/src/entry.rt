@@ -32,8 +32,8 @@ fn printed(alloc: Global, block: &[u8]) -> Result<Vec<u8>, AllocError>
     Ok(text)
 }
 
-/// The entry of a block: its paragraph, which has at least one attribute, or its fault. `Memory`
-/// says that memory ran out.
+/// The entry of a block, whose first line must be neither blank nor skipped: its paragraph, which
+/// has at least one attribute, all well formed, or its fault. `Memory` says that memory ran out.
 pub(crate) fn read_entry(alloc: Global, block: &[u8]) -> Result<Paragraph, TextFault>
     requires { starts_block (text_lines block.now) ≡ true }
     ensures found { IfOk result (λ paragraph. (0 < length paragraph) × AreFields paragraph

@@ -28,7 +28,7 @@ pub use canonical::{print_onto, print_onto_with_values, read_canonical};
 pub use line::is_refused;
 pub use line_attribute::LineAttribute;
 pub use paragraph::Paragraph;
-pub use paragraphs::{Paragraphs, ReaderState};
+pub use paragraphs::{Paragraphs, ParagraphsState};
 pub use reader::next_paragraph;
 pub use text::Text;
 pub use text_fault::TextFault;

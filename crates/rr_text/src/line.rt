@@ -55,8 +55,8 @@ impl LineKind {
     }
 }
 
-/// Whether a byte may stand in skipped lines alone: a control byte other than tab, LF and CR
-/// (profile).
+/// Whether a byte may stand in skipped lines alone: a control byte of ASCII other than tab, LF and
+/// CR (profile).
 #[inline]
 pub fn is_refused(byte: u8) -> bool
     ensures { result ≡ is_refused byte }

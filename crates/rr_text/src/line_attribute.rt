@@ -8,8 +8,8 @@ use crate::text::Text;
 use std::alloc::{AllocError, Global};
 use std::marker::Model;
 
-/// An attribute with a value of one line, in memory of its own. By itself it may have any bytes.
-/// Contracts see the name and the list of this one line.
+/// An attribute with a value of one line, in memory of its own. No clause bounds its bytes.
+/// Contracts see the name, and a value of this line alone.
 #[derive(Debug, Drop)]
 pub struct LineAttribute {
     name: Text,
@@ -29,8 +29,8 @@ impl LineAttribute {
     ghost use Rattle.rr_text.specs.CanonicalText.{field_text};
     ghost use Rattle.rr_text.specs.Outputs.{MayAdd};
 
-    /// The attribute of this name whose value is this line, which are taken as they are; the error
-    /// is that memory ran out.
+    /// The attribute of this name, whose value is this line alone; both are taken as they are. The
+    /// error is that memory ran out.
     pub fn new(alloc: Global, name: &[u8], line: &[u8]) -> Result<LineAttribute, AllocError>
         ensures { IfOk result (λ made. made ≡ one_line name.now line.now) }
     {

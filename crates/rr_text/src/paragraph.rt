@@ -14,8 +14,9 @@ use crate::line_attribute::LineAttribute;
 use std::alloc::{AllocError, Global};
 use std::marker::Model;
 
-/// A paragraph: attributes in order, perhaps none. It is kept as its canonical text, in one piece
-/// of memory, and contracts see the list of attributes as plain data.
+/// A paragraph: attributes in order, perhaps none, each well formed as `attributes` says. It is
+/// kept as its canonical text, in one piece of memory, and contracts see the list of attributes as
+/// plain data.
 #[derive(Debug, Drop)]
 pub struct Paragraph {
     text: Vec<u8>,
@@ -34,8 +35,9 @@ impl Model for Paragraph {
 }
 
 impl Paragraph {
-    /// The paragraph of these attributes; the error is that memory ran out. Each must have the name
-    /// of an attribute, in lower case, and a line without LFs, refused bytes and blanks round it.
+    /// The paragraph of these attributes, in this order; the error is that memory ran out. Each
+    /// must have the name of an attribute, in lower case, and a line with no blanks round it, no LF
+    /// and no refused byte.
     pub fn new(alloc: Global, attributes: &[LineAttribute]) -> Result<Paragraph, AllocError>
         requires { AreFields attributes.now }
         ensures { IfOk result (λ made. made ≡ attributes.now) }
@@ -43,7 +45,8 @@ impl Paragraph {
         Ok(Paragraph::kept(printed(alloc, attributes)?))
     }
 
-    /// The paragraph of this canonical text, in memory that fits it.
+    /// The paragraph whose canonical text this must be, of well-formed attributes. The text is
+    /// moved to memory that fits it; no clause says so.
     pub(crate) fn kept(text: Vec<u8>) -> Paragraph
         requires { IsKeptText text.items }
         ensures { result ≡ fields_in text.items }
@@ -75,7 +78,7 @@ impl Paragraph {
         Attributes::of(&self.text)
     }
 
-    /// Whether an attribute has this name, which is given as names are kept, in lower case.
+    /// Whether an attribute has exactly this name. Names are kept in lower case.
     pub fn has(&self, name: &[u8]) -> bool
         ensures { result ≡ list_any (has_name name.now) self.now }
     {
@@ -90,8 +93,8 @@ impl Paragraph {
         Ok(Paragraph { text })
     }
 
-    /// The paragraph less its attributes of this name, which is given in lower case, the others in
-    /// their order. The error is that memory ran out.
+    /// The paragraph less its attributes of exactly this name, the others in their order. Names are
+    /// kept in lower case. The error is that memory ran out.
     pub fn without(self, alloc: Global, name: &[u8]) -> Result<Paragraph, AllocError>
         ensures { IfOk result
             (λ made. made ≡ filter (λ field. not (has_name name.now field)) self) }
@@ -102,9 +105,9 @@ impl Paragraph {
         Ok(Paragraph::kept(printed_without(alloc, &self, name)?))
     }
 
-    /// A copy in which each attribute of this name, which is given in lower case, has this one line
-    /// as its value; the others are as they were. The line must have no blanks round it, no LF and
-    /// no refused byte. The error is that memory ran out.
+    /// A copy in which each attribute of exactly this name has this one line as its value; the
+    /// others are as they were, and all are in their order. Names are kept in lower case. The line
+    /// must have no blanks round it, no LF and no refused byte. The error is that memory ran out.
     pub fn with_values(
         &self,
         alloc: Global,

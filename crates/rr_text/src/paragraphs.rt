@@ -12,14 +12,14 @@ use std::alloc::{AllocError, Global};
 
 /// How the reading of a text stands.
 #[derive(Clone, Copy, Debug, PartialEq, Eq)]
-pub enum ReaderState {
+pub enum ParagraphsState {
     /// It goes on.
     Open,
     /// The reader came to its end.
     Ended,
     /// A read failed.
     Broken,
-    /// The limit of reads was met.
+    /// The limit of 16,777,216 reads was met.
     Endless,
 }
 
@@ -34,7 +34,7 @@ pub struct Paragraphs {
     from: usize,
     to: usize,
     reads: u32,
-    state: ReaderState,
+    state: ParagraphsState,
     ghost within: { from ≤ to },
     ghost room: { to ≤ read_size },
     ghost few: { reads ≤ read_limit },
@@ -48,8 +48,8 @@ impl Paragraphs {
     ghost use Rattle.rr_text.specs.ParagraphReaders.{AnswersNext, HasGiven, IsNew, held, reads_of};
     ghost use Rattle.rr_text.specs.ParagraphReaders.{state_of};
 
-    /// The paragraphs of a text of which nothing was read and no entry was given, whatever reader
-    /// gives it. The error is that memory ran out.
+    /// The paragraphs of a text, whatever reader gives it: the reading is open, no read was made,
+    /// nothing is held, and no entry was given. The error is that memory ran out.
     pub fn new(alloc: Global) -> Result<Paragraphs, AllocError>
         ensures new { IfOk result (λ paragraphs. IsNew paragraphs) }
         ensures given { IfOk result
@@ -62,17 +62,19 @@ impl Paragraphs {
             from: 0,
             to: 0,
             reads: 0,
-            state: ReaderState::Open,
+            state: ParagraphsState::Open,
         })
     }
 
-    /// The next paragraph of the text that this reader gives, which has at least one attribute, all
-    /// well formed; `None` at its end (RFC 2622, 2). This holds where the reader is the same in
-    /// each call. `None`, `Read` or `Endless` comes in the end, and is then the answer for good:
-    /// nothing more is read, and nothing changes. `Read` says that a read failed, and `Endless`
-    /// that 16,777,216 reads met no end; before either, exactly what a blank line closes was given.
-    /// After another fault the next paragraph follows; `Memory` passes over one, also one with a
-    /// fault. Of a connection, the other side stays as it was.
+    /// The next paragraph of the text that this reader gives, or its fault (RFC 2622, 2). What is
+    /// said here of the text holds where the reader is the same in each call. A paragraph has at
+    /// least one attribute, all well formed. `None` says that the text has ended and all its
+    /// paragraphs were given. `Read` says that a read failed, and `Endless` that 16,777,216 reads
+    /// met no end; before either, exactly the paragraphs were given that a blank line with its LF
+    /// closes. One of these three answers comes after finitely many calls, and is then the answer
+    /// for good: nothing more is read, and nothing changes. After another fault the next paragraph
+    /// follows; `Memory` passes over one, also one with a fault. `HasGiven` also counts reads,
+    /// bytes and paragraphs. Of a connection, the other side stays as it was.
     pub fn next<R: Reader>(
         &mut self,
         alloc: Global,
@@ -81,10 +83,10 @@ impl Paragraphs {
         ensures { AnswersNext R.told reader.old reader.new self.old self.new result }
     {
         match self.state {
-            ReaderState::Open => self.next_open(alloc, reader),
-            ReaderState::Ended => Ok(None),
-            ReaderState::Broken => Err(TextFault::Read),
-            ReaderState::Endless => Err(TextFault::Endless),
+            ParagraphsState::Open => self.next_open(alloc, reader),
+            ParagraphsState::Ended => Ok(None),
+            ParagraphsState::Broken => Err(TextFault::Read),
+            ParagraphsState::Endless => Err(TextFault::Endless),
         }
     }
 
@@ -94,16 +96,16 @@ impl Paragraphs {
         alloc: Global,
         reader: &mut R,
     ) -> Result<Option<Paragraph>, TextFault>
-        requires { state_of self.old ≡ ReaderState.Open }
+        requires { state_of self.old ≡ ParagraphsState.Open }
         ensures { AnswersNext R.told reader.old reader.new self.old self.new result }
     {
         let state = self.gather(reader);
         self.state = state;
         match state {
-            ReaderState::Open => self.entry(alloc),
-            ReaderState::Ended => self.last(alloc),
-            ReaderState::Broken => Err(TextFault::Read),
-            ReaderState::Endless => Err(TextFault::Endless),
+            ParagraphsState::Open => self.entry(alloc),
+            ParagraphsState::Ended => self.last(alloc),
+            ParagraphsState::Broken => Err(TextFault::Read),
+            ParagraphsState::Endless => Err(TextFault::Endless),
         }
     }
 
@@ -134,17 +136,17 @@ impl Paragraphs {
     }
 
     /// Reads up to the end of the next paragraph, or of the text.
-    fn gather<R: Reader>(&mut self, reader: &mut R) -> ReaderState
+    fn gather<R: Reader>(&mut self, reader: &mut R) -> ParagraphsState
         ensures { parts.Gathers result (R.told reader.old) (R.told reader.new)
             (held self.old) (reads_of self.old) self.new }
     {
         self.draft.restart();
         'reads: loop {
             if self.take_held() {
-                return ReaderState::Open;
+                return ParagraphsState::Open;
             }
             if self.reads == READ_LIMIT {
-                return ReaderState::Endless;
+                return ParagraphsState::Endless;
             }
             if let Some(state) = self.fill(reader) {
                 return state;
@@ -176,7 +178,7 @@ impl Paragraphs {
 
     /// Reads a piece, where nothing is held and the limit of reads is not met. Says how the text
     /// stands if it does not go on. The draft stays.
-    fn fill<R: Reader>(&mut self, reader: &mut R) -> Option<ReaderState>
+    fn fill<R: Reader>(&mut self, reader: &mut R) -> Option<ParagraphsState>
         requires reads { reads_of self.old < read_limit }
         requires none { self.old.from ≡ self.old.to }
         ensures fills { parts.Fills result (R.told reader.old)
@@ -189,12 +191,12 @@ impl Paragraphs {
                 self.to = count;
                 self.reads += 1;
                 if count == 0 {
-                    Some(ReaderState::Ended)
+                    Some(ParagraphsState::Ended)
                 } else {
                     None
                 }
             }
-            Err(_) => Some(ReaderState::Broken),
+            Err(_) => Some(ParagraphsState::Broken),
         }
     }
 }

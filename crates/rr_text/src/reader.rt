@@ -11,10 +11,13 @@ use crate::paragraph::Paragraph;
 use crate::text_fault::TextFault;
 use std::alloc::Global;
 
-/// The first paragraph of the text from a place on, with a later place, which is the one after it;
-/// `None` where there is no more (RFC 2622, 2). The paragraph has at least one attribute, all well
-/// formed. Neither place is past the end of the text. The error is the paragraph's fault, or that
-/// memory ran out for it; then the place after it is not given.
+/// The first paragraph of the text from the place `from` on, and a later place (RFC 2622, 2). This
+/// is that of the blank line that ends the paragraph, or else the end of the text. `from` must not
+/// be past the end of the text, and the later place is not. The paragraph has at least one
+/// attribute, all well formed. What follows it in the text are the paragraphs from the later place
+/// on, faulty ones among them. `None` comes exactly where there is no paragraph, not even a faulty
+/// one. The error is the fault of the first paragraph, or that memory ran out for it; then no later
+/// place is given.
 pub fn next_paragraph(
     alloc: Global,
     text: &[u8],

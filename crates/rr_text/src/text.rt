@@ -5,7 +5,7 @@ ghost use Rattle.std.specs.Prelude.{◌≡◌, IfOk};
 use std::alloc::{AllocError, Global};
 use std::marker::Model;
 
-/// A byte string: a name, a line of a value or a printed text. Contracts see its bytes.
+/// A byte string, such as a name, a line of a value or a printed text. Contracts see its bytes.
 #[derive(Debug, Drop)]
 pub struct Text {
     bytes: Vec<u8>,
@@ -45,6 +45,7 @@ impl PartialEq for Text {
 
     ghost laws = { Prim.search (comparing, rules) };
 
+    /// Whether the bytes are the same, in the same order.
     fn eq(&self, other: &Text) -> bool {
         self.as_slice() == other.as_slice()
     }

@@ -10,15 +10,17 @@ use std::alloc::AllocError;
 /// (profile).
 #[derive(Clone, Copy, Debug, PartialEq, Eq)]
 pub enum TextFault {
-    /// The paragraph has more than 65,536 bytes (profile).
+    /// The paragraph has more than 65,536 bytes, the ends of its lines and skipped lines included
+    /// (profile).
     TooLarge,
-    /// A line that is not skipped has a control byte other than tab, CR and LF.
+    /// A line that is not skipped has a control byte of ASCII other than tab, LF and CR.
     BadByte,
-    /// The first line continues a value that is not there.
+    /// The first line, skipped ones aside, continues a value that is not there.
     FirstContinues,
     /// A line that opens an attribute has no colon.
     NoColon,
-    /// What stands before the colon is no attribute name.
+    /// Before the first colon of a line that opens an attribute stands no attribute name; blanks
+    /// before the colon do not count.
     BadName,
     /// Memory ran out.
     Memory,

@@ -39,9 +39,9 @@ fn lines_meaning(alloc: Global, lines: &[&[u8]]) -> Result<Text, AllocError>
     Text::from_slice(alloc, trim(&joined, ByteSet::BlanksAndLineFeeds))
 }
 
-/// What the value of an attribute says: its lines without their comments and the blanks round them,
-/// with one space between each two. Blanks round the whole are left out, too (RFC 2622, 2; the
-/// space: profile). The error is that memory ran out.
+/// What the value of an attribute says: its lines without their comments, each from a `#` on, and
+/// without the blanks round them, with one space between each two. Blanks round the whole are left
+/// out, too (RFC 2622, 2; the space: profile). The error is that memory ran out.
 #[tactic(auto, using(crate::proofs::MeaningLemmas::of_one_line))]
 pub fn meaning(alloc: Global, attribute: &Attribute) -> Result<Text, AllocError>
     ensures { IfOk result (λ text. text ≡ meanings.value_meaning attribute.now.lines) }

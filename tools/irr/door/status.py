@@ -116,7 +116,8 @@ class Status:
         """A line for people, and one for each fault."""
         state = self.all()
         word = "well" if state["well"] else "in part" if state["serves"] else "DOWN"
-        ages = [one["age"] for one in state["upstreams"] if one["age"] is not None]
+        serving = [one for one in state["upstreams"] if one["serves"]]
+        ages = [one["age"] for one in serving if one["age"] is not None]
         up = sum(one["serves"] for one in state["upstreams"][1:])
         first = (
             f"{word}: {state['source'] or 'no registry'}, {texts.counted(up, 'replica')}"

@@ -46,7 +46,8 @@ REMEDIES = {
     "certificate-bad": "correct the proxy's certificate, or the name; add a certificate authority"
     " of your own with `update-ca-certificates`",
     "disk-full": "make room: a full disk stops the registry",
-    "clock-ahead": "correct the clock, and remove or rename what is dated in the future",
+    "clock-ahead": "correct the clock, and remove or rename what is dated in the future; replicas"
+    " renew themselves",
     "memory-full": "remove unwanted objects, or raise its `MemoryMax`: see OPEN.md",
 }
 # What a start of a unit mends, by the fault.
@@ -387,6 +388,8 @@ class Health:
             is_over = "expired" in error.verify_message
             word = "certificate-ends" if is_over else "certificate-bad"
             self.fault(word, name, error.verify_message)
+        except ConnectionRefusedError:
+            self.fault("certificate-bad", name, f"nothing listens at port {port}: start the proxy")
         except (OSError, ValueError, KeyError) as error:
             self.fault("certificate-bad", name, f"there is none to be seen ({error})")
         else:

@@ -358,8 +358,8 @@ def need_new(plan: Plan) -> None:
     if os.path.lexists(plan.store):
         raise Failure(
             plan.store,
-            "a registry is here; irr setup makes a first one alone: see OPERATING.md, or name"
-            " another folder",
+            "a registry is here, and irr setup makes only a first one; to serve this one, see"
+            " Removal in OPERATING.md, or name another folder by --folder",
             DATABASE,
         )
     if plan.is_service:

@@ -79,7 +79,8 @@ TABLE = (
         "registered object, or of the new one.",
         "A password that is missing, mistyped, or after the item; an object of somebody else. "
         "For a new mntner an `auth` made of other text, such as one with the line feed of `echo`.",
-        "Give the password before the item. Make the `auth` line by `irr auth`.",
+        "Give the right password, before the item. For a new mntner make the `auth` line by "
+        "`irr auth`.",
     ),
     Code(
         "E12",

@@ -377,7 +377,7 @@ class Server:
         """Why a connection failed, and what to do."""
         if isinstance(error, ConnectionRefusedError):
             return (
-                "no server listens there; start `irrdesk serve`, "
+                "no server listens there; start `irrdesk serve` or `systemctl start irrdesk`, "
                 "or give another address by -s URL or IRR_SERVER"
             )
         if isinstance(error, TimeoutError):

@@ -154,8 +154,10 @@ fn place<T: Drop>(tree: &mut Tree<T>, alloc: Global, prefix: Prefix, value: T) -
     Ok(())
 }
 
-/// Puts the value at the prefix, and gives back the one that stood there. If memory runs out,
-/// nothing changes and the value comes back.
+/// Puts the value at the prefix, and gives back the one that stood there, if any did. The tree must
+/// be in order, and the prefix have at most 32 bits, with only zeros after them. If memory runs
+/// out, nothing changes and the value comes back. The tree stays in order. Where the old root and
+/// the prefix that is put in lie in one half of any prefix, so does the new root.
 #[cycle(insertion)]
 pub(super) fn set<T: Drop>(
     tree: &mut Tree<T>,

@@ -58,7 +58,9 @@ fn tidy<T: Drop>(tree: Tree<T>) -> Tree<T>
     }
 }
 
-/// Takes out the value that stands at the prefix, and the root if the tree can do without it.
+/// Takes out the value that stands at the prefix, and gives it back. The tree must be in order, and
+/// stays so. Where the old root lies in one half of any prefix, so does the new root. The root goes
+/// if the tree can do without it, which no clause says.
 #[cycle(removal)]
 pub(super) fn take<T: Drop>(tree: &mut Tree<T>, prefix: Prefix) -> Option<T>
     requires { IsTree tree.old }

@@ -38,7 +38,8 @@ fn side<T>(node: &Node<T>, prefix: Prefix) -> &Tree<T>
     }
 }
 
-/// The smallest prefix held that covers the prefix, with its value.
+/// The smallest prefix held that covers the prefix, with its value; `None` where none covers it.
+/// The tree must be in order.
 pub(super) fn smallest_cover<T>(tree: &Tree<T>, prefix: Prefix) -> Option<(Prefix, &T)>
     requires { IsTree tree.now }
     ensures found { IfSome result
@@ -62,7 +63,8 @@ pub(super) fn smallest_cover<T>(tree: &Tree<T>, prefix: Prefix) -> Option<(Prefi
     }
 }
 
-/// How many levels the tree has: at most one for each length from the root's up to 32.
+/// How many levels the tree has. The number is at most one for each length from the root's up to
+/// 32; no clause says that it is that of the levels. The tree must be in order.
 pub(super) fn levels<T>(tree: &Tree<T>) -> u32
     requires { IsTree tree.now }
     ensures { result ≤ room tree.now }

@@ -366,8 +366,8 @@ fn add<T: Drop>(nest: &mut Nest<T>, alloc: Global, span: Span, value: T) -> Resu
     }
 }
 
-/// Puts the value at the span, and gives back the one that stood there. If memory runs out, nothing
-/// changes and the value comes back.
+/// Puts the value at the span, and gives back the one that stood there, if any did. The tree must
+/// be in order, and stays so. If memory runs out, nothing changes and the value comes back.
 pub(super) fn set<T: Drop>(
     nest: &mut Nest<T>,
     alloc: Global,
@@ -388,7 +388,8 @@ pub(super) fn set<T: Drop>(
     }
 }
 
-/// Takes out the value that stands at the span.
+/// Takes out the value that stands at the span, and gives it back. The tree must be in order, and
+/// stays so.
 pub(super) fn take<T: Drop>(nest: &mut Nest<T>, span: Span) -> Option<T>
     requires { IsNest nest.old }
     ensures value { result ≡ standing nest.old span }

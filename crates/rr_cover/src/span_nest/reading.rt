@@ -106,7 +106,9 @@ pub(super) fn crosses_any<T>(nest: &Nest<T>, span: Span) -> bool
     ends_within(nest, span) || begins_within(nest, span)
 }
 
-/// The span in order last that covers the span: the smallest one, where no two cross.
+/// The last span, in order, that covers the span, with its value: the smallest one, where no two
+/// cross; `None` where none covers it. The tree must be in order. The span asked for has its first
+/// number not above its last, and this below 2^32.
 pub(super) fn smallest_cover<T>(nest: &Nest<T>, span: Span) -> Option<(Span, &T)>
     requires order { IsNest nest.now }
     ensures found { IfSome result

@@ -25,8 +25,10 @@ pub enum Parent {
 }
 
 impl SetName {
-    /// What the name without its last component names; `None` where it has one component
-    /// (RFC 2622, 5; RFC 2725, 9). The error is that memory ran out.
+    /// What is above the set: what its name without the last component names. One AS number names
+    /// its aut-num, several alone name nothing (`Bare`), and any other text names a set. `None`
+    /// where the name has one component (RFC 2622, 5; RFC 2725, 9). The error is that memory ran
+    /// out.
     pub fn parent(&self, alloc: Global) -> Result<Option<Parent>, AllocError>
         ensures { IfOk result (λ parent. parent ≡ parent_of self.now) }
     {

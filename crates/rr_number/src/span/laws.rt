@@ -25,14 +25,15 @@ pub fn covering_is_an_order()
     ensures both { CoversBothWays }
 {}
 
-/// Two spans that do not cross are apart or nested, and crossing has no direction.
+/// Where two spans do not cross, they do not meet, or one covers the other. A span crosses another
+/// exactly where the other crosses it.
 pub fn spans_are_apart_or_nested_or_cross()
     ensures symmetric { CrossesBothWays }
     ensures nested { ApartOrNested }
 {}
 
-/// The size counts the numbers: it is 1 for one number, and that of the parts together where a span
-/// is cut in two. A span is larger than any other that it covers.
+/// The size counts the numbers: it is 1 for one number, and where a span is cut in two, it is the
+/// sum of the sizes of both. A span is larger than any other that it covers.
 pub fn size_counts_numbers()
     ensures one { OneNumber }
     ensures add { SizesAdd }

@@ -2,14 +2,14 @@ use Rattle.std.proofs.Common.{◌-◌, Contains}
 use Rattle.std.specs.BTreeMap.{get}
 use Rattle.std.specs.BTreeSet.{contains}
 use Rattle.std.specs.Ordering.{ordering_then}
-use Rattle.rr_graph.specs.EffectParts.{IsCovered, IsKnown}
+use Rattle.rr_graph.specs.EffectParts.{IsCovered, AreChoices}
 use Rattle.rr_graph.specs.ReversedParts.{LeadsBack, edges_at}
 use Rattle.rr_graph.proofs.Reached.{IsSearching}
 use Rattle.rr_graph.proofs.pairs.reach_back.Given as goal
 
 abbrev pub invariant-loop-done : goal.invariant-loop-done
 invariant-loop-done g l =
-    IsKnown g.G.Labelled.keeps g.G.Labelled.passed g.G.Labelled.kind_of
+    AreChoices g.G.Labelled.keeps g.G.Labelled.passed g.G.Labelled.kind_of
     (edges_at g.G.Node.Ord.cmp l.pairs.backward.now.map)
     (get (λ (x y : g.row.G-Node.Denot × g.row.G-Kind.Denot).
     ordering_then (g.G.Node.Ord.cmp x.0 y.0) (g.G.Kind.Ord.cmp x.1 y.1)) l.effects.map)

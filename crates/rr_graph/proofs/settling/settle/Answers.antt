@@ -4,7 +4,7 @@ use Rattle.std.specs.Option.{IfSome}
 use Rattle.std.proofs.lemmas.Result.{err_from_is_err_and}
 use Rattle.rr_graph.specs.Answered.{ListsInOrder}
 use Rattle.rr_graph.specs.Carried.{IsFound}
-use Rattle.rr_graph.specs.SettledParts.{IsHeldOr, values_at}
+use Rattle.rr_graph.specs.SettledParts.{IsKnownValueOr, values_at}
 use Rattle.rr_graph.proofs.KnownNodes.{HoldsAllValues-entered, only_entered}
 use Rattle.rr_graph.proofs.Listings.{MoreThan-weaker}
 use Rattle.rr_graph.proofs.settling.settle.Goals as goal
@@ -17,9 +17,10 @@ returns-in_err-enter-clause-many g c = λ is.
     c.in-Some.is c.in_ok-values.ensures in
     let p = err_from_is_err_and c.from_residual-in_err-enter.result
     c.from_residual-in_err-enter.ensures.1 in
-    MoreThan-weaker c.args.limit (IsHeldOr (values_at g.G.Node.Ord.cmp c.args.settled.now.values)
+    MoreThan-weaker c.args.limit
+    (IsKnownValueOr (values_at g.G.Node.Ord.cmp c.args.settled.now.values)
     c.in_ok-copy.field-0 (Contains c.in-Some.values.items))
-    (IsHeldOr (values_at g.G.Node.Ord.cmp c.args.settled.now.values) c.args.node.now
+    (IsKnownValueOr (values_at g.G.Node.Ord.cmp c.args.settled.now.values) c.args.node.now
     (IsFound (g.G.Labelled.edge c.args.graph.now) (g.G.Labelled.own c.args.graph.now)
     g.G.Labelled.passed c.args.node.now))
     (λ q held. elim held [

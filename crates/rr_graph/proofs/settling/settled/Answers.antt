@@ -1,7 +1,8 @@
 use Rattle.std.proofs.Common.{◌≡◌, ◌∙◌, Contains, None, Some, sym, subst}
 use Rattle.std.proofs.lemmas.Result.{err_from_is_err_and}
 use Rattle.rr_graph.specs.Carried.{IsFound}
-use Rattle.rr_graph.specs.SettledParts.{IsAmong, IsFoundAmong, IsHeldOr, HoldsAllValues, IsTallied}
+use Rattle.rr_graph.specs.SettledParts.{IsAmong, IsFoundAmong, IsKnownValueOr, HoldsAllValues}
+use Rattle.rr_graph.specs.SettledParts.{IsTallied}
 use Rattle.rr_graph.specs.SettledParts.{values_at}
 use Rattle.rr_graph.specs.declared.settled.Settled.{Settled}
 use Rattle.rr_graph.proofs.KnownNodes.{IsFoundAmong-held, IsTallied-none, among_only}
@@ -51,7 +52,8 @@ returns-in_err-settle-clause-many g c = λ is.
     let listed : Contains c.args.ordered.now.nodes.now c.in-Some.node.now =
     (_, c.in-Some.ensures.lookup.3.0, sym (c.in-Some.ensures.lookup.3.1 c.in-Some.node.now)) in
     let p = err_from_is_err_and c.from_residual.result c.from_residual.ensures.1 in
-    MoreThan-weaker c.args.limit (IsHeldOr (values_at g.G.Node.Ord.cmp c.loop-place.settled.values)
+    MoreThan-weaker c.args.limit
+    (IsKnownValueOr (values_at g.G.Node.Ord.cmp c.loop-place.settled.values)
     c.in-Some.node.now (IsFound (g.G.Labelled.edge c.args.graph.now)
     (g.G.Labelled.own c.args.graph.now) g.G.Labelled.passed c.in-Some.node.now))
     (IsFoundAmong (g.G.Labelled.edge c.args.graph.now) (g.G.Labelled.own c.args.graph.now)

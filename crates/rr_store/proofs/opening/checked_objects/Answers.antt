@@ -4,7 +4,7 @@ use Rattle.sqlite_trees.proofs.ListLemmas.{all-permutation}
 use Rattle.sqlite.specs.Held.{state}
 use Rattle.sqlite.specs.State.{HasCleanDisk}
 use Rattle.rr_store.specs.Contents.{IsTidy}
-use Rattle.rr_store.specs.LookParts.{IsSeen, IsTabled}
+use Rattle.rr_store.specs.LookParts.{HoldsOnCleanDisk, IsTabled}
 use Rattle.rr_store.specs.Maps.{IsObjectOf}
 use Rattle.rr_store.specs.Versions.{form_of, version_text}
 use Rattle.rr_store.proofs.CheckLemmas.{both_err, both_ok, each_err}
@@ -21,7 +21,7 @@ returns g c over =
     let text = version_text c.args.version in
     let objects = c.in_ok-objects.objects.items in
     let db = (state g.S.Store old).now in
-    let tabled : IsSeen g.S.Store IsTabled old = λ clean. (over clean).tables in
+    let tabled : HoldsOnCleanDisk g.S.Store IsTabled old = λ clean. (over clean).tables in
     let held = c.in_ok-objects.ensures.inspects tabled in
     let last = c.in_ok-check_named_table.ensures (seen_then g.S.Store old mid held.looks.rests
     held.looks.same IsTabled tabled) in
@@ -73,7 +73,7 @@ returns-in_err-check_named_table g c =
     let exit = err_from_is_err_and c.from_residual-in_err-check_named_table.result
     c.from_residual-in_err-check_named_table.ensures.1 in
     rw (exit.1, exit.2) (λ over.
-    let tabled : IsSeen g.S.Store IsTabled old = λ clean. (over clean).tables in
+    let tabled : HoldsOnCleanDisk g.S.Store IsTabled old = λ clean. (over clean).tables in
     let held = c.in_ok-objects.ensures.inspects tabled in
     let last = c.in_err-check_named_table.ensures (seen_then g.S.Store old mid held.looks.rests
     held.looks.same IsTabled tabled) in

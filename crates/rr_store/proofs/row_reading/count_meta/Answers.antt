@@ -1,5 +1,5 @@
 use Rattle.std.proofs.Common.{rules, [], refl}
-use Rattle.rr_store.specs.LookParts.{Counts}
+use Rattle.rr_store.specs.LookParts.{CountsRows}
 use Rattle.rr_store.specs.Texts.{meta_numbers}
 use Rattle.rr_store.proofs.TextLemmas.{meta_numbers_is}
 use Rattle.rr_store.proofs.StatementLemmas.{numbers_meta}
@@ -35,7 +35,7 @@ returns g c over =
     (λ clean. plain_of old.schema meta_numbers _ meta_numbers_is (over clean))
     (rw c.conn.view_is at c.in_ok-rows.ensures.begun)
     (rw c.conn.view_is at c.in_ok-rows.ensures.survives) in
-    let all : Counts g.S.Store 0 old new c.count_numbered.result =
+    let all : CountsRows g.S.Store 0 old new c.count_numbered.result =
     counted g.S.Store meta_numbers [] meta_numbers_told old new
     c.note_committed.ensures.committed begun b
     (c.in_ok-rows.ensures.mode c.conn.invariant) over c.count_numbered.result

@@ -7,7 +7,7 @@ use Rattle.rr_store.proofs.AddedLemmas.{append_none, flat_map-append}
 use Rattle.sqlite.specs.Given.{Advances, row_if}
 use Rattle.rr_object.specs.Objects.{Obj}
 use Rattle.rr_store.specs.Contents.{columns, contents}
-use Rattle.rr_store.specs.Entries.{Entry, named_rows}
+use Rattle.rr_store.specs.Entries.{StoredEntry, named_rows}
 use Rattle.rr_store.specs.Maps.{entry_in}
 use Rattle.rr_store.specs.Versions.{form_of}
 use Rattle.rr_store.proofs.StreamLemmas.{read_all, read_then}
@@ -21,7 +21,7 @@ loop-object-preserved g c =
     let object = c.object-item.result in
     let objects = c.args.objects.now in
     let at = c.loop-object.object-index in
-    let entry : Obj → Entry = entry_in (form_of c.args.version) in
+    let entry : Obj → StoredEntry = entry_in (form_of c.args.version) in
     let within : at < length objects = omega arith in
     let grown : flat_map named_rows (map entry (take (at + 1) objects)) ≡ flat_map named_rows
     (map entry (take at objects)) ++ named_rows (entry object) =
@@ -48,7 +48,7 @@ loop-object-preserved g c =
 pub returns-in-None-clause-are : goal.returns-in-None-clause-are
 returns-in-None-clause-are g c clean on =
     let objects = c.args.objects.now in
-    let entry : Obj → Entry = entry_in (form_of c.args.version) in
+    let entry : Obj → StoredEntry = entry_in (form_of c.args.version) in
     let last : c.loop-object.object-index ≡ length objects =
     omega (arith, c.loop-object-test.false, c.loop-object.auto.object-index-end) in
     let none : row_if c.advance.new.self.has_row c.advance.new.self.conn.now ≡ None =

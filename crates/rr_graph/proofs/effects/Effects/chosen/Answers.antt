@@ -4,7 +4,7 @@ use Rattle.std.specs.List.{filter_map}
 use Rattle.std.specs.Ordering.{ordering_then}
 use Rattle.std.specs.declared.cmp.Ordering.{Ordering}
 use Rattle.std.proofs.lemmas.Result.{IfOk-weaker}
-use Rattle.rr_graph.specs.EffectParts.{IsChoice, IsKnown, IsMadeBut}
+use Rattle.rr_graph.specs.EffectParts.{IsChoice, AreChoices, IsMadeBut}
 use Rattle.rr_graph.specs.declared.effects.Choice.{Choice}
 use Rattle.rr_graph.specs.declared.labels.Edge.{Edge}
 use Rattle.rr_graph.proofs.Enough.{IsMadeBut-all, IsMadeBut-keeping, pair_by}
@@ -14,7 +14,7 @@ use Rattle.rr_graph.proofs.effects.Effects.chosen.Goals as goal
 held_choice : {N L V K : Type 0} (keeps : L → Bool) (passed : L → V → Option V) (kind_of : V → K)
     (all : N → List (Edge N L)) (at : N × K → Option (Choice N L)) (node : N) (value : V)
     (edges : List (Edge N L)) (key : N × K) (choice : Choice N L) → all node ≡ edges →
-    IsKnown keeps passed kind_of all at → at key ≡ Some choice → key ≡ (node, kind_of value) →
+    AreChoices keeps passed kind_of all at → at key ≡ Some choice → key ≡ (node, kind_of value) →
     IsChoice keeps passed edges value choice
 held_choice {N} {L} {V} {K} keeps passed kind_of all at node value edges key choice same known held
     is =

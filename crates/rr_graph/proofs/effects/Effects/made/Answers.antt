@@ -3,7 +3,7 @@ use Rattle.std.specs.BTreeMap.{BTreeMap, get}
 use Rattle.std.specs.BTreeSet.{BTreeSet, contains}
 use Rattle.std.specs.Ordering.{ordering_then}
 use Rattle.std.specs.declared.cmp.Ordering.{Ordering}
-use Rattle.rr_graph.specs.EffectParts.{AddsAtMost, IsKnown, IsMadeBut}
+use Rattle.rr_graph.specs.EffectParts.{AddsAtMost, AreChoices, IsMadeBut}
 use Rattle.rr_graph.specs.declared.effects.Choice.{Choice}
 use Rattle.rr_graph.proofs.effects.Effects.made.Goals as goal
 
@@ -25,11 +25,11 @@ returns-clause-made g c = λ all same known.
       g.G.Labelled.group_of
           c.args.value,
     ) in
-    let known_now : IsKnown g.G.Labelled.keeps g.G.Labelled.passed g.G.Labelled.kind_of all
+    let known_now : AreChoices g.G.Labelled.keeps g.G.Labelled.passed g.G.Labelled.kind_of all
     (get kind_cmp c.note.new.self.map) =
     c.in_ok-note.ensures.known all same
     (subst (λ (m : BTreeMap Key (Choice g.row.G-Node.Denot g.row.G-Label.Denot)).
-    IsKnown g.G.Labelled.keeps g.G.Labelled.passed g.G.Labelled.kind_of all (get kind_cmp m))
+    AreChoices g.G.Labelled.keeps g.G.Labelled.passed g.G.Labelled.kind_of all (get kind_cmp m))
     (sym c.mark.ensures.map) known) in
     let before : not c.in_ok-first.first ≡ contains cmp c.args.self.now.marks mark =
     ap not c.in_ok-first.ensures.marked.is_first ∙ not-not

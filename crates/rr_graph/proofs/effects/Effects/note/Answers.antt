@@ -7,7 +7,7 @@ use Rattle.std.proofs.lemmas.Map.Lookups.{exact_pairs}
 use Rattle.rr_graph.specs.EffectParts.{IsChoice}
 use Rattle.rr_graph.specs.declared.effects.Choice.{Choice}
 use Rattle.rr_graph.specs.declared.labels.Edge.{Edge}
-use Rattle.rr_graph.proofs.Enough.{IsKnown-entered}
+use Rattle.rr_graph.proofs.Enough.{AreChoices-entered}
 use Rattle.rr_graph.proofs.effects.Effects.note.Goals as goal
 
 pub returns-in_ok-insert-clause-known : goal.returns-in_ok-insert-clause-known
@@ -21,7 +21,7 @@ returns-in_ok-insert-clause-known g c = λ all same known.
     subst (λ (o : Option (Choice g.row.G-Node.Denot g.row.G-Label.Denot)).
     IfSome o (λ choice. IsChoice g.G.Labelled.keeps g.G.Labelled.passed c.args.head.now.edges.now
     c.args.value choice)) c.in-Some.is c.in_ok-choice.ensures in
-    IsKnown-entered g.G.Labelled.keeps g.G.Labelled.passed g.G.Labelled.kind_of
+    AreChoices-entered g.G.Labelled.keeps g.G.Labelled.passed g.G.Labelled.kind_of
     g.met.G.Labelled.alike g.met.G.Labelled.dropped
     (exact_pairs g.G.Node.Ord.cmp g.G.Kind.Ord.cmp g.met.G.Labelled.exact_nodes
     g.met.G.Labelled.exact_kinds) all

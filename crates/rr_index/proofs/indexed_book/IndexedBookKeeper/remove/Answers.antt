@@ -1,7 +1,7 @@
 use Rattle.std.proofs.Common.{◌≡◌, Some, sym, ap, subst, ◌∙◌}
 use Rattle.std.specs.FinMap.{get, remove}
 use Rattle.rr_auth.specs.Registries.{Reg, Sound}
-use Rattle.rr_index.specs.Indexes.{IsIndexed}
+use Rattle.rr_index.specs.Indexes.{IsIndexedBy}
 use Rattle.rr_index.proofs.Referrers.{take_nothing}
 use Rattle.rr_index.proofs.indexed_book.IndexedBookKeeper.remove.Goals as goal
 
@@ -22,6 +22,6 @@ pub invariant_of-self-in_default : goal.invariant_of-self-in_default
 invariant_of-self-in_default c =
     let r = c.self.inside.objects in
     let k = c.args.key.now in
-    subst (λ (s : Reg). IsIndexed s c.self.inside.indexes)
+    subst (λ (s : Reg). IsIndexedBy s c.self.inside.indexes)
     (sym (c.remove.ensures.rest ∙ take_nothing r k
     (sym c.remove.ensures.old ∙ c.in_default.is))) c.self.invariant

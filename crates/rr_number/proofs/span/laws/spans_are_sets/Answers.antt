@@ -1,10 +1,10 @@
 -- Two spans that meet share the larger of their first numbers.
 use Rattle.std.proofs.Common.{◌≡◌, ℕ, ◌≤◌, true, max, arith}
 use Rattle.std.proofs.lemmas.Grind.{common_steps}
-use Rattle.rr_number.specs.Spans.{Ends, IsSpan, IsIn, meets}
+use Rattle.rr_number.specs.Spans.{Ends, IsSpan, LiesIn, meets}
 use Rattle.rr_number.proofs.span.laws.spans_are_sets.Goals as goal
 
-shared : (s t : Ends) → IsSpan s → IsSpan t → meets s t ≡ true → (n : ℕ) × (IsIn n s × IsIn n t)
+shared : (s t : Ends) → IsSpan s → IsSpan t → meets s t ≡ true → (n : ℕ) × (LiesIn n s × LiesIn n t)
 shared s t p q e =
     let a : s.first ≤ t.last = grind (arith, common_steps) in
     let b : t.first ≤ s.last = grind (arith, common_steps) in
@@ -17,7 +17,7 @@ shared s t p q e =
       ),
     )
 
-meeting : (s t : Ends) → (n : ℕ) → IsIn n s → IsIn n t → meets s t ≡ true
+meeting : (s t : Ends) → (n : ℕ) → LiesIn n s → LiesIn n t → meets s t ≡ true
 meeting s t n p q = grind (arith, common_steps)
 
 pub returns-clause-sharing : goal.returns-clause-sharing

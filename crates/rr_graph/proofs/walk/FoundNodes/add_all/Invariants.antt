@@ -3,7 +3,7 @@ use Rattle.std.specs.BTreeSet.{BTreeSet}
 use Rattle.std.specs.declared.cmp.Ordering.{Ordering}
 use Rattle.std.proofs.Common.{ℕ}
 use Rattle.rr_graph.specs.ListingParts.{IsListing, Lists}
-use Rattle.rr_graph.proofs.walk.Found.add_all.Given as goal
+use Rattle.rr_graph.proofs.walk.FoundNodes.add_all.Given as goal
 
 -- The nodes taken from the end so far are added.
 pub record IsAdding {N : Type 0} (cmp : N → N → Ordering) (limit : ℕ)

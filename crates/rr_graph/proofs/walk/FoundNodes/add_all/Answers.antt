@@ -6,7 +6,7 @@ use Rattle.std.proofs.lemmas.List.Elements.{Contains-push}
 use Rattle.std.proofs.lemmas.Result.{err_from_is_err_and}
 use Rattle.rr_graph.specs.ListingParts.{Lists}
 use Rattle.rr_graph.proofs.Listings.{Contains-single, Lists-more, Lists-none, MoreThan-weaker}
-use Rattle.rr_graph.proofs.walk.Found.add_all.Goals as goal
+use Rattle.rr_graph.proofs.walk.FoundNodes.add_all.Goals as goal
 
 pub loop-node-init : goal.loop-node-init
 loop-node-init g c = record {

@@ -9,7 +9,7 @@ use Rattle.rr_graph.specs.EffectParts.{IsDistinct, changed}
 use Rattle.rr_graph.specs.declared.labels.Edge.{Edge}
 use Rattle.rr_graph.proofs.Enough.{IsDistinct-again, IsDistinct-dropped, IsDistinct-fewer}
 use Rattle.rr_graph.proofs.Enough.{IsDistinct-push}
-use Rattle.rr_graph.proofs.effects.Kept.add.Goals as goal
+use Rattle.rr_graph.proofs.effects.KeptEdges.add.Goals as goal
 
 -- what is not untrue is true
 true-by : (b : Bool) → not b ≡ false → b ≡ true

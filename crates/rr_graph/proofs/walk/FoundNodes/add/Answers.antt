@@ -1,7 +1,7 @@
 use Rattle.std.proofs.Common.{rules, ◌≡◌, false, true, subst, arith}
 use Rattle.std.specs.BTreeSet.{contains, Updates}
 use Rattle.rr_graph.proofs.Listings.{IsListing-push, Lists-again, Lists-push, MoreThan-push}
-use Rattle.rr_graph.proofs.walk.Found.add.Goals as goal
+use Rattle.rr_graph.proofs.walk.FoundNodes.add.Goals as goal
 
 pub returns-then-contains : goal.returns-then-contains
 returns-then-contains g c = record {

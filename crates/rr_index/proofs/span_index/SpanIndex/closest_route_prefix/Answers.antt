@@ -1,5 +1,5 @@
 use Rattle.rr_index.proofs.Questions.{no_routes, routes_of_closest}
-use Rattle.rr_index.proofs.span_index.SpanIndex.closest_routes.Goals as goal
+use Rattle.rr_index.proofs.span_index.SpanIndex.closest_route_prefix.Goals as goal
 
 pub returns-in-Some : goal.returns-in-Some
 returns-in-Some c = λ r sound has. routes_of_closest r _ _ _ sound has c.args.prefix c.in-Some.own

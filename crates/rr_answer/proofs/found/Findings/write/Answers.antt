@@ -5,7 +5,7 @@ use Rattle.rr_io.specs.Sending.{Writes}
 use Rattle.rr_text.specs.CanonicalText.{ended}
 use Rattle.rr_answer.specs.Founds.{found_text}
 use Rattle.rr_answer.specs.Texts.{members_text, missing_line, number_line, or_else, range_line}
-use Rattle.rr_answer.proofs.found.Found.write.Goals as goal
+use Rattle.rr_answer.proofs.found.Findings.write.Goals as goal
 
 pub returns-in-Numbers : goal.returns-in-Numbers
 unfolding members_text

@@ -86,10 +86,8 @@ fn probe_desk<S: Alter, N: Network, W: Writer>(
     ensures { ProbesDesk S.Store (means (N.calls network.now) serves_desk)
         (deed desk.old desk.new (W.told output.old) (W.told output.new) result) }
 {
-    match ask_for_root(alloc, desk, network) {
-        Ok(reply) => print_reply(reply.as_slice(), output),
-        Err(trouble) => Err(trouble),
-    }
+    let reply = ask_for_root(alloc, desk, network)?;
+    print_reply(reply.as_slice(), output)
 }
 
 /// Prints a reply: the status is 0, or 1 if it is an error.

@@ -106,12 +106,10 @@ impl Databases for DatabaseFiles<'_> {
         path: &str,
         absent: Absent,
     ) -> Result<IdleConnection<FileStore<File>>, DatabaseCause> {
-        match make_ready(self.rt, path, absent) {
-            Ok(()) => match Connection::open(self.rt, path) {
-                Ok(conn) => Ok(IdleConnection::of(conn)),
-                Err(error) => Err(cause_at(self.rt, path, error)),
-            },
-            Err(cause) => Err(cause),
+        make_ready(self.rt, path, absent)?;
+        match Connection::open(self.rt, path) {
+            Ok(conn) => Ok(IdleConnection::of(conn)),
+            Err(error) => Err(cause_at(self.rt, path, error)),
         }
     }
 

@@ -113,7 +113,7 @@ impl<T: Drop> PrefixTree<T> {
         ensures inserts { Inserts self.old (span_of prefix) value self.new result }
         ensures back { IfErr result (λ refused. refused.value ≡ value) }
     {
-        // the contract of `length` says that the prefix has only zeros after its bits
+        // A prefix has only zeros after its bits.
         let _length = prefix.length();
         let alloc = self.alloc;
         match set(&mut self.root, alloc, prefix, value) {

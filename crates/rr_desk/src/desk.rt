@@ -79,10 +79,8 @@ impl<S: Alter> Desk<S> {
             conn.note_idle();
             return Err((CreateFault::Memory, conn));
         };
-        match create_stored(alloc, conn, registry) {
-            Ok(stock) => Ok(Desk { settings, stock }),
-            Err(unmade) => Err(unmade),
-        }
+        let stock = create_stored(alloc, conn, registry)?;
+        Ok(Desk { settings, stock })
     }
 
     /// The desk of the registry of the settings' source whose rows, and no others, the tables of
@@ -108,10 +106,8 @@ impl<S: Alter> Desk<S> {
             FailsToOpenTables S.Store settings.source conn e.1 e.0) }
         ensures event { OpensEvent S.Store settings conn result }
     {
-        match open_stored(alloc, conn, settings.source()) {
-            Ok(stock) => Ok(Desk { settings, stock }),
-            Err(unopened) => Err(unopened),
-        }
+        let stock = open_stored(alloc, conn, settings.source())?;
+        Ok(Desk { settings, stock })
     }
 
     /// Submits what the reader gives, and writes the report. The items are read in the settings'

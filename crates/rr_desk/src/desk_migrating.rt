@@ -55,10 +55,8 @@ impl<S: Alter> Desk<S> {
         ensures fails { IfErr result (λ e. FailsToMigrateTables S.Store settings conn e.1 e.0) }
         ensures event { MigratesEvent S.Store settings conn result }
     {
-        match migrate_stored(alloc, conn, &settings) {
-            Ok(stock) => Ok(Desk { settings, stock }),
-            Err(unmigrated) => Err(unmigrated),
-        }
+        let stock = migrate_stored(alloc, conn, &settings)?;
+        Ok(Desk { settings, stock })
     }
 }
 
@@ -92,10 +90,8 @@ fn migrate_tables<S: Alter>(
     ensures migrates { IfOk result (MigratesTables S.Store settings.now conn) }
     ensures fails { IfErr result (λ e. FailsToMigrateTables S.Store settings.now conn e.1 e.0) }
 {
-    match Store::migrate(alloc, conn, settings.root(), settings.source()) {
-        Ok(store) => Ok(Stock::of(registry, store)),
-        Err(unmade) => Err(unmade),
-    }
+    let store = Store::migrate(alloc, conn, settings.root(), settings.source())?;
+    Ok(Stock::of(registry, store))
 }
 
 /// The registry that the tables are to hold once they are migrated; nothing changes.

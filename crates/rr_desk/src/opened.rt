@@ -28,12 +28,10 @@ pub(crate) fn open_stored<S: Alter>(
     ensures opens { IfOk result (OpensTables S.Store conn) }
     ensures fails { IfErr result (λ e. FailsToOpenTables S.Store source.now conn e.1 e.0) }
 {
-    match Store::open_all(alloc, conn, source) {
-        Ok((store, objects)) => match Registry::from_objects(alloc, objects) {
-            Ok(registry) => Ok(Stock::of(registry, store)),
-            Err(fault) => Err((refused(fault), store.close())),
-        },
-        Err(unopened) => Err(unopened),
+    let (store, objects) = Store::open_all(alloc, conn, source)?;
+    match Registry::from_objects(alloc, objects) {
+        Ok(registry) => Ok(Stock::of(registry, store)),
+        Err(fault) => Err((refused(fault), store.close())),
     }
 }
 
@@ -62,10 +60,8 @@ pub(crate) fn create_stored<S: Alter>(
     ensures fails { IfErr result (λ e.
         FailsToMakeTables S.Store (HasRows registry) conn e.1 e.0) }
 {
-    match create_store(alloc, conn, &registry) {
-        Ok(store) => Ok(Stock::of(registry, store)),
-        Err(unmade) => Err(unmade),
-    }
+    let store = create_store(alloc, conn, &registry)?;
+    Ok(Stock::of(registry, store))
 }
 
 /// The store of the rows of a registry, in new tables. It is open, and a stop leaves these rows. A

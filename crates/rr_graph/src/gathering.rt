@@ -117,17 +117,13 @@ fn found_among<G: Labelled>(
 {
     let numbered = Numbered::new(alloc, graph, nodes)?;
     let places = numbered.all(alloc)?;
-    match numbered.place(start) {
-        Some(place) => {
-            let order = ends_first(alloc, &numbered, place)?;
-            let ordered = Ordered {
-                nodes: &places,
-                order: &order,
-            };
-            found_at(alloc, &numbered, &ordered, &place, limit)
-        }
-        None => Ok(Vec::new(alloc)),
-    }
+    let place = numbered.place(start);
+    let order = ends_first(alloc, &numbered, place)?;
+    let ordered = Ordered {
+        nodes: &places,
+        order: &order,
+    };
+    found_at(alloc, &numbered, &ordered, &place, limit)
 }
 
 /// The values that are found at the start, in ascending order, where the nodes are those that are

@@ -1,7 +1,7 @@
 //! A labelled graph whose nodes are numbers, as `gathering` makes it of any other.
 
-ghost use Rattle.std.specs.Prelude.{◌≡◌, ◌<◌, ◌↔◌, ℕ, Contains, IfOk, length};
-ghost use Rattle.std.specs.BTreeMap.{get};
+ghost use Rattle.std.specs.Prelude.{◌≡◌, ◌<◌, ◌↔◌, ℕ, Contains, IfOk, Some, length};
+ghost use Rattle.std.specs.BTreeMap.{get, ContainsKey};
 ghost use Rattle.std.specs.List.{filter_map};
 ghost use Rattle.std.specs.Ordering.{nat_cmp};
 ghost use Rattle.rr_graph.specs.Chain.{HasNoRepeats};
@@ -121,11 +121,12 @@ impl<'a, G: Labelled> Numbered<'a, G> {
         })
     }
 
-    /// The place of the node.
-    pub(crate) fn place(&self, node: &G::Node) -> Option<u32>
-        ensures { result ≡ get G.Node.cmp self.now.places node.now }
+    /// The place of the node, which has one.
+    pub(crate) fn place(&self, node: &G::Node) -> u32
+        requires { ContainsKey G.Node.cmp self.now.places node.now }
+        ensures { get G.Node.cmp self.now.places node.now ≡ Some result }
     {
-        self.places.get(node).copied()
+        self.places[node]
     }
 
     /// How many places there are.

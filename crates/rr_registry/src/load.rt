@@ -61,12 +61,10 @@ impl<B: Keeper> Registry<B> {
         ensures sound { IfOk result Sound }
     {
         let unnamed = first_unnamed(alloc, &objects)?;
-        match gather(alloc, objects) {
-            Err(fault) => Err(fault),
-            Ok(gathered) => match unnamed {
-                Some(i) => Err(LoadFault::Unnamed(i as u64 + 1)),
-                None => Ok(Registry::of(alloc, B::of(alloc, gathered)?)),
-            },
+        let gathered = gather(alloc, objects)?;
+        match unnamed {
+            Some(i) => Err(LoadFault::Unnamed(i as u64 + 1)),
+            None => Ok(Registry::of(alloc, B::of(alloc, gathered)?)),
         }
     }
 }

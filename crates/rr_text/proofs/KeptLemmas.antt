@@ -2,7 +2,7 @@
 -- Reading gives back what printing took, so that the text may be kept in place of the attributes.
 -- It is long because inductions over lines, split by the four kinds of line, go both ways. The
 -- kind of each line is handed on by hand. rr_text's `Paragraph`, `attributes`, `canonical`,
--- `printing`, `entry` and `comparing`, and rr_answer's `Places`, need it.
+-- `printing`, `entry` and `comparing`, and rr_answer's `Forms`, need it.
 use Rattle.std.proofs.Common.{◌≡◌, ◌==◌, ℕ, ◌+◌, ◌<◌, ◌≤◌, Bool, true, false, ◌&&◌, not, List, []}
 use Rattle.std.proofs.Common.{◌∷◌, ◌++◌, length, map, filter, refl, sym, ap, ◌∙◌, arith}
 use Rattle.std.proofs.Common.{append_assoc, None, if◌then◌else◌}

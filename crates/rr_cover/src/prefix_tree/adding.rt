@@ -173,10 +173,8 @@ pub(super) fn set<T: Drop>(
     if is_above(tree, prefix) {
         return set_below(tree, alloc, prefix, value);
     }
-    match place(tree, alloc, prefix, value) {
-        Ok(()) => Ok(None),
-        Err(value) => Err(value),
-    }
+    place(tree, alloc, prefix, value)?;
+    Ok(None)
 }
 
 /// Puts the value at the prefix, which the root covers, so the tree is not empty. If memory runs

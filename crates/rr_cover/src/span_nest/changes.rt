@@ -382,10 +382,8 @@ pub(super) fn set<T: Drop>(
         Ok(old) => return Ok(Some(old)),
         Err(value) => value,
     };
-    match add(nest, alloc, span, value) {
-        Ok(()) => Ok(None),
-        Err(value) => Err(value),
-    }
+    add(nest, alloc, span, value)?;
+    Ok(None)
 }
 
 /// Takes out the value that stands at the span, and gives it back. The tree must be in order, and

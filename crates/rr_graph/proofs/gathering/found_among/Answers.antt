@@ -1,5 +1,5 @@
-use Rattle.std.proofs.Common.{◌≡◌, ◌<◌, ◌↔◌, ℕ, List, [], ◌∷◌, Contains, None, Some, length, sym}
-use Rattle.std.proofs.Common.{subst, ◌∙◌}
+use Rattle.std.proofs.Common.{◌≡◌, ◌<◌, ◌↔◌, ℕ, List, [], ◌∷◌, Contains, is_some, length, sym, ap}
+use Rattle.std.proofs.Common.{subst}
 use Rattle.std.specs.Ordering.{nat_cmp}
 use Rattle.rr_graph.specs.Carried.{IsFound, IsFoundPair, Leads}
 use Rattle.rr_graph.specs.Chain.{MoreThan}
@@ -12,18 +12,27 @@ use Rattle.rr_graph.proofs.Numbers.{MoreThan-numbered}
 use Rattle.rr_graph.proofs.Reached.{IsReached-start}
 use Rattle.rr_graph.proofs.gathering.found_among.Goals as goal
 
+pub place-place-requires : goal.place-place-requires
+place-place-requires g c =
+    let start = c.args.start.now in
+    let (place, at) = IsAt-some c.args.nodes.now start
+    ((c.requires.all start).1
+    (IsReached-start (Leads (g.G.Labelled.edge c.args.graph.now)) (start ∷ []) start
+    (Contains-head start []))) in
+    ap is_some ((c.in_ok-numbered.ensures.places start place).1 at)
+
 pub found_at-requires : goal.found_at-requires
 found_at-requires g c = λ place.
     let numbers : ℕ → ℕ → g.row.G-Label.Denot → Type 0 = λ from to label.
     Contains (edges_at nat_cmp c.in_ok-numbered.numbered.edges from)
     (record { to = to; label = label }) in
-    let begins : IsAt c.args.nodes.now c.in-Some.place c.args.start.now =
-    (c.in_ok-numbered.ensures.places c.args.start.now c.in-Some.place).0
-    (sym c.place.ensures ∙ c.in-Some.is) in
+    let begins : IsAt c.args.nodes.now c.place-place.result c.args.start.now =
+    (c.in_ok-numbered.ensures.places c.args.start.now c.place-place.result).0
+    c.place-place.ensures in
     let reached_from : (place < length c.args.nodes.now) ↔ _ =
     IsReachedFrom-numbered (g.G.Labelled.edge c.args.graph.now) (g.G.Labelled.own c.args.graph.now)
     g.G.Labelled.passed c.args.nodes.now c.requires.once numbers c.in_ok-numbered.ensures.edges
-    c.args.start.now c.in-Some.place begins c.requires.all place in (
+    c.args.start.now c.place-place.result begins c.requires.all place in (
       λ has. reached_from.0 (subst (λ (l : List g.row.G-Node.Denot). place < length l)
           c.in_ok-numbered.ensures.nodes
           ((c.in_ok-places.ensures place).0 (subst (λ (l : List ℕ). Contains l place)
@@ -34,16 +43,16 @@ found_at-requires g c = λ place.
           (sym c.in_ok-numbered.ensures.nodes) (reached_from.1 is))),
     )
 
-pub returns-in-Some : goal.returns-in-Some
-returns-in-Some g c =
+pub returns : goal.returns
+returns g c =
     let N : Type 0 = g.row.G-Node.Denot in
     let V : Type 0 = g.row.G-Value.Denot in
     let numbers : ℕ → ℕ → g.row.G-Label.Denot → Type 0 = λ from to label.
     Contains (edges_at nat_cmp c.in_ok-numbered.numbered.edges from)
     (record { to = to; label = label }) in
-    let begins : IsAt c.args.nodes.now c.in-Some.place c.args.start.now =
-    (c.in_ok-numbered.ensures.places c.args.start.now c.in-Some.place).0
-    (sym c.place.ensures ∙ c.in-Some.is) in
+    let begins : IsAt c.args.nodes.now c.place-place.result c.args.start.now =
+    (c.in_ok-numbered.ensures.places c.args.start.now c.place-place.result).0
+    c.place-place.ensures in
     let owned : ℕ → V → Type 0 = λ place value. (node : N) × IsAt c.args.nodes.now place node
     × g.G.Labelled.own c.args.graph.now node value in
     let own_is : (λ (place : ℕ). λ (value : V). (node : N)
@@ -53,33 +62,22 @@ returns-in-Some g c =
     × g.G.Labelled.own (c.in_ok-numbered.ensures.graph j) node value in
     let same = MoreThan-numbered (g.G.Labelled.edge c.args.graph.now)
     (g.G.Labelled.own c.args.graph.now) g.G.Labelled.passed c.args.nodes.now c.requires.once
-    numbers c.in_ok-numbered.ensures.edges c.args.start.now c.in-Some.place begins
+    numbers c.in_ok-numbered.ensures.edges c.args.start.now c.place-place.result begins
     c.requires.all c.args.limit in
     FindsWithin-weaker c.found_at.ensures
     (λ values found. record {
       all = λ value.
           let same_value = IsFound-numbered (g.G.Labelled.edge c.args.graph.now)
           (g.G.Labelled.own c.args.graph.now) g.G.Labelled.passed c.args.nodes.now c.requires.once
-          numbers c.in_ok-numbered.ensures.edges c.args.start.now c.in-Some.place begins
-          c.requires.all c.in-Some.place c.args.start.now begins value in
+          numbers c.in_ok-numbered.ensures.edges c.args.start.now c.place-place.result begins
+          c.requires.all c.place-place.result c.args.start.now begins value in
           let held = subst (λ (o : ℕ → V → Type 0). Contains values.items value
-          ↔ IsFound numbers o g.G.Labelled.passed c.in-Some.place value) own_is
+          ↔ IsFound numbers o g.G.Labelled.passed c.place-place.result value) own_is
           (found.all value) in
           (λ has. same_value.0 (held.0 has), λ is. held.1 (same_value.1 is));
       sorted = found.sorted;
     })
     (λ many. same.0 (subst (λ (o : ℕ → V → Type 0). MoreThan c.args.limit
-    (IsFoundPair numbers o g.G.Labelled.passed c.in-Some.place)) own_is many))
+    (IsFoundPair numbers o g.G.Labelled.passed c.place-place.result)) own_is many))
     (λ many. subst (λ (o : ℕ → V → Type 0). MoreThan c.args.limit
-    (IsFoundPair numbers o g.G.Labelled.passed c.in-Some.place)) (sym own_is) (same.1 many))
-
-pub returns : goal.returns
-returns g c =
-    let start = c.args.start.now in
-    let (place, at) = IsAt-some c.args.nodes.now start
-    ((c.requires.all start).1
-    (IsReached-start (Leads (g.G.Labelled.edge c.args.graph.now)) (start ∷ []) start
-    (Contains-head start []))) in
-    let wrong : None ≡ Some place = sym (sym c.place.ensures ∙ c.in-None.is)
-    ∙ (c.in_ok-numbered.ensures.places start place).1 at in
-    absurd cc
+    (IsFoundPair numbers o g.G.Labelled.passed c.place-place.result)) (sym own_is) (same.1 many))

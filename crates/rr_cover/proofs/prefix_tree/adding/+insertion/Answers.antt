@@ -16,8 +16,8 @@ pub set-returns-then-is_above-clause-root : goal.set-returns-then-is_above-claus
 set-returns-then-is_above-clause-root g t c = λ p side is_p lies rooted. c.set_below.ensures.root p
     side rooted
 
-pub set-returns-in-Ok-clause-stood : goal.set-returns-in-Ok-clause-stood
-set-returns-in-Ok-clause-stood g t c =
+pub set-returns-clause-stood : goal.set-returns-clause-stood
+set-returns-clause-stood g t c =
     sym (missing_above c.args.tree.now (span_of c.args.prefix) c.requires.order
     (sym c.if-is_above.ensures))
 

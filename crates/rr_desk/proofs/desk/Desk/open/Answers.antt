@@ -1,27 +1,32 @@
 use Rattle.std.proofs.Common.{refl}
+use Rattle.std.proofs.lemmas.Result.{err_from_is_err_and}
 use Rattle.rr_desk.specs.Histories.Happens.{opening, no_opening}
 use Rattle.rr_desk.proofs.desk.Desk.open.Goals as goal
 
 pub same-settings : goal.same-settings
 same-settings g c = refl
 
-pub returns-in-Ok-clause-runs : goal.returns-in-Ok-clause-runs
-returns-in-Ok-clause-runs g c = record {
-  running = c.in-Ok.ensures.stock.running;
+pub returns-clause-runs : goal.returns-clause-runs
+returns-clause-runs g c = record {
+  running = c.in_ok-stock.ensures.stock.running;
   settings = refl;
-  of_source = rw (← c.source.ensures.source) c.in-Ok.ensures.stock.of_source;
-  holds = c.in-Ok.ensures.stock.holds;
+  of_source = rw (← c.source.ensures.source) c.in_ok-stock.ensures.stock.of_source;
+  holds = c.in_ok-stock.ensures.stock.holds;
 }
 
-pub returns-in-Ok-clause-opens : goal.returns-in-Ok-clause-opens
-returns-in-Ok-clause-opens g c = c.in-Ok.ensures.opens
+pub returns-clause-opens : goal.returns-clause-opens
+returns-clause-opens g c = c.in_ok-stock.ensures.opens
 
-pub returns-in-Err-clause-fails : goal.returns-in-Err-clause-fails
-returns-in-Err-clause-fails g c = rw (← c.source.ensures.source) c.in-Err.ensures.fails
+pub returns-in_err-stock-clause-fails : goal.returns-in_err-stock-clause-fails
+returns-in_err-stock-clause-fails g c =
+    let exit = err_from_is_err_and c.from_residual.result c.from_residual.ensures.1 in
+    rw (exit.1, exit.2, ← c.source.ensures.source) c.in_err-stock.ensures.fails
 
-pub returns-in-Ok-clause-event : goal.returns-in-Ok-clause-event
-returns-in-Ok-clause-event g c = opening _ _ _ (returns-in-Ok-clause-runs g c)
-    (returns-in-Ok-clause-opens g c)
+pub returns-clause-event : goal.returns-clause-event
+returns-clause-event g c = opening _ _ _ (returns-clause-runs g c) (returns-clause-opens g c)
 
-pub returns-in-Err-clause-event : goal.returns-in-Err-clause-event
-returns-in-Err-clause-event g c = no_opening _ _ _ _ (returns-in-Err-clause-fails g c)
+pub returns-in_err-stock-clause-event : goal.returns-in_err-stock-clause-event
+returns-in_err-stock-clause-event g c =
+    let exit = err_from_is_err_and c.from_residual.result c.from_residual.ensures.1 in
+    let fails = rw (exit.1, exit.2) at (returns-in_err-stock-clause-fails g c) in
+    rw (exit.1, exit.2) (no_opening _ _ _ _ fails)

@@ -7,21 +7,22 @@ pub of-requires : goal.of-requires
 of-requires g c =
     let os = c.args.objects.items in
     let place = rw c.deref.ensures.value at c.in_ok-unnamed.ensures.value in
-    gathered_is_book os c.in-Ok.gathered.items c.in-Ok.ensures
+    gathered_is_book os c.in_ok-gathered.gathered.items c.in_ok-gathered.ensures
     (found_fault os _ (sym c.in-None.is ∙ place))
 
 pub of-requires-in-None : goal.of-requires-in-None
 of-requires-in-None g c =
     let os = c.args.objects.items in
     let place = rw c.deref.ensures.value at c.in_ok-unnamed.ensures.value in
-    subst Sound (sym c.in_ok-of-in-None.ensures) (gathered_is_book os c.in-Ok.gathered.items
-    c.in-Ok.ensures (found_fault os _ (sym c.in-None.is ∙ place))).sound
+    subst Sound (sym c.in_ok-of-in-None.ensures)
+    (gathered_is_book os c.in_ok-gathered.gathered.items c.in_ok-gathered.ensures
+    (found_fault os _ (sym c.in-None.is ∙ place))).sound
 
 pub returns-in-Some-clause-taken : goal.returns-in-Some-clause-taken
 returns-in-Some-clause-taken g c =
     let os = c.args.objects.items in
     let place = rw c.deref.ensures.value at c.in_ok-unnamed.ensures.value in
-    inr (fault_after os c.in-Ok.gathered.items _ c.in-Ok.ensures
+    inr (fault_after os c.in_ok-gathered.gathered.items _ c.in_ok-gathered.ensures
     (found_fault os _ (sym c.in-Some.is ∙ place)))
 
 pub returns-in_ok-of-in-None-clause-taken : goal.returns-in_ok-of-in-None-clause-taken
@@ -29,7 +30,7 @@ returns-in_ok-of-in-None-clause-taken g c =
     let os = c.args.objects.items in
     let place = rw c.deref.ensures.value at c.in_ok-unnamed.ensures.value in
     record {
-      faultless = fault_after os c.in-Ok.gathered.items _ c.in-Ok.ensures
+      faultless = fault_after os c.in_ok-gathered.gathered.items _ c.in_ok-gathered.ensures
           (found_fault os _ (sym c.in-None.is ∙ place));
-      whole = c.of-in-None.ensures ∙ c.in_ok-of-in-None.ensures ∙ c.in-Ok.ensures.whole;
+      whole = c.of-in-None.ensures ∙ c.in_ok-of-in-None.ensures ∙ c.in_ok-gathered.ensures.whole;
     }

@@ -203,9 +203,11 @@ impl<S: Alter> Desk<S> {
         self.stock.registry()
     }
 
-    /// Takes the desk apart and returns its connection, open or shut as it is; the rows stay.
+    /// Takes the desk apart and returns its connection, in no transaction, open or shut as it is;
+    /// the rows stay.
     pub fn close(self) -> IdleConnection<S>
         ensures same { result ≡ self.stock.store }
+        ensures autocommit { result.in_transaction ≡ false }
         ensures event { Happens S.Store (histories.at_desk self) events.closed
             (histories.at_rest result) }
     {

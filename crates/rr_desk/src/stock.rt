@@ -87,9 +87,11 @@ impl<S: Alter> Stock<S> {
         &self.registry
     }
 
-    /// Takes it apart and returns the connection, open or shut as it is; the rows stay.
+    /// Takes it apart and returns the connection, in no transaction, open or shut as it is; the
+    /// rows stay.
     pub fn close(self) -> IdleConnection<S>
-        ensures { result ≡ self.store }
+        ensures same { result ≡ self.store }
+        ensures autocommit { result.in_transaction ≡ false }
     {
         let Stock { store, .. } = self;
         store.close()

@@ -42,8 +42,9 @@ returns-in_err-store-clause-fails g c =
         autocommit = fails.autocommit;
         was_open = fails.was_open;
         kept = fails.kept;
-        crash = grown_commits g.S.Store c.args.settings.now c.args.registry c.args.conn _
-            c.requires (rw (c.root.ensures.root, c.source.ensures.source) at fails.crash);
+        crash = grown_commits g.S.Store c.args.settings.now c.args.registry c.args.conn
+            c.in_err-store.field-0.0.1 c.requires (rw (c.root.ensures.root, c.source.ensures.source)
+            at fails.crash);
       };
       why = λ clean.
           let kept = fails.crash.clean in

@@ -10,3 +10,5 @@ pub mod Enough
 pub mod Runs
 pub mod Numbers
 pub mod Placing
+pub mod Copies
+pub mod Seeing

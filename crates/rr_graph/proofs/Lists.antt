@@ -3,7 +3,7 @@ use Rattle.std.proofs.Common.{◌≡◌, ℕ, ◌+◌, ◌<◌, ◌⊎◌, ◌�
 use Rattle.std.proofs.Common.{take, List, [], ◌∷◌, ◌++◌, map, Contains, IsTrue, Option, None, Some}
 use Rattle.std.proofs.Common.{refl, sym, ap, ◌∙◌, subst, inl, inr, arith}
 use Rattle.std.specs.List.{cons_option, filter, filter_map}
-use Rattle.std.proofs.lemmas.List.{append-nil, take_more}
+use Rattle.std.proofs.lemmas.List.{append-nil, get_or_default, take_more}
 use Rattle.std.proofs.lemmas.List.Elements.{Contains-append_left, Contains-append_right}
 use Rattle.std.proofs.lemmas.List.Elements.{Contains-push, filter_map-append}
 use Rattle.rr_graph.proofs.Listings.{Contains-cons_cases}
@@ -20,6 +20,15 @@ Contains-head x xs = Contains-append_left (x ∷ []) xs x (Contains-push [] x)
 pub Contains-later : {X : Type 0} (x : X) (xs : List X) (y : X) → Contains xs y →
     Contains (x ∷ xs) y
 Contains-later x xs y has = Contains-append_right (x ∷ []) xs y has
+
+-- a thing that stands at a place
+pub thing_at : {X : Type 0} (xs : List X) (place : ℕ) → place < length xs → (x : X)
+    × (x ≡ get_or xs place x)
+thing_at [] place inside = absurd (omega arith)
+thing_at {X} (x ∷ xs) place inside = (
+  get_or (x ∷ xs) place x,
+  get_or_default (x ∷ xs) place x (get_or (x ∷ xs) place x) inside,
+)
 
 -- an element of a mapped list comes from one of the list
 pub Contains-map : {X Y : Type 0} (f : X → Y) (xs : List X) (y : Y) → Contains (map f xs) y

@@ -3,17 +3,17 @@ use Rattle.std.proofs.Common.{suc, ◌≡◌, ℕ, ◌+◌, ◌<◌, ◌⊎◌, 
 use Rattle.std.proofs.Common.{Contains, Option, refl, sym, ap, ◌∙◌, subst, inl, inr, arith}
 use Rattle.std.proofs.Common.{option_and_then}
 use Rattle.std.proofs.lemmas.Bool.{cases_lt}
-use Rattle.std.proofs.lemmas.List.{get_or_default, length_push}
+use Rattle.std.proofs.lemmas.List.{get_or_append_left, get_or_default, get_or_push, length_push}
 use Rattle.std.proofs.lemmas.List.Elements.{All-contains, All-contains_itself, All-weaker}
-use Rattle.std.proofs.lemmas.List.Elements.{Contains-append_left, Contains-push}
 use Rattle.std.proofs.lemmas.List.Elements.{Contains-push_cases}
 use Rattle.rr_graph.specs.Carried.{IsFound, IsFoundPair, IsLabelledChain, IsReachedFrom, Leads}
 use Rattle.rr_graph.specs.Carried.{put_through}
 use Rattle.rr_graph.specs.Chain.{HasNoRepeats, MoreThan}
-use Rattle.rr_graph.specs.NumberedParts.{IsAt}
+use Rattle.rr_graph.specs.Looks.{AreLooks}
+use Rattle.rr_graph.specs.NumberedParts.{AreAllPlaces, IsAt}
 use Rattle.rr_graph.specs.declared.labels.Edge.{Edge}
 use Rattle.rr_graph.proofs.Listings.{Contains-single, HasNoRepeats-push}
-use Rattle.rr_graph.proofs.Lists.{Contains-head, Contains-later, Contains-nil}
+use Rattle.rr_graph.proofs.Lists.{Contains-head, Contains-later, Contains-nil, thing_at}
 use Rattle.rr_graph.proofs.Reached.{IsReached-edge, IsReached-start, IsReached-within}
 
 -- the first of a list without repeats is not among the others
@@ -259,25 +259,47 @@ module _ {N L V : Type 0} (edge : N → N → L → Type 0) (own : N → V → T
         limit,
   )
 
--- no numbers
-pub below_none : (list : List ℕ) → list ≡ [] → (p : ℕ) → Contains list p ↔ (p < 0)
-below_none list none p = (
-  λ has. absurd (Contains-nil p (subst (λ (l : List ℕ). Contains l p) none has)),
-  λ less.
-      absurd (omega arith),
+-- no places
+pub places_none : (list : List ℕ) → list ≡ [] → AreAllPlaces 0 list
+places_none list none = record {
+  long = ap length none;
+  each = λ place other less. absurd (omega arith);
+}
+
+-- one more place
+pub places_more : (n : ℕ) (old new : List ℕ) → new ≡ old ++ n ∷ [] → AreAllPlaces n old →
+    AreAllPlaces (n + 1) new
+places_more n old new is before = record {
+  long = ap length is ∙ length_push old n ∙ ap (λ (m : ℕ). m + 1) before.long;
+  each = λ place other less. rw is (elim (cases_lt place n) [
+    | inl earlier ↦ get_or_append_left old (n ∷ []) other place
+        (subst (λ (m : ℕ). place < m) (sym before.long) earlier) ∙ before.each place other earlier
+    | inr last ↦ let same : n ≡ place = omega arith in
+        get_or_push old n other place (before.long ∙ same) ∙ same
+  ]);
+}
+
+-- all places are listed
+pub Contains-places : (count : ℕ) (places : List ℕ) → AreAllPlaces count places → (place : ℕ) →
+    Contains places place ↔ (place < count)
+Contains-places count places all place = (
+  λ (k, inside, is).
+      let less : k < count = subst (λ (n : ℕ). k < n) all.long inside in
+      subst (λ (p : ℕ). p < count) (sym (all.each k place less) ∙ is) less,
+  λ less. (place, subst (λ (n : ℕ). place < n) (sym all.long) less, all.each place place less),
 )
 
--- one more number
-pub below_more : (n : ℕ) (old new : List ℕ) → new ≡ old ++ n ∷ [] →
-    ((p : ℕ) → Contains old p ↔ (p < n)) → (p : ℕ) → Contains new p ↔ (p < n + 1)
-below_more n old new is before p = (
-  λ has. elim (Contains-push_cases old n p (subst (λ (l : List ℕ). Contains l p) is has)) [
-    | inl earlier ↦ let less : p < n = (before p).0 earlier in omega arith
-    | inr same ↦ omega arith
-  ],
-  λ less. rw is (elim (cases_lt p n) [
-    | inl earlier ↦ Contains-append_left old (n ∷ []) p ((before p).1 earlier)
-    | inr last ↦ let same : n ≡ p = omega arith in subst (Contains (old ++ n ∷ [])) same
-        (Contains-push old n)
-  ]),
-)
+-- what stands at the places of a list is what stands at the places of its nodes
+pub looks_at_places : {N S : Type 0} (Given : N → S → Type 0) (nodes : List N) (seen : List S)
+    (places : List ℕ) → AreLooks Given nodes seen → AreAllPlaces (length nodes) places →
+    AreLooks (λ (place : ℕ). λ (s : S). (n : N) × IsAt nodes place n × Given n s) places seen
+looks_at_places {N} {S} Given nodes seen places looks all = record {
+  long = looks.long ∙ sym all.long;
+  each = λ place other s inside.
+      let less : place < length nodes = subst (λ (n : ℕ). place < n) all.long inside in
+      let (node, is) = thing_at nodes place less in (
+        node,
+        subst (λ (k : ℕ). IsAt nodes k node) (sym (all.each place other less)) (less, is),
+        subst (λ (n : N). Given n (get_or seen place s)) (sym is) (looks.each place node s less),
+      );
+}

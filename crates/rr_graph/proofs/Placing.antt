@@ -8,10 +8,9 @@ use Rattle.std.specs.Global.{Vec}
 use Rattle.std.specs.List.{filter_map}
 use Rattle.std.specs.Option.{option_map, option_map_or}
 use Rattle.std.specs.Map.{lookup}
-use Rattle.std.specs.Ordering.{nat_cmp}
 use Rattle.std.proofs.lemmas.Bool.{cases_Bool, cases_lt, true≢false}
 use Rattle.std.proofs.lemmas.Cmp.{eq_by_cmp_equiv}
-use Rattle.std.proofs.lemmas.Map.Lookups.{CmpEqualImpliesEq, exact_unsigned}
+use Rattle.std.proofs.lemmas.Map.Lookups.{CmpEqualImpliesEq}
 use Rattle.std.proofs.lemmas.Map.Views.{tells_apart}
 use Rattle.rr_graph.specs.Chain.{HasNoRepeats}
 use Rattle.rr_graph.specs.NumberedParts.{IsAt, IsPlaced, placed_edge}
@@ -81,7 +80,7 @@ module _ {N : Type 0} {cmp : N → N → Ordering} (order : IsTotalOrder cmp)
 module _ {N L : Type 0} (edge : N → N → L → Type 0) (nodes : List N) (place_of : N → Option ℕ)
     (placed : IsPlaced nodes place_of) where
   -- the edges of one node with the places of their ends
-  Contains-placed : (node : N) (edges : List (Edge N L)) (list : List (Edge ℕ L)) →
+  pub Contains-placed : (node : N) (edges : List (Edge N L)) (list : List (Edge ℕ L)) →
       ((to : N) (label : L) → Contains edges (record { to = to; label = label }) ↔ edge node to
       label) → list ≡ filter_map (placed_edge place_of) edges → (to : ℕ) (label : L) →
       Contains list (record { to = to; label = label })
@@ -116,71 +115,6 @@ module _ {N L : Type 0} (edge : N → N → L → Type 0) (nodes : List N) (plac
           ap (option_map (λ (place : ℕ). record { to = place; label = label }))
               ((placed head to).1 at),
         ))
-
-  -- one more node with its edges
-  pub IsNumbered-more : IsTotalOrder nat_cmp → (i : ℕ) (node : N) (edges : List (Edge N L))
-      (list : List (Edge ℕ L)) (old new : ℕ → List (Edge ℕ L)) → i < length nodes →
-      node ≡ get_or nodes i node →
-      ((to : N) (label : L) → Contains edges (record { to = to; label = label }) ↔ edge node to
-      label) → list ≡ filter_map (placed_edge place_of) edges →
-      ((from to : ℕ) (label : L) → Contains (old from) (record { to = to; label = label })
-      ↔ ((from < i) × ((tail head : N) × IsAt nodes from tail × IsAt nodes to head × edge tail head
-      label))) → ((q : ℕ) → new q ≡ cond (is_at (nat_cmp i) q) list (old q)) →
-      (from to : ℕ) (label : L) → Contains (new from) (record { to = to; label = label })
-      ↔ ((from < i + 1) × ((tail head : N) × IsAt nodes from tail × IsAt nodes to head
-      × edge tail head label))
-  IsNumbered-more order i node edges list old new inside is leave made before step from to label =
-      (on, back) where
-        asked : Edge ℕ L
-        asked = record { to = to; label = label }
-
-        on : Contains (new from) asked → (from < i + 1) × ((tail head : N) × IsAt nodes from tail
-            × IsAt nodes to head × edge tail head label)
-        on has = elim (cases_Bool (is_at (nat_cmp i) from)) [
-          | inl same ↦
-              let it : i ≡ from = tells_apart exact_unsigned i from same in
-              let (head, at, leads) = (Contains-placed node edges list leave made to label).0
-              (subst (λ (l : List (Edge ℕ L)). Contains l asked)
-              (step from ∙ ap (λ b. cond b list (old from)) same) has) in (
-                omega arith,
-                (
-                  node,
-                  head,
-                  subst (λ (k : ℕ). IsAt nodes k node) it (inside, is),
-                  at,
-                  leads,
-                ),
-              )
-          | inr other ↦ let r = (before from to label).0
-              (subst (λ (l : List (Edge ℕ L)). Contains l asked)
-              (step from ∙ ap (λ b. cond b list (old from)) other) has) in (omega arith, r.1)
-        ]
-
-        back : (from < i + 1) × ((tail head : N) × IsAt nodes from tail × IsAt nodes to head
-            × edge tail head label) → Contains (new from) asked
-        back (few, (tail, head, at_tail, at_head, leads)) =
-            elim (cases_Bool (is_at (nat_cmp i) from)) [
-              | inl same ↦
-                  let it : i ≡ from = tells_apart exact_unsigned i from same in
-                  let alike : tail ≡ node = IsAt-one nodes i tail node
-                  (subst (λ (k : ℕ). IsAt nodes k tail) (sym it) at_tail) (inside, is) in
-                  subst (λ (l : List (Edge ℕ L)). Contains l asked)
-                  (sym (step from ∙ ap (λ b. cond b list (old from)) same))
-                  ((Contains-placed node edges list leave made to label).1
-                  (head, at_head, subst (λ (n : N). edge n head label) alike leads))
-              | inr other ↦ subst (λ (l : List (Edge ℕ L)). Contains l asked)
-                  (sym (step from ∙ ap (λ b. cond b list (old from)) other))
-                  (elim (cases_lt from i) [
-                    | inl earlier ↦ (before from to label).1
-                        (earlier, (tail, head, at_tail, at_head, leads))
-                    | inr last ↦
-                        let it : i ≡ from = omega arith in
-                        absurd
-                        (true≢false
-                        (sym (subst (λ (k : ℕ). is_at (nat_cmp i) k ≡ true) it
-                        ((eq_by_cmp_equiv order).refl i)) ∙ other))
-                  ])
-            ]
 
 -- an empty map has nothing
 pub get_none : {K X : Type 0} (cmp : K → K → Ordering) (map : BTreeMap K X) → map.entries ≡ [] →

@@ -4,7 +4,10 @@ use Rattle.std.specs.Prelude.{◌≡◌, ◌↔◌, List, Contains, IfOk, OnOk, 
 use Rattle.std.specs.List.Sorted.{IsStrictlySortedBy}
 use Rattle.std.specs.declared.cmp.Ordering.{Ordering}
 use Rattle.std.proofs.lemmas.Map.Lookups.{CmpEqualImpliesEq}
+use Rattle.rr_graph.specs.Chain.{AreReached}
+use Rattle.rr_graph.specs.Looks.{AreLooks}
 use Rattle.rr_graph.specs.declared.ReachFault.{ReachFault}
+use Rattle.rr_graph.specs.declared.Visits.{Visits}
 use Rattle.rr_graph.specs.declared.ReachFault.TheVariants.{TooMany}
 
 -- A search gives a whole result, which is all that was looked for, or the fault `TooMany` exactly
@@ -15,6 +18,13 @@ pub record FindsWithin {X : Type 0} (IsWhole : X → Type 0) (GoesOver : Type 0)
   pub found : IfOk result IsWhole
   pub few : OnOk result (¬ GoesOver)
   pub many : result ≡ Err TooMany → GoesOver
+
+-- The nodes of a walk are those to which chains lead from the starts, each listed once, and its
+-- looks are those at these nodes. (profile)
+pub record IsWalk {N K : Type 0} (edge : N → N → Type 0) (Shows : N → K → Type 0)
+    (starts : List N) (visits : Visits N K) : Type 0 where
+  pub nodes : AreReached edge starts visits.nodes.items
+  pub looks : AreLooks Shows visits.nodes.items visits.looks.items
 
 -- The list has exactly the things that have the property, each once, in ascending order (profile).
 pub record ListsInOrder {X : Type 0} (cmp : X → X → Ordering) (P : X → Type 0) (list : List X)

@@ -6,6 +6,7 @@ use Rattle.std.specs.Prelude.{Contains, Some, option_and_then}
 use Rattle.std.specs.declared.cmp.Ordering.{Ordering}
 use Rattle.rr_graph.specs.Answered.{ListsInOrder}
 use Rattle.rr_graph.specs.Chain.{AreReached, IsReached, MoreThan}
+use Rattle.rr_graph.specs.Looks.{AreLooks}
 use Rattle.rr_graph.specs.declared.gathering.NodesAndValues.{NodesAndValues}
 use Rattle.rr_graph.specs.declared.labels.Edge.{Edge}
 
@@ -64,9 +65,10 @@ module _ {N L V : Type 0} (edge : N → N → L → Type 0) (own : N → V → T
   IsTooMany limit start = MoreThan limit (IsReachedFrom edge start) ⊎ HasManyPairs limit start
 
   -- What is gathered at the start: the nodes to which chains of edges lead from it, itself among
-  -- them, each listed once; and the values that are found at it, each once, in ascending order.
-  -- (profile)
-  pub record IsGatheredFrom (cmp : V → V → Ordering) (start : N) (gathered : NodesAndValues N V)
-      : Type 0 where
+  -- them, each listed once; the looks at these nodes; and the values that are found at it, each
+  -- once, in ascending order. (profile)
+  pub record IsGatheredFrom {K : Type 0} (Shows : N → K → Type 0) (cmp : V → V → Ordering)
+      (start : N) (gathered : NodesAndValues N K V) : Type 0 where
     pub nodes : AreMetFrom edge start gathered.nodes.items
+    pub looks : AreLooks Shows gathered.nodes.items gathered.looks.items
     pub values : ListsInOrder cmp (IsFound start) gathered.values.items

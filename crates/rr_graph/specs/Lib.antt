@@ -1,5 +1,6 @@
 pub mod Answered
 pub mod Chain
+pub mod Looks
 pub mod Carried
 pub mod ListingParts
 pub mod EffectParts

@@ -4,6 +4,7 @@
 ghost use Rattle.std.specs.Prelude.{◌≡◌, [], ◌∷◌, ◌++◌, OnOk, IfOk};
 ghost use Rattle.std.specs.Prelude.{if◌then◌else◌};
 ghost use Rattle.std.specs.BTreeMap.{is_at};
+ghost use Rattle.rr_graph.specs.Looks.{AreLooks};
 ghost use Rattle.rr_graph.specs.ReversedParts.{edges_at, AddsBackward, IsBackward};
 
 use crate::labels::{Edge, Labelled};
@@ -70,18 +71,21 @@ impl<N: Ord + Drop, L: Copy + Drop> Backward<N, L> {
     }
 }
 
-/// The edges that leave one of the nodes.
+/// The edges that leave one of the nodes; `looks` are those at the nodes.
 pub(crate) fn reversed<G: Labelled>(
     alloc: Global,
     graph: &G,
     nodes: &[G::Node],
+    looks: &[G::Look],
 ) -> Result<Backward<G::Node, G::Label>, AllocError>
+    requires { AreLooks (G.shows graph.now) nodes.now looks.now }
     ensures { IfOk result
         (λ backward. IsBackward (G.edge graph.now) nodes.now (edges_at G.Node.cmp backward.map)) }
 {
     let mut backward = Backward::new(alloc);
-    for tail in nodes {
-        backward.add_all(alloc, graph, tail, graph.edges(alloc, tail)?)?;
+    for (place, tail) in nodes.iter().enumerate() {
+        let edges = graph.edges(alloc, tail, &looks[place])?;
+        backward.add_all(alloc, graph, tail, edges)?;
     }
     Ok(backward)
 }

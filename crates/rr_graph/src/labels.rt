@@ -15,11 +15,21 @@ pub struct Edge<N, L> {
     pub label: L,
 }
 
+/// What a look at a node of a labelled graph found, and the edges that leave the node.
+#[derive(Drop)]
+pub(crate) struct Seen<N, L, K> {
+    pub(crate) look: K,
+    pub(crate) edges: Vec<Edge<N, L>>,
+}
+
 /// A directed graph whose edges carry labels. Nodes have values of their own, and a label makes a
 /// value into another or drops it.
 pub trait Labelled {
     /// A node. Two nodes compare `Equal` only where they are the same.
     type Node: Ord + Drop;
+
+    /// What a look at a node finds.
+    type Look: Drop;
 
     /// A label of an edge.
     type Label: Copy + Drop;
@@ -34,6 +44,9 @@ pub trait Labelled {
     /// What else decides what such a label makes of a value, such as the prefix of a range. Two
     /// groups compare `Equal` only where they are the same.
     type Group: Ord + Copy + Drop;
+
+    /// A look at the node may find this.
+    ghost shows: { Self → Self.Node → Self.Look → Type 0 };
 
     /// An edge with this label leads from the first node to the second.
     ghost edge: { Self → Self.Node → Self.Node → Self.Label → Type 0 };
@@ -55,19 +68,28 @@ pub trait Labelled {
     ghost group_of: { Self.Value → Self.Group };
 
     /// Lists exactly the edges that leave the node, in any order, where one may come more than
-    /// once; the error is that memory ran out. `gather` keeps to the steps that it states if those
-    /// to one node stand side by side, which no clause asks.
+    /// once; the error is that memory ran out. `look` is what a look at the node found. `gather`
+    /// keeps to the steps that it states if those to one node stand side by side, which no clause
+    /// asks.
     fn edges(
         &self,
         alloc: Global,
         node: &Self::Node,
+        look: &Self::Look,
     ) -> Result<Vec<Edge<Self::Node, Self::Label>>, AllocError>
+        requires { shows self.now node.now look.now }
         ensures { IfOk result (λ edges. (to : Self.Node) (label : Self.Label) → Contains
             edges.items (record { to = to; label = label }) ↔ edge self.now node.now to label) };
 
     /// Lists exactly the values that the node has by itself, in any order, where one may come more
-    /// than once; the error is that memory ran out.
-    fn values(&self, alloc: Global, node: &Self::Node) -> Result<Vec<Self::Value>, AllocError>
+    /// than once; the error is that memory ran out. `look` is what a look at the node found.
+    fn values(
+        &self,
+        alloc: Global,
+        node: &Self::Node,
+        look: &Self::Look,
+    ) -> Result<Vec<Self::Value>, AllocError>
+        requires { shows self.now node.now look.now }
         ensures { IfOk result (λ values. (value : Self.Value)
             → Contains values.items value ↔ own self.now node.now value) };
 
@@ -115,4 +137,11 @@ pub trait Labelled {
     /// A label that changes values does the same to all values of one kind and group.
     ghost same: { (l : Self.Label) (v w : Self.Value) → keeps l ≡ false → kind_of v ≡ kind_of w
         → group_of v ≡ group_of w → passed l v ≡ passed l w };
+}
+
+/// A labelled graph whose nodes can be looked at: what `gather` goes through.
+pub trait LabelledGraph: Labelled {
+    /// Looks at the node; the error is that memory ran out.
+    fn look(&self, alloc: Global, node: &Self::Node) -> Result<Self::Look, AllocError>
+        ensures { IfOk result (λ look. Self.shows self.now node.now look) };
 }

@@ -2,10 +2,10 @@
 //! them, over any graph whose edges can be listed: for the expansion of sets in `rr_sets`.
 #![tactic(auto)]
 
-ghost use Rattle.std.specs.Prelude.{◌≡◌, ◌↔◌, Contains, IfOk};
+ghost use Rattle.std.specs.Prelude.{◌≡◌, ◌↔◌, ◌∷◌, [], Contains, IfOk, map};
 ghost use Rattle.std.proofs.lemmas.Map.Lookups.{CmpEqualImpliesEq};
-ghost use Rattle.rr_graph.specs.Answered.{FindsWithin};
-ghost use Rattle.rr_graph.specs.Chain.{AreReached, IsReached, MoreThan};
+ghost use Rattle.rr_graph.specs.Answered.{FindsWithin, IsWalk};
+ghost use Rattle.rr_graph.specs.Chain.{IsReached, MoreThan};
 
 mod backward;
 mod descent;
@@ -20,24 +20,15 @@ mod settling;
 mod walk;
 
 pub use gathering::{NodesAndValues, gather};
-pub use labels::{Edge, Labelled};
+pub use labels::{Edge, Labelled, LabelledGraph};
 pub use order::{ascending, put_in_order};
 use std::alloc::{AllocError, AllocFailed, Global};
 use walk::FoundNodes;
 
-/// A directed graph whose successors can be listed.
-pub trait Graph {
+/// Nodes, of which equal ones can be made.
+pub trait Nodes {
     /// A node. Two nodes compare `Equal` only where they are the same.
     type Node: Ord + Drop;
-
-    /// An edge leads from the first node to the second.
-    ghost edge: { Self → Self.Node → Self.Node → Type 0 };
-
-    /// Lists exactly the nodes to which an edge leads from `node`, in any order, where one may come
-    /// more than once; the error is that memory ran out.
-    fn successors(&self, alloc: Global, node: &Self::Node) -> Result<Vec<Self::Node>, AllocError>
-        ensures { IfOk result (λ nodes. (next : Self.Node)
-            → Contains nodes.items next ↔ edge self.now node.now next) };
 
     /// Makes an equal node; the error is that memory ran out.
     fn copy(&self, alloc: Global, node: &Self::Node) -> Result<Self::Node, AllocError>
@@ -45,6 +36,42 @@ pub trait Graph {
 
     /// Nodes that compare `Equal` are the same.
     ghost exact: { CmpEqualImpliesEq Self.Node.cmp };
+}
+
+/// A directed graph. A look at a node finds what its successors are listed from.
+pub trait Graph: Nodes {
+    /// What a look at a node finds.
+    type Look: Drop;
+
+    /// An edge leads from the first node to the second.
+    ghost edge: { Self → Self.Node → Self.Node → Type 0 };
+
+    /// A look at the node may find this.
+    ghost shows: { Self → Self.Node → Self.Look → Type 0 };
+
+    /// Looks at the node; the error is that memory ran out.
+    fn look(&self, alloc: Global, node: &Self::Node) -> Result<Self::Look, AllocError>
+        ensures { IfOk result (λ look. shows self.now node.now look) };
+
+    /// Lists exactly the nodes to which an edge leads from the node that was looked at, in any
+    /// order, where one may come more than once; the error is that memory ran out.
+    fn successors<'l>(
+        &self,
+        alloc: Global,
+        look: &'l Self::Look,
+    ) -> Result<Vec<&'l Self::Node>, AllocError>
+        ensures { IfOk result (λ nodes. (node : Self.Node) → shows self.now node look.now
+            → (next : Self.Node) → Contains (map (λ n. n.now) nodes.items) next
+            ↔ edge self.now node next) };
+}
+
+/// What a walk visits: `reach` makes it, as its fields say.
+#[derive(Drop)]
+pub struct Visits<N, K> {
+    /// The nodes, each once, in no promised order.
+    pub nodes: Vec<N>,
+    /// What the look at each node found, at the place of the node.
+    pub looks: Vec<K>,
 }
 
 /// Why what is reached is not listed.
@@ -81,28 +108,41 @@ impl<T: Drop> From<AllocFailed<T>> for ReachFault {
     }
 }
 
-/// Lists each node that a chain of edges leads to from one of `starts`, the starts themselves
-/// included, once and in no promised order. No other node is listed. It takes O((V + E) log V)
-/// steps for V nodes reached and E edges between them; no clause says so.
+/// Lists each node that a chain of edges leads to from `start`, the start itself included, once and
+/// in no promised order, and what a look at it found. No other node is listed. `look` is what a
+/// look at the start found.
+///
+/// Each other node is looked at once, when the walk turns to it, and successors are listed once of
+/// each look. It takes O((V + E) log V) steps for V nodes reached and E edges between them. No
+/// clause says so.
 ///
 /// The fault is `TooMany` exactly where more than `limit` nodes are reached, unless memory runs
 /// out; when it does, no clause says.
 pub fn reach<G: Graph>(
     alloc: Global,
     graph: &G,
-    starts: Vec<G::Node>,
+    start: G::Node,
+    look: G::Look,
     limit: usize,
-) -> Result<Vec<G::Node>, ReachFault>
-    ensures { FindsWithin (λ nodes. AreReached (G.edge graph.now) starts.items nodes.items)
-        (MoreThan limit (IsReached (G.edge graph.now) starts.items)) result }
+) -> Result<Visits<G::Node, G::Look>, ReachFault>
+    requires { G.shows graph.now start look }
+    ensures { FindsWithin (IsWalk (G.edge graph.now) (G.shows graph.now) (start ∷ []))
+        (MoreThan limit (IsReached (G.edge graph.now) (start ∷ []))) result }
 {
     let mut found = FoundNodes::new(alloc);
-    found.add_all(alloc, graph, starts, limit)?;
-    let mut done = 0;
+    found.add(alloc, graph, start, limit)?;
+    found.add_copies(alloc, graph, &graph.successors(alloc, &look)?, limit)?;
+    let mut looks = Vec::new(alloc);
+    looks.push(look)?;
+    let mut done = 1;
     while done < found.list.len() {
-        let nodes = graph.successors(alloc, &found.list[done])?;
-        found.add_all(alloc, graph, nodes, limit)?;
+        let look = graph.look(alloc, &found.list[done])?;
+        found.add_copies(alloc, graph, &graph.successors(alloc, &look)?, limit)?;
+        looks.push(look)?;
         done += 1;
     }
-    Ok(found.into_list())
+    Ok(Visits {
+        nodes: found.into_list(),
+        looks,
+    })
 }

@@ -1,20 +1,21 @@
 //! A labelled graph whose nodes are numbers, as `gathering` makes it of any other.
 
-ghost use Rattle.std.specs.Prelude.{◌≡◌, ◌<◌, ◌↔◌, ℕ, Contains, IfOk, Some, length};
+ghost use Rattle.std.specs.Prelude.{◌≡◌, IfOk, Some, length};
 ghost use Rattle.std.specs.BTreeMap.{get, ContainsKey};
 ghost use Rattle.std.specs.List.{filter_map};
 ghost use Rattle.std.specs.Ordering.{nat_cmp};
 ghost use Rattle.rr_graph.specs.Chain.{HasNoRepeats};
-ghost use Rattle.rr_graph.specs.NumberedParts.{IsNumbered, IsPlaced, placed_edge};
+ghost use Rattle.rr_graph.specs.Looks.{AreLooks};
+ghost use Rattle.rr_graph.specs.NumberedParts.{AreAllPlaces, ArePlaced, IsNumbered, IsPlaced};
+ghost use Rattle.rr_graph.specs.NumberedParts.{IsSeen, placed_edge};
 ghost use Rattle.rr_graph.specs.ReversedParts.{edges_at};
 
-use crate::labels::{Edge, Labelled};
+use crate::labels::{Edge, Labelled, Seen};
 use std::alloc::{AllocError, Global};
 use std::collections::BTreeMap;
 
-/// A labelled graph by the places of its nodes in a list. The edges of each node are listed once,
-/// and from then on nodes are compared and copied as numbers, which is what most of a walk consists
-/// of.
+/// A labelled graph by the places of its nodes in a list, and what was seen at these. From then on
+/// nodes are compared and copied as numbers, which is what most of a walk consists of.
 #[derive(Drop)]
 pub(crate) struct Numbered<'a, G: Labelled> {
     graph: &'a G,
@@ -27,10 +28,12 @@ impl<G: Labelled> Labelled for Numbered<'_, G> {
     ghost use Rattle.std.specs.Prelude.{Contains};
     ghost use Rattle.std.specs.Ordering.{nat_cmp};
     ghost use Rattle.std.proofs.lemmas.Map.Lookups.{exact_unsigned};
-    ghost use Rattle.rr_graph.specs.NumberedParts.{IsAt};
+    ghost use Rattle.rr_graph.specs.NumberedParts.{IsAt, IsSeen};
     ghost use Rattle.rr_graph.specs.ReversedParts.{edges_at};
 
     type Node = u32;
+
+    type Look = Seen<G::Node, G::Label, G::Look>;
 
     type Label = G::Label;
 
@@ -39,6 +42,9 @@ impl<G: Labelled> Labelled for Numbered<'_, G> {
     type Kind = G::Kind;
 
     type Group = G::Group;
+
+    ghost shows = { λ s place seen. (node : G.Node) × IsAt s.nodes.now place node
+        × IsSeen (G.edge s.graph.now) (G.shows s.graph.now) node seen };
 
     ghost edge = { λ s from to label. Contains (edges_at nat_cmp s.edges from)
         (record { to = to; label = label }) };
@@ -68,13 +74,23 @@ impl<G: Labelled> Labelled for Numbered<'_, G> {
 
     ghost same = { G.same };
 
-    fn edges(&self, alloc: Global, place: &u32) -> Result<Vec<Edge<u32, G::Label>>, AllocError> {
+    fn edges(
+        &self,
+        alloc: Global,
+        place: &u32,
+        _seen: &Seen<G::Node, G::Label, G::Look>,
+    ) -> Result<Vec<Edge<u32, G::Label>>, AllocError> {
         copies(alloc, self.leaving(*place))
     }
 
-    fn values(&self, alloc: Global, place: &u32) -> Result<Vec<G::Value>, AllocError> {
+    fn values(
+        &self,
+        alloc: Global,
+        place: &u32,
+        seen: &Seen<G::Node, G::Label, G::Look>,
+    ) -> Result<Vec<G::Value>, AllocError> {
         match self.nodes.get(*place as usize) {
-            Some(node) => self.graph.values(alloc, node),
+            Some(node) => self.graph.values(alloc, node, &seen.look),
             None => Ok(Vec::new(alloc)),
         }
     }
@@ -101,9 +117,17 @@ impl<G: Labelled> Labelled for Numbered<'_, G> {
 }
 
 impl<'a, G: Labelled> Numbered<'a, G> {
-    /// The graph by the places of the nodes, without edges to other nodes.
-    pub(crate) fn new(alloc: Global, graph: &'a G, nodes: &'a [G::Node]) -> Result<Self, AllocError>
-        requires { HasNoRepeats nodes.now }
+    /// The graph by the places of the nodes, without edges to other nodes; `seen` is what was seen
+    /// at each.
+    pub(crate) fn new(
+        alloc: Global,
+        graph: &'a G,
+        nodes: &'a [G::Node],
+        seen: &'a [Seen<G::Node, G::Label, G::Look>],
+    ) -> Result<Self, AllocError>
+        requires once { HasNoRepeats nodes.now }
+        requires seen { AreLooks (IsSeen (G.edge graph.now) (G.shows graph.now)) nodes.now
+            seen.now }
         ensures graph { IfOk result (λ numbered. numbered.graph.now ≡ graph.now) }
         ensures nodes { IfOk result (λ numbered. numbered.nodes.now ≡ nodes.now) }
         ensures places { IfOk result
@@ -112,7 +136,7 @@ impl<'a, G: Labelled> Numbered<'a, G> {
             (edges_at nat_cmp numbered.edges)) }
     {
         let places = places(alloc, graph, nodes)?;
-        let edges = edges(alloc, graph, nodes, &places)?;
+        let edges = edges(alloc, seen, &places)?;
         Ok(Numbered {
             graph,
             nodes,
@@ -146,10 +170,10 @@ impl<'a, G: Labelled> Numbered<'a, G> {
         }
     }
 
-    /// All places.
+    /// All places, in order.
     pub(crate) fn all(&self, alloc: Global) -> Result<Vec<u32>, AllocError>
-        ensures { IfOk result (λ places. (place : ℕ)
-            → Contains places.items place ↔ (place < length self.now.nodes.now)) }
+        ensures { IfOk result
+            (λ places. AreAllPlaces (length self.now.nodes.now) places.items) }
     {
         let mut places = Vec::new(alloc);
         for place in 0..self.nodes.len() {
@@ -186,21 +210,18 @@ fn places<G: Labelled>(
     Ok(places)
 }
 
-/// The edges of each node that lead to nodes which have places, under its own place.
-fn edges<G: Labelled>(
+/// The edges that were seen to lead to nodes which have places, under the place of what was seen.
+fn edges<N: Ord + Drop, L: Copy + Drop, K>(
     alloc: Global,
-    graph: &G,
-    nodes: &[G::Node],
-    places: &BTreeMap<G::Node, u32>,
-) -> Result<BTreeMap<u32, Vec<Edge<u32, G::Label>>>, AllocError>
-    requires { IsPlaced nodes.now (get G.Node.cmp places.now) }
+    seen: &[Seen<N, L, K>],
+    places: &BTreeMap<N, u32>,
+) -> Result<BTreeMap<u32, Vec<Edge<u32, L>>>, AllocError>
     ensures { IfOk result
-        (λ edges. IsNumbered (G.edge graph.now) nodes.now (edges_at nat_cmp edges)) }
+        (λ edges. ArePlaced (get N.cmp places.now) seen.now (edges_at nat_cmp edges)) }
 {
     let mut all = BTreeMap::new(alloc);
-    for (place, node) in nodes.iter().enumerate() {
-        let edges = graph.edges(alloc, node)?;
-        all.insert(narrow(place)?, placed(alloc, &edges, places)?)?;
+    for (place, seen) in seen.iter().enumerate() {
+        all.insert(narrow(place)?, placed(alloc, &seen.edges, places)?)?;
     }
     Ok(all)
 }

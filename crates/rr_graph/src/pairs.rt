@@ -4,6 +4,7 @@
 ghost use Rattle.std.specs.Prelude.{◌≡◌, ◌↔◌, ◌++◌, Contains, IfOk, OnOk, map};
 ghost use Rattle.rr_graph.specs.Answered.{FindsWithin};
 ghost use Rattle.rr_graph.specs.Chain.{IsReached, MoreThan};
+ghost use Rattle.rr_graph.specs.Looks.{AreLooks};
 ghost use Rattle.std.specs.BTreeMap.{get};
 ghost use Rattle.std.specs.BTreeSet.{contains};
 ghost use Rattle.rr_graph.specs.EffectParts.{AddsAtMost, AreChoices, IsMadeBut};
@@ -14,7 +15,7 @@ use crate::backward::Backward;
 use crate::effects::{EdgesTo, Effects, carried};
 use crate::labels::Labelled;
 use crate::walk::FoundNodes;
-use crate::{Graph, ReachFault};
+use crate::{Nodes, ReachFault};
 use std::alloc::{AllocError, Global};
 
 /// The pairs of a node and a value. An edge leads from a pair to that of a node from which the
@@ -25,20 +26,10 @@ pub(crate) struct Pairs<'a, G: Labelled> {
     pub(crate) backward: &'a Backward<G::Node, G::Label>,
 }
 
-impl<G: Labelled> Graph for Pairs<'_, G> {
+impl<G: Labelled> Nodes for Pairs<'_, G> {
     type Node = (G::Node, G::Value);
 
-    ghost edge = { λ s. LeadsBack G.passed (edges_at G.Node.cmp s.backward.now.map) };
-
     ghost exact = { exact_pairs G.Node.cmp G.Value.cmp G.exact_nodes G.exact_values };
-
-    fn successors(
-        &self,
-        alloc: Global,
-        pair: &(G::Node, G::Value),
-    ) -> Result<Vec<(G::Node, G::Value)>, AllocError> {
-        carried(alloc, self.graph, self.backward.at(&pair.0), pair.1)
-    }
 
     fn copy(
         &self,
@@ -114,18 +105,20 @@ pub(crate) fn reach_back<G: Labelled>(
     Ok(found.into_list())
 }
 
-/// The pairs of one of the nodes and a value that it has by itself.
+/// The pairs of one of the nodes and a value that it has by itself; `looks` are those at the nodes.
 pub(crate) fn own_pairs<G: Labelled>(
     alloc: Global,
     graph: &G,
     nodes: &[G::Node],
+    looks: &[G::Look],
 ) -> Result<Vec<(G::Node, G::Value)>, AllocError>
+    requires { AreLooks (G.shows graph.now) nodes.now looks.now }
     ensures { IfOk result
         (λ pairs. (p : _) → Contains pairs.items p ↔ IsOwnPair (G.own graph.now) nodes.now p) }
 {
     let mut pairs = Vec::new(alloc);
-    for node in nodes {
-        let values = graph.values(alloc, node)?;
+    for (place, node) in nodes.iter().enumerate() {
+        let values = graph.values(alloc, node, &looks[place])?;
         add_own(alloc, graph, &mut pairs, node, &values)?;
     }
     Ok(pairs)

@@ -9,6 +9,7 @@ ghost use Rattle.std.proofs.lemmas.Map.Lookups.{CmpEqualImpliesEq};
 ghost use Rattle.rr_graph.specs.Answered.{ListsInOrder};
 ghost use Rattle.rr_graph.specs.Carried.{IsFound};
 ghost use Rattle.rr_graph.specs.Chain.{MoreThan};
+ghost use Rattle.rr_graph.specs.Looks.{AreLooks};
 ghost use Rattle.rr_graph.specs.SettledParts.{IsAmong, IsFoundAmong, IsKnownValueOr, IsMade};
 ghost use Rattle.rr_graph.specs.SettledParts.{HoldsAllValues, IsPassed, IsRun};
 ghost use Rattle.rr_graph.specs.SettledParts.{IsTallied, values_at};
@@ -20,10 +21,11 @@ use crate::order::put_in_order;
 use crate::settled::Settled;
 use std::alloc::{AllocError, Global};
 
-/// Nodes, and in which order of their places they are looked at.
+/// Nodes, the looks at these, and in which order of their places they are settled.
 #[derive(Drop)]
-pub(crate) struct Ordered<'a, N> {
+pub(crate) struct Ordered<'a, N, K> {
     pub(crate) nodes: &'a [N],
+    pub(crate) looks: &'a [K],
     pub(crate) order: &'a [u32],
 }
 
@@ -34,9 +36,10 @@ pub(crate) struct Ordered<'a, N> {
 pub(crate) fn settled<G: Labelled>(
     alloc: Global,
     graph: &G,
-    ordered: &Ordered<'_, G::Node>,
+    ordered: &Ordered<'_, G::Node, G::Look>,
     limit: usize,
 ) -> Result<Settled<G>, ReachFault>
+    requires { AreLooks (G.shows graph.now) ordered.now.nodes.now ordered.now.looks.now }
     ensures settled { IfOk result (λ settled. HoldsAllValues (G.edge graph.now)
         (G.own graph.now) G.passed G.Value.cmp (values_at G.Node.cmp settled.values)) }
     ensures among { IfOk result
@@ -50,21 +53,25 @@ pub(crate) fn settled<G: Labelled>(
     let mut settled = Settled::new(alloc);
     for place in ordered.order {
         if let Some(node) = ordered.nodes.get(*place as usize) {
-            settle(alloc, graph, &mut settled, node, limit)?;
+            let look = &ordered.looks[*place as usize];
+            settle(alloc, graph, &mut settled, node, look, limit)?;
         }
     }
     Ok(settled)
 }
 
-/// Settles the node, unless it is settled, or a node to which its edges lead is not. No other node
-/// becomes settled. `TooMany` says that with its values more than `limit` pairs would be held.
+/// Settles the node, unless it is settled, or a node to which its edges lead is not; `look` is what
+/// a look at it found. No other node becomes settled. `TooMany` says that with its values more than
+/// `limit` pairs would be held.
 fn settle<G: Labelled>(
     alloc: Global,
     graph: &G,
     settled: &mut Settled<G>,
     node: &G::Node,
+    look: &G::Look,
     limit: usize,
 ) -> Result<(), ReachFault>
+    requires shown { G.shows graph.now node.now look.now }
     requires settled { HoldsAllValues (G.edge graph.now) (G.own graph.now) G.passed G.Value.cmp
         (values_at G.Node.cmp settled.old.values) }
     requires tallied { IsTallied (values_at G.Node.cmp settled.old.values) limit settled.old.pairs }
@@ -82,26 +89,28 @@ fn settle<G: Labelled>(
     if settled.at(node).is_some() {
         return Ok(());
     }
-    if let Some(values) = found_at(alloc, graph, settled, node)? {
+    if let Some(values) = found_at(alloc, graph, settled, node, look)? {
         settled.enter(graph.copy(alloc, node)?, values, limit)?;
     }
     Ok(())
 }
 
 /// The values that are found at the node, in ascending order, where those to which its edges lead
-/// are settled.
+/// are settled; `look` is what a look at it found.
 fn found_at<G: Labelled>(
     alloc: Global,
     graph: &G,
     settled: &Settled<G>,
     node: &G::Node,
+    look: &G::Look,
 ) -> Result<Option<Vec<G::Value>>, AllocError>
-    requires { HoldsAllValues (G.edge graph.now) (G.own graph.now) G.passed G.Value.cmp
+    requires shown { G.shows graph.now node.now look.now }
+    requires settled { HoldsAllValues (G.edge graph.now) (G.own graph.now) G.passed G.Value.cmp
         (values_at G.Node.cmp settled.now.values) }
     ensures { IfOk result (λ found. IfSome found (λ values. ListsInOrder G.Value.cmp
         (IsFound (G.edge graph.now) (G.own graph.now) G.passed node.now) values.items)) }
 {
-    let edges = graph.edges(alloc, node)?;
+    let edges = graph.edges(alloc, node, look)?;
     let mut collected = Collected::new(alloc);
     if !add_passed(alloc, graph, settled, &edges, &mut collected)? {
         return Ok(None);
@@ -110,7 +119,7 @@ fn found_at<G: Labelled>(
         mut values,
         last: _,
     } = collected;
-    let mut own = graph.values(alloc, node)?;
+    let mut own = graph.values(alloc, node, look)?;
     values.append(&mut own)?;
     put_in_order(&mut values);
     Ok(Some(values))

@@ -1,9 +1,10 @@
 //! The nodes that a walk has found so far: for `reach`, and for the pairs of `pairs`.
 
-ghost use Rattle.std.specs.Prelude.{◌≡◌, [], ◌∷◌};
+ghost use Rattle.std.specs.Prelude.{◌≡◌, [], ◌∷◌, false, map};
+ghost use Rattle.std.specs.BTreeSet.{contains};
 ghost use Rattle.rr_graph.specs.ListingParts.{AddsListed, IsListing};
 
-use crate::{Graph, ReachFault};
+use crate::{Nodes, ReachFault};
 use std::alloc::Global;
 use std::collections::BTreeSet;
 
@@ -28,7 +29,7 @@ impl<N: Ord + Drop> FoundNodes<N> {
 
     /// Adds each of the nodes that is not there yet. `TooMany` says that they and those found are
     /// more than `limit`. After a fault no clause says which are there.
-    pub(crate) fn add_all<G: Graph<Node = N>>(
+    pub(crate) fn add_all<G: Nodes<Node = N>>(
         &mut self,
         alloc: Global,
         graph: &G,
@@ -45,8 +46,25 @@ impl<N: Ord + Drop> FoundNodes<N> {
         Ok(())
     }
 
+    /// Adds a copy of each of the nodes that is not there yet. The faults are those of `add_all`.
+    pub(crate) fn add_copies<G: Nodes<Node = N>>(
+        &mut self,
+        alloc: Global,
+        graph: &G,
+        nodes: &[&N],
+        limit: usize,
+    ) -> Result<(), ReachFault>
+        requires { IsListing N.cmp limit self.old.list.items self.old.index }
+        ensures { AddsListed N.cmp limit (map (λ n. n.now) nodes.now) self.old self.new result }
+    {
+        for node in nodes {
+            self.add_copy(alloc, graph, node, limit)?;
+        }
+        Ok(())
+    }
+
     /// Adds the node, unless it is there. The faults are those of `add_all`.
-    fn add<G: Graph<Node = N>>(
+    pub(crate) fn add<G: Nodes<Node = N>>(
         &mut self,
         alloc: Global,
         graph: &G,
@@ -59,6 +77,39 @@ impl<N: Ord + Drop> FoundNodes<N> {
         if self.index.contains(&node) {
             return Ok(());
         }
+        self.push(alloc, graph, node, limit)
+    }
+
+    /// Adds a copy of the node, unless it is there. The faults are those of `add_all`.
+    fn add_copy<G: Nodes<Node = N>>(
+        &mut self,
+        alloc: Global,
+        graph: &G,
+        node: &N,
+        limit: usize,
+    ) -> Result<(), ReachFault>
+        requires { IsListing N.cmp limit self.old.list.items self.old.index }
+        ensures { AddsListed N.cmp limit (node.now ∷ []) self.old self.new result }
+    {
+        if self.index.contains(node) {
+            return Ok(());
+        }
+        let copy = graph.copy(alloc, node)?;
+        self.push(alloc, graph, copy, limit)
+    }
+
+    /// Adds the node, which is not there. The faults are those of `add_all`.
+    fn push<G: Nodes<Node = N>>(
+        &mut self,
+        alloc: Global,
+        graph: &G,
+        node: N,
+        limit: usize,
+    ) -> Result<(), ReachFault>
+        requires listing { IsListing N.cmp limit self.old.list.items self.old.index }
+        requires absent { contains N.cmp self.old.index node ≡ false }
+        ensures { AddsListed N.cmp limit (node ∷ []) self.old self.new result }
+    {
         if self.list.len() >= limit {
             return Err(ReachFault::TooMany);
         }

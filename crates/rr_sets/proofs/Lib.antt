@@ -4,3 +4,4 @@ pub mod RangeLists
 pub mod ReferenceLists
 pub mod ReferenceOrder
 pub mod Expanding
+pub mod Looking

@@ -1,15 +1,16 @@
 -- The references of a set, from what it lists.
 use Rattle.std.proofs.Common.{◌≡◌, ℕ, ◌⊎◌, ◌↔◌, Bool, true, false, cond, List, [], ◌++◌, map}
-use Rattle.std.proofs.Common.{Contains, None, Some, refl, sym, ap, ◌∙◌, subst, inl, inr}
+use Rattle.std.proofs.Common.{Contains, None, Option, Some, refl, sym, ap, ◌∙◌, subst, inl, inr}
 use Rattle.std.specs.FinMap.{get}
 use Rattle.std.specs.List.{filter_map}
 use Rattle.std.proofs.lemmas.List.Elements.{Contains-append_cases, Contains-append_left}
 use Rattle.std.proofs.lemmas.List.Elements.{Contains-append_right}
-use Rattle.rr_auth.specs.Registries.{Reg}
+use Rattle.rr_auth.specs.Registries.{LooksUp, Reg}
 use Rattle.rr_graph.specs.declared.labels.Edge.{Edge}
 use Rattle.rr_graph.proofs.Lists.{Contains-filter_map, Contains-map, Contains-nil}
 use Rattle.rr_number.specs.declared.operator.Operator.{Operator}
 use Rattle.rr_number.specs.declared.operator.Operator.TheVariants.{Plain}
+use Rattle.rr_object.specs.Keys.{key_of_kind}
 use Rattle.rr_object.specs.Objects.{Obj}
 use Rattle.rr_object.specs.declared.key.Key.TheVariants.{RouteSet}
 use Rattle.rr_object.specs.declared.member.Member.{Member}
@@ -20,7 +21,8 @@ use Rattle.rr_sets.specs.AsSets.{IsDirect, ListsSet}
 use Rattle.rr_sets.specs.MemberParts.{missing_name, number_reference, reference_of, set_reference}
 use Rattle.rr_number.specs.SetNames.{kind_of}
 use Rattle.rr_number.specs.declared.set_kind.SetKind.{SetKind}
-use Rattle.rr_sets.specs.RouteSets.{AsSetRefers, Refers, RefersAs, RouteSetRefers, has_set}
+use Rattle.rr_sets.specs.RouteSets.{AsSetRefers, FindsSet, Refers, RefersAs, RouteSetRefers}
+use Rattle.rr_sets.specs.RouteSets.{has_set}
 
 -- a reference to a set under an operator
 abbrev reference : MemberSet → Operator → Edge MemberSet Operator
@@ -167,6 +169,14 @@ missing_among r sets name = (
   λ (has, none). (Contains-filter_map (missing_name r) sets name).1
       (Set name, has, ap (λ b. cond b None (Some name)) none),
 )
+
+-- what is found of a named set is the registered set of its kind
+pub found_of_kind : (r : Reg) (set : MemberSet) (name : List ℕ) (kind : SetKind)
+    (object : Option Obj) → set ≡ Set name → kind_of name ≡ kind → FindsSet r set object →
+    LooksUp r (key_of_kind kind name) object
+found_of_kind r set name kind object is told found =
+    subst (λ (k : SetKind). LooksUp r (key_of_kind k name) object) told
+    (subst (λ (x : MemberSet). FindsSet r x object) is found)
 
 -- the references of a named set are those of its kind
 pub refers_by_kind : (r : Reg) (set : MemberSet) (name : List ℕ) (kind : SetKind)

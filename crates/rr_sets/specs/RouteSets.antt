@@ -1,9 +1,9 @@
 -- Which ranges of prefixes a set stands for: for `expand_route_set`.
 use Rattle.std.specs.Prelude.{◌≡◌, ℕ, ◌⊎◌, ◌↔◌, Bool, false, ◌||◌, List, Contains}
-use Rattle.std.specs.Prelude.{IsTrue, Option, Some, is_some}
+use Rattle.std.specs.Prelude.{IsTrue, None, Option, Some, is_some}
 use Rattle.std.specs.FinMap.{get}
 use Rattle.std.specs.Str.{bytes_eq}
-use Rattle.rr_auth.specs.Registries.{Reg}
+use Rattle.rr_auth.specs.Registries.{LooksUp, Reg}
 use Rattle.rr_graph.specs.Carried as carried
 use Rattle.rr_graph.specs.declared.labels.Edge.{Edge}
 use Rattle.rr_number.specs.AnySets.{as_any, rs_any}
@@ -28,6 +28,12 @@ use Rattle.rr_sets.specs.SetObjects.{takes}
 -- The registered set of a name (RFC 2622, 5).
 abbrev pub registered_set : Reg → List ℕ → Option Obj
 registered_set r name = get r (key_of_kind (kind_of name) name)
+
+-- What a look-up in a sound registry finds of a set is the registered set of its name; of an AS it
+-- finds nothing (profile).
+abbrev pub FindsSet : Reg → MemberSet → Option Obj → Type 0
+FindsSet r (AutNum n) object = object ≡ None
+FindsSet r (Set name) object = LooksUp r (key_of_kind (kind_of name) name) object
 
 -- There is a set of the name: it is registered, or the name is `AS-ANY` or `RS-ANY` (RFC 2622, 5).
 abbrev pub has_set : Reg → List ℕ → Bool

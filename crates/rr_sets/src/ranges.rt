@@ -1,8 +1,10 @@
 //! The ranges that are in a set itself, without those of its references: for `route_sets`.
 
-ghost use Rattle.std.specs.Prelude.{◌≡◌, ◌↔◌, ◌⊎◌, Contains, IfOk, map};
+ghost use Rattle.std.specs.Prelude.{◌≡◌, ◌↔◌, ◌⊎◌, ◌||◌, Contains, IfOk, is_some, map};
 ghost use Rattle.std.specs.List.{filter_map};
 ghost use Rattle.std.specs.Option.{option_copied};
+ghost use Rattle.std.specs.Str.{bytes_eq};
+ghost use Rattle.rr_number.specs.AnySets.{as_any, rs_any};
 ghost use Rattle.rr_number.specs.Ranges.{RangeParts, bare};
 ghost use Rattle.rr_number.specs.SetNames.{kind_of};
 ghost use Rattle.rr_object.specs.Keys.{key_of_kind};
@@ -10,7 +12,7 @@ ghost use Rattle.rr_auth.specs.Registries.{LooksUp};
 ghost use Rattle.rr_sets.specs.KeyParts.{range_of_key};
 ghost use Rattle.rr_sets.specs.MemberParts.{range_listed};
 ghost use Rattle.rr_sets.specs.RouteSets.{HasRange, IsAnyRange, IsByReference, IsOriginated};
-ghost use Rattle.rr_sets.specs.RouteSets.{ListsRange, has_set};
+ghost use Rattle.rr_sets.specs.RouteSets.{ListsRange};
 ghost use Rattle.rr_object.specs.declared.member.MemberSet.{MemberSet};
 
 use crate::book::SetBook;
@@ -19,16 +21,20 @@ use rr_number::{AsNumber, Prefix, Range, SetName};
 use rr_object::{Key, Member, Object};
 use std::alloc::{AllocError, Global};
 
-/// The ranges that are in the set of the name itself, where one may come twice.
+/// The ranges that are in the set of the name itself, where one may come twice; `set` is its
+/// object, if it is registered.
 pub(crate) fn ranges_in<B: SetBook>(
     alloc: Global,
     book: &B,
     name: &SetName,
+    set: Option<&Object>,
 ) -> Result<Vec<Range>, AllocError>
+    requires { LooksUp (B.contents book.now) (key_of_kind (kind_of name.now) name.now)
+        (option_copied set) }
     ensures { IfOk result (λ ranges. (range : RangeParts) → Contains ranges.items range
         ↔ HasRange (B.contents book.now) (MemberSet.Set name.now) range) }
 {
-    let mut ranges = registered_ranges(alloc, book, name)?;
+    let mut ranges = registered_ranges(alloc, book, name, set)?;
     ranges.extend_from_slice(&any_ranges(alloc, book, name)?)?;
     Ok(ranges)
 }
@@ -50,12 +56,15 @@ fn registered_ranges<B: SetBook>(
     alloc: Global,
     book: &B,
     name: &SetName,
+    set: Option<&Object>,
 ) -> Result<Vec<Range>, AllocError>
+    requires { LooksUp (B.contents book.now) (key_of_kind (kind_of name.now) name.now)
+        (option_copied set) }
     ensures { IfOk result (λ ranges. (range : RangeParts)
         → Contains ranges.items range ↔ (ListsRange (B.contents book.now) name.now range
         ⊎ IsByReference (B.contents book.now) name.now range)) }
 {
-    match registered_set(alloc, book, name)? {
+    match set {
         Some(object) => {
             let mut ranges = ranges_listed(alloc, object.members())?;
             let objects = belonging(alloc, book, name, object)?;
@@ -91,16 +100,12 @@ pub(crate) fn registered_set<'a, B: SetBook>(
     Ok(book.get(&key))
 }
 
-/// Whether there is a set of the name.
-pub(crate) fn has_set<B: SetBook>(
-    alloc: Global,
-    book: &B,
-    name: &SetName,
-) -> Result<bool, AllocError>
-    ensures { IfOk result (λ known. known ≡ has_set (B.contents book.now) name.now) }
+/// Whether a set of the name is registered, or it is `AS-ANY` or `RS-ANY`; `set` is its object.
+pub(crate) fn is_known(name: &SetName, set: Option<&Object>) -> bool
+    ensures { result ≡ (is_some (option_copied set.entry)
+        || (bytes_eq name.now as_any || bytes_eq name.now rs_any)) }
 {
-    let registered = registered_set(alloc, book, name)?.is_some();
-    Ok(registered || name.is_as_any() || name.is_rs_any())
+    set.is_some() || name.is_as_any() || name.is_rs_any()
 }
 
 /// The ranges among the members.

@@ -1,24 +1,26 @@
 //! The expansion of sets into ranges of prefixes, for `rr_answer`.
 
-ghost use Rattle.std.specs.Prelude.{◌≡◌, true, IfOk};
+ghost use Rattle.std.specs.Prelude.{◌≡◌, true, IfOk, length};
 ghost use Rattle.std.specs.List.{filter_map};
 ghost use Rattle.std.specs.Option.{option_copied};
+ghost use Rattle.rr_auth.specs.Registries.{Reg};
 ghost use Rattle.rr_graph.specs.Answered.{FindsWithin};
 ghost use Rattle.rr_graph.specs.Carried.{IsGatheredFrom};
+ghost use Rattle.rr_graph.specs.Looks.{AreLooks};
 ghost use Rattle.rr_number.specs.Applied.{applied};
 ghost use Rattle.rr_number.specs.Ranges.{range_cmp};
 ghost use Rattle.rr_sets.specs.MemberParts.{missing_name};
-ghost use Rattle.rr_sets.specs.RouteSets.{HasRange, HasTooMany, Refers, has_set};
+ghost use Rattle.rr_sets.specs.RouteSets.{FindsSet, HasRange, HasTooMany, Refers, has_set};
 ghost use Rattle.rr_sets.specs.SetMeanings.{Expands, route_set_at};
 
 use crate::as_sets::sorted;
 use crate::book::SetBook;
 use crate::members::{ExpandFault, Members};
-use crate::ranges::{has_set, ranges_in, ranges_of_origin};
+use crate::ranges::{is_known, ranges_in, ranges_of_origin, registered_set};
 use crate::references::{Reference, copy_of, references_of};
-use rr_graph::{Labelled, NodesAndValues, ReachFault, gather};
+use rr_graph::{Labelled, LabelledGraph, NodesAndValues, ReachFault, gather};
 use rr_number::{Operator, Prefix, Range, SetName};
-use rr_object::MemberSet;
+use rr_object::{MemberSet, Object};
 use std::alloc::{AllocError, Global};
 
 /// Lists exactly the ranges of prefixes that a set stands for, of either kind, `AS-ANY` and
@@ -51,10 +53,11 @@ use std::alloc::{AllocError, Global};
 /// One without operator makes each range of the other. Those with operators together make, of each
 /// prefix and least length there, each range once. The m route-sets that each list all the others
 /// under all operators, and `0.0.0.0/0`, have 561m pairs, as that prefix has 561 ranges. F is about
-/// 7,100m²: 561 without operator and 6,545 with, for each two sets. The book is asked at most three
-/// times for the `referrers` of each set reached that has `mbrs-by-ref`, and once for the prefixes
-/// of each AS reached. If sets refer to each other in a ring, it is asked at most four times and
-/// twice. No clause counts steps or questions.
+/// 7,100m²: 561 without operator and 6,545 with, for each two sets. The book is asked once for the
+/// object of each set reached, at most twice for the `referrers` of each that has `mbrs-by-ref`,
+/// and at most once for the prefixes of each AS reached. If sets refer to each other in a ring, it
+/// is asked at most three times for referrers, and twice for prefixes. No clause counts steps or
+/// questions.
 pub fn expand_route_set<B: SetBook>(
     alloc: Global,
     book: &B,
@@ -63,24 +66,30 @@ pub fn expand_route_set<B: SetBook>(
 ) -> Result<Members<Range>, ExpandFault>
     ensures { Expands range_cmp (route_set_at (B.contents book.now) limit name.now) result }
 {
-    if !has_set(alloc, book, name)? {
+    let set = registered_set(alloc, book, name)?;
+    if !is_known(name, set) {
         return Err(ExpandFault::NoSuchSet);
     }
-    expand_known(alloc, book, name, limit)
+    expand_known(alloc, book, name, set, limit)
 }
 
-/// Lists what a set that there is stands for.
-fn expand_known<B: SetBook>(
+/// Lists what a set that there is stands for; `set` is its object, if it is registered.
+fn expand_known<'a, B: SetBook>(
     alloc: Global,
-    book: &B,
+    book: &'a B,
     name: &SetName,
+    set: Option<&'a Object>,
     limit: usize,
 ) -> Result<Members<Range>, ExpandFault>
+    requires { FindsSet (B.contents book.now) (MemberSet.Set name.now) (option_copied set) }
     ensures { has_set (B.contents book.now) name.now ≡ true
         → Expands range_cmp (route_set_at (B.contents book.now) limit name.now) result }
 {
-    let gathered = gathered(alloc, book, name, limit)?;
-    let missing = sorted(alloc, missing_names(alloc, book, &gathered.nodes)?)?;
+    let gathered = gathered(alloc, book, name, set, limit)?;
+    let missing = sorted(
+        alloc,
+        missing_names(alloc, &gathered.nodes, &gathered.looks)?,
+    )?;
     Ok(Members {
         found: gathered.values,
         missing,
@@ -94,15 +103,18 @@ struct RouteSets<'a, B: SetBook> {
     book: &'a B,
 }
 
-impl<B: SetBook> Labelled for RouteSets<'_, B> {
+impl<'a, B: SetBook> Labelled for RouteSets<'a, B> {
     ghost use Rattle.rr_number.specs.Applied.{applied};
-    ghost use Rattle.rr_sets.specs.RouteSets.{HasRange, Refers};
+    ghost use Rattle.rr_sets.specs.RouteSets.{FindsSet, HasRange, Refers};
+    ghost use Rattle.std.specs.Option.{option_copied};
     ghost use Rattle.std.proofs.lemmas.Map.Lookups.{exact_unsigned};
     ghost use Rattle.rr_sets.specs.Orders.{applied_alike, applied_dropped, applied_same};
     ghost use Rattle.rr_sets.specs.Orders.{exact_member_sets, exact_prefixes, exact_ranges};
     ghost use Rattle.rr_sets.specs.Orders.{is_plain, least_of, prefix_of};
 
     type Node = MemberSet;
+
+    type Look = Option<&'a Object>;
 
     type Label = Operator;
 
@@ -111,6 +123,8 @@ impl<B: SetBook> Labelled for RouteSets<'_, B> {
     type Kind = u8;
 
     type Group = Prefix;
+
+    ghost shows = { λ s set object. FindsSet (B.contents s.book.now) set (option_copied object) };
 
     ghost edge = { λ s. Refers (B.contents s.book.now) };
 
@@ -138,14 +152,24 @@ impl<B: SetBook> Labelled for RouteSets<'_, B> {
 
     ghost same = { applied_same };
 
-    fn edges(&self, alloc: Global, set: &MemberSet) -> Result<Vec<Reference>, AllocError> {
-        references_of(alloc, self.book, set)
+    fn edges(
+        &self,
+        alloc: Global,
+        set: &MemberSet,
+        object: &Option<&'a Object>,
+    ) -> Result<Vec<Reference>, AllocError> {
+        references_of(alloc, self.book, set, *object)
     }
 
-    fn values(&self, alloc: Global, set: &MemberSet) -> Result<Vec<Range>, AllocError> {
+    fn values(
+        &self,
+        alloc: Global,
+        set: &MemberSet,
+        object: &Option<&'a Object>,
+    ) -> Result<Vec<Range>, AllocError> {
         match set {
             MemberSet::AutNum(number) => ranges_of_origin(alloc, self.book, *number),
-            MemberSet::Set(name) => ranges_in(alloc, self.book, name),
+            MemberSet::Set(name) => ranges_in(alloc, self.book, name, *object),
         }
     }
 
@@ -170,55 +194,67 @@ impl<B: SetBook> Labelled for RouteSets<'_, B> {
     }
 }
 
-/// The sets that references lead to, and the ranges of the set.
-fn gathered<B: SetBook>(
-    alloc: Global,
-    book: &B,
-    name: &SetName,
-    limit: usize,
-) -> Result<NodesAndValues<MemberSet, Range>, ReachFault>
-    ensures { FindsWithin (IsGatheredFrom (Refers (B.contents book.now))
-        (HasRange (B.contents book.now)) applied range_cmp (MemberSet.Set name.now))
-        (HasTooMany (B.contents book.now) limit name.now) result }
-{
-    let start = MemberSet::Set(name.copy(alloc)?);
-    gather(alloc, &RouteSets { book }, &start, limit)
+impl<'a, B: SetBook> LabelledGraph for RouteSets<'a, B> {
+    fn look(&self, alloc: Global, set: &MemberSet) -> Result<Option<&'a Object>, AllocError> {
+        match set {
+            MemberSet::AutNum(_) => Ok(None),
+            MemberSet::Set(name) => registered_set(alloc, self.book, name),
+        }
+    }
 }
 
-/// The names of those of the sets that there are not.
-fn missing_names<B: SetBook>(
+/// The sets that references lead to, with the objects of those that are registered, and the ranges
+/// of the set, whose object is `set`.
+fn gathered<'a, B: SetBook>(
     alloc: Global,
-    book: &B,
+    book: &'a B,
+    name: &SetName,
+    set: Option<&'a Object>,
+    limit: usize,
+) -> Result<NodesAndValues<MemberSet, Option<&'a Object>, Range>, ReachFault>
+    requires { FindsSet (B.contents book.now) (MemberSet.Set name.now) (option_copied set) }
+    ensures { FindsWithin (IsGatheredFrom (Refers (B.contents book.now))
+        (HasRange (B.contents book.now)) applied
+        (λ set object. FindsSet (B.contents book.now) set (option_copied object)) range_cmp
+        (MemberSet.Set name.now)) (HasTooMany (B.contents book.now) limit name.now) result }
+{
+    let start = MemberSet::Set(name.copy(alloc)?);
+    gather(alloc, &RouteSets { book }, &start, set, limit)
+}
+
+/// The names of those of the sets that there are not; `objects` has those of the sets that are
+/// registered, each at the place of its set.
+fn missing_names(
+    alloc: Global,
     sets: &[MemberSet],
+    objects: &[Option<&Object>],
 ) -> Result<Vec<SetName>, AllocError>
-    ensures { IfOk result
-        (λ missing. missing.items ≡ filter_map (missing_name (B.contents book.now)) sets.now) }
+    requires { length objects.now ≡ length sets.now }
+    ensures { IfOk result (λ missing. (r : Reg)
+        → AreLooks (λ set object. FindsSet r set (option_copied object)) sets.now objects.now
+        → missing.items ≡ filter_map (missing_name r) sets.now) }
 {
     let mut missing = Vec::new(alloc);
-    for set in sets {
-        if let Some(name) = missing_name(alloc, book, set)? {
+    for (place, set) in sets.iter().enumerate() {
+        if let Some(name) = missing_name(set, objects[place]) {
             missing.push(name.copy(alloc)?)?;
         }
     }
     Ok(missing)
 }
 
-/// The name of a set that there is not.
-fn missing_name<'a, B: SetBook>(
-    alloc: Global,
-    book: &B,
-    set: &'a MemberSet,
-) -> Result<Option<&'a SetName>, AllocError>
-    ensures { IfOk result
-        (λ name. option_copied name ≡ missing_name (B.contents book.now) set.now) }
+/// The name of a set that there is not; `object` is the set's, if it is registered.
+fn missing_name<'s>(set: &'s MemberSet, object: Option<&Object>) -> Option<&'s SetName>
+    ensures { (r : Reg) → FindsSet r set.now (option_copied object.entry)
+        → option_copied result ≡ missing_name r set.now }
 {
     match set {
-        MemberSet::AutNum(_) => Ok(None),
+        MemberSet::AutNum(_) => None,
         MemberSet::Set(name) => {
-            if has_set(alloc, book, name)? {
-                Ok(None)
+            if is_known(name, object) {
+                None
             } else {
-                Ok(Some(name))
+                Some(name)
             }
         }
     }

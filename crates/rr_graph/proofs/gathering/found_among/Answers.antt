@@ -3,26 +3,35 @@ use Rattle.std.proofs.Common.{subst}
 use Rattle.std.specs.Ordering.{nat_cmp}
 use Rattle.rr_graph.specs.Carried.{IsFound, IsFoundPair, Leads}
 use Rattle.rr_graph.specs.Chain.{MoreThan}
-use Rattle.rr_graph.specs.NumberedParts.{IsAt}
+use Rattle.rr_graph.specs.Looks.{AreLooks}
+use Rattle.rr_graph.specs.NumberedParts.{AreAllPlaces, IsAt, IsSeen}
 use Rattle.rr_graph.specs.ReversedParts.{edges_at}
+use Rattle.rr_graph.specs.declared.labels.Seen.{Seen}
 use Rattle.rr_graph.proofs.Finding.{FindsWithin-weaker}
 use Rattle.rr_graph.proofs.Lists.{Contains-head}
-use Rattle.rr_graph.proofs.Numbers.{IsAt-some, IsFound-numbered, IsReachedFrom-numbered}
-use Rattle.rr_graph.proofs.Numbers.{MoreThan-numbered}
+use Rattle.rr_graph.proofs.Numbers.{Contains-places, IsAt-some, IsFound-numbered}
+use Rattle.rr_graph.proofs.Numbers.{IsReachedFrom-numbered, MoreThan-numbered, looks_at_places}
 use Rattle.rr_graph.proofs.Reached.{IsReached-start}
 use Rattle.rr_graph.proofs.gathering.found_among.Goals as goal
+
+-- equal places of equally many nodes
+all_places : (lent places : List ℕ) (count other : ℕ) → lent ≡ places → count ≡ other →
+    AreAllPlaces count places → AreAllPlaces other lent
+all_places lent places count other is same all =
+    subst (λ (l : List ℕ). AreAllPlaces other l) (sym is)
+    (subst (λ (n : ℕ). AreAllPlaces n places) same all)
 
 pub place-place-requires : goal.place-place-requires
 place-place-requires g c =
     let start = c.args.start.now in
     let (place, at) = IsAt-some c.args.nodes.now start
-    ((c.requires.all start).1
+    ((c.requires.met.all start).1
     (IsReached-start (Leads (g.G.Labelled.edge c.args.graph.now)) (start ∷ []) start
     (Contains-head start []))) in
     ap is_some ((c.in_ok-numbered.ensures.places start place).1 at)
 
-pub found_at-requires : goal.found_at-requires
-found_at-requires g c = λ place.
+pub found_at-requires-clause-reached : goal.found_at-requires-clause-reached
+found_at-requires-clause-reached g c = λ place.
     let numbers : ℕ → ℕ → g.row.G-Label.Denot → Type 0 = λ from to label.
     Contains (edges_at nat_cmp c.in_ok-numbered.numbered.edges from)
     (record { to = to; label = label }) in
@@ -31,17 +40,35 @@ found_at-requires g c = λ place.
     c.place-place.ensures in
     let reached_from : (place < length c.args.nodes.now) ↔ _ =
     IsReachedFrom-numbered (g.G.Labelled.edge c.args.graph.now) (g.G.Labelled.own c.args.graph.now)
-    g.G.Labelled.passed c.args.nodes.now c.requires.once numbers c.in_ok-numbered.ensures.edges
-    c.args.start.now c.place-place.result begins c.requires.all place in (
-      λ has. reached_from.0 (subst (λ (l : List g.row.G-Node.Denot). place < length l)
-          c.in_ok-numbered.ensures.nodes
-          ((c.in_ok-places.ensures place).0 (subst (λ (l : List ℕ). Contains l place)
-          c.deref.ensures.value has))),
-      λ is. subst (λ (l : List ℕ). Contains l place) (sym c.deref.ensures.value)
-          ((c.in_ok-places.ensures place).1
-          (subst (λ (l : List g.row.G-Node.Denot). place < length l)
-          (sym c.in_ok-numbered.ensures.nodes) (reached_from.1 is))),
-    )
+    g.G.Labelled.passed c.args.nodes.now c.requires.met.once numbers c.in_ok-numbered.ensures.edges
+    c.args.start.now c.place-place.result begins c.requires.met.all place in
+    let all : Contains c.deref.result.now place ↔ (place < length c.args.nodes.now) =
+    Contains-places (length c.args.nodes.now) c.deref.result.now
+    (all_places c.deref.result.now c.in_ok-places.places.items
+    (length c.in_ok-numbered.numbered.nodes.now) (length c.args.nodes.now) c.deref.ensures.value
+    (ap length c.in_ok-numbered.ensures.nodes) c.in_ok-places.ensures) place in
+    (λ has. reached_from.0 (all.0 has), λ is. all.1 (reached_from.1 is))
+
+pub found_at-requires-clause-looks : goal.found_at-requires-clause-looks
+found_at-requires-clause-looks g c =
+    let N : Type 0 = g.row.G-Node.Denot in
+    let S : Type 0 = Seen N g.row.G-Label.Denot g.row.G-Look.Denot in
+    let shown : ℕ → S → Type 0 = λ place seen. (node : N) × IsAt c.args.nodes.now place node
+    × IsSeen (g.G.Labelled.edge c.args.graph.now) (g.G.Labelled.shows c.args.graph.now) node seen in
+    let shown_is : (λ (place : ℕ). λ (seen : S). (node : N)
+    × IsAt c.in_ok-numbered.numbered.nodes.now place node
+    × IsSeen (g.G.Labelled.edge c.in_ok-numbered.numbered.graph.now)
+    (g.G.Labelled.shows c.in_ok-numbered.numbered.graph.now) node seen) ≡ shown =
+    λ j place seen. (node : N) × IsAt (c.in_ok-numbered.ensures.nodes j) place node
+    × IsSeen (g.G.Labelled.edge (c.in_ok-numbered.ensures.graph j))
+    (g.G.Labelled.shows (c.in_ok-numbered.ensures.graph j)) node seen in
+    subst (λ (P : ℕ → S → Type 0). AreLooks P c.deref.result.now c.args.seen.now) (sym shown_is)
+    (looks_at_places (IsSeen (g.G.Labelled.edge c.args.graph.now)
+    (g.G.Labelled.shows c.args.graph.now)) c.args.nodes.now c.args.seen.now c.deref.result.now
+    c.requires.seen
+    (all_places c.deref.result.now c.in_ok-places.places.items
+    (length c.in_ok-numbered.numbered.nodes.now) (length c.args.nodes.now) c.deref.ensures.value
+    (ap length c.in_ok-numbered.ensures.nodes) c.in_ok-places.ensures))
 
 pub returns : goal.returns
 returns g c =
@@ -61,16 +88,17 @@ returns g c =
     λ j place value. (node : N) × IsAt (c.in_ok-numbered.ensures.nodes j) place node
     × g.G.Labelled.own (c.in_ok-numbered.ensures.graph j) node value in
     let same = MoreThan-numbered (g.G.Labelled.edge c.args.graph.now)
-    (g.G.Labelled.own c.args.graph.now) g.G.Labelled.passed c.args.nodes.now c.requires.once
+    (g.G.Labelled.own c.args.graph.now) g.G.Labelled.passed c.args.nodes.now c.requires.met.once
     numbers c.in_ok-numbered.ensures.edges c.args.start.now c.place-place.result begins
-    c.requires.all c.args.limit in
+    c.requires.met.all c.args.limit in
     FindsWithin-weaker c.found_at.ensures
     (λ values found. record {
       all = λ value.
           let same_value = IsFound-numbered (g.G.Labelled.edge c.args.graph.now)
-          (g.G.Labelled.own c.args.graph.now) g.G.Labelled.passed c.args.nodes.now c.requires.once
+          (g.G.Labelled.own c.args.graph.now) g.G.Labelled.passed c.args.nodes.now
+          c.requires.met.once
           numbers c.in_ok-numbered.ensures.edges c.args.start.now c.place-place.result begins
-          c.requires.all c.place-place.result c.args.start.now begins value in
+          c.requires.met.all c.place-place.result c.args.start.now begins value in
           let held = subst (λ (o : ℕ → V → Type 0). Contains values.items value
           ↔ IsFound numbers o g.G.Labelled.passed c.place-place.result value) own_is
           (found.all value) in

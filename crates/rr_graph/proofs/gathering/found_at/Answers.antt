@@ -19,7 +19,7 @@ returns-in_err-settled g c =
           (g.G.Labelled.own c.args.graph.now) g.G.Labelled.passed c.args.ordered.now.nodes.now)
           (IsFoundPair (g.G.Labelled.edge c.args.graph.now) (g.G.Labelled.own c.args.graph.now)
           g.G.Labelled.passed c.args.start.now)
-          (λ q both. ((c.requires q.0).0 both.0, both.1))
+          (λ q both. ((c.requires.reached q.0).0 both.0, both.1))
           (c.in_err-settled.ensures.many (cc (is, p.1, p.2)));
     }
 
@@ -33,7 +33,7 @@ returns-in-Some g c = record {
       (values_at g.G.Node.Ord.cmp c.in_ok-settled.settled.values) c.args.start.now c.args.limit
       c.in_ok-settled.settled.pairs
       c.in_ok-settled.ensures.settled c.in_ok-settled.ensures.tallied
-      (λ node name. c.in-Some.ensures.all node ((c.requires node).1 name));
+      (λ node name. c.in-Some.ensures.all node ((c.requires.reached node).1 name));
   many = search rules;
 }
 
@@ -45,7 +45,7 @@ returns-in-None g c =
     ↔ IsFoundPair (g.G.Labelled.edge c.args.graph.now)
     (g.G.Labelled.own c.args.graph.now) g.G.Labelled.passed c.args.start.now p =
     IsFoundPair-carried (g.G.Labelled.edge c.args.graph.now) (g.G.Labelled.own c.args.graph.now)
-    g.G.Labelled.passed c.args.start.now c.args.ordered.now.nodes.now c.requires in
+    g.G.Labelled.passed c.args.start.now c.args.ordered.now.nodes.now c.requires.reached in
     FindsWithin-alike c.args.limit (IsCarriedPair (g.G.Labelled.edge c.args.graph.now)
     (g.G.Labelled.own c.args.graph.now) g.G.Labelled.passed c.args.ordered.now.nodes.now)
     (IsFoundPair (g.G.Labelled.edge c.args.graph.now) (g.G.Labelled.own c.args.graph.now)

@@ -1,36 +1,24 @@
-use Rattle.std.proofs.Common.{rules, List, inl, inr, sym, subst}
-use Rattle.std.proofs.lemmas.Result.{err_from_is_err_and}
-use Rattle.rr_graph.specs.Carried.{AreMetFrom}
-use Rattle.rr_graph.proofs.Finding.{FindsWithin-failed}
+use Rattle.std.proofs.Common.{rules, inl, inr}
+use Rattle.rr_graph.specs.NumberedParts.{IsSeen}
+use Rattle.rr_graph.specs.declared.labels.Seen.{Seen}
+use Rattle.rr_graph.proofs.Seeing.{AreLooks-map}
 use Rattle.rr_graph.proofs.gathering.gather.Goals as goal
 
-pub found_among-requires : goal.found_among-requires
-found_among-requires g c =
-    subst (λ (l : List g.row.G-Node.Denot). AreMetFrom (g.G.Labelled.edge c.args.graph.now)
-    c.args.start.now l) (sym c.deref.ensures.value) c.in_ok-nodes.ensures.found
-
-pub returns-in_err-nodes : goal.returns-in_err-nodes
-returns-in_err-nodes g c =
-    let p = err_from_is_err_and c.from_residual.result c.from_residual.ensures.1 in
-    FindsWithin-failed p.0 c.from_residual.result c.in_err-nodes.ensures p.1 p.2
-    (λ names. inl names)
-
-pub returns-in_err-values : goal.returns-in_err-values
-returns-in_err-values g c =
-    let p = err_from_is_err_and c.from_residual-in_err-values.result
-    c.from_residual-in_err-values.ensures.1 in
-    FindsWithin-failed p.0 c.from_residual-in_err-values.result c.in_err-values.ensures p.1 p.2
-    (λ pairs. inr pairs)
-
 pub returns : goal.returns
-returns g c = record {
-  found = record {
-    nodes = c.in_ok-nodes.ensures.found;
-    values = c.in_ok-values.ensures.found;
-  };
-  few = λ many. elim many [
-    | inl names ↦ c.in_ok-nodes.ensures.few names
-    | inr pairs ↦ c.in_ok-values.ensures.few pairs
-  ];
-  many = search rules;
-}
+returns g c =
+    let S : Type 0 = Seen g.row.G-Node.Denot g.row.G-Label.Denot g.row.G-Look.Denot in record {
+      found = record {
+        nodes = c.in_ok-nodes.ensures.found.nodes;
+        looks = AreLooks-map (g.G.Labelled.shows c.args.graph.now)
+            (IsSeen (g.G.Labelled.edge c.args.graph.now) (g.G.Labelled.shows c.args.graph.now))
+            (λ (s : S). s.look) c.in_ok-nodes.field-0.nodes.items
+            c.in_ok-nodes.field-0.looks.items c.in_ok-looks.looks.items (λ n s seen. seen.look)
+            c.in_ok-looks.ensures c.in_ok-nodes.ensures.found.looks;
+        values = c.in_ok-values.ensures.found;
+      };
+      few = λ many. elim many [
+        | inl names ↦ c.in_ok-nodes.ensures.few names
+        | inr pairs ↦ c.in_ok-values.ensures.few pairs
+      ];
+      many = search rules;
+    }

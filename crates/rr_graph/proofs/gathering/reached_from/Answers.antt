@@ -1,14 +1,13 @@
-use Rattle.std.proofs.Common.{◌≡◌, List, [], ◌∷◌, ◌++◌, ap, ◌∙◌}
+use Rattle.std.proofs.Common.{sym, subst}
+use Rattle.rr_graph.specs.NumberedParts.{IsSeen}
 use Rattle.rr_graph.proofs.gathering.reached_from.Goals as goal
 
--- a list that was empty has what was pushed
-pushed : {X : Type 0} (before after : List X) (x y : X) → after ≡ before ++ x ∷ [] → before ≡ [] →
-    x ≡ y → after ≡ y ∷ []
-pushed {X} before after x y push empty same = push ∙ ap (λ (l : List X). l ++ x ∷ []) empty
-    ∙ ap (λ (z : X). z ∷ []) same
+pub reach-requires : goal.reach-requires
+reach-requires g c =
+    subst (λ (node : g.row.G-Node.Denot). IsSeen (g.G.Labelled.edge c.args.graph.now)
+    (g.G.Labelled.shows c.args.graph.now) node
+    (record { look = c.args.look; edges = c.in_ok-edges.edges })) (sym c.in_ok-node.ensures)
+    (record { look = c.requires; edges = c.in_ok-edges.ensures })
 
 pub returns : goal.returns
-returns g c =
-    rw (pushed c.new-starts.result.items c.push.new.self.items c.in_ok-copy.field-0
-    c.args.start.now c.in_ok-push.ensures.items c.new-starts.ensures.items
-    c.in_ok-copy.ensures) at c.reach.ensures
+returns g c = rw c.in_ok-node.ensures at c.reach.ensures

@@ -4,18 +4,18 @@ use Rattle.rr_graph.specs.ReversedParts.{IsOwnPair}
 use Rattle.rr_graph.proofs.OwnPairs.{IsOwnPair-more}
 use Rattle.rr_graph.proofs.pairs.own_pairs.Goals as goal
 
-pub loop-node-preserved : goal.loop-node-preserved
-loop-node-preserved g c =
-    IsOwnPair-more (g.G.Labelled.own c.args.graph.now) c.args.nodes.now c.loop-node.node-index
-    c.node-item.result c.in_ok-values.values.items c.loop-node.pairs.items
+pub loop-place-preserved : goal.loop-place-preserved
+loop-place-preserved g c =
+    IsOwnPair-more (g.G.Labelled.own c.args.graph.now) c.args.nodes.now c.loop-place.place
+    c.index-nodes-place.result c.in_ok-values.values.items c.loop-place.pairs.items
     c.add_own.new.pairs.items
-    c.loop-node-test.true c.node-item.is c.loop-node.invariant c.in_ok-values.ensures
-    (c.in_ok-add_own.ensures ∙ ap (λ (l : List g.row.G-Value.Denot). c.loop-node.pairs.items ++ map
-    (λ (v : g.row.G-Value.Denot). (c.node-item.result, v)) l) c.deref.ensures.value)
+    c.loop-place-test.true c.index-nodes-place.is c.loop-place.invariant c.in_ok-values.ensures
+    (c.in_ok-add_own.ensures ∙ ap (λ (l : List g.row.G-Value.Denot). c.loop-place.pairs.items ++ map
+    (λ (v : g.row.G-Value.Denot). (c.index-nodes-place.result, v)) l) c.deref.ensures.value)
 
 pub returns : goal.returns
 returns g c =
     subst (λ (l : List g.row.G-Node.Denot). (p : g.row.G-Node.Denot × g.row.G-Value.Denot) →
-    Contains c.loop-node.pairs.items p ↔ IsOwnPair (g.G.Labelled.own c.args.graph.now) l p)
-    (take_all c.loop-node.node-index c.args.nodes.now c.loop-node-test.false)
-    c.loop-node.invariant
+    Contains c.loop-place.pairs.items p ↔ IsOwnPair (g.G.Labelled.own c.args.graph.now) l p)
+    (take_all c.loop-place.place c.args.nodes.now c.loop-place-test.false)
+    c.loop-place.invariant

@@ -7,7 +7,7 @@ pub returns : goal.returns
 returns g c = record {
   all = listed_at (g.G.Labelled.edge c.args.graph.now) (g.G.Labelled.own c.args.graph.now)
       g.G.Labelled.passed g.G.Value.Ord.cmp
-      (values_at g.G.Node.Ord.cmp c.args.settled.now.values) c.requires
+      (values_at g.G.Node.Ord.cmp c.args.settled.now.values) c.requires.settled
       c.args.node.now c.in_ok-edges.edges.items c.deref.result.now
       c.in_ok-own.own.items c.append.new.self.items c.put_in_order.new.list.items
       c.in_ok-edges.ensures c.deref.ensures.value

@@ -22,7 +22,8 @@ loop-place-init g c = (
 
 pub loop-place-preserved : goal.loop-place-preserved
 loop-place-preserved g c =
-    let Kept : Settled g.row.G.Denot g.row.G-Node.Denot g.row.G-Label.Denot g.row.G-Value.Denot
+    let Kept : Settled g.row.G.Denot g.row.G-Node.Denot g.row.G-Look.Denot g.row.G-Label.Denot
+    g.row.G-Value.Denot
     g.row.G-Kind.Denot g.row.G-Group.Denot → Type 0 =
     λ settled. HoldsAllValues (g.G.Labelled.edge c.args.graph.now)
     (g.G.Labelled.own c.args.graph.now) g.G.Labelled.passed g.G.Value.Ord.cmp

@@ -4,11 +4,11 @@ use Rattle.rr_sets.specs.AsSets.{IsReachedSet}
 use Rattle.rr_sets.proofs.Expanding.{expanded_fault}
 use Rattle.rr_sets.proofs.as_sets.expand_known.Goals as goal
 
-pub returns-in_err-names : goal.returns-in_err-names
-returns-in_err-names g c = λ known.
+pub returns-in_err-reached : goal.returns-in_err-reached
+returns-in_err-reached g c = λ known.
     let p = err_from_is_err_and c.from_residual.result c.from_residual.ensures.1 in
     expanded_fault _ _ known p.0 c.from_residual.result p.1 p.2 (λ over. over)
-    c.in_err-names.ensures
+    c.in_err-reached.ensures
 
 pub returns : goal.returns
 returns g c = λ known.
@@ -16,7 +16,7 @@ returns g c = λ known.
     (g.B.Book.contents c.args.book.now) c.args.name.now s =
     subst (λ (l : List (List ℕ)). (s : List ℕ) → Contains l s ↔ IsReachedSet
     (g.B.Book.contents c.args.book.now) c.args.name.now s) (sym c.deref.ensures.value)
-    c.in_ok-names.ensures.found.all in record {
+    c.in_ok-reached.ensures.found.nodes.all in record {
       found = record {
         found = record {
           all = λ n. (
@@ -38,7 +38,7 @@ returns g c = λ known.
         };
       };
       known = known;
-      few = c.in_ok-names.ensures.few;
+      few = c.in_ok-reached.ensures.few;
       unknown = search rules;
       many_known = search rules;
       many = search rules;

@@ -1,4 +1,4 @@
-use Rattle.std.proofs.Common.{◌≡◌, ◌∙◌, Some, ap, sym}
+use Rattle.std.proofs.Common.{◌≡◌, ◌∙◌, Bor, List, ℕ, Some, ap, map, sym}
 use Rattle.std.specs.FinMap.{get}
 use Rattle.std.specs.Option.{option_copied}
 use Rattle.std.proofs.lemmas.Result.{IfOk-weaker}
@@ -12,6 +12,6 @@ returns-in-Some c =
     (λ names is r name found.
     let registered : get r (AsSet name) ≡ Some c.in-Some.object.now =
     sym found ∙ ap option_copied c.in-Some.is in
-    names_that_are_listed r name c.in-Some.object.now c.members.result.now names.items registered
-    c.members.ensures is)
+    names_that_are_listed r name c.in-Some.object.now c.members.result.now
+    (map (λ (n : Bor (List ℕ)). n.now) names.items) registered c.members.ensures is)
     c.sets_listed.ensures

@@ -1,14 +1,13 @@
-use Rattle.std.proofs.Common.{◌≡◌, ◌∙◌, ◌++◌, [], ◌∷◌, List, ap}
+use Rattle.std.proofs.Common.{ℕ, List, subst, sym}
+use Rattle.std.specs.Option.{option_copied}
+use Rattle.rr_auth.specs.Registries.{LooksUp}
+use Rattle.rr_object.specs.declared.key.Key.TheVariants.{AsSet}
 use Rattle.rr_sets.proofs.as_sets.reached_sets.Goals as goal
 
--- a list that was empty has what was pushed
-pushed : {X : Type 0} (before after : List X) (x y : X) → after ≡ before ++ x ∷ [] → before ≡ [] →
-    x ≡ y → after ≡ y ∷ []
-pushed {X} before after x y push empty same = push ∙ ap (λ (l : List X). l ++ x ∷ []) empty
-    ∙ ap (λ (z : X). z ∷ []) same
+pub reach-requires : goal.reach-requires
+reach-requires g c =
+    subst (λ (name : List ℕ). LooksUp (g.B.Book.contents c.args.book.now) (AsSet name)
+    (option_copied c.args.set)) (sym c.in_ok-start.ensures) c.requires
 
 pub returns : goal.returns
-returns g c =
-    rw (pushed c.new-starts.result.items c.push.new.self.items c.in_ok-copy.field-0 c.args.name.now
-    c.in_ok-push.ensures.items c.new-starts.ensures.items c.in_ok-copy.ensures) at
-    c.reach.ensures
+returns g c = rw c.in_ok-start.ensures at c.reach.ensures

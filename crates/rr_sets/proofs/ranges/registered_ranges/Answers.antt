@@ -16,13 +16,13 @@ pub returns-in_ok-extend_from_slice-in-Some : goal.returns-in_ok-extend_from_sli
 returns-in_ok-extend_from_slice-in-Some g c =
     let r = g.B.Book.contents c.args.book.now in
     let registered : registered_set r c.args.name.now ≡ Some c.in-Some.object.now =
-    sym c.in_ok-object.ensures.found ∙ ap option_copied c.in-Some.is in
+    sym c.requires.found ∙ ap option_copied c.in-Some.is in
     let belong : (o : Obj) → Contains (lent c.deref.result.now) o
     ↔ (IsReferrer r c.args.name.now o × IsTrue (takes c.in-Some.object.now.by_ref o)) =
     subst (λ (l : List (Bor Obj)). (o : Obj) → Contains (lent l) o
     ↔ (IsReferrer r c.args.name.now o × IsTrue (takes c.in-Some.object.now.by_ref o)))
     (sym c.deref.ensures.value) c.in_ok-objects-in-Some.ensures in
-    let taken = ranges_that_are_taken r c.in_ok-object.ensures.sound c.in-Some.object.now.by_ref
+    let taken = ranges_that_are_taken r c.requires.sound c.in-Some.object.now.by_ref
     c.args.name.now c.deref.result.now belong in
     let own = filter_map (λ (o : Bor Obj). range_of_key o.now.key) c.deref.result.now in
     let ranges : c.extend_from_slice.new.self.items ≡ filter_map range_listed c.members.result.now

@@ -1,4 +1,4 @@
-use Rattle.std.proofs.Common.{◌≡◌, ◌↔◌, List, Contains, map, refl, subst}
+use Rattle.std.proofs.Common.{◌≡◌, ◌↔◌, List, Contains, map, refl, subst, ap, ◌∙◌}
 use Rattle.std.proofs.lemmas.Result.{IfOk-weaker}
 use Rattle.rr_graph.specs.declared.labels.Edge.{Edge}
 use Rattle.rr_graph.proofs.Lists.{Contains-map}
@@ -21,5 +21,7 @@ ends_lead {N} {L} leaves edges nodes are is next = (
 pub returns : goal.returns
 returns g c =
     IfOk-weaker c.ends.result _ _
-    (λ nodes is. ends_lead (g.G.Labelled.edge c.args.self.now.graph.now c.args.node.now)
-    c.in_ok-edges.field-0.items nodes.items c.in_ok-edges.ensures is) c.ends.ensures
+    (λ nodes is node shown. ends_lead (g.G.Labelled.edge c.args.self.now.graph.now node)
+    c.args.seen.now.edges.items _ shown.edges
+    (is ∙ ap (map (λ (e : Edge g.row.G-Node.Denot g.row.G-Label.Denot). e.to))
+    c.deref.ensures.value)) c.ends.ensures

@@ -1,5 +1,5 @@
-use Rattle.std.proofs.Common.{◌<◌, ◌↔◌, ℕ, Contains}
+use Rattle.rr_graph.specs.NumberedParts.{AreAllPlaces}
 use Rattle.rr_graph.proofs.numbered.Numbered.all.Given as goal
 
 abbrev pub invariant-loop-place : goal.invariant-loop-place
-invariant-loop-place g l = (p : ℕ) → Contains l.places.items p ↔ (p < l.place)
+invariant-loop-place g l = AreAllPlaces l.place l.places.items

@@ -3,5 +3,5 @@ use Rattle.rr_sets.proofs.as_sets.AsSetsGraph.successors.Goals as goal
 
 pub returns : goal.returns
 returns g c =
-    IfOk-weaker c.names_listed.result _ _ (λ names are. are _ _ c.in_ok-set.ensures.found)
+    IfOk-weaker c.names_listed.result _ _ (λ names are name shown. are _ name shown.found)
     c.names_listed.ensures

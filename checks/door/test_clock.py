@@ -9,6 +9,7 @@ from checks.door import inside, worlds
 from checks.running import expect
 from irr.door import upstreams
 from irr.door.settings import Place
+from irr.local.health import Bounds
 
 
 @pytest.mark.parametrize("jump", [-100_000.0, 100_000.0])
@@ -51,3 +52,31 @@ def test_nobody_looks_at_the_clock_for_a_query(monkeypatch: pytest.MonkeyPatch) 
 
     inside.run(ask())
     expect(looked, [], "looks at the clock")
+
+
+def test_a_door_is_not_well_while_replicas_are_dated_in_the_future() -> None:
+    """As `irr check` has it, and not for what differs by less than its bound."""
+    assert upstreams.AHEAD == Bounds().clock
+    first, second = (upstreams.Upstream(Place("127.0.0.1", port)) for port in (4_345, 4_346))
+    for seconds in 0.0, -1_000.0, upstreams.AHEAD - 100:
+        first.see(time.time() + seconds)
+        expect(upstreams.ahead([first, second]), [], f"replicas dated {seconds} s later")
+    first.see(1e10)
+    lines = upstreams.ahead([first, second])
+    what = "replica 127.0.0.1:4345: dated 2286-11-20T17:46:40Z, and the clock says "
+    expect([line[: len(what)] for line in lines], [what], "one of them")
+    second.see(1e300)
+    what = what.replace(":4345: ", ":4345, replica 127.0.0.1:4346: ").partition("Z")[0]
+    lines = upstreams.ahead([first, second])
+    expect([line[: len(what)] for line in lines], [what], "both")
+
+    async def ask() -> None:
+        async with inside.opened(lambda line: worlds.AS1 + b"\n") as (door, _):
+            pool, status = door.door.pool, door.status
+            expect(status.line()[:5], b"well:", "before")
+            pool.replicas.append(second)
+            line, *faults = status.line().decode().splitlines()
+            expect((line[:8], len(faults)), ("in part:", 1), f"the first line: {line} {faults}")
+            expect(status.all()["well"], False, "in JSON")
+
+    inside.run(ask())

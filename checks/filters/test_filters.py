@@ -20,6 +20,8 @@ from checks.filters.filtering import (
 )
 from checks.running import Tell, Trial, expect, run, write
 from checks.worlds import Tool, expect_line
+from irr.filters import sets
+from irr.registry.server import DEFAULT, Server
 
 IN_MEMORY = True
 # Prefixes, and whether the set of checks/filters/customers.rpsl has them, by RFC 2622, 2.
@@ -134,6 +136,12 @@ def judged_by_frr(folder: str) -> str:
     return f"FRR judges {len(probes())}"
 
 
+def test_only_where_a_replica_may_answer_is_it_said_to_try_again() -> None:
+    """The service's registry itself has what was added at once."""
+    for url, wanted in (DEFAULT, ""), ("http://127.0.0.1:4380", sets.LATER):
+        expect(sets.later(Server(url)), wanted, url)
+
+
 def test_what_makes_no_filter_says_why(trial: Trial, tool: Tool, tell: Tell) -> None:
     """What makes no filter: the old one stays, and one line says why."""
     with worked(tool, trial, "refusals", limit=8) as (tool, folder, server):
@@ -157,12 +165,14 @@ def test_what_makes_no_filter_says_why(trial: Trial, tool: Tool, tell: Tell) -> 
             Canned(canned) as odd,
             Canned({}, b"HTTP/1.1 503 Service Unavailable\r\n\r\n") as failed,
         ):
+            # A replica may be at this address.
+            soon = "try again in two minutes; .*kept stays as it was"
             cases = [
-                (["AS1:RS-GONE"], 1, "the set is not registered"),
+                (["AS1:RS-GONE"], 1, f"the set is not registered;.*{soon}"),
                 (["AS1:RS-NOTHING"], 1, "the set has no prefixes"),
-                (["AS1:RS-HALF"], 1, "are not registered: AS1:RS-GONE"),
+                (["AS1:RS-HALF"], 1, f"are not registered: AS1:RS-GONE;.*{soon}"),
                 ([SET], 1, "% error 3"),
-                (["AS77"], 1, "no route has this origin"),
+                (["AS77"], 1, f"no route has this origin;.*{soon}"),
                 (["AS1:RS-WIDE"], 1, r"wider than /8: 0.0.0.0/0\^\+;"),
                 (["--widest", "9", "AS1:RS-WIDE"], 1, "0.0.0.0/0.*10.0.0.0/8;"),
                 (["A-MNT"], 2, "A-MNT: this is not a set or an AS number"),

@@ -29,6 +29,7 @@ PACKAGES = [
     "udev",
     "dbus",
     "iproute2",
+    "netbase",
     "linux-image-cloud-amd64",
     "initramfs-tools",
     "python3",

@@ -240,8 +240,8 @@ class Service:
             "not checked" in reported, False, f"whether there is what it could not see: {reported}"
         )
         expect("backup-old" in reported, False, f"whether it ever lacked a backup: {reported}")
-        again = guest.ended("irr setup --yes --source TRIAL")
-        expect((again.status, "a registry is here" in again.reported), (4, True), "a second one")
+        again = guest.ended("irr setup")
+        expect((again.status, f" edit {SETTINGS} " in again.reported), (4, True), "a second one")
         printed = guest.done("dpkg --purge irrdesk")
         kept = re.findall(r"^  (/var/\S+)$", printed, re.MULTILINE)
         names = ["lib/irrdesk", "lib/irrdesk-backup", "lib/irrdesk-history"]

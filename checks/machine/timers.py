@@ -10,6 +10,7 @@ from checks.package import packages
 from checks.pages.text import text_of
 from checks.running import AUTH, TOP, expect
 from checks.sums import sum_of
+from irr.local.health import REMEDIES
 
 # The example's filter by bgpq4, of an AS that the registry has; its number is one for
 # documentation, which bgpq4 takes with -p.
@@ -94,6 +95,8 @@ class Timers:
         for change, is_kept in [
             ("true", False),
             (f"sed -i 's/^auth = .*/auth = \"\"/' {SETTINGS}", False),
+            # As a copy by scp brings them.
+            (f"chown root:root {SETTINGS}", False),
             (
                 "systemctl stop irrdesk; cd /var/lib/irrdesk; rm -f irr.db-wal; printf damage"
                 " | dd of=irr.db bs=1 seek=4096 conv=notrunc; ! systemctl start irrdesk",
@@ -128,8 +131,10 @@ class Timers:
         wanted, settings = service.full_dump(), guest.done(f"cat {SETTINGS}")
         listed = "ls /etc/systemd/system/*.wants | grep ^irrdesk"
         units = guest.done(f"systemctl enable irrdesk-backup.timer; {listed}")
-        guest.done(f"set -e; {lines[0]}", seconds=600)
-        guest.done("systemctl disable irrdesk-backup.timer")
+        # What was made while the clock was ahead is not the last backup.
+        ahead = "/var/lib/irrdesk-backup/29991231T235959Z"
+        guest.done(f"mkdir {ahead}; set -e; {lines[0]}", seconds=600)
+        guest.done(f"rmdir {ahead}")
         replica = "curl --silent --fail http://127.0.0.1:4345/query/ROOT-MNT"
         guest.done(replica)
         packed = guest.done("tar -C /root -c moved | base64").encode()
@@ -152,8 +157,8 @@ class Timers:
             expect(
                 new.ended("systemctl --failed --plain --no-legend").printed, "", "what has failed"
             )
-        guest.done("systemctl enable --now irrdesk.service irrdesk-check.timer")
-        guest.done("rm -r /root/moved")
+        guest.done("xargs systemctl enable --now < /root/units; rm -r /root/units /root/moved")
+        guest.done("systemctl disable --now irrdesk-backup.timer")
         guest.until("systemctl start irrdesk-check", "that the check finds nothing wrong", AGAIN)
         return f"{len(wanted)} bytes of dump"
 
@@ -308,21 +313,31 @@ class Timers:
         return f"{len(mail.splitlines())} lines of mail"
 
     def refused(self) -> str:
-        """That a door which refuses its settings names them as their reader does, and that what
-        the page says opens its ports again, whatever clients did meanwhile."""
+        """That a door which refuses its settings names them as their reader does, and that the
+        check says so within a minute, while clients wait and after systemd has closed the ports;
+        what the remedy runs opens them again."""
         service, guest, place = self.service, self.service.guest, "/etc/irrdesk/door.toml"
         guest.done(f"cp {place} /run/door.toml; echo 'unheard_of = 1' >> {place}")
-        asking = "for n in $(seq 9); do timeout 2 whois -h 127.0.0.1 -p 43 ROOT-MNT; done; true"
-        guest.done(f"systemctl restart irrdesk-door; {asking}", seconds=600)
+        asking = "timeout 2 whois -h 127.0.0.1 -p 43 ROOT-MNT"
+        guest.done(f"systemctl restart irrdesk-door; {asking}; true", seconds=600)
+        self.door_is_down("while clients wait")
+        # A client that went away still waits in the socket's queue.
+        closed = "systemctl show --property=Result --value irrdesk-door.socket"
+        guest.until(f"{closed} | grep -qx service-start-limit-hit", "that the ports close", AGAIN)
+        self.door_is_down("after the ports are closed")
         reported = found(f"^(irr door: {place}.*)$", service.journal("irrdesk-door"), "its words")
-        guest.done(
-            f"cat /run/door.toml > {place}; systemctl reset-failed irrdesk-door;"
-            " systemctl start irrdesk-door.socket irrdesk-door",
-            seconds=600,
-        )
+        mending = found("run `([^`]+)`$", REMEDIES["door-down"], "what the remedy runs")
+        guest.done(f"cat /run/door.toml > {place}; {mending}", seconds=600)
         asked = "whois -h 127.0.0.1 -p 43 ROOT-MNT | grep -q ^mntner"
         guest.until(asked, "an answer after its settings are right again")
+        guest.until("systemctl start irrdesk-check", "that all is well again", AGAIN)
         return reported
+
+    def door_is_down(self, when: str) -> None:
+        """That the check says within a minute that the door does not answer."""
+        ended = self.service.guest.ended("timeout 60 irr check")
+        seen = ended.status, "door-down: " in ended.printed
+        expect(seen, (1, True), f"the check {when}: {ended.printed}{ended.reported}")
 
     def released(self) -> str:
         """A package of each released version in the place of this one, and this one again: the

@@ -345,8 +345,11 @@ def test_each_unit_is_bounded_and_may_be_stopped() -> None:
             # The door ends with status 0.
             if path.name != "irrdesk-door.service":
                 expect(lines.get("SuccessExitStatus"), wanted, f"the ends of {path.name}")
-        if lines.get("Restart") == "always" and path.name != "irrdesk-door.service":
-            expect(lines.get("StartLimitBurst"), "100", f"the starts of {path.name}")
+        if lines.get("Restart") == "always":
+            # Clients wait for a door that can't start.
+            limit = ("2min", "10") if path.name == "irrdesk-door.service" else ("1h", "100")
+            found = lines.get("StartLimitIntervalSec"), lines.get("StartLimitBurst")
+            expect(found, limit, f"the starts of {path.name}")
 
 
 def test_the_ports_of_the_door_are_those_that_an_upgrade_keeps_open() -> None:

@@ -9,7 +9,7 @@ import pytest
 
 from checks.pages.text import TOP, text_of
 from irr.door.status import Counters, Status
-from irr.local.health import REMEDIES, Bounds, Health, Places
+from irr.local.health import CASES, REMEDIES, Bounds, Health, Places
 
 PAGE, ALERTS, DASHBOARD = "docs/WATCHING.md", "examples/alerts.yml", "examples/dashboard.json"
 FIGURE = re.compile(r"\birrdesk_[a-z_]+")
@@ -95,7 +95,8 @@ def test_the_page_has_each_fault_of_the_check_with_its_remedy() -> None:
     found = {
         row[0].strip("`"): row[2] for row in rows("irr check", 3) if not FIGURE.match(row[0][1:])
     }
-    assert found == REMEDIES
+    cases = {word: f"; {case}, {remedy}" for word, (case, remedy) in CASES.items()}
+    assert found == {word: remedy + cases.get(word, "") for word, remedy in REMEDIES.items()}
 
 
 def test_the_page_names_only_bounds_that_there_are() -> None:

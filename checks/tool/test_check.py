@@ -5,6 +5,7 @@ import json
 import os
 import re
 import shutil
+import socket
 import stat
 import subprocess
 import time
@@ -17,6 +18,7 @@ import pytest
 from checks.running import TOP, Ran, Trial, expect, write
 from checks.serving import free_port
 from checks.worlds import Tool, World, answering, certificate
+from irr.local import health
 from irr.local.health import REMEDIES, UNITS, Bounds
 
 IN_MEMORY = True
@@ -249,7 +251,7 @@ def unknown(machine: Machine, stack: contextlib.ExitStack) -> list[str]:
 
 @case("certificate-bad")
 def not_shown(machine: Machine, stack: contextlib.ExitStack) -> list[str]:
-    return ["--certificate", f"{HOST}:{free_port()}"]
+    return ["--certificate", place_of(stack.enter_context(answering(GOOD)))]
 
 
 def shown_to(machine: Machine, stack: contextlib.ExitStack, is_known: bool) -> list[str]:
@@ -307,9 +309,43 @@ def test_a_proxy_that_is_down_is_to_be_started(trial: Trial, tool: Tool) -> None
     port = free_port()
     with standing(trial, tool, "proxy-down") as machine:
         printed = machine("--certificate", f"{HOST}:{port}").printed.decode()
-    what = f"{HOST}:{port}: nothing listens at port {port}: start the proxy"
-    wanted = f"certificate-bad: {what}; {REMEDIES['certificate-bad']}\n"
+    wanted = f"certificate-bad: {HOST}:{port}: nothing listens at port {port}; start the proxy\n"
     expect(printed, wanted, "what is said of it")
+
+
+def test_what_is_dated_in_the_future_is_a_line_for_each_remedy(trial: Trial, tool: Tool) -> None:
+    """Replicas renew themselves, and anything else has to be removed."""
+    told = json.loads(agent(age=-90_000))
+    told["replicas"] += [told["replicas"][0] | {"port": 4346}]
+    with standing(trial, tool, "ahead") as machine:
+        machine.looked(-90_000)
+        os.utime(machine.place / "irr.db", (time.time() + 900_000,) * 2)
+        with answering(json.dumps(told).encode() + b"\n") as url:
+            lines = machine("--agent", place_of(url)).printed.decode().splitlines()
+    stamp = "[0-9]{4}-[-0-9T:]+Z"
+    clock = f"and the clock says {stamp}"
+    files = f"{machine.history}/looked, {machine.place}/irr.db: dated {stamp} to {stamp}, {clock}"
+    replicas = f"replica 127.0.0.1:4345, replica 127.0.0.1:4346: dated {stamp}, {clock}"
+    remedies = REMEDIES["clock-ahead"], health.CASES["clock-ahead"][1]
+    for line, what, remedy in zip(lines, (files, replicas), remedies, strict=True):
+        is_line = re.fullmatch(f"clock-ahead: {what}; {re.escape(remedy)}", line)
+        expect(bool(is_line), True, line)
+
+
+def test_a_silent_door_and_agent_keep_nobody_waiting(monkeypatch: pytest.MonkeyPatch) -> None:
+    """As while the door refuses its settings: systemd has its ports open. The registry alone may
+    take minutes."""
+    assert health.AT_ONCE <= 20 < Bounds().seconds
+    monkeypatch.setattr(health, "AT_ONCE", 0.2)
+    with socket.create_server(("127.0.0.1", 0)) as silent:
+        place = f"127.0.0.1:{silent.getsockname()[1]}"
+        looked = health.Health(health.Places(door=place, agent=place), Bounds(), {})
+        begun = time.monotonic()
+        looked.ask_agent()
+        looked.ask_door()
+        expect(time.monotonic() - begun < 20, True, "whether it is soon over")
+    found = [(fault.word, "silent" in fault.what) for fault in looked.faults]
+    expect(found, [("mirror-down", True), ("door-down", True)], "what is wrong")
 
 
 def test_replicas_are_not_renewed_since_the_oldest_was(trial: Trial, tool: Tool) -> None:

@@ -200,7 +200,9 @@ def test_a_list_that_is_as_it_was_has_the_time_of_its_last_making(tmp_path: Path
     os.utime(tmp_path / "0", (0, 0))
     assert made(tmp_path, command(LIST)) == DONE
     assert time.time() - os.stat(tmp_path / "0").st_mtime < 600
-    assert settings.age(str(tmp_path / "0"), 1) == ""
+    path = str(tmp_path / "0")
+    assert settings.unchanged(path, 1) == f"; {path} stays as it was"
+    assert settings.unchanged(f"{path}1") == f"; there is no {path}1 yet"
 
 
 def test_guard_and_failure_together(tmp_path: Path) -> None:

@@ -24,8 +24,8 @@ def test_a_backup_is_put_in_the_place_of_a_registry(trial: Trial, tool: Tool, te
         folder, place = world.folder, os.path.join(world.folder, "backups")
         expect_line(
             tool("restore", "--settings", "s.toml", folder, folder=folder),
-            3,
-            ".*settings cannot be read.*",
+            5,
+            "it has no irr.toml, so it is not a backup",
             "a folder that is no backup",
         )
         ran = tool("backup", "--settings", "s.toml", place, folder=folder)
@@ -62,9 +62,17 @@ def test_a_backup_is_put_in_the_place_of_a_registry(trial: Trial, tool: Tool, te
     ran = restore(tool, folder, "--over", backup)
     expect((ran.status, ran.reported), (0, b""), f"when told to: {ran.reported!r}")
     expect((dump(trial, folder), rights(folder)), (wanted, was), "the registry and its owner")
-    kept = re.search(rb"in (\S+replaced-\S+)$", ran.printed.strip())
-    shutil.copy(os.path.join(folder, "s.toml"), kept[1].decode())
-    expect(dump(trial, kept[1].decode()), other, "what is kept")
+    kept = re.search(rb": (\S+replaced-\S+)$", ran.printed.strip())
+    ran = restore(tool, folder, "--over", kept[1].decode())
+    expect((ran.status, dump(trial, folder)), (0, other), f"what is kept: {ran.reported!r}")
+    ran = restore(tool, folder, "--over", backup)
+    expect((ran.status, dump(trial, folder)), (0, wanted), f"once more: {ran.reported!r}")
+    expect_line(
+        restore(tool, folder, place),
+        5,
+        f"it has no irr.toml, so it is not a backup; name one of those in it, such as {backup}",
+        "the folder of all backups",
+    )
 
     with open(os.path.join(folder, "irr.db"), "r+b") as file:
         file.seek(4_096)

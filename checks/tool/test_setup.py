@@ -105,8 +105,15 @@ def test_a_registry_in_a_folder_is_made_by_options(trial: Trial, tool: Tool) -> 
     expect(b"added" in ran.printed, True, f"what the first maintainer signs: {ran.printed!r}")
     dump = registered(trial, settings, place)
     again = [*words[:-1], "another.password"]
-    ran = tool(*again, folder=place)
-    expect_line(ran, 4, ".*irr.db: a registry is here, and .*", "a second one")
+    named = f".*irr.db: a registry is here, and .*; to change this one, edit {settings}, .*--folder"
+    expect_line(tool(*again, folder=place), 4, named, "a second one")
+    # Before there is a terminal to ask at.
+    expect_line(tool("setup", "--folder", "made", folder=place), 4, named, "without --yes")
+    kept = Path(settings).read_bytes()
+    Path(settings).unlink()
+    removed = ".*irr.db: a registry is here, and .*see Removal in OPERATING.md; .*--folder"
+    expect_line(tool(*again, folder=place), 4, removed, "without its settings")
+    Path(settings).write_bytes(kept)
     expect(registered(trial, settings, place) == dump, True, "whether the registry stays")
     expect(os.path.exists(os.path.join(place, "another.password")), False, "a second password")
 
@@ -284,7 +291,8 @@ def test_a_service_is_made_of_the_files_of_the_package(trial: Trial, tool: Tool)
     timers start runs once before, and that who may submit is said in the words of each proxy."""
     service = Service(trial, tool, "service")
     before = service.settings.read_text(encoding="ascii").splitlines()
-    words = ["--submit", "users", "--submit", "198.51.100.0/24", "--mirror", "192.0.2.10"]
+    submitters = ["users", "127.0.0.1", "198.51.100.0/24"]
+    words = [*(word for who in submitters for word in ("--submit", who)), "--mirror", "192.0.2.10"]
     ran = service.full(*words)
     expect((ran.status, ran.reported), (0, b""), f"its end: {ran.printed!r}")
     for word in b"apache2-utils", b"MIRRORING.md":
@@ -317,7 +325,8 @@ def test_a_service_is_made_of_the_files_of_the_package(trial: Trial, tool: Tool)
     config = write(str(service.place), "haproxy.cfg", text.encode())
     read = subprocess.run(["haproxy", "-c", "-f", config], capture_output=True, check=False)
     expect(read.returncode, 0, f"whether HAProxy reads them: {read.stderr.decode()}")
-    expect_line(service.full(), 4, ".*a registry is here, and .*", "a second one")
+    named = f"edit {service.settings} and run `systemctl restart irrdesk`, or door.toml beside it"
+    expect_line(service.full(), 4, f".*a registry is here, and .*{named} .*", "a second one")
     expect(service.asked(), [], "what a second one asks of systemd")
     example = Path(TOP, "examples", "nginx.conf").read_text(encoding="ascii")
     place = re.search(r"location = /submissions \{\n(.*?)\}", example, re.DOTALL)

@@ -43,7 +43,7 @@ def arguments(parser: argparse.ArgumentParser) -> None:
         default = getattr(Places, name) or "that of its enabled unit"
         parser.add_argument(f"--{name}", metavar=name.upper(), help=f"{what}; by default {default}")
     for name, metavar, what in (
-        ("seconds", "SECONDS", "allow an answer to take this long"),
+        ("seconds", "SECONDS", "allow the registry this long for an answer"),
         ("replica-age", "SECONDS", "allow a replica's state to be this old"),
         ("backup-age", "HOURS", "allow the newest backup to be this old"),
         ("history-age", "HOURS", "allow the last fetch of the history to be this old"),

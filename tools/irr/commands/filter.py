@@ -112,7 +112,7 @@ def run(options: argparse.Namespace) -> int:
             files.put(options.file, text.encode("ascii", "backslashreplace"))
             print(f"{options.file}: {options.set}: {texts.counted(len(found), 'range')}")
     except Failure as failure:
-        stays = "" if options.file == "-" else f"; {options.file} stays as it was"
+        stays = "" if options.file == "-" else settings.unchanged(options.file)
         raise Failure(failure.thing, failure.what + stays, failure.status) from None
     return DONE
 
@@ -168,7 +168,7 @@ def ranges(place: server.Server, name: str, without_missing: bool) -> list[Range
         ]
     else:
         expansion = sets.expansion(place, "prefixes", name)
-        lines = expansion.lines if without_missing else expansion.whole(name)
+        lines = expansion.lines if without_missing else expansion.whole(place, name)
         if expansion.missing and without_missing:
             texts.note(
                 f"irr filter: {name}: made without sets that are not registered: "
@@ -177,7 +177,8 @@ def ranges(place: server.Server, name: str, without_missing: bool) -> list[Range
         found = sets.ranges(lines)
     if not found:
         what = "no route has this origin" if number is not None else "the set has no prefixes"
-        raise Failure(name, f"{what}; an empty filter is not made", REFUSED)
+        what = f"{what}; an empty filter is not made{sets.later(place)}"
+        raise Failure(name, what, REFUSED)
     return found
 
 

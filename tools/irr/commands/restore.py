@@ -2,6 +2,7 @@
 import argparse
 import contextlib
 import os
+import stat
 import tempfile
 import time
 from pathlib import Path
@@ -21,12 +22,14 @@ irr restore /var/lib/irrdesk-backup/20261128T031502Z       the service's registr
 irr restore --settings irr.toml backups/20261128T031502Z   one whose server you have stopped
 
 The backup is tested first: a copy of it is opened, and its dump compared. A replaced database that
-had other objects is kept in a folder beside the new one. If there are no settings, those of the
-backup are restored.
+had other objects is kept in a folder beside the new one, which `irr restore --over` takes, too. If
+there are no settings, those of the backup are restored.
 """
 # Where the package has the database, for a backup whose settings have a path without a folder.
 STORE = "/var/lib/irrdesk/irr.db"
 OF_GROUP = 0o640
+# How a folder is called in which a replaced database is kept.
+KEPT = "replaced-"
 
 
 def arguments(parser: argparse.ArgumentParser) -> None:
@@ -41,12 +44,15 @@ def arguments(parser: argparse.ArgumentParser) -> None:
         action="store_true",
         help="replace even a registry that has other objects than the backup",
     )
-    parser.add_argument("folder", metavar="FOLDER", help="a backup that `irr backup` made")
+    parser.add_argument(
+        "folder", metavar="FOLDER", help="a backup that `irr backup` made, or what a restore kept"
+    )
 
 
 def run(options: argparse.Namespace) -> int:
     os.umask(0o077)
     backup, is_service = Path(options.folder), options.settings is None
+    need_backup(backup)
     with services.stopped() if is_service else contextlib.nullcontext():
         settings = settings_for(options.settings, backup)
         prefix = f".{settings.store.name}.irr-restore-"
@@ -61,15 +67,36 @@ def run(options: argparse.Namespace) -> int:
     print(
         texts.shown_line(
             f"{settings.store}: {count} of {backup}"
-            + (f"; what was there is in {kept}" if kept else "")
+            + (f"; remove what was there, once nobody needs it: {kept}" if kept else "")
         )
     )
     return DONE
 
 
+def need_backup(folder: Path) -> None:
+    """That it may be a backup, which has settings, or what a restore kept, which has none."""
+    if has_settings(folder) or is_kept(folder):
+        return
+    if not folder.is_dir():
+        raise Failure(str(folder), "there is no such folder; name one that `irr backup` made")
+    made = [one for one in folder.iterdir() if has_settings(one)]
+    inside = f"; name one of those in it, such as {max(made)}" if made else ""
+    raise Failure(str(folder), f"it has no irr.toml, so it is not a backup{inside}")
+
+
+def has_settings(folder: Path) -> bool:
+    return os.path.lexists(folder / "irr.toml")
+
+
+def is_kept(folder: Path) -> bool:
+    return folder.resolve().name.startswith(KEPT)
+
+
 @reading("the settings")
 def settings_for(path: str | None, backup: Path) -> Settings:
     """The settings of the registry. Where there are none yet, those of the backup are put there."""
+    if not has_settings(backup):
+        return Settings.read(path or databases.DEFAULT)
     of_backup = Settings.read(str(backup / "irr.toml"))
     place = path or databases.DEFAULT
     if is_blank(place):
@@ -77,10 +104,8 @@ def settings_for(path: str | None, backup: Path) -> Settings:
         if path is None and not os.path.isabs(stored(text)):
             text = of_backup.text().replace('"irr.db"', f'"{STORE}"').encode("ascii")
         files.put(place, text, files.PRIVATE)
-        if path is None:
-            # The service's group reads them.
-            os.chown(place, 0, os.stat(os.path.dirname(os.path.abspath(place))).st_gid)
-            os.chmod(place, OF_GROUP)
+    if path is None:
+        let_service_read(place)
     settings = Settings.read(place)
     if settings.source != of_backup.source:
         raise Failure(
@@ -90,6 +115,14 @@ def settings_for(path: str | None, backup: Path) -> Settings:
             SETTINGS,
         )
     return settings
+
+
+def let_service_read(place: str) -> None:
+    """Gives the settings the group of their folder, the service's, which a copy may have lost."""
+    group, found = os.stat(os.path.dirname(os.path.abspath(place))).st_gid, os.stat(place)
+    if found.st_gid != group or not found.st_mode & stat.S_IRGRP:
+        os.chown(place, 0, group)
+        os.chmod(place, OF_GROUP)
 
 
 def stored(text: bytes) -> str:
@@ -126,7 +159,11 @@ def tried(backup: Path, settings: Settings, work: Path) -> None:
     """Opens a copy of the backup, and writes its dumps into the working folder. Its own dump has
     to be the same."""
     made, pressed = Copy(work / "made", settings.text(), backup), work / "pressed.rpsl"
-    databases.copied(databases.real(str(backup / "irr.db")), work / "single.db")
+    held = databases.real(str(backup / ("irr.db" if has_settings(backup) else settings.store.name)))
+    log = databases.beside(held, LOG)
+    if has_records(log):
+        raise Failure(str(log), "this write-ahead log is not empty; take another backup", DATABASE)
+    databases.copied(held, work / "single.db")
     databases.copied(work / "single.db", made.store)
     made.dump(work / "full.rpsl", full=True)
     made.dump(work / "public.rpsl")
@@ -220,7 +257,7 @@ def keep(settings: Settings, work: Path, old: list[Path], owner: os.stat_result)
             databases.copied(path, made / path.name)
             own(made / path.name, owner, files.PRIVATE)
     files.sync_folder(made)
-    name = time.strftime("replaced-%Y%m%dT%H%M%SZ-", time.gmtime())
+    name = time.strftime(f"{KEPT}%Y%m%dT%H%M%SZ-", time.gmtime())
     # It takes the place of the empty one.
     kept = Path(tempfile.mkdtemp(prefix=name, dir=settings.store.parent))
     os.rename(made, kept)

@@ -128,18 +128,18 @@ def place(options: argparse.Namespace) -> str:
 def planned(options: argparse.Namespace, settings: str) -> Plan:
     """What is to be made, as the options say it, and answers."""
     is_service = options.folder is None
-    if not options.yes and not questions.can_ask():
-        raise Failure(
-            "", "there is no terminal to ask at; add --yes, and what is to be set", ARGUMENTS
-        )
-    asker = Asker(options)
     found = tomls.parsed(settings, tomls.text_of(settings))
     store = str(found.get("store") or setups.PACKAGED["store"])
     if not is_service:
         store = os.path.join(os.path.dirname(settings), "irr.db")
     need_path(store)
     plan = Plan(settings, "", "", 0, store, is_service)
-    setups.need_new(plan)
+    setups.need_new(plan, bool(found.get("auth")))
+    if not options.yes and not questions.can_ask():
+        raise Failure(
+            "", "there is no terminal to ask at; add --yes, and what is to be set", ARGUMENTS
+        )
+    asker = Asker(options)
     source = found.get("source", "")
     plan.source = asker.word(
         "source", "Name of the registry", source if source != "EXAMPLE" else "", read_source
@@ -419,8 +419,13 @@ def next_steps(plan: Plan) -> list[str]:
             *[f"    htpasswd -B -c {setups.USERS} USER        of Debian's apache2-utils"]
             * ("users" in plan.submit),
         ]
+    pages = examples().parent / "docs"
     if plan.mirrors:
-        lines.append("  MIRRORING.md: the dump that a mirror begins with, by the same nginx")
+        lines.append(f"  the dump that a mirror begins with, by nginx: {pages}/MIRRORING.md")
     if plan.replicas and plan.limit != setups.PACKAGED["limit"]:
         lines.append(f"  systemctl edit irrdesk-mirror: --limit {plan.limit} in ExecStart")
-    return [*lines, "  OPERATING.md: delegating space to holders, monitoring"]
+    return [
+        *lines,
+        f"  delegating space to holders: {pages}/OPERATING.md",
+        f"  what to watch: {pages}/WATCHING.md",
+    ]

@@ -79,6 +79,7 @@ class Status:
             if one.is_up and age is not None and age > self.settings.oldest:
                 found.append(f"{one.name}: its state is {texts.counted(int(age), 'second')} old")
         found += upstreams.not_renewed("replicas are", self.pool.reported, self.pool.replicas)
+        found += upstreams.ahead(self.pool.replicas)
         return found + self.pool.mirrors.faults() + self.pool.views.faults()
 
     def all(self) -> dict[str, Any]:

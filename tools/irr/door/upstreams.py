@@ -28,6 +28,8 @@ MOST = 1 << 22
 MOST_IDLE = 0.05
 # Seconds between two looks at what the agent of the replicas says, and for it to say it.
 ASKING, ASKING_AGAIN, AGENT = 1.0, 5.0, 2.0
+# How many seconds in the future a state may be dated, as `irr check` has it by default.
+AHEAD = 300.0
 
 
 class Upstream:
@@ -211,3 +213,11 @@ def not_renewed(what: str, reported: dict[str, Any], replicas: list[Upstream]) -
     be."""
     since = texts.since(one.seen for one in replicas)
     return [f"{what} not renewed{since}: {reported['fault']}"] if reported.get("fault") else []
+
+
+def ahead(replicas: list[Upstream]) -> list[str]:
+    """A line for people on the replicas whose states are dated in the future, as `irr check` has
+    it; none where none is. The clock is looked at only if an agent tells of states."""
+    late = [one for one in replicas if one.seen and one.seen > time.time() + AHEAD]
+    names, times = [one.name for one in late], [one.seen for one in late]
+    return [f"{', '.join(names)}: {texts.ahead(times, time.time())}"] if late else []

@@ -47,6 +47,7 @@ class ViewPool(Pool):
         view = self.reported.get("view", {})
         found += [f"{name}: {line}" for line in view.get("lines", [])]
         found += [f"{name}: {line}" for line in view.get("doubts", [])]
+        found += [f"{name}: {line}" for line in upstreams.ahead(self.replicas)]
         return found + upstreams.not_renewed(f"{name} is", self.reported, self.replicas)
 
     def status(self) -> dict[str, Any]:

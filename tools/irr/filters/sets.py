@@ -2,12 +2,14 @@
 from typing import NamedTuple
 
 from irr.errors import REFUSED, Failure
-from irr.registry.server import Server
+from irr.registry.server import DEFAULT, Server
 from irr.rpsl import keys
 from irr.rpsl.keys import Prefix, Range
 
 # How many names a message has at most.
 MOST_NAMES = 10
+# Said of what is not found.
+LATER = "; if it was registered a moment ago, try again in two minutes"
 
 
 class Expansion(NamedTuple):
@@ -16,16 +18,22 @@ class Expansion(NamedTuple):
     lines: list[str]
     missing: list[str]
 
-    def whole(self, name: str) -> list[str]:
+    def whole(self, place: Server, name: str) -> list[str]:
         """The lines, if nothing is missing."""
         if self.missing:
             raise Failure(
                 name,
                 f"sets that it reaches are not registered: {listed(self.missing)}; "
-                "register them, or take them out",
+                f"register them, or take them out{later(place)}",
                 REFUSED,
             )
         return self.lines
+
+
+def later(place: Server) -> str:
+    """What a message says more of what is not found where a replica may have answered: a door, or a
+    replica, may be at any address but that of the registry itself."""
+    return "" if place.url == DEFAULT else LATER
 
 
 def expansion(place: Server, query: str, name: str) -> Expansion:
@@ -34,7 +42,8 @@ def expansion(place: Server, query: str, name: str) -> Expansion:
     if answer.error:
         raise Failure(name, f"% error {answer.error}: {answer.words()}", REFUSED)
     if answer.has_none:
-        raise Failure(name, "the set is not registered; correct the name, or register it", REFUSED)
+        what = f"the set is not registered; correct the name, or register it{later(place)}"
+        raise Failure(name, what, REFUSED)
     return Expansion(answer.lines(), answer.missing())
 
 

@@ -1,5 +1,6 @@
 """The filters of a settings file: each is made by a command, read by its router's own parser, and
 only then put in place."""
+import math
 import mmap
 import os
 import re
@@ -70,8 +71,7 @@ def make_all(path: str, accepts: bool = False) -> int:
             print(make(one, 100 if accepts else wanted.shrink), flush=True)
         except Failure as failure:
             status = SHRUNK if isinstance(failure, Shrunk) else status or REFUSED
-            stale = age(one.file, wanted.stale)
-            texts.note(f"irr filter: {failure}; {one.file} stays as it was{stale}")
+            texts.note(f"irr filter: {failure}{unchanged(one.file, wanted.stale)}")
     return status
 
 
@@ -303,10 +303,12 @@ def line_of(reported: bytes) -> str:
     return "; ".join(filter(None, lines)).strip("; ")[:400]
 
 
-def age(path: str, hours: float) -> str:
-    """Words for a filter that is stale, or is not there."""
+def unchanged(path: str, hours: float = math.inf) -> str:
+    """What is said of the file of a filter that was not made: that it stays, and is stale if it is
+    older than so many hours, or that there is none."""
     try:
         old = (time.time() - os.stat(path).st_mtime) / 3_600
     except OSError:
-        return "; there is none yet"
-    return f", and is STALE: it was made {old:.0f} hours ago" if old > hours else ""
+        return f"; there is no {path} yet"
+    stale = f", and is STALE: it was made {old:.0f} hours ago" if old > hours else ""
+    return f"; {path} stays as it was{stale}"

@@ -30,10 +30,13 @@ REMEDIES = {
     " which clients keep it busy",
     "registry-other": "see with `ss -ltnp`, as root, which program listens there",
     "mirror-down": "see `systemctl status irrdesk-mirror`",
-    "replicas-not-renewed": "fix the cause; the replicas answer meanwhile",
+    "replicas-not-renewed": "fix the cause, unless the next attempt, within a minute, is good; the"
+    " replicas answer meanwhile",
     "replica-old": "see `systemctl status irrdesk-mirror`",
     "door-down": "`irrdesk-check.service` restarts it, unless it was stopped; see"
-    " `journalctl --unit irrdesk-door`",
+    " `journalctl --unit irrdesk-door`; if it refuses its settings, correct door.toml, then run"
+    " `systemctl reset-failed irrdesk-door.service irrdesk-door.socket; systemctl start"
+    " irrdesk-door.socket irrdesk-door.service`",
     "door-in-part": "see http://127.0.0.1:4381/status",
     "unit-failed": "fix what its journal reports, and start it",
     "unit-stopped": "start it, or disable it",
@@ -46,9 +49,13 @@ REMEDIES = {
     "certificate-bad": "correct the proxy's certificate, or the name; add a certificate authority"
     " of your own with `update-ca-certificates`",
     "disk-full": "make room: a full disk stops the registry",
-    "clock-ahead": "correct the clock, and remove or rename what is dated in the future; replicas"
-    " renew themselves",
+    "clock-ahead": "correct the clock, and remove or rename what is dated in the future",
     "memory-full": "remove unwanted objects, or raise its `MemoryMax`: see OPEN.md",
+}
+# Where a fault has another remedy in one case: which case that is, and what is to be done then.
+CASES = {
+    "certificate-bad": ("if nothing listens at its port", "start the proxy"),
+    "clock-ahead": ("for replicas", "correct the clock: they renew themselves"),
 }
 # What a start of a unit mends, by the fault.
 RESTARTED = {
@@ -74,25 +81,34 @@ GROUPS = "/sys/fs/cgroup"
 HOUR, DAY, MEBIBYTE = 3_600, 86_400, 1 << 20
 # Seconds for a proxy's certificate.
 SHOWING = 10
+# The most seconds for the door's status and for the agent's state: both answer from memory. While
+# the door refuses its settings, systemd keeps its ports open, and whoever asks there waits.
+AT_ONCE = 20
 MOST = 1 << 22
 
 
 class Fault(NamedTuple):
-    """What is wrong: its word, the thing, and what of it."""
+    """What is wrong: its word, the thing, and what of it; and whether it is the case of its word
+    that has a remedy of its own."""
 
     word: str
     thing: str
     what: str
+    is_case: bool = False
+
+    @property
+    def remedy(self) -> str:
+        return CASES[self.word][1] if self.is_case else REMEDIES[self.word]
 
     def line(self) -> str:
-        return texts.shown_line(f"{self.word}: {self.thing}: {self.what}; {REMEDIES[self.word]}")
+        return texts.shown_line(f"{self.word}: {self.thing}: {self.what}; {self.remedy}")
 
     def as_json(self) -> dict[str, str]:
         return {
             "check": self.word,
             "thing": self.thing,
             "what": self.what,
-            "remedy": REMEDIES[self.word],
+            "remedy": self.remedy,
         }
 
 
@@ -173,8 +189,9 @@ class Health:
         self.faults: list[Fault] = []
         # What could not be looked at, and why.
         self.unseen: list[str] = []
-        # Times that things are dated.
+        # Times that things are dated, and those of replicas.
         self.dated: list[tuple[str, float]] = []
+        self.replicas: list[tuple[str, float]] = []
         self.states: dict[str, dict[str, str]] = {}
         self.enabled: set[str] = set()
         self.now = time.time()
@@ -193,8 +210,8 @@ class Health:
         self.look_at_memory()
         self.look_at_clock()
 
-    def fault(self, word: str, thing: str, what: str) -> None:
-        self.faults.append(Fault(word, thing, what))
+    def fault(self, word: str, thing: str, what: str, is_case: bool = False) -> None:
+        self.faults.append(Fault(word, thing, what, is_case))
 
     @contextlib.contextmanager
     def seeing(self, thing: str | Path) -> Iterator[None]:
@@ -274,6 +291,11 @@ class Health:
     def seconds(self) -> str:
         return f"{self.bounds.seconds:g}"
 
+    @property
+    def at_once(self) -> float:
+        """How long those may take who answer from memory."""
+        return min(self.bounds.seconds, AT_ONCE)
+
     def ask_agent(self) -> None:
         """What the agent of the mirror says of its replicas."""
         place = self.places.agent
@@ -282,7 +304,7 @@ class Health:
         if not place:
             return
         try:
-            text = exchanged(place, b"state\n", self.bounds.seconds)
+            text = exchanged(place, b"state\n", self.at_once)
             state = json.loads(text)
             fault, replicas = str(state["fault"]), list(state["replicas"])
             found = [(str(one["port"]), bool(one["ready"]), float(one["seen"])) for one in replicas]
@@ -294,7 +316,7 @@ class Health:
             self.fault("replicas-not-renewed", place, f"not renewed{since}: {fault}")
         for port, is_ready, seen in found:
             thing, age = f"replica 127.0.0.1:{port}", self.now - seen
-            self.dated += [(thing, seen)] * bool(seen)
+            self.replicas += [(thing, seen)] * bool(seen)
             if seen and age > self.bounds.replica_age:
                 self.fault("replica-old", thing, f"its state is {age:.0f} s old")
             elif not is_ready and not fault:
@@ -318,7 +340,7 @@ class Health:
         if not place:
             return
         try:
-            _, text = fetched(f"http://{place}/status", self.bounds.seconds)
+            _, text = fetched(f"http://{place}/status", self.at_once)
         except (OSError, ValueError, Unasked) as why:
             self.fault("door-down", place, f"the door does not answer ({why})")
             return
@@ -328,7 +350,7 @@ class Health:
         elif not lines[0].startswith("well"):
             self.fault("door-in-part", place, "; ".join(lines))
         with contextlib.suppress(OSError, ValueError, KeyError, TypeError, Unasked):
-            _, text = fetched(f"http://{place}/status?json", self.bounds.seconds)
+            _, text = fetched(f"http://{place}/status?json", self.at_once)
             self.look_at_mirrors(json.loads(text)["serials"] or {})
 
     def look_at_mirrors(self, serials: dict[str, Any]) -> None:
@@ -389,7 +411,7 @@ class Health:
             word = "certificate-ends" if is_over else "certificate-bad"
             self.fault(word, name, error.verify_message)
         except ConnectionRefusedError:
-            self.fault("certificate-bad", name, f"nothing listens at port {port}: start the proxy")
+            self.fault("certificate-bad", name, f"nothing listens at port {port}", True)
         except (OSError, ValueError, KeyError) as error:
             self.fault("certificate-bad", name, f"there is none to be seen ({error})")
         else:
@@ -432,14 +454,16 @@ class Health:
                 self.fault("memory-full", name, f"{held // MEBIBYTE} MiB of {most // MEBIBYTE}")
 
     def look_at_clock(self) -> None:
-        """Whether anything is dated later than the clock says."""
+        """Whether anything is dated later than the clock says: one fault for each remedy."""
         for path in (self.store, databases.beside(self.store, databases.LOG)):
             with contextlib.suppress(OSError):
                 self.dated.append((str(path), path.stat().st_mtime))
-        for thing, when in self.dated:
-            if when > time.time() + self.bounds.clock:
-                what = f"it is dated {shown_time(when)}, and the clock says {shown_time(self.now)}"
-                self.fault("clock-ahead", thing, what)
+        for dated, is_case in (self.dated, False), (self.replicas, True):
+            late = [(thing, at) for thing, at in dated if at > time.time() + self.bounds.clock]
+            if late:
+                things, times = zip(*late)
+                what = texts.ahead(times, self.now)
+                self.fault("clock-ahead", ", ".join(things), what, is_case)
 
 
 def backup_time(name: str) -> float | None:

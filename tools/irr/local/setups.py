@@ -331,12 +331,17 @@ class Made:
             )
 
 
+def submitting_from(who: list[str]) -> list[str]:
+    """The addresses from which anybody may submit: this machine's own, and those given."""
+    given = [one for one in who if one not in ("nobody", "users", "anybody")]
+    return list(dict.fromkeys(["127.0.0.1", *given]))
+
+
 def for_haproxy(who: list[str]) -> str:
     """The addresses from which anybody may submit, one a line, for `acl may_submit src -f`."""
-    allowed = [one for one in who if one not in ("nobody", "users", "anybody")]
     all_of_them = ["0.0.0.0/0", "::/0"] if "anybody" in who else []
     head = "# Who may submit, made by irr setup: for `acl may_submit src -f` of haproxy.cfg."
-    return "\n".join([head, "127.0.0.1", *allowed, *all_of_them, ""])
+    return "\n".join([head, *submitting_from(who), *all_of_them, ""])
 
 
 def for_nginx(who: list[str]) -> str:
@@ -344,22 +349,32 @@ def for_nginx(who: list[str]) -> str:
     lines = ["# Who may submit, made by irr setup: for `location = /submissions` of nginx.conf."]
     if who != ["anybody"]:
         is_for_users = "users" in who
-        allowed = [one for one in who if one not in ("nobody", "users")]
         lines += ["satisfy any;"] * is_for_users
-        lines += [f"allow {one};" for one in ["127.0.0.1", *allowed]]
+        lines += [f"allow {one};" for one in submitting_from(who)]
         lines += ["deny all;"]
         if is_for_users:
             lines += ["auth_basic registry;", f"auth_basic_user_file {USERS};"]
     return "\n".join([*lines, ""])
 
 
-def need_new(plan: Plan) -> None:
-    """That no registry is here, and that its folder is that of a user who may have one."""
+def need_new(plan: Plan, has_auth: bool) -> None:
+    """That no registry is here, and that its folder is that of a user who may have one. One whose
+    settings are here too, with an `auth`, is served by them; a purge removes them."""
     if os.path.lexists(plan.store):
+        if not has_auth:
+            to_do = "to serve this one, see Removal in OPERATING.md"
+        elif plan.is_service:
+            to_do = (
+                f"to change this one, edit {plan.settings} and run `systemctl restart irrdesk`, or"
+                " door.toml beside it and run `systemctl restart irrdesk-door`"
+            )
+        else:
+            to_do = f"to change this one, edit {plan.settings}, and start its server again"
+        if not plan.is_service:
+            to_do += "; for a new one, name another folder by --folder"
         raise Failure(
             plan.store,
-            "a registry is here, and irr setup makes only a first one; to serve this one, see"
-            " Removal in OPERATING.md, or name another folder by --folder",
+            f"a registry is here, and irr setup makes only a first one; {to_do}",
             DATABASE,
         )
     if plan.is_service:

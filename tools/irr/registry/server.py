@@ -40,8 +40,8 @@ NO_ADDRESS = "this is not an address; write it as https://HOST or http://HOST:PO
 NETRC = "write lines `machine HOST login USER password PASSWORD`"
 REMEDIES = {
     400: "the server does not take the request; is it https that it wants?",
-    401: "the server asks for a user and a password; "
-    "write `machine HOST login USER password PASSWORD` into ~/.netrc",
+    401: "the server asks for a user and a password; ask the registry's operator for them, or to "
+    "allow your address; write `machine HOST login USER password PASSWORD` into ~/.netrc",
     403: "the server does not allow this from here; ask the registry's operator",
     404: "there is no registry at this address; correct it",
     405: "there is no registry at this address; correct it",

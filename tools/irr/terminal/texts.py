@@ -5,7 +5,7 @@ import os
 import re
 import sys
 import time
-from typing import IO, Iterable
+from typing import IO, Iterable, Sequence
 
 # C0 but tab and LF, DEL, C1, and the marks that turn the direction of writing round.
 CONTROL = re.compile(
@@ -111,13 +111,26 @@ def counted(number: int, thing: str, things: str = "") -> str:
     return f"{number:,} {thing}" if number == 1 else f"{number:,} {things or thing + 's'}"
 
 
+def stamp(seconds: float) -> str:
+    """A time in UTC; nothing where no calendar has it."""
+    with contextlib.suppress(ValueError, OverflowError, OSError):
+        return time.strftime("%Y-%m-%dT%H:%M:%SZ", time.gmtime(seconds))
+    return ""
+
+
 def since(times: Iterable[float]) -> str:
     """` since` the first of some times, in UTC; nothing where there is none, each is 0, or no
     calendar has it."""
     first = min(filter(None, times), default=0.0)
-    with contextlib.suppress(ValueError, OverflowError, OSError):
-        return time.strftime(" since %Y-%m-%dT%H:%M:%SZ", time.gmtime(first)) if first else ""
-    return ""
+    found = stamp(first) if first else ""
+    return f" since {found}" if found else ""
+
+
+def ahead(times: Sequence[float], now: float) -> str:
+    """That some things are dated in the future."""
+    first, last = (stamp(at) or "beyond all calendars" for at in (min(times), max(times)))
+    dated = first if first == last else f"{first} to {last}"
+    return f"dated {dated}, and the clock says {stamp(now)}"
 
 
 def wrapped(words: str, indent: str = "    ") -> list[str]:

@@ -311,10 +311,9 @@ class Service:
         expect(
             guest.done("find /etc/systemd -name 'irrdesk*'"), "", "which links of units are left"
         )
-        guest.done(
-            f"apt-get install --yes /run/given/irrdesk.deb; {EDITED}; systemctl enable --now"
-            " irrdesk"
-        )
+        printed = guest.done("apt-get install --yes /run/given/irrdesk.deb")
+        expect("which nothing serves" in printed, True, f"whether it says so: {printed}")
+        guest.done(f"{EDITED}; systemctl enable --now irrdesk")
         self.serves("the package installed again")
         expect(self.dump() == dump, True, "whether the registry is the same")
         return "the registry stays"

@@ -126,6 +126,13 @@ def refused(machine: Machine, stack: contextlib.ExitStack) -> list[str]:
     return []
 
 
+@case("registry-down")
+def ended_at_once(machine: Machine, stack: contextlib.ExitStack) -> list[str]:
+    starting = {"ActiveState": "activating", "SubState": "auto-restart"}
+    machine.units(unit("irrdesk.service", **starting))
+    return refused(machine, stack)
+
+
 @case("registry-failed")
 def failed(machine: Machine, stack: contextlib.ExitStack) -> list[str]:
     machine.url = stack.enter_context(answering(reply(b"", b"503 Service Unavailable"))) + "/x"
@@ -203,6 +210,12 @@ def beyond(machine: Machine, stack: contextlib.ExitStack) -> list[str]:
 @case("unit-failed")
 def failed_unit(machine: Machine, stack: contextlib.ExitStack) -> list[str]:
     machine.units(unit("irrdesk-filter.service", ActiveState="failed", Result="exit-code"))
+    return []
+
+
+@case("unit-failed")
+def failed_socket(machine: Machine, stack: contextlib.ExitStack) -> list[str]:
+    machine.units(unit("irrdesk-door.socket", ActiveState="failed", Result="resources"))
     return []
 
 
@@ -301,7 +314,9 @@ def test_a_fault_is_one_line_with_its_remedy(
             ran = machine(*provoke(machine, stack))
         lines = ran.printed.decode().splitlines()
         expect((ran.status, len(lines)), (1, 1), f"status and lines: {lines} {ran.reported!r}")
-        is_line = lines[0].startswith(f"{word}: ") and lines[0].endswith(f"; {REMEDIES[word]}")
+        is_case = provoke in (ended_at_once, failed_socket)
+        remedy = health.CASES[word][1] if is_case else REMEDIES[word]
+        is_line = lines[0].startswith(f"{word}: ") and lines[0].endswith(f"; {remedy}")
         expect(is_line, True, lines[0])
 
 

@@ -54,6 +54,14 @@ REMEDIES = {
 }
 # Where a fault has another remedy in one case: which case that is, and what is to be done then.
 CASES = {
+    "registry-down": (
+        "if its unit ended just now",
+        "`journalctl --unit irrdesk` says why, and waiting does not help",
+    ),
+    "unit-failed": (
+        "if it is irrdesk-door.socket",
+        "see with `ss -ltnp`, as root, which program has its port",
+    ),
     "certificate-bad": ("if nothing listens at its port", "start the proxy"),
     "clock-ahead": ("for replicas", "correct the clock: they renew themselves"),
 }
@@ -75,7 +83,7 @@ UNITS = (
     *("irrdesk-notify.timer", "irrdesk-notify.service"),
     "irrdesk-view@*.service",
 )
-PROPERTIES = "Id,ActiveState,UnitFileState,Result,ControlGroup,MemoryCurrent,MemoryMax"
+PROPERTIES = "Id,ActiveState,SubState,UnitFileState,Result,ControlGroup,MemoryCurrent,MemoryMax"
 WANTED = "/etc/systemd/system"
 GROUPS = "/sys/fs/cgroup"
 HOUR, DAY, MEBIBYTE = 3_600, 86_400, 1 << 20
@@ -261,7 +269,8 @@ class Health:
         }
         for name, state in self.states.items():
             if state.get("ActiveState") == "failed":
-                self.fault("unit-failed", name, f"it has failed ({state.get('Result')})")
+                what = f"it has failed ({state.get('Result')})"
+                self.fault("unit-failed", name, what, name.endswith(".socket"))
             elif name in self.enabled and state.get("ActiveState") == "inactive":
                 self.fault("unit-stopped", name, "it is enabled, and does not run")
 
@@ -270,13 +279,16 @@ class Health:
     def ask_registry(self) -> None:
         """One query over HTTP. An operator's own submission may hold the server for minutes."""
         url, name = self.places.url, "irrdesk.service"
-        state = self.states.get(name, {}).get("ActiveState")
-        if state == "inactive" and name not in self.enabled and url == Places.url:
+        state = self.states.get(name, {})
+        is_off = state.get("ActiveState") == "inactive" and name not in self.enabled
+        if is_off and url == Places.url:
             return
         try:
             status, _ = fetched(url, self.bounds.seconds)
         except ConnectionRefusedError:
-            self.fault("registry-down", url, "nothing listens")
+            # Between two starts of a program that ends at once.
+            has_ended = state.get("SubState") == "auto-restart"
+            self.fault("registry-down", url, "nothing listens", has_ended)
         except Unasked as why:
             self.fault("registry-slow", url, f"no whole answer within {self.seconds} s ({why})")
         except (OSError, ValueError) as error:

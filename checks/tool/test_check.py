@@ -172,6 +172,12 @@ def not_renewed(machine: Machine, stack: contextlib.ExitStack) -> list[str]:
     return ["--agent", place_of(stack.enter_context(answering(agent("other objects"))))]
 
 
+@case("replicas-not-renewed")
+def view_not_renewed(machine: Machine, stack: contextlib.ExitStack) -> list[str]:
+    machine.units(unit("irrdesk-view@all.service", StatusText="NOT RENEWED: RADB: it is gone"))
+    return []
+
+
 @case("replica-old")
 def old_replica(machine: Machine, stack: contextlib.ExitStack) -> list[str]:
     return ["--agent", place_of(stack.enter_context(answering(agent(age=700))))]

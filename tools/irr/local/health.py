@@ -71,6 +71,7 @@ RESTARTED = {
     "registry-slow": "irrdesk.service",
     "door-down": "irrdesk-door.service",
 }
+VIEW = "irrdesk-view@"
 UNITS = (
     *("irrdesk.service", "irrdesk-check.timer", "irrdesk-mirror.service"),
     *("irrdesk-door.socket", "irrdesk-door.service"),
@@ -81,9 +82,11 @@ UNITS = (
     *("irrdesk-dump.timer", "irrdesk-dump.service"),
     *("irrdesk-filter.timer", "irrdesk-filter.service"),
     *("irrdesk-notify.timer", "irrdesk-notify.service"),
-    "irrdesk-view@*.service",
+    f"{VIEW}*.service",
 )
-PROPERTIES = "Id,ActiveState,SubState,UnitFileState,Result,ControlGroup,MemoryCurrent,MemoryMax"
+PROPERTIES = (
+    "Id,ActiveState,SubState,StatusText,UnitFileState,Result,ControlGroup,MemoryCurrent,MemoryMax"
+)
 WANTED = "/etc/systemd/system"
 GROUPS = "/sys/fs/cgroup"
 HOUR, DAY, MEBIBYTE = 3_600, 86_400, 1 << 20
@@ -189,6 +192,10 @@ class Unasked(Exception):
     """Why something did not answer."""
 
 
+def words_of(error: Exception) -> str:
+    return system_words(error) if isinstance(error, OSError) else str(error)
+
+
 class Health:
     """What is looked at, one after the other."""
 
@@ -273,6 +280,9 @@ class Health:
                 self.fault("unit-failed", name, what, name.endswith(".socket"))
             elif name in self.enabled and state.get("ActiveState") == "inactive":
                 self.fault("unit-stopped", name, "it is enabled, and does not run")
+            elif name.startswith(VIEW) and state.get("StatusText", "").startswith("NOT RENEWED"):
+                # The door says so only of the views that it serves.
+                self.fault("replicas-not-renewed", name, state["StatusText"].lower())
 
     # Who answers.
 
@@ -320,8 +330,11 @@ class Health:
             state = json.loads(text)
             fault, replicas = str(state["fault"]), list(state["replicas"])
             found = [(str(one["port"]), bool(one["ready"]), float(one["seen"])) for one in replicas]
-        except (OSError, ValueError, KeyError, TypeError, Unasked) as why:
-            self.fault("mirror-down", place, f"the agent does not answer ({why})")
+        except (OSError, Unasked) as why:
+            self.fault("mirror-down", place, f"the agent does not answer ({words_of(why)})")
+            return
+        except (ValueError, KeyError, TypeError):
+            self.fault("mirror-down", place, "another program answers: `ss -ltnp` says which")
             return
         if fault:
             since = texts.since(seen for _, _, seen in found)
@@ -354,7 +367,7 @@ class Health:
         try:
             _, text = fetched(f"http://{place}/status", self.at_once)
         except (OSError, ValueError, Unasked) as why:
-            self.fault("door-down", place, f"the door does not answer ({why})")
+            self.fault("door-down", place, f"the door does not answer ({words_of(why)})")
             return
         lines = text.decode("utf-8", "replace").splitlines()
         if not lines:

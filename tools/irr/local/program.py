@@ -88,4 +88,4 @@ def wait_for_line(process: "subprocess.Popen[bytes]", seconds: float) -> None:
     assert process.stdout and process.stderr
     if not process.stdout.readline().startswith(b"listening "):
         words = process.stderr.read().decode("utf-8", "replace").strip()
-        raise Failure("irrdesk", words or "it does not serve")
+        raise Failure("irrdesk", words.removeprefix("irrdesk: ") or "it does not serve")

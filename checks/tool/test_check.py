@@ -20,6 +20,7 @@ from checks.serving import free_port
 from checks.worlds import Tool, World, answering, certificate
 from irr.local import health
 from irr.local.health import REMEDIES, UNITS, Bounds
+from irr.local.history import Repository
 
 IN_MEMORY = True
 GOOD = b"HTTP/1.1 200 OK\r\nContent-Length: 0\r\n\r\n"
@@ -76,6 +77,13 @@ class Machine:
         shutil.rmtree(self.backups)
         stamp = time.strftime("%Y%m%dT%H%M%SZ", time.gmtime(time.time() - hours * 3_600))
         (self.backups / stamp).mkdir(parents=True)
+
+    def state(self, seconds: float) -> None:
+        """Gives the history a state that is so old."""
+        repository = Repository(self.history)
+        repository.begin()
+        head = f"commit refs/heads/main\ncommitter a <a> {time.time() - seconds:.0f} +0000\n"
+        repository.git("fast-import", "--quiet", given=f"{head}data 0\n".encode())
 
     def looked(self, seconds: float) -> None:
         """The dump was fetched so many seconds ago."""
@@ -340,12 +348,19 @@ def test_what_is_dated_in_the_future_is_a_line_for_each_remedy(trial: Trial, too
     told["replicas"] += [told["replicas"][0] | {"port": 4346}]
     with standing(trial, tool, "ahead") as machine:
         machine.looked(-90_000)
+        machine.state(-90_000)
+        for hours in 30, 60:
+            later = time.gmtime(time.time() + 3_600 * hours)
+            (machine.backups / time.strftime("%Y%m%dT%H%M%SZ", later)).mkdir()
         os.utime(machine.place / "irr.db", (time.time() + 900_000,) * 2)
         with answering(json.dumps(told).encode() + b"\n") as url:
             lines = machine("--agent", place_of(url)).printed.decode().splitlines()
     stamp = "[0-9]{4}-[-0-9T:]+Z"
     clock = f"and the clock says {stamp}"
-    files = f"{machine.history}/looked, {machine.place}/irr.db: dated {stamp} to {stamp}, {clock}"
+    files = (
+        f"2 backups in {machine.backups}, {machine.history}/looked, history {machine.history},"
+        f" {machine.place}/irr.db: dated {stamp} to {stamp}, {clock}"
+    )
     replicas = f"replica 127.0.0.1:4345, replica 127.0.0.1:4346: dated {stamp}, {clock}"
     remedies = REMEDIES["clock-ahead"], health.CASES["clock-ahead"][1]
     for line, what, remedy in zip(lines, (files, replicas), remedies, strict=True):

@@ -17,7 +17,7 @@ from urllib.parse import urlsplit
 
 from irr.errors import SETTINGS, Failure, system_words
 from irr.local import databases
-from irr.local.history import shown_time
+from irr.local.history import Repository, shown_time
 from irr.rpsl import keys
 from irr.system import services, tomls
 from irr.terminal import texts
@@ -90,8 +90,8 @@ PROPERTIES = (
 WANTED = "/etc/systemd/system"
 GROUPS = "/sys/fs/cgroup"
 HOUR, DAY, MEBIBYTE = 3_600, 86_400, 1 << 20
-# Seconds for a proxy's certificate.
-SHOWING = 10
+# Seconds for a proxy's certificate, and OpenSSL's number of one whose time has not begun.
+SHOWING, NOT_YET_VALID = 10, 9
 # The most seconds for the door's status and for the agent's state: both answer from memory. While
 # the door refuses its settings, systemd keeps its ports open, and whoever asks there waits.
 AT_ONCE = 20
@@ -400,8 +400,9 @@ class Health:
             with contextlib.suppress(FileNotFoundError):
                 names = os.listdir(place)
             times = sorted(filter(None, map(backup_time, names)))
-            self.dated += [(f"backup {place}", when) for when in times[-1:]]
             past = [when for when in times if when <= self.now + self.bounds.clock]
+            late = times[len(past) :]
+            self.dated += [(f"{texts.counted(len(late), 'backup')} in {place}", at) for at in late]
             if not past:
                 self.fault("backup-old", str(place), "there is no backup")
             elif (age := self.now - past[-1]) > self.bounds.backup_age * HOUR:
@@ -416,9 +417,15 @@ class Health:
             if not looked.exists():
                 return
             when = looked.stat().st_mtime
-            self.dated.append((str(looked), when))
+            self.dated += [(str(looked), when), *self.last_state(looked.parent)]
             if (age := self.now - when) > self.bounds.history_age * HOUR:
                 self.fault("history-old", str(looked.parent), f"it is {age / HOUR:.0f} hours old")
+
+    def last_state(self, place: Path) -> list[tuple[str, float]]:
+        """The time of the last state of the history, which later ones never precede."""
+        with contextlib.suppress(Failure, ValueError):
+            return [(f"history {place}", float(Repository(place).git("log", "-1", "--format=%ct")))]
+        return []
 
     def look_at_certificate(self, name: str) -> None:
         """When the certificate ends that the proxy of this machine shows for a name."""
@@ -434,7 +441,9 @@ class Health:
         except ssl.SSLCertVerificationError as error:
             is_over = "expired" in error.verify_message
             word = "certificate-ends" if is_over else "certificate-bad"
-            self.fault(word, name, error.verify_message)
+            is_early = error.verify_code == NOT_YET_VALID
+            mend = ": correct the clock, or renew it" if is_early else ""
+            self.fault(word, name, error.verify_message + mend)
         except ConnectionRefusedError:
             self.fault("certificate-bad", name, f"nothing listens at port {port}", True)
         except (OSError, ValueError, KeyError) as error:
@@ -488,7 +497,7 @@ class Health:
             if late:
                 things, times = zip(*late)
                 what = texts.ahead(times, self.now)
-                self.fault("clock-ahead", ", ".join(things), what, is_case)
+                self.fault("clock-ahead", ", ".join(dict.fromkeys(things)), what, is_case)
 
 
 def backup_time(name: str) -> float | None:

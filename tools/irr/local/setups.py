@@ -273,6 +273,9 @@ class Made:
                 )
             self.done(done.stdout.decode("ascii", "replace").strip(), store)
             return
+        if self.plan.is_service:
+            # The earlier run may have started it, and only one process opens the database.
+            services.systemctl("stop", "irrdesk-check.timer", services.UNIT)
         done = self.run("probe")
         if done.returncode:
             raise Failure(
@@ -323,10 +326,12 @@ class Made:
         done = services.systemctl(*words)
         if done.returncode:
             unit = words[-1]
+            is_socket = unit.endswith(".socket")
+            port = "see with `ss -ltnp` whether another program has its port; " if is_socket else ""
             raise Failure(
                 unit,
-                f"it does not start: {' '.join(done.stderr.split()) or 'nothing is reported'}; mend"
-                f" what `journalctl --unit {unit.partition('.')[0]}` says",
+                f"it does not start: {' '.join(done.stderr.split()) or 'nothing is reported'};"
+                f" {port}mend what `journalctl --unit {unit}` says",
                 FAILED,
             )
 

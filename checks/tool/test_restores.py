@@ -176,6 +176,11 @@ def test_a_restore_that_is_killed_leaves_one_of_the_two_whole(
             kept = [one.parent for one in Path(own).glob("replaced-*/irr.db")]
             found = old in (dumped(trial, str(one)) for one in kept)
             expect(found, new != old, f"what is kept after step {step}: {kept}")
+            if is_whole and kept:
+                ran = restore(tool, own, "--over", str(kept[0]))
+                expect(
+                    (ran.status, dumped(trial, own)), (0, old), f"what is kept: {ran.reported!r}"
+                )
             left = [name for name in os.listdir(own) if name[0] == "."]
             expect(left, [], f"what is left after step {step}")
             if is_whole:

@@ -159,14 +159,19 @@ def tried(backup: Path, settings: Settings, work: Path) -> None:
     """Opens a copy of the backup, and writes its dumps into the working folder. Its own dump has
     to be the same."""
     made, pressed = Copy(work / "made", settings.text(), backup), work / "pressed.rpsl"
-    held = databases.real(str(backup / ("irr.db" if has_settings(backup) else settings.store.name)))
-    log = databases.beside(held, LOG)
-    if has_records(log):
-        raise Failure(str(log), "this write-ahead log is not empty; take another backup", DATABASE)
-    databases.copied(held, work / "single.db")
-    databases.copied(work / "single.db", made.store)
+    if has_settings(backup):
+        databases.copied(databases.real(str(backup / "irr.db")), work / "single.db")
+        databases.copied(work / "single.db", made.store)
+    else:
+        # What was kept may have a write-ahead log, which goes into the database as it is opened.
+        databases.copied_store(backup / settings.store.name, made)
     made.dump(work / "full.rpsl", full=True)
     made.dump(work / "public.rpsl")
+    if not has_settings(backup):
+        log = databases.beside(made.store, LOG)
+        if has_records(log):
+            raise Failure(str(log), "this write-ahead log is not empty; try again", DATABASE)
+        databases.copied(made.store, work / "single.db")
     dump = backup / "dump.rpsl"
     if not dump.exists():
         texts.note(f"irr restore: {backup}: it has no dump.rpsl to compare its database with")

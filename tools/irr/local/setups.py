@@ -144,6 +144,10 @@ def set_by_others(plan: Plan) -> Iterator[tuple[str, str, Any, Any]]:
                 yield path, name, found[name], value
 
 
+# What systemd says of a unit that it enables.
+LINKED = "Created symlink "
+
+
 class Made:
     """The steps. What each one has done is printed, and is left where a later one fails."""
 
@@ -326,11 +330,12 @@ class Made:
         done = services.systemctl(*words)
         if done.returncode:
             unit = words[-1]
+            told = [line for line in done.stderr.splitlines() if not line.startswith(LINKED)]
             is_socket = unit.endswith(".socket")
             port = "see with `ss -ltnp` whether another program has its port; " if is_socket else ""
             raise Failure(
                 unit,
-                f"it does not start: {' '.join(done.stderr.split()) or 'nothing is reported'};"
+                f"it does not start: {' '.join(' '.join(told).split()) or 'nothing is reported'};"
                 f" {port}mend what `journalctl --unit {unit}` says",
                 FAILED,
             )

@@ -136,7 +136,7 @@ def refused(machine: Machine, stack: contextlib.ExitStack) -> list[str]:
 
 @case("registry-down")
 def ended_at_once(machine: Machine, stack: contextlib.ExitStack) -> list[str]:
-    starting = {"ActiveState": "activating", "SubState": "auto-restart"}
+    starting = {"ActiveState": "activating", "NRestarts": "3"}
     machine.units(unit("irrdesk.service", **starting))
     return refused(machine, stack)
 

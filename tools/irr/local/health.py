@@ -55,12 +55,12 @@ REMEDIES = {
 # Where a fault has another remedy in one case: which case that is, and what is to be done then.
 CASES = {
     "registry-down": (
-        "if its unit ended just now",
-        "`journalctl --unit irrdesk` says why, and waiting does not help",
+        "if its unit is started again and again",
+        "`journalctl --unit irrdesk` says why",
     ),
     "unit-failed": (
         "if it is irrdesk-door.socket",
-        "see with `ss -ltnp`, as root, which program has its port",
+        "see with `ss -ltnp`, as root, which program has its port, end it, and start the socket",
     ),
     "certificate-bad": ("if nothing listens at its port", "start the proxy"),
     "clock-ahead": ("for replicas", "correct the clock: they renew themselves"),
@@ -85,8 +85,10 @@ UNITS = (
     f"{VIEW}*.service",
 )
 PROPERTIES = (
-    "Id,ActiveState,SubState,StatusText,UnitFileState,Result,ControlGroup,MemoryCurrent,MemoryMax"
+    "Id,ActiveState,NRestarts,StatusText,UnitFileState,Result,ControlGroup,MemoryCurrent,MemoryMax"
 )
+# After so many restarts by systemd, a unit that starts does so in vain.
+AGAIN = 3
 WANTED = "/etc/systemd/system"
 GROUPS = "/sys/fs/cgroup"
 HOUR, DAY, MEBIBYTE = 3_600, 86_400, 1 << 20
@@ -296,9 +298,10 @@ class Health:
         try:
             status, _ = fetched(url, self.bounds.seconds)
         except ConnectionRefusedError:
-            # Between two starts of a program that ends at once.
-            has_ended = state.get("SubState") == "auto-restart"
-            self.fault("registry-down", url, "nothing listens", has_ended)
+            restarts = state.get("NRestarts", "0")
+            is_starting = state.get("ActiveState") == "activating"
+            is_again = is_starting and restarts.isdigit() and int(restarts) >= AGAIN
+            self.fault("registry-down", url, "nothing listens", is_again)
         except Unasked as why:
             self.fault("registry-slow", url, f"no whole answer within {self.seconds} s ({why})")
         except (OSError, ValueError) as error:

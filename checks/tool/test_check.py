@@ -233,6 +233,14 @@ def failed_socket(machine: Machine, stack: contextlib.ExitStack) -> list[str]:
     return []
 
 
+@case("unit-failed")
+def closed_socket(machine: Machine, stack: contextlib.ExitStack) -> list[str]:
+    # By systemd, after too many starts of the door.
+    limit = "service-start-limit-hit"
+    machine.units(unit("irrdesk-door.socket", ActiveState="failed", Result=limit))
+    return []
+
+
 @case("unit-stopped")
 def stopped_unit(machine: Machine, stack: contextlib.ExitStack) -> list[str]:
     machine.units(unit("irrdesk-backup.timer", ActiveState="inactive"))

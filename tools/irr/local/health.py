@@ -59,7 +59,7 @@ CASES = {
         "`journalctl --unit irrdesk` says why",
     ),
     "unit-failed": (
-        "if it is irrdesk-door.socket",
+        "if it is irrdesk-door.socket (resources)",
         "see with `ss -ltnp`, as root, which program has its port, end it, and start the socket",
     ),
     "certificate-bad": ("if nothing listens at its port", "start the proxy"),
@@ -278,8 +278,9 @@ class Health:
         }
         for name, state in self.states.items():
             if state.get("ActiveState") == "failed":
-                what = f"it has failed ({state.get('Result')})"
-                self.fault("unit-failed", name, what, name.endswith(".socket"))
+                why = state.get("Result")
+                is_taken = name.endswith(".socket") and why == "resources"
+                self.fault("unit-failed", name, f"it has failed ({why})", is_taken)
             elif name in self.enabled and state.get("ActiveState") == "inactive":
                 self.fault("unit-stopped", name, "it is enabled, and does not run")
             elif name.startswith(VIEW) and state.get("StatusText", "").startswith("NOT RENEWED"):

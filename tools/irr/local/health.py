@@ -30,8 +30,8 @@ REMEDIES = {
     " which clients keep it busy",
     "registry-other": "see with `ss -ltnp`, as root, which program listens there",
     "mirror-down": "see `systemctl status irrdesk-mirror`",
-    "replicas-not-renewed": "fix the cause, unless the next attempt, within a minute, is good; the"
-    " replicas answer meanwhile",
+    "replicas-not-renewed": "fix the cause, unless the next attempt is good; the replicas that are"
+    " there answer meanwhile",
     "replica-old": "see `systemctl status irrdesk-mirror`",
     "door-down": "`irrdesk-check.service` restarts it, unless it was stopped; see"
     " `journalctl --unit irrdesk-door`; if it refuses its settings, correct door.toml, then run"
@@ -285,7 +285,8 @@ class Health:
                 self.fault("unit-stopped", name, "it is enabled, and does not run")
             elif name.startswith(VIEW) and state.get("StatusText", "").startswith("NOT RENEWED"):
                 # The door says so only of the views that it serves.
-                self.fault("replicas-not-renewed", name, state["StatusText"].lower())
+                what = state["StatusText"].replace("NOT RENEWED", "not renewed", 1)
+                self.fault("replicas-not-renewed", name, what)
 
     # Who answers.
 

@@ -278,9 +278,9 @@ class Health:
         }
         for name, state in self.states.items():
             if state.get("ActiveState") == "failed":
-                why = state.get("Result")
-                is_taken = name.endswith(".socket") and why == "resources"
-                self.fault("unit-failed", name, f"it has failed ({why})", is_taken)
+                result = state.get("Result")
+                is_taken = name.endswith(".socket") and result == "resources"
+                self.fault("unit-failed", name, f"it has failed ({result})", is_taken)
             elif name in self.enabled and state.get("ActiveState") == "inactive":
                 self.fault("unit-stopped", name, "it is enabled, and does not run")
             elif name.startswith(VIEW) and state.get("StatusText", "").startswith("NOT RENEWED"):

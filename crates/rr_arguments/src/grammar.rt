@@ -14,7 +14,7 @@ use std::alloc::{AllocError, Global};
 
 /// The version of the program, and that of the tables that it reads. Checks read it from this line,
 /// which stays one line. `scripts/release` reads it as the second word that `--version` prints.
-const VERSION: &str = "2.7.5 (tables 2)";
+const VERSION: &str = "2.7.6 (tables 2)";
 
 /// What the arguments may be. The commands stand in the order in which a registry meets them. The
 /// error is that memory ran out, here and below.

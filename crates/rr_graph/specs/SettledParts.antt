@@ -46,6 +46,13 @@ module _ {N L V : Type 0} (edge : N → N → L → Type 0) (own : N → V → T
   HoldsAllValues cmp at = (node : N) (values : List V) → at node ≡ Some values
       → ListsInOrder cmp (IsFound edge own passed node) values
 
+  -- A known node has exactly the values that are found at it, in order, and so many pairs are
+  -- known, no more than the limit.
+  pub record HoldsAllWithin (cmp : V → V → Ordering) (at : N → Option (List V)) (limit count : ℕ)
+      : Type 0 where
+    pub values : HoldsAllValues cmp at
+    pub tallied : IsTallied at limit count
+
   -- The pair of one of the nodes and a value that is found at it.
   abbrev pub IsFoundAmong : List N → N × V → Type 0
   IsFoundAmong nodes p = Contains nodes p.0 × IsFound edge own passed p.0 p.1

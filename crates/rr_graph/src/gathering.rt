@@ -2,7 +2,7 @@
 
 ghost use Rattle.std.specs.Prelude.{◌≡◌, ◌↔◌, ◌∷◌, [], Contains, IfOk, map};
 ghost use Rattle.rr_graph.specs.Answered.{FindsWithin, IsWalk, ListsInOrder};
-ghost use Rattle.rr_graph.specs.Carried.{AreMetFrom, AreReachedFrom, HasManyPairs, IsFound};
+ghost use Rattle.rr_graph.specs.Carried.{AreReachedFrom, HasManyPairs, IsFound};
 ghost use Rattle.rr_graph.specs.Carried.{IsGatheredFrom, IsReachedFrom, IsTooMany, Leads};
 ghost use Rattle.rr_graph.specs.Chain.{MoreThan};
 ghost use Rattle.rr_graph.specs.Looks.{AreLooks};
@@ -149,8 +149,9 @@ pub fn gather<G: LabelledGraph>(
         (G.shows graph.now) G.Value.cmp start.now)
         (IsTooMany (G.edge graph.now) (G.own graph.now) G.passed limit start.now) result }
 {
-    let Visits { nodes, looks: seen } = reached_from(alloc, graph, start, look, limit)?;
-    let values = found_among(alloc, graph, &nodes, &seen, start, limit)?;
+    let visits = reached_from(alloc, graph, start, look, limit)?;
+    let values = found_among(alloc, graph, &visits, start, limit)?;
+    let Visits { nodes, looks: seen } = visits;
     let looks = looks(alloc, seen)?;
     Ok(NodesAndValues {
         nodes,
@@ -160,22 +161,23 @@ pub fn gather<G: LabelledGraph>(
 }
 
 /// The values that are found at the start, in ascending order, by the places of the nodes that are
-/// reached from it; `seen` is what was seen at these. `TooMany` says that there are more than
-/// `limit` pairs of such a node and a value found at it.
+/// reached from it; `visits` has these nodes, and what was seen at each. `TooMany` says that there
+/// are more than `limit` pairs of such a node and a value found at it.
 fn found_among<G: Labelled>(
     alloc: Global,
     graph: &G,
-    nodes: &[G::Node],
-    seen: &[Seen<G::Node, G::Label, G::Look>],
+    visits: &Visits<G::Node, Seen<G::Node, G::Label, G::Look>>,
     start: &G::Node,
     limit: usize,
 ) -> Result<Vec<G::Value>, ReachFault>
-    requires met { AreMetFrom (G.edge graph.now) start.now nodes.now }
-    requires seen { AreLooks (IsSeen (G.edge graph.now) (G.shows graph.now)) nodes.now seen.now }
+    requires { IsWalk (Leads (G.edge graph.now)) (IsSeen (G.edge graph.now) (G.shows graph.now))
+        (start.now ∷ []) visits.now }
     ensures { FindsWithin (λ values. ListsInOrder G.Value.cmp
         (IsFound (G.edge graph.now) (G.own graph.now) G.passed start.now) values.items)
         (HasManyPairs (G.edge graph.now) (G.own graph.now) G.passed limit start.now) result }
 {
+    let nodes = visits.nodes.as_slice();
+    let seen = visits.looks.as_slice();
     let numbered = Numbered::new(alloc, graph, nodes, seen)?;
     let places = numbered.all(alloc)?;
     let place = numbered.place(start);
@@ -206,28 +208,28 @@ fn found_at<G: Labelled>(
     let settled = settled(alloc, graph, ordered, limit)?;
     match settled.into_values(ordered.nodes, start) {
         Some(values) => Ok(values),
-        None => walked(alloc, graph, ordered.nodes, ordered.looks, start, limit),
+        None => walked(alloc, graph, ordered, start, limit),
     }
 }
 
 /// The values that are carried back to the start from one of the nodes over edges between them, in
-/// ascending order, whatever rings these form. `looks` are those at the nodes. `TooMany` is that of
-/// `found_pairs`.
+/// ascending order, whatever rings these form. It does not go by the order of the places. `TooMany`
+/// is that of `found_pairs`.
 fn walked<G: Labelled>(
     alloc: Global,
     graph: &G,
-    nodes: &[G::Node],
-    looks: &[G::Look],
+    ordered: &Ordered<'_, G::Node, G::Look>,
     start: &G::Node,
     limit: usize,
 ) -> Result<Vec<G::Value>, ReachFault>
-    requires { AreLooks (G.shows graph.now) nodes.now looks.now }
-    ensures { FindsWithin (λ values. ListsInOrder G.Value.cmp (λ value. IsCarriedPair
-        (G.edge graph.now) (G.own graph.now) G.passed nodes.now (start.now, value)) values.items)
-        (MoreThan limit (IsCarriedPair (G.edge graph.now) (G.own graph.now) G.passed nodes.now))
-        result }
+    requires { AreLooks (G.shows graph.now) ordered.now.nodes.now ordered.now.looks.now }
+    ensures { FindsWithin (λ values. ListsInOrder G.Value.cmp
+        (λ value. IsCarriedPair (G.edge graph.now) (G.own graph.now) G.passed
+        ordered.now.nodes.now (start.now, value)) values.items)
+        (MoreThan limit (IsCarriedPair (G.edge graph.now) (G.own graph.now) G.passed
+        ordered.now.nodes.now)) result }
 {
-    let pairs = found_pairs(alloc, graph, nodes, looks, limit)?;
+    let pairs = found_pairs(alloc, graph, ordered.nodes, ordered.looks, limit)?;
     let values = values_at::<G>(alloc, &pairs, start)?;
     Ok(values)
 }

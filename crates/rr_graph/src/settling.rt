@@ -11,8 +11,8 @@ ghost use Rattle.rr_graph.specs.Carried.{IsFound};
 ghost use Rattle.rr_graph.specs.Chain.{MoreThan};
 ghost use Rattle.rr_graph.specs.Looks.{AreLooks};
 ghost use Rattle.rr_graph.specs.SettledParts.{IsAmong, IsFoundAmong, IsKnownValueOr, IsMade};
-ghost use Rattle.rr_graph.specs.SettledParts.{HoldsAllValues, IsPassed, IsRun};
-ghost use Rattle.rr_graph.specs.SettledParts.{IsTallied, values_at};
+ghost use Rattle.rr_graph.specs.SettledParts.{HoldsAllValues, HoldsAllWithin, IsPassed, IsRun};
+ghost use Rattle.rr_graph.specs.SettledParts.{values_at};
 
 use crate::ReachFault;
 use crate::effects::{EdgesTo, Effects};
@@ -29,10 +29,17 @@ pub(crate) struct Ordered<'a, N, K> {
     pub(crate) order: &'a [u32],
 }
 
-/// Some of the nodes, each with all values that are found at it. They are those that reach no ring
-/// of edges, if their order has each after those to which its edges lead: no clause says so, and
-/// `gathering` asks which there are. `TooMany` says that there are more than `limit` pairs of one
-/// of the nodes and a value found at it.
+/// A node, and what a look at it found.
+#[derive(Drop)]
+struct NodeAndLook<'a, N, K> {
+    node: &'a N,
+    look: &'a K,
+}
+
+/// Some of the nodes, each with all values that are found at it, in at most `limit` pairs of both.
+/// They are those that reach no ring of edges, if their order has each after those to which its
+/// edges lead: no clause says so, and `gathering` asks which there are. `TooMany` says that there
+/// are more than `limit` pairs of one of the nodes and a value found at it.
 pub(crate) fn settled<G: Labelled>(
     alloc: Global,
     graph: &G,
@@ -40,12 +47,11 @@ pub(crate) fn settled<G: Labelled>(
     limit: usize,
 ) -> Result<Settled<G>, ReachFault>
     requires { AreLooks (G.shows graph.now) ordered.now.nodes.now ordered.now.looks.now }
-    ensures settled { IfOk result (λ settled. HoldsAllValues (G.edge graph.now)
-        (G.own graph.now) G.passed G.Value.cmp (values_at G.Node.cmp settled.values)) }
+    ensures held { IfOk result
+        (λ settled. HoldsAllWithin (G.edge graph.now) (G.own graph.now) G.passed G.Value.cmp
+        (values_at G.Node.cmp settled.values) limit settled.pairs) }
     ensures among { IfOk result
         (λ settled. IsAmong ordered.now.nodes.now (values_at G.Node.cmp settled.values)) }
-    ensures tallied { IfOk result
-        (λ settled. IsTallied (values_at G.Node.cmp settled.values) limit settled.pairs) }
     ensures many { result ≡ Err ReachFault.TooMany
         → MoreThan limit
         (IsFoundAmong (G.edge graph.now) (G.own graph.now) G.passed ordered.now.nodes.now) }
@@ -54,43 +60,42 @@ pub(crate) fn settled<G: Labelled>(
     for place in ordered.order {
         if let Some(node) = ordered.nodes.get(*place as usize) {
             let look = &ordered.looks[*place as usize];
-            settle(alloc, graph, &mut settled, node, look, limit)?;
+            let here = NodeAndLook { node, look };
+            settle(alloc, graph, &mut settled, &here, limit)?;
         }
     }
     Ok(settled)
 }
 
-/// Settles the node, unless it is settled, or a node to which its edges lead is not; `look` is what
-/// a look at it found. No other node becomes settled. `TooMany` says that with its values more than
-/// `limit` pairs would be held.
+/// Settles the node, unless it is settled, or a node to which its edges lead is not. No other node
+/// becomes settled. Before and after, each settled node has all values that are found at it, in at
+/// most `limit` pairs of both. `TooMany` says that with the node's values there would be more.
 fn settle<G: Labelled>(
     alloc: Global,
     graph: &G,
     settled: &mut Settled<G>,
-    node: &G::Node,
-    look: &G::Look,
+    here: &NodeAndLook<'_, G::Node, G::Look>,
     limit: usize,
 ) -> Result<(), ReachFault>
-    requires shown { G.shows graph.now node.now look.now }
-    requires settled { HoldsAllValues (G.edge graph.now) (G.own graph.now) G.passed G.Value.cmp
-        (values_at G.Node.cmp settled.old.values) }
-    requires tallied { IsTallied (values_at G.Node.cmp settled.old.values) limit settled.old.pairs }
-    ensures settled { OnOk result (HoldsAllValues (G.edge graph.now)
-        (G.own graph.now) G.passed G.Value.cmp (values_at G.Node.cmp settled.new.values)) }
-    ensures tallied { OnOk result
-        (IsTallied (values_at G.Node.cmp settled.new.values) limit settled.new.pairs) }
+    requires shown { G.shows graph.now here.now.node.now here.now.look.now }
+    requires held { HoldsAllWithin (G.edge graph.now) (G.own graph.now) G.passed G.Value.cmp
+        (values_at G.Node.cmp settled.old.values) limit settled.old.pairs }
+    ensures held { OnOk result
+        (HoldsAllWithin (G.edge graph.now) (G.own graph.now) G.passed G.Value.cmp
+        (values_at G.Node.cmp settled.new.values) limit settled.new.pairs) }
     ensures only { OnOk result ((other : G.Node)
         → is_some (values_at G.Node.cmp settled.new.values other) ≡ true → (is_some
-        (values_at G.Node.cmp settled.old.values other) ≡ true) ⊎ (node.now ≡ other)) }
+        (values_at G.Node.cmp settled.old.values other) ≡ true) ⊎ (here.now.node.now ≡ other)) }
     ensures many { result ≡ Err ReachFault.TooMany
-        → MoreThan limit (IsKnownValueOr (values_at G.Node.cmp settled.old.values) node.now
-        (IsFound (G.edge graph.now) (G.own graph.now) G.passed node.now)) }
+        → MoreThan limit (IsKnownValueOr (values_at G.Node.cmp settled.old.values)
+        here.now.node.now
+        (IsFound (G.edge graph.now) (G.own graph.now) G.passed here.now.node.now)) }
 {
-    if settled.at(node).is_some() {
+    if settled.at(here.node).is_some() {
         return Ok(());
     }
-    if let Some(values) = found_at(alloc, graph, settled, node, look)? {
-        settled.enter(graph.copy(alloc, node)?, values, limit)?;
+    if let Some(values) = found_at(alloc, graph, settled, here.node, here.look)? {
+        settled.enter(graph.copy(alloc, here.node)?, values, limit)?;
     }
     Ok(())
 }

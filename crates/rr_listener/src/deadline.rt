@@ -52,11 +52,12 @@ impl Deadline {
         }
     }
 
-    /// Ends a wait now, and adds it to the time taken. If the clock cannot be read all time is
-    /// taken, and the error is the system's. Clauses say only that the time taken does not become
-    /// less, and that the timeout stays.
+    /// Ends a wait now, and adds it to the time taken; no clause says how long it was, only that
+    /// the time taken does not become less. If the clock cannot be read all time is taken, and the
+    /// error is the system's. The timeout stays.
     pub fn end(&mut self, rt: &HostRuntime, wait: Wait) -> io::Result<()>
         ensures taken { as_nanos self.old.taken ≤ as_nanos self.new.taken }
+        ensures unknown { OnErr result (as_nanos self.new.taken ≡ max_nanos) }
         ensures timeout { self.new.timeout ≡ self.old.timeout }
     {
         match Instant::now(rt) {

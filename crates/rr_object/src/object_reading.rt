@@ -9,11 +9,12 @@ ghost use Rattle.rr_number.specs.Names.{name_of};
 ghost use Rattle.rr_object.specs.Auths.{auth_item};
 ghost use Rattle.rr_object.specs.Grants.{grants_of, is_any};
 ghost use Rattle.rr_object.specs.Items.{are_good, items, meant, only, values_of};
+ghost use Rattle.rr_object.specs.ObjectParts.{IsAuthorityOf, IsMembershipOf};
 ghost use Rattle.rr_object.specs.Readings.{by_ref_of, has_bad_authority, has_bad_membership};
 ghost use Rattle.rr_object.specs.Readings.{has_bad_text, is_pseudo_attribute, items_read};
-ghost use Rattle.rr_object.specs.Readings.{maintainers_of, member_item, source_of};
+ghost use Rattle.rr_object.specs.Readings.{member_item, source_of};
 ghost use Rattle.rr_object.specs.Kinds.{kind_name};
-ghost use Rattle.rr_object.specs.Members.{by_ref_item, set_item};
+ghost use Rattle.rr_object.specs.Members.{by_ref_item};
 ghost use Rattle.rr_object.specs.declared.object_fault.ObjectFault.TheVariants.{BadValue, Memory};
 ghost use Rattle.rr_object.specs.declared.kind.Kind.TheVariants as kinds;
 
@@ -109,14 +110,7 @@ pub(crate) fn read_authority(
     requires { map (λ item. item.now) maintainers.now
         ≡ items_read kinds.MntBy class paragraph.now }
     ensures good { IfOk result (λ _. has_bad_authority class paragraph.now ≡ false) }
-    ensures maintainers { IfOk result
-        (λ said. said.maintainers.items ≡ maintainers_of kinds.MntBy class paragraph.now) }
-    ensures lower { IfOk result
-        (λ said. said.lower.items ≡ maintainers_of kinds.MntLower class paragraph.now) }
-    ensures routes { IfOk result (λ said. grants_of
-        (items_read kinds.MntRoutes class paragraph.now) ≡ Some said.routes.items) }
-    ensures auths { IfOk result (λ said. said.auths.items
-        ≡ meant auth_item (items_read kinds.Auth class paragraph.now)) }
+    ensures value { IfOk result (IsAuthorityOf class paragraph.now) }
     ensures bad { IfErr result (λ fault. fault ≢ Memory
         → (fault ≡ BadValue) × (has_bad_authority class paragraph.now ≡ true)) }
 {
@@ -140,12 +134,7 @@ pub(crate) fn read_membership(
     paragraph: &Paragraph,
 ) -> Result<Membership, ObjectFault>
     ensures good { IfOk result (λ _. has_bad_membership class paragraph.now ≡ false) }
-    ensures members { IfOk result (λ said. said.members.items
-        ≡ meant (member_item class) (items_read kinds.Members class paragraph.now)) }
-    ensures by_ref { IfOk result
-        (λ said. said.by_ref ≡ by_ref_of (items_read kinds.MbrsByRef class paragraph.now)) }
-    ensures member_of { IfOk result (λ said. said.member_of.items
-        ≡ meant set_item (items_read kinds.MemberOf class paragraph.now)) }
+    ensures value { IfOk result (IsMembershipOf class paragraph.now) }
     ensures bad { IfErr result (λ fault. fault ≢ Memory
         → (fault ≡ BadValue) × (has_bad_membership class paragraph.now ≡ true)) }
 {

@@ -89,12 +89,11 @@ UnlessStopped (Err Memory) fact = fact
 UnlessStopped (Err (Unwritten count)) fact = fact
 UnlessStopped (Err (LedgerStopped count)) fact = Unit {0}
 
--- what lasts of a ledger lasts, what was so of it between items is so, and unless it stopped at an
--- item it still runs
-pub record LedgerRunsOn {L T : Type 0} (g : Ghosts L) (old new : L)
-    (result : Result T HandlingFault)
+-- what lasts of a ledger lasts, and what was so of it between items is so. It still runs `Where` it
+-- did not stop at an item
+pub record LedgerRunsOn {L : Type 0} (g : Ghosts L) (old new : L) (Where : Type 0 → Type 0)
     : Type 0 where
-  pub running : UnlessStopped result (g.is_stopped new ≡ false)
+  pub running : Where (g.is_stopped new ≡ false)
   pub lasts : g.Lasts old new
   pub kept : g.Kept old → g.Kept new
 

@@ -1,6 +1,7 @@
 pub mod Requests
 pub mod SubmissionItems
 pub mod Refusals
+pub mod Ledgers
 pub mod Endings
 pub mod Reports
 pub mod ItemParts

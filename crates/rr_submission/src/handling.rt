@@ -8,8 +8,9 @@ ghost use Rattle.rr_submission.specs.Refusals.{is_refusal};
 ghost use Rattle.rr_submission.specs.Reports.{stop_lines};
 ghost use Rattle.rr_submission.specs.Handled.{StopsAt};
 ghost use Rattle.rr_submission.specs.HandledParts.{Begins, CanCountItem, HandlesItems, HandlesOne};
-ghost use Rattle.rr_submission.specs.HandledParts.{LedgerRunsOn};
+ghost use Rattle.rr_submission.specs.HandledParts.{LedgerRunsOn, UnlessStopped};
 ghost use Rattle.rr_submission.specs.ItemParts.{ShowsKeyOf};
+ghost use Rattle.rr_submission.specs.Ledgers.{Keeps};
 ghost use Rattle.rr_submission.specs.Submissions.{RefusesSubmission, SubmitsText};
 ghost use Rattle.rr_submission.specs.Submissions.{UnlessLedgerStopped};
 
@@ -72,8 +73,7 @@ pub fn submit<L: Ledger, R: Reader, W: Writer>(
         (R.told reader.old) (R.told reader.new) (W.told writer.old) (W.told writer.new) result }
     ensures running { L.is_stopped ledger.old ≡ false
         → UnlessLedgerStopped result (L.is_stopped ledger.new ≡ false) }
-    ensures lasts { L.Lasts ledger.old ledger.new }
-    ensures kept { L.Kept ledger.new }
+    ensures keeps { Keeps L.Lasts L.Kept ledger.old ledger.new }
 {
     if ledger.stopped() {
         return Err(SubmissionFault::Stopped);
@@ -92,9 +92,7 @@ fn report<L: Ledger, R: Reader, W: Writer>(
     requires { Begins L.Ledger ledger.old }
     ensures submits { SubmitsText L.Ledger ledger.old ledger.new source.now
         (R.told reader.old) (R.told reader.new) (W.told writer.old) (W.told writer.new) result }
-    ensures running { UnlessLedgerStopped result (L.is_stopped ledger.new ≡ false) }
-    ensures lasts { L.Lasts ledger.old ledger.new }
-    ensures kept { L.Kept ledger.old → L.Kept ledger.new }
+    ensures lasts { LedgerRunsOn L.Ledger ledger.old ledger.new (UnlessLedgerStopped result) }
 {
     match handle_items(alloc, ledger, source, reader, writer) {
         Ok((done, end)) => {
@@ -141,7 +139,7 @@ fn handle_items<L: Ledger, R: Reader, W: Writer>(
     requires { Begins L.Ledger ledger.old }
     ensures handles { HandlesItems L.Ledger ledger.old ledger.new source.now
         (R.told reader.old) (R.told reader.new) (W.told writer.old) (W.told writer.new) result }
-    ensures lasts { LedgerRunsOn L.Ledger ledger.old ledger.new result }
+    ensures lasts { LedgerRunsOn L.Ledger ledger.old ledger.new (UnlessStopped result) }
 {
     let Ok(mut paragraphs) = Paragraphs::new(alloc) else {
         return Err(HandlingFault::Memory);
@@ -175,7 +173,7 @@ fn handle_item<L: Ledger, W: Writer>(
     requires running { L.is_stopped ledger.old ≡ false }
     ensures handles { HandlesOne L.Ledger request course.old course.new ledger.old ledger.new
         (W.told writer.old) (W.told writer.new) result }
-    ensures lasts { LedgerRunsOn L.Ledger ledger.old ledger.new result }
+    ensures lasts { LedgerRunsOn L.Ledger ledger.old ledger.new (UnlessStopped result) }
     ensures same_secrets { course.new.secrets ≡ course.old.secrets }
 {
     let Request { key, action } = request;
@@ -198,7 +196,8 @@ fn handle_item<L: Ledger, W: Writer>(
 }
 
 /// The outcome of what is asked of a ledger that runs; an item is about this key. The error is that
-/// the ledger stopped at it. The secrets stay.
+/// the ledger stopped at it; after `Ok` it still runs. What lasts of it lasts, what was so of it
+/// between items is so, and the secrets stay.
 fn decide<L: Ledger>(
     alloc: Global,
     ledger: &mut L,
@@ -210,10 +209,8 @@ fn decide<L: Ledger>(
     requires about { IfOk action (ShowsKeyOf key.now) }
     ensures decides { IfOk result (λ outcome. Decides
         (L.registry ledger.old) secrets.old action outcome (L.registry ledger.new)) }
-    ensures running { OnOk result (L.is_stopped ledger.new ≡ false) }
     ensures stops { OnErr result (StopsAt L.Ledger ledger.old secrets.old action ledger.new) }
-    ensures lasts { L.Lasts ledger.old ledger.new }
-    ensures kept { L.Kept ledger.old → L.Kept ledger.new }
+    ensures lasts { LedgerRunsOn L.Ledger ledger.old ledger.new (OnOk result) }
     ensures same_secrets { secrets.new ≡ secrets.old }
 {
     match action {

@@ -5,6 +5,7 @@ ghost use Rattle.std.specs.Prelude.{◌≡◌, ℕ, Bool, false, List, IfOk, OnO
 ghost use Rattle.rr_auth.specs.Registries.{Reg, Sound};
 ghost use Rattle.rr_auth.specs.declared.item.Item.{Item};
 ghost use Rattle.rr_registry.specs.Runs.{IsStep};
+ghost use Rattle.rr_submission.specs.Ledgers.{Keeps};
 
 use crate::keyed_item::KeyedItem;
 use rr_auth::Secrets;
@@ -56,8 +57,7 @@ pub trait Ledger {
             (registry self.old) secrets.old item.entry outcome (registry self.new)) }
         ensures running { OnOk result (is_stopped self.new ≡ false) }
         ensures stops { OnErr result (Stops self.old secrets.old item.entry self.new) }
-        ensures lasts { Lasts self.old self.new }
-        ensures kept { Kept self.new }
+        ensures keeps { Keeps Lasts Kept self.old self.new }
         ensures same_secrets { secrets.new ≡ secrets.old };
 
     // It lasts where nothing is decided.

@@ -25,14 +25,14 @@ returns-in_err-settled g c =
 
 pub returns-in-Some : goal.returns-in-Some
 returns-in-Some g c = record {
-  found = c.in_ok-settled.ensures.settled c.args.start.now c.in-Some.values.items
+  found = c.in_ok-settled.ensures.held.values c.args.start.now c.in-Some.values.items
       c.in-Some.ensures.at;
   few = few_settled g.met.G.Node.Ord.total g.met.G.Labelled.exact_nodes g.met.G.Value.Ord.total
       g.met.G.Labelled.exact_values (g.G.Labelled.edge c.args.graph.now)
       (g.G.Labelled.own c.args.graph.now) g.G.Labelled.passed
       (values_at g.G.Node.Ord.cmp c.in_ok-settled.settled.values) c.args.start.now c.args.limit
       c.in_ok-settled.settled.pairs
-      c.in_ok-settled.ensures.settled c.in_ok-settled.ensures.tallied
+      c.in_ok-settled.ensures.held.values c.in_ok-settled.ensures.held.tallied
       (λ node name. c.in-Some.ensures.all node ((c.requires.reached node).1 name));
   many = search rules;
 }

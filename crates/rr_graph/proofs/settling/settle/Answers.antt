@@ -13,16 +13,16 @@ pub returns-in_err-enter-clause-many : goal.returns-in_err-enter-clause-many
 returns-in_err-enter-clause-many g c = λ is.
     let found = subst (λ (o : Option (Vec g.row.G-Value.Denot)).
     IfSome o (λ values. ListsInOrder g.G.Value.Ord.cmp (IsFound (g.G.Labelled.edge c.args.graph.now)
-    (g.G.Labelled.own c.args.graph.now) g.G.Labelled.passed c.args.node.now) values.items))
+    (g.G.Labelled.own c.args.graph.now) g.G.Labelled.passed c.args.here.now.node.now) values.items))
     c.in-Some.is c.in_ok-values.ensures in
     let p = err_from_is_err_and c.from_residual-in_err-enter.result
     c.from_residual-in_err-enter.ensures.1 in
     MoreThan-weaker c.args.limit
     (IsKnownValueOr (values_at g.G.Node.Ord.cmp c.args.settled.now.values)
     c.in_ok-copy.field-0 (Contains c.in-Some.values.items))
-    (IsKnownValueOr (values_at g.G.Node.Ord.cmp c.args.settled.now.values) c.args.node.now
+    (IsKnownValueOr (values_at g.G.Node.Ord.cmp c.args.settled.now.values) c.args.here.now.node.now
     (IsFound (g.G.Labelled.edge c.args.graph.now) (g.G.Labelled.own c.args.graph.now)
-    g.G.Labelled.passed c.args.node.now))
+    g.G.Labelled.passed c.args.here.now.node.now))
     (λ q held. elim held [
       | inl before ↦ inl before
       | inr here ↦
@@ -30,18 +30,21 @@ returns-in_err-enter-clause-many g c = λ is.
     ])
     (c.in_err-enter.ensures.many (cc (is, p.1, p.2)))
 
-pub returns-in_ok-enter-clause-settled : goal.returns-in_ok-enter-clause-settled
-returns-in_ok-enter-clause-settled g c =
-    HoldsAllValues-entered (g.G.Labelled.edge c.args.graph.now) (g.G.Labelled.own c.args.graph.now)
-    g.G.Labelled.passed g.G.Value.Ord.cmp
-    (values_at g.G.Node.Ord.cmp c.args.settled.now.values) g.met.G.Labelled.exact_nodes
-    (values_at g.G.Node.Ord.cmp c.enter.new.self.values)
-    c.args.node.now c.in_ok-copy.field-0 c.in_ok-copy.ensures c.in-Some.values.items
-    c.in_ok-enter.ensures.entered c.requires.settled
-    (subst (λ (o : Option (Vec g.row.G-Value.Denot)).
-    IfSome o (λ values. ListsInOrder g.G.Value.Ord.cmp (IsFound (g.G.Labelled.edge c.args.graph.now)
-    (g.G.Labelled.own c.args.graph.now) g.G.Labelled.passed c.args.node.now) values.items))
-    c.in-Some.is c.in_ok-values.ensures)
+pub returns-in_ok-enter-clause-held : goal.returns-in_ok-enter-clause-held
+returns-in_ok-enter-clause-held g c = record {
+  values = HoldsAllValues-entered (g.G.Labelled.edge c.args.graph.now)
+      (g.G.Labelled.own c.args.graph.now) g.G.Labelled.passed g.G.Value.Ord.cmp
+      (values_at g.G.Node.Ord.cmp c.args.settled.now.values) g.met.G.Labelled.exact_nodes
+      (values_at g.G.Node.Ord.cmp c.enter.new.self.values)
+      c.args.here.now.node.now c.in_ok-copy.field-0 c.in_ok-copy.ensures c.in-Some.values.items
+      c.in_ok-enter.ensures.entered c.requires.held.values
+      (subst (λ (o : Option (Vec g.row.G-Value.Denot)).
+      IfSome o (λ values. ListsInOrder g.G.Value.Ord.cmp
+      (IsFound (g.G.Labelled.edge c.args.graph.now) (g.G.Labelled.own c.args.graph.now)
+      g.G.Labelled.passed c.args.here.now.node.now) values.items)) c.in-Some.is
+      c.in_ok-values.ensures);
+  tallied = c.in_ok-enter.ensures.tallied;
+}
 
 pub returns-in_ok-enter-clause-only : goal.returns-in_ok-enter-clause-only
 returns-in_ok-enter-clause-only g c =
@@ -49,5 +52,5 @@ returns-in_ok-enter-clause-only g c =
     g.G.Labelled.passed g.G.Value.Ord.cmp
     (values_at g.G.Node.Ord.cmp c.args.settled.now.values) g.met.G.Labelled.exact_nodes
     (values_at g.G.Node.Ord.cmp c.enter.new.self.values)
-    c.args.node.now c.in_ok-copy.field-0 c.in_ok-copy.ensures c.in-Some.values.items
+    c.args.here.now.node.now c.in_ok-copy.field-0 c.in_ok-copy.ensures c.in-Some.values.items
     c.in_ok-enter.ensures.entered

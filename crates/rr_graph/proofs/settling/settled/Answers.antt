@@ -1,8 +1,7 @@
 use Rattle.std.proofs.Common.{◌≡◌, ◌∙◌, Contains, None, Some, sym, subst}
 use Rattle.std.proofs.lemmas.Result.{err_from_is_err_and}
 use Rattle.rr_graph.specs.Carried.{IsFound}
-use Rattle.rr_graph.specs.SettledParts.{IsAmong, IsFoundAmong, IsKnownValueOr, HoldsAllValues}
-use Rattle.rr_graph.specs.SettledParts.{IsTallied}
+use Rattle.rr_graph.specs.SettledParts.{HoldsAllWithin, IsAmong, IsFoundAmong, IsKnownValueOr}
 use Rattle.rr_graph.specs.SettledParts.{values_at}
 use Rattle.rr_graph.specs.declared.settled.Settled.{Settled}
 use Rattle.rr_graph.proofs.KnownNodes.{IsFoundAmong-held, IsTallied-none, among_only}
@@ -12,12 +11,14 @@ use Rattle.rr_graph.proofs.settling.settled.Goals.{in-Some+in_ok-settle, in_defa
 
 pub loop-place-init : goal.loop-place-init
 loop-place-init g c = (
+  record {
+    values = λ node values is. let wrong : None
+        ≡ Some values = sym (c.new-settled.ensures.none node) ∙ is in cc;
+    tallied = IsTallied-none (values_at g.G.Node.Ord.cmp c.new-settled.result.values) c.args.limit
+        c.new-settled.result.pairs c.new-settled.ensures.none c.new-settled.ensures.count;
+  },
   λ node values is. let wrong : None ≡ Some values = sym (c.new-settled.ensures.none node) ∙ is in
       cc,
-  λ node values is. let wrong : None ≡ Some values = sym (c.new-settled.ensures.none node) ∙ is in
-      cc,
-  IsTallied-none (values_at g.G.Node.Ord.cmp c.new-settled.result.values) c.args.limit
-      c.new-settled.result.pairs c.new-settled.ensures.none c.new-settled.ensures.count,
 )
 
 pub loop-place-preserved : goal.loop-place-preserved
@@ -25,11 +26,10 @@ loop-place-preserved g c =
     let Kept : Settled g.row.G.Denot g.row.G-Node.Denot g.row.G-Look.Denot g.row.G-Label.Denot
     g.row.G-Value.Denot
     g.row.G-Kind.Denot g.row.G-Group.Denot → Type 0 =
-    λ settled. HoldsAllValues (g.G.Labelled.edge c.args.graph.now)
+    λ settled. HoldsAllWithin (g.G.Labelled.edge c.args.graph.now)
     (g.G.Labelled.own c.args.graph.now) g.G.Labelled.passed g.G.Value.Ord.cmp
-    (values_at g.G.Node.Ord.cmp settled.values)
-    × IsAmong c.args.ordered.now.nodes.now (values_at g.G.Node.Ord.cmp settled.values)
-    × IsTallied (values_at g.G.Node.Ord.cmp settled.values) c.args.limit settled.pairs in
+    (values_at g.G.Node.Ord.cmp settled.values) c.args.limit settled.pairs
+    × IsAmong c.args.ordered.now.nodes.now (values_at g.G.Node.Ord.cmp settled.values) in
     elim c.match-get.branch [
       | in-Some+in_ok-settle w ↦
           let listed : Contains c.args.ordered.now.nodes.now w.in-Some.node.now = (
@@ -38,12 +38,11 @@ loop-place-preserved g c =
             sym (w.in-Some.ensures.lookup.3.1 w.in-Some.node.now),
           ) in
           subst Kept (sym w.settled-is) (
-            w.in_ok-settle.ensures.settled,
+            w.in_ok-settle.ensures.held,
             among_only c.args.ordered.now.nodes.now w.in-Some.node.now
                 (values_at g.G.Node.Ord.cmp c.loop-place.settled.values)
                 (values_at g.G.Node.Ord.cmp w.settle.new.settled.values) listed
                 c.loop-place.invariant.1 w.in_ok-settle.ensures.only,
-            w.in_ok-settle.ensures.tallied,
           )
       | in_default w ↦ subst Kept (sym w.settled-is) c.loop-place.invariant
     ]
@@ -62,5 +61,5 @@ returns-in_err-settle-clause-many g c = λ is.
     (IsFoundAmong-held (g.G.Labelled.edge c.args.graph.now) (g.G.Labelled.own c.args.graph.now)
     g.G.Labelled.passed g.G.Value.Ord.cmp
     (values_at g.G.Node.Ord.cmp c.loop-place.settled.values) c.args.ordered.now.nodes.now
-    c.in-Some.node.now c.loop-place.invariant.0 c.loop-place.invariant.1 listed)
+    c.in-Some.node.now c.loop-place.invariant.0.values c.loop-place.invariant.1 listed)
     (c.in_err-settle.ensures.many (cc (is, p.1, p.2)))

@@ -19,12 +19,12 @@ returns-clause-submits g c = λ running. rw (← c.source-source.ensures.source)
 pub returns-clause-leaves : goal.returns-clause-leaves
 returns-clause-leaves g c = record {
   runs_on = c.submit.ensures.running;
-  rows = c.submit.ensures.kept;
+  rows = c.submit.ensures.keeps.kept;
   of_source = submitted_of_source g.S.Store c.args.self.now.settings.source c.args.self.now.stock
       c.submit.new.ledger _ _ _ _ _
       (λ stopped. (c.submit.ensures.stopped stopped).1)
       (λ running. rw c.source-source.ensures.source at (c.submit.ensures.submits running));
-  lasts = c.submit.ensures.lasts;
+  lasts = c.submit.ensures.keeps.lasts;
   settings = refl;
 }
 

@@ -1,5 +1,6 @@
-use Rattle.std.proofs.Common.{sym, subst, true}
+use Rattle.std.proofs.Common.{◌∙◌, ap, sym, subst, true}
 use Rattle.std.specs.Prelude.{is_some}
+use Rattle.std.proofs.lemmas.Bool.{true≢false}
 use Rattle.sqlite.specs.Held.{state}
 use Rattle.rr_desk.specs.Stops.{LeavesStopped}
 use Rattle.rr_desk.specs.Stocks.{DatabaseLasts}
@@ -8,15 +9,6 @@ use Rattle.rr_desk.proofs.stock.StockLedger.decide.Goals as goal
 
 pub invariant_of-self : goal.invariant_of-self
 invariant_of-self g c = λ running.
-    still_held g.S.Store c.self.inside.store c.follow.new.store c.self.inside.registry
-    c.apply-outcome.new.self c.parts-item.result.0.now c.apply-outcome.result _
-    (c.self.invariant running)
-    (leads_at _ _ _ _ _ _ c.parts-item.ensures.key
-    (rw c.parts-item.ensures.item at c.apply-outcome.ensures.step))
-    c.in-Ok.ensures.follows
-
-pub returns-in-Ok-clause-kept : goal.returns-in-Ok-clause-kept
-returns-in-Ok-clause-kept g c = λ running.
     still_held g.S.Store c.self.inside.store c.follow.new.store c.self.inside.registry
     c.apply-outcome.new.self c.parts-item.result.0.now c.apply-outcome.result _
     (c.self.invariant running)
@@ -46,18 +38,29 @@ returns-in-Err-clause-stops g c =
     c.apply-outcome.ensures.leaves c.in-Err.ensures.changing (c.self.invariant running)
     c.in-Err.ensures.follows c.follow.ensures.others))
 
-pub returns-in-Ok-clause-lasts : goal.returns-in-Ok-clause-lasts
-returns-in-Ok-clause-lasts g c =
+pub returns-in-Ok-clause-keeps : goal.returns-in-Ok-clause-keeps
+returns-in-Ok-clause-keeps g c =
     let running = rw (← c.self.view_is) at c.requires.running in
-    subst (λ s. DatabaseLasts (state g.S.Store s.store) (state g.S.Store c.follow.new.store))
-    c.self.view_is
-    (item_lasts g.S.Store _ c.self.inside.store c.follow.new.store c.self.inside.registry _
-    (c.self.invariant running) c.in-Ok.ensures.follows c.follow.ensures.others)
+    record {
+      lasts = subst (λ s. DatabaseLasts (state g.S.Store s.store)
+          (state g.S.Store c.follow.new.store)) c.self.view_is
+          (item_lasts g.S.Store _ c.self.inside.store c.follow.new.store c.self.inside.registry _
+          (c.self.invariant running) c.in-Ok.ensures.follows c.follow.ensures.others);
+      kept = λ still. still_held g.S.Store c.self.inside.store c.follow.new.store
+          c.self.inside.registry c.apply-outcome.new.self c.parts-item.result.0.now
+          c.apply-outcome.result _ (c.self.invariant still)
+          (leads_at _ _ _ _ _ _ c.parts-item.ensures.key
+          (rw c.parts-item.ensures.item at c.apply-outcome.ensures.step))
+          c.in-Ok.ensures.follows;
+    }
 
-pub returns-in-Err-clause-lasts : goal.returns-in-Err-clause-lasts
-returns-in-Err-clause-lasts g c =
+pub returns-in-Err-clause-keeps : goal.returns-in-Err-clause-keeps
+returns-in-Err-clause-keeps g c =
     let running = rw (← c.self.view_is) at c.requires.running in
-    subst (λ s. DatabaseLasts (state g.S.Store s.store) (state g.S.Store c.follow.new.store))
-    c.self.view_is
-    (item_lasts g.S.Store _ c.self.inside.store c.follow.new.store c.self.inside.registry _
-    (c.self.invariant running) c.in-Err.ensures.follows c.follow.ensures.others)
+    record {
+      lasts = subst (λ s. DatabaseLasts (state g.S.Store s.store)
+          (state g.S.Store c.follow.new.store)) c.self.view_is
+          (item_lasts g.S.Store _ c.self.inside.store c.follow.new.store c.self.inside.registry _
+          (c.self.invariant running) c.in-Err.ensures.follows c.follow.ensures.others);
+      kept = λ still. absurd (true≢false (sym (ap is_some c.keep_cause.ensures) ∙ still));
+    }

@@ -42,7 +42,8 @@ NO_SETTINGS = (
     "irrdesk: none.toml: the settings cannot be read: there is none of that name: correct the path"
 )
 NO_DATABASE = (
-    "irrdesk: DATABASE: there is no such database: `irrdesk init` or `irrdesk load` makes it"
+    "irrdesk: DATABASE: there is no such database: correct `store`, restore a backup, or make a"
+    " first one by `irrdesk init` or `irrdesk load`"
 )
 NO_REGISTRY = (
     "irrdesk: DATABASE: the database has no registry that can be read: restore a backup, or make"

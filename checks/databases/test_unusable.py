@@ -432,8 +432,8 @@ def test_files_limits_and_other_processes_are_reported(case: Commands) -> None:
             "a port that is taken",
             5,
             (
-                f"irrdesk: 127.0.0.1:{port}: it cannot listen: the address is in use: take another"
-                " port"
+                f"irrdesk: 127.0.0.1:{port}: it cannot listen: the address is in use: end what"
+                " has it, or take another port"
             ),
             "",
         )

@@ -351,8 +351,8 @@ def taken_port(program: str, folder: str) -> None:
         taken.listen()
         port = taken.getsockname()[1]
         reported = (
-            f"irrdesk: 127.0.0.1:{port}: it cannot listen: the address is in use: take another"
-            " port\n"
+            f"irrdesk: 127.0.0.1:{port}: it cannot listen: the address is in use: end what"
+            " has it, or take another port\n"
         )
         expect(
             run(program, folder, "serve", "s.toml", "--port", str(port), "--count", "1"),

@@ -52,7 +52,7 @@ pub record HasReply {S : Type 0} (network : NetworkCalls) (done : Deed (Desk S) 
   pub prints : PrintsReply reply done.before.output done.after.output done.ended
 
 -- of a listener that told `tally_before` one turn was taken, and `failed` says how many failed, 0
--- or 1; the settings stay, the connection lasts, and until the desk is stopped its rows are those
+-- or 1. The settings stay, the connection lasts, and until the desk is stopped its rows are those
 -- of its registry (profile)
 pub record TakesOneTurn {S : Type 0} (g : Ghosts S) (serves : Serving) (tally_before : Tally)
     (before after : Desk S) (failed : ℕ) : Type 0 where
@@ -151,8 +151,9 @@ AsksInVain g network serves before after trouble =
     HasNoListener network before after trouble
     ⊎ FailsToAsk g network serves before after trouble
 
--- what `irrdesk probe` does at a desk: it asks in vain, and prints nothing; or it asks for the root
--- maintainer of the settings, one turn is taken and served, and the reply is printed (profile)
+-- what `irrdesk probe` does at a desk. It asks in vain, and prints nothing. Or it asks for the root
+-- maintainer of the settings, one turn is taken and served, and the reply is printed, or not whole
+-- (profile)
 abbrev pub ProbesDesk : {S : Type 0} → Ghosts S → Means → Act (Desk S)
 ProbesDesk g means done =
     FailsSilently
@@ -160,7 +161,9 @@ ProbesDesk g means done =
     ⊎ (HasReply means.network done
     × ListensOnce g means.network means.serves done.before.has done.after.has)
 
--- what `irrdesk probe` does, by its settings file (profile)
+-- what `irrdesk probe` does: the settings are read from the file, a desk of the database that they
+-- name is opened and asked (`ProbesDesk`), and closed. Or there are no settings, or no desk
+-- (profile)
 abbrev pub ProbesBy : {D S : Type 0} → Ports D S → Means → List ℕ → Deed D ProgramEnd → Type 0
 ProbesBy by means file = ActsBySettings by.files file (IsAbout file)
     (AtDesk by.stores (ProbesDesk by.stores.store means))

@@ -14,15 +14,18 @@ use Rattle.rr_arguments.specs.declared.arguments_fault.ArgumentsFault.TheVariant
 use Rattle.rr_commands.specs.Commands.{ProgramEnd}
 use Rattle.rr_commands.specs.Faults.{IsLegible, fault_line}
 use Rattle.rr_commands.specs.Troubles.{trouble_status}
-use Rattle.rr_commands.specs.Worlds.{Deed, Ports, ended_by, within}
+use Rattle.rr_commands.specs.Worlds.{Deed, Ports, deed, ended_by, within}
 use Rattle.rr_commands.specs.declared.cause.Cause.{Cause}
 use Rattle.rr_commands.specs.declared.command_fault.About.{About}
 use Rattle.rr_commands.specs.declared.command_fault.About.TheVariants as about
 use Rattle.rr_commands.specs.declared.command_fault.ProgramFault.{ProgramFault}
+use Rattle.rr_commands.specs.declared.host.Host.{Host}
 use Rattle.rr_commands.specs.declared.trouble.Trouble.{Trouble}
 use Rattle.rr_commands.specs.declared.trouble.Trouble.TheVariants as trouble
 use Rattle.rr_cli.specs.Networks.{Means}
 use Rattle.rr_cli.specs.Running.{CarriesOut, Resources}
+use Rattle.rr_cli.specs.Running as program
+use Rattle.rr_cli.specs.declared.program_run.ProgramStreams.{ProgramStreams}
 
 -- what goes wrong where a line asks for nothing (profile)
 abbrev pub arguments_trouble : ArgumentsFault → Trouble
@@ -70,9 +73,10 @@ abbrev pub DoesAsInvoked : {D S : Type 0} → Ports D S → Means → Invocation
 DoesAsInvoked by means invocation done =
     InvokesCommand by means invocation done ⊎ InvokesNothing invocation done
 
--- the status of a program that ends so: a fault has its status, and its one line on standard error,
--- which shows legibly what it is about, less its end if a write fails. Without a fault nothing is
--- written there (profile).
+-- the status of a program that ends so, and what is written by the writer of its faults. A fault
+-- has its status, and its one line, less its end if a write fails. The line names what the fault is
+-- about as it is, but a word perhaps as a line shows it (`IsLegible`). Without a fault nothing is
+-- written by that writer (profile)
 abbrev pub EndsRun : ProgramEnd → Told → Told → ℕ → Type 0
 EndsRun (Ok given) errors_old errors_new status = (status ≡ given) × (errors_new ≡ errors_old)
 EndsRun (Err fault) errors_old errors_new status = (status ≡ trouble_status fault.trouble)
@@ -97,7 +101,7 @@ abbrev pub EndsUnread : Trouble → Told → Told → ℕ → Type 0
 EndsUnread cause errors_old errors_new status = (status ≡ trouble_status cause)
     × ((stream : Cause) × TakesSome errors_old errors_new (fault_line about.Nothing cause stream))
 
--- what a run changes: what a program has, and what standard error told (profile)
+-- what a run changes: what a program has, and what the writer of its faults told (profile)
 pub record Running (D : Type 0) : Type 0 where
   pub resources : Resources D
   pub errors : Told
@@ -105,6 +109,15 @@ pub record Running (D : Type 0) : Type 0 where
 -- what a run changes, as one
 abbrev pub running : {D : Type 0} → Resources D → Told → Running D
 running resources errors = record { resources = resources; errors = errors }
+
+-- what a run did: to what keeps its host's databases, to what its input and its errors told, and to
+-- what its host prints to
+abbrev pub ran_by : {D W R E : Type 0} → (R → Told) → (E → Told) → (W → Told) → Host D W → Host D W
+    → ProgramStreams R E → ProgramStreams R E → ℕ → Deed (Running D) ℕ
+ran_by input errors output host_old host_new old new status =
+    deed (running (program.resources host_old.databases (input old.input)) (errors old.errors))
+    (running (program.resources host_new.databases (input new.input)) (errors new.errors))
+    (output host_old.output) (output host_new.output) status
 
 -- a run does what these words ask for, and ends so, with this status (profile)
 pub record Runs {D S : Type 0} (by : Ports D S) (means : Means) (words : List (List ℕ))

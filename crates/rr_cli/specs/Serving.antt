@@ -60,8 +60,8 @@ EndsServed tally served failed old new ended =
     ⊎ (TakesPrefix old new (served_line served failed) × (ended ≡ Err Unwritten))
 
 -- so many turns of a listener were taken, how many were served and how many failed was printed, or
--- not whole, and serving ended so. The settings stay, the connection lasts, and until the desk is
--- stopped its rows are those of its registry (profile).
+-- not whole, and serving ended as `EndsServed` says. The settings stay, the connection lasts, and
+-- until the desk is stopped its rows are those of its registry (profile).
 pub record HasServed {S : Type 0} (g : Ghosts S) (serves : Serving) (count : ℕ)
     (tally_before tally_after : Tally) (done : Deed (Desk S) CommandEnd) : Type 0 where
   pub served : ℕ
@@ -155,7 +155,9 @@ pub record ServeWords : Type 0 where
 abbrev pub serve_words : List ℕ → Listening → ServeWords
 serve_words file asked = record { file = file; asked = asked }
 
--- what `irrdesk serve` does, by its settings file (profile)
+-- what `irrdesk serve` does: the settings are read from the file, a desk of the database that they
+-- name is opened and served (`ServesDesk`), and closed. Or there are no settings, or no desk
+-- (profile)
 abbrev pub ServesBy : {D S : Type 0} → Ports D S → Means → ServeWords → Deed D ProgramEnd
     → Type 0
 ServesBy by means words =

@@ -1,4 +1,5 @@
-//! How the program listens (`irrdesk serve`), and how it asks itself (`irrdesk probe`).
+//! How the program listens, for `serve_command` and `probe_command`, and how it asks itself, for
+//! the latter.
 
 ghost use Rattle.std.specs.Prelude.{◌≡◌, Err, IfErr, IfOk, Ok};
 ghost use Rattle.rr_io.specs.Counted.{counted_failed_reads};

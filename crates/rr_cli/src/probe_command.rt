@@ -1,4 +1,4 @@
-//! `irrdesk probe`: a question of the program to itself, over a connection.
+//! `irrdesk probe`: a question of the program to itself, over a connection. `program_run` calls it.
 
 ghost use Rattle.std.specs.Prelude.{◌≡◌, ◌+◌, ◌<◌, ◌^◌, IfErr, IfOk, OnOk};
 ghost use Rattle.rr_http.specs.DeskRegistrars.{serves_desk};
@@ -26,9 +26,9 @@ use std::io::{ErrorKind, Read};
 /// The status if the reply is an error.
 const ERROR: u8 = 1;
 
-/// Asks the registry that the settings name for its root maintainer, and prints the reply. It asks
-/// by whois, over a connection to a listener of its own on any free port, of which it takes one
-/// turn. The status is 0, or 1 if the reply is an error.
+/// Asks the registry that the settings in `file` name for its root maintainer, and prints the
+/// reply. It asks by whois, over a connection to a listener of its own on any free port, of which
+/// it takes one turn. The status is 0, or 1 if the reply is an error.
 ///
 /// The fault is why there are no settings, and then no database is opened. Or it is why there is no
 /// desk (as `open_desk` of `rr_commands` tells it), no listener or no reply. In these cases nothing

@@ -8,7 +8,7 @@ ghost use Rattle.rr_commands.specs.Worlds.{deed, ports};
 ghost use Rattle.rr_cli.specs.Networks.{means};
 ghost use Rattle.rr_cli.specs.Running.{CarriesOut, resources};
 ghost use Rattle.rr_cli.specs.Runs.{AreUnread, DoesAsInvoked, EndsRun, EndsUnread, IsOfArguments};
-ghost use Rattle.rr_cli.specs.Runs.{Runs, refused_arguments, running};
+ghost use Rattle.rr_cli.specs.Runs.{Runs, ran_by, refused_arguments};
 
 use crate::network::Network;
 use crate::probe_command::probe;
@@ -45,8 +45,10 @@ pub struct ProgramStreams<R, E> {
 /// the word that is no port or no count, or says why the arguments are refused, though no clause
 /// says in which words.
 ///
-/// A fault has its line on `streams.errors`, which names legibly what it is about, less its end if
-/// a write fails. Without a fault nothing is written there. The status of a fault is 2 at wrong
+/// A fault has its line on `streams.errors`, less its end if a write fails. The line names what the
+/// fault is about, a word that needs no escape as it is. Without a fault nothing is written by
+/// `streams.errors`. The hint, the progress and messages of a server pass it by:
+/// `host.tools.errors` writes them, of which no clause speaks. The status of a fault is 2 at wrong
 /// arguments, and 3 at wrong settings. Of a command with settings it is 4 at trouble with the
 /// database, also if SQLite lacks memory once it is open, or if the desk is stopped. It is else 5,
 /// also if other memory ran out (profile).
@@ -59,11 +61,7 @@ pub fn run<D: Databases, F: Files, N: Network, R: Input, W: Output, E: Writer>(
 ) -> u8
     ensures { Runs (ports D.Disk.Store D.calls (F.calls files.now))
         (means (N.calls network.now) serves_desk) (map string_bytes arguments.now)
-        (deed (running (resources host.old.databases (R.told streams.old.input))
-        (E.told streams.old.errors))
-        (running (resources host.new.databases (R.told streams.new.input))
-        (E.told streams.new.errors))
-        (W.told host.old.output) (W.told host.new.output) result) }
+        (ran_by R.told E.told W.told host.old host.new streams.old streams.new result) }
 {
     let end = run_arguments(host, files, network, arguments, &mut streams.input);
     ended_with(host.tools.alloc, end, &mut streams.errors)

@@ -1,5 +1,5 @@
-//! `irrdesk serve`: serving connections, of a registry in a database. The tool `irr` waits for the
-//! line that begins with `listening`, and connects then.
+//! `irrdesk serve`: serving connections, of a registry in a database. `program_run` calls it. The
+//! tool `irr` waits for the line that begins with `listening`, and connects then.
 
 ghost use Rattle.std.specs.Prelude.{◌≡◌, ◌+◌, ◌<◌, ◌^◌, IfErr, IfOk, string_bytes};
 ghost use Rattle.rr_io.specs.Sending.{Writes};
@@ -35,9 +35,9 @@ pub struct Listening {
     pub count: u64,
 }
 
-/// Takes so many turns of a listener on this port of 127.0.0.1, and serves each connection by whois
-/// and HTTP, from the registry that the settings name. Prints where it listens, and at the end how
-/// many turns were served and how many failed. The status is 0.
+/// Takes `count` turns of a listener on `port` of 127.0.0.1, both of `listening`. Serves each
+/// connection by whois and HTTP, from the registry that the settings in `file` name. Prints where
+/// it listens, and at the end how many turns were served and how many failed. The status is 0.
 ///
 /// The fault is why there are no settings, and then no database is opened; or why there is no desk
 /// (as `open_desk` of `rr_commands` tells it) or no listener. In these cases nothing is printed. Or

@@ -23,8 +23,8 @@ pub fn fill_closed(rt: &HostRuntime) -> [Option<File>; 3] {
 
 /// Fills the place of the stream of this number: what is returned has that number. `None` if the
 /// stream is open, or if it cannot be filled, and then the program goes on without. It is filled by
-/// the root folder: a write to that fails with error 9, as one to a closed stream does, and neither
-/// it nor what opens the stream by name, as `/dev/stdin`, can be read, so no text is taken for an
+/// the root folder. A write to that fails with error 9, as one to a closed stream does. Neither it
+/// nor what opens the stream by name, as `/dev/stdin`, can be read, so no text is taken for an
 /// empty one.
 fn fill(rt: &HostRuntime, number: RawFd) -> Option<File>
     ensures { IfSome result (λ file. file_raw_fd file ≡ number) }
@@ -44,9 +44,10 @@ pub struct StandardInput {
 }
 
 impl StandardInput {
-    /// Standard input. Its reads fail if `is_closed`, which is that its place was filled. No clause
-    /// says so.
-    pub fn new(rt: &HostRuntime, is_closed: bool) -> StandardInput {
+    /// Standard input, closed if `is_closed`, which is that its place was filled.
+    pub fn new(rt: &HostRuntime, is_closed: bool) -> StandardInput
+        ensures { result.is_closed ≡ is_closed }
+    {
         StandardInput {
             stdin: rt.stdin(),
             is_closed,
@@ -55,6 +56,7 @@ impl StandardInput {
 }
 
 impl Read for StandardInput {
+    /// Reads some bytes. If it is closed, this fails with error 9. No clause says so.
     fn read(&mut self, buf: &mut [u8]) -> io::Result<usize> {
         if self.is_closed {
             Err(io::Error::from_raw_os_error(EBADF))

@@ -24,8 +24,8 @@ answer_status (Err fault) = 1
 
 -- a desk was asked: its answer was printed, and the status says whether it is an error; or only its
 -- beginning was, and a write failed. Nothing of the desk changes. Where the disk gives back what
--- was written, a stop of the process leaves the rows of its registry, and while its database is
--- open these are its rows (profile)
+-- was written, its rows stay those of its registry while its database is open, and a stop of the
+-- process leaves these (profile)
 pub record HasAsked {S : Type 0} (g : Ghosts S) (text : List ℕ) (done : Deed (Desk S) CommandEnd)
     : Type 0 where
   pub answer : Result (List ℕ) QueryFault
@@ -36,7 +36,9 @@ pub record HasAsked {S : Type 0} (g : Ghosts S) (text : List ℕ) (done : Deed (
   pub same : done.after.has ≡ done.before.has
   pub keeps : KeepsRows done.before.has.stock.registry (desk_state g done.after.has)
 
--- what `irrdesk query` does, by its settings file (profile)
+-- what `irrdesk query` does. If its settings file gives no settings, or these open no desk, nothing
+-- is printed, and the fault says why. Otherwise the desk is asked (`HasAsked`), and its database is
+-- closed. A fault shows the place of its trouble (profile)
 abbrev pub AsksBy : {D S : Type 0} → Ports D S → List ℕ → List ℕ → Deed D ProgramEnd → Type 0
 AsksBy by file text =
     ActsBySettings by.files file (IsAbout file) (AtDesk by.stores (HasAsked by.stores.store text))

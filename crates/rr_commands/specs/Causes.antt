@@ -99,7 +99,7 @@ cause_text cause.Quota = codes "the quota is used up: make room, or ask for more
 cause_text cause.TooLarge =
     codes "no file may grow so large: raise the limit, as `ulimit -f` shows it"
 cause_text cause.Ended = codes "its reader has ended: let it read to the end"
-cause_text cause.Taken = codes "the address is in use: take another port"
+cause_text cause.Taken = codes "the address is in use: end what has it, or take another port"
 cause_text cause.NoAddress = codes "the machine has no such address: see that 127.0.0.1 can be used"
 cause_text cause.Exists = codes "something of that name is there: take another path"
 cause_text cause.InUse = codes "another program uses it: end that, or try again later"
@@ -165,7 +165,8 @@ unread_text =
 -- a cause in words, before that of the system if it has one (profile)
 abbrev pub database_cause_text : DatabaseCause → List ℕ
 database_cause_text database.Missing =
-    codes "there is no such database: `irrdesk init` or `irrdesk load` makes it"
+    codes "there is no such database: correct `store`, restore a backup, or make a first one "
+    ++ codes "by `irrdesk init` or `irrdesk load`"
 database_cause_text database.MissingWithLog =
     codes "there is no such database, but its write-ahead log or journal (`-wal`, `-journal`): "
     ++ codes "put the database back, or move that elsewhere and restore a backup"

@@ -1,5 +1,6 @@
 -- What commands do that read settings from a file and use the database that these name, by how they
--- end. What is said of rows holds where the disk gives back what was written (profile).
+-- end. The contracts of all such commands need it, also of `serve` and `probe` in `rr_cli`. What is
+-- said of rows holds where the disk gives back what was written (profile).
 use Rattle.std.specs.Prelude.{◌≡◌, ◌≤◌, ◌+◌, ◌<◌, ◌⊎◌, ℕ, false, List, [], length, take, IfErr}
 use Rattle.std.specs.Prelude.{Bool, IfSome, IsTrue, Option, Result, Ok, Err}
 use Rattle.std.specs.IoError.{error_kind, raw_os_error}
@@ -62,14 +63,14 @@ EndsAlike (Err trouble) (Ok ended) = ⊥
 abbrev pub cause_of : Error → Cause
 cause_of error = system_cause (error_kind error) (raw_os_error error)
 
--- what is told of settings that cannot be read: that memory ran out if it is that, and else this
--- cause (profile)
+-- what is told of settings that cannot be read for this cause: that memory ran out if it is that,
+-- and else the cause (profile)
 abbrev pub unread_trouble : Cause → Trouble
 unread_trouble cause.Memory = trouble.Memory
 unread_trouble cause = trouble.SettingsUnread cause
 
--- what is told of a file that cannot be opened: that memory ran out if it is that, and else this
--- cause (profile)
+-- what is told of a file that cannot be opened for this cause: that memory ran out if it is that,
+-- and else the cause (profile)
 abbrev pub unopened_trouble : Cause → Trouble
 unopened_trouble cause.Memory = trouble.Memory
 unopened_trouble cause = trouble.FileUnopened cause
@@ -87,8 +88,8 @@ pub record RefusesFile (files : FileCalls) (file : List ℕ) (trouble : Trouble)
   pub read : ReadsFile files file text
   pub why : AreNoSettings text trouble
 
--- the file at this path was opened, and was closed after a read that failed, or the error is that
--- memory ran out (profile)
+-- the file at this path was opened and closed; a read of it had failed, or the error is that memory
+-- ran out (profile)
 pub record BreaksFile (files : FileCalls) (file : List ℕ) (error : Error) : Type 0 where
   pub given : Option (List ℕ)
   pub opened : files.opens file (Ok given)
@@ -123,7 +124,7 @@ pub record HasNoSettings {D : Type 0} (files : FileCalls) (file : List ℕ)
   pub untouched : done.after.has ≡ done.before.has
   pub silent : done.after.output ≡ done.before.output
 
--- the settings and the path of the database are those of the file at this path, which is no longer
+-- the settings and the path of the database are those of the file at this path. It is no longer
 -- than such a file may be, and so was read to its end (profile)
 pub record HasSettings (files : FileCalls) (file : List ℕ) (names : Named) : Type 0 where
   pub text : List ℕ
@@ -131,8 +132,8 @@ pub record HasSettings (files : FileCalls) (file : List ℕ) (names : Named) : T
   pub short : length text ≤ MOST_BYTES
   pub says : settings_of_text text ≡ Ok (names.settings, names.path)
 
--- there are settings and the path of a database in a file, a command did what it does by these, and
--- the program ends so; its fault shows what it is about (profile)
+-- a file has settings and the path of a database, a command did what it does by these, and the
+-- program ends so. Its fault shows what it is about (profile)
 pub record HasActed {D : Type 0} (files : FileCalls) (file : List ℕ) (shows : Showing)
     (does : Action D) (done : Deed D ProgramEnd) : Type 0 where
   pub names : Named
@@ -178,7 +179,8 @@ pub record IsNotGiven {D S : Type 0} (calls : DatabaseCalls D S) (path : List �
   pub refused : calls.opens path absent (Err cause) start end
   pub is_told : told ≡ trouble.Database cause
 
--- a database was given, its registry was not opened, and as that left it, it was closed (profile)
+-- a database was given, and its registry was not opened, for which the trouble is why; as a look at
+-- it left the database, it was closed (profile)
 pub record IsRefused {D S : Type 0} (by : StoreCalls D S) (names : Named) (start end : D)
     (trouble : Trouble) : Type 0 where
   pub conn : Held S

@@ -44,7 +44,9 @@ module _ {S : Type 0} (g : Ghosts S) (settings : SettingsParts) where
 abbrev pub CreatesIn : {S : Type 0} → Ghosts S → SettingsParts → Act (Held S)
 CreatesIn g settings done = IsUncreated g settings done ⊎ IsCreated g settings done
 
--- what `irrdesk init` does, by its settings file (profile)
+-- what `irrdesk init` does. If its settings file gives no settings, or the database that these name
+-- is refused, nothing is printed, and the fault says why. Otherwise a registry is made there or not
+-- (`CreatesIn`), and the database is closed. A fault shows the place of its trouble (profile)
 abbrev pub CreatesBy : {D S : Type 0} → Ports D S → List ℕ → Deed D ProgramEnd → Type 0
 CreatesBy by file =
     ActsBySettings by.files file (IsAbout file)

@@ -25,7 +25,9 @@ DumpsDesk full done =
     × HasDumped (dump full done.before.has.stock.registry)
     done.before.output done.after.output done.ended
 
--- what `irrdesk dump` does, by its settings file (profile)
+-- what `irrdesk dump` does. If its settings file gives no settings, or these open no desk, nothing
+-- is printed, and the fault says why. Otherwise the registry of the desk is dumped (`DumpsDesk`),
+-- and its database is closed. A fault shows the place of its trouble (profile)
 abbrev pub DumpsBy : {D S : Type 0} → Ports D S → List ℕ → Bool → Deed D ProgramEnd → Type 0
 DumpsBy by file full =
     ActsBySettings by.files file (IsAbout file) (AtDesk by.stores (DumpsDesk full))

@@ -27,8 +27,8 @@ name_on_line Nothing = []
 name_on_line (Word word) = map byte_on_line word.now ++ codes ": "
 name_on_line (Named name) = map byte_on_line (string_bytes name) ++ codes ": "
 
--- the name of where a command with this file and database went wrong, as it is written on the line,
--- and a colon; nothing for what has no name (profile)
+-- the name of the place of a trouble, by the file and the database of the command, as it is written
+-- on the line, and a colon. It is nothing for a place that has no name (profile)
 abbrev pub place_on_line : TroublePlace → List ℕ → List ℕ → List ℕ
 place_on_line place.Nothing file database = []
 place_on_line place.Database file database = map byte_on_line database ++ codes ": "
@@ -39,8 +39,8 @@ place_on_line place.Output file database = map byte_on_line (codes "standard out
 abbrev pub IsShownAs : List ℕ → List ℕ → Type 0
 IsShownAs text line = IsTrue (needs_no_escape text) → line ≡ text
 
--- a text for the file or database at a path, in which this was found: the path as it is, or the
--- path as a line shows it and what was found (profile)
+-- a text for the file or database at a path, in which this was found. It is the path as it is, or
+-- the path as a line shows it and what was found (profile)
 abbrev pub NamesPath : List ℕ → List ℕ → List ℕ → Type 0
 NamesPath path found text =
     (text ≡ path) ⊎ ((start : List ℕ) × IsShownAs path start × (text ≡ start ++ found))
@@ -68,9 +68,9 @@ IsLegible (Word word) Nothing = ⊥
 IsLegible (Word word) (Word after) = after ≡ word
 IsLegible (Word word) (Named name) = IsShownAs word.now (string_bytes name)
 
--- a fault of a command that reads this file and uses the database at this path, in which this was
--- found, shows the place of its trouble: the file, standard output, nothing, or a text for the
--- database (profile)
+-- a fault of a command shows the place of its trouble: the file that it reads, standard output,
+-- nothing, or a text for the database. The database is at this path, and this was found in it
+-- (profile)
 abbrev pub IsAbout : List ℕ → List ℕ → List ℕ → ProgramFault → Type 0
 IsAbout file path found fault =
     (database : List ℕ)

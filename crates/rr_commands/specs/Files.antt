@@ -1,9 +1,11 @@
--- What calls do with files, for the contracts of the trait `Files` (profile).
+-- What an implementation of `Files` says of its calls, for the contracts of this trait (profile).
 use Rattle.std.specs.Prelude.{ℕ, List, Option, Result}
 use Rattle.std.specs.declared.io.Error.{Error}
 
--- the file at a path is opened, and is to be read as these bytes, if it tells them, or it is
--- refused by an error; and it is closed after so many reads that failed (profile)
+-- what an implementation says of its calls, in two statements of its own; `SystemFiles`, the files
+-- of the machine, says nothing. `opens path given`: the file at the path was opened, and is to be
+-- read as these bytes, if they are known; or it was refused by this error. `closes path failed`: a
+-- file that was opened at the path was closed after so many failed reads (profile)
 pub record FileCalls : Type 1 where
   pub opens : List ℕ → Result (Option (List ℕ)) Error → Type 0
   pub closes : List ℕ → ℕ → Type 0

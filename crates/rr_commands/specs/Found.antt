@@ -64,15 +64,16 @@ is_of_rows version trouble.OldKeys = not (is_old version)
 is_of_rows version trouble.NewKeys = is_old version
 is_of_rows version _ = false
 
--- what a look at tables may find that say this version and are not opened: if it is the one that is
--- migrated, that `meta` has other rows beside it, or the keys of the one that is read (profile)
+-- what a look at tables may find that say this version and are not opened, if that is the one that
+-- is migrated. It is that `meta` has other rows beside it, or that the keys are those of the
+-- version that is read (profile)
 abbrev pub is_of_old : ℕ → Trouble → Bool
 is_of_old version trouble.OtherRows = version == OLD_VERSION
 is_of_old version trouble.NewKeys = version == OLD_VERSION
 is_of_old _ _ = false
 
--- what a look at tables may find that say this version and are not migrated: if it is the one that
--- is read, that `meta` has other rows beside it (profile)
+-- what a look at tables may find that say this version and are not migrated, if that is the one
+-- that is read. It is that `meta` has other rows beside it (profile)
 abbrev pub is_of_version : ℕ → Trouble → Bool
 is_of_version version trouble.OtherRows = version == VERSION
 is_of_version _ _ = false
@@ -89,12 +90,12 @@ is_found_unopened opening.Memory found = false
 -- what may be found of tables that are not migrated, which are to be of the version before. It is
 -- by what was refused: the database, its rows or its version. Where the root was missing, it is
 -- that there are no objects; where memory ran out, nothing (profile)
-abbrev pub is_found : MigrateFault → Trouble → Bool
-is_found (migrating.Store error) found = is_of_unmigrated found
-is_found migrating.BadRow found = is_of_rows Old found
-is_found (migrating.WrongVersion version) found = is_of_version version found
-is_found migrating.NoRoot trouble.Empty = true
-is_found _ found = false
+abbrev pub is_found_unmigrated : MigrateFault → Trouble → Bool
+is_found_unmigrated (migrating.Store error) found = is_of_unmigrated found
+is_found_unmigrated migrating.BadRow found = is_of_rows Old found
+is_found_unmigrated (migrating.WrongVersion version) found = is_of_version version found
+is_found_unmigrated migrating.NoRoot trouble.Empty = true
+is_found_unmigrated _ found = false
 
 -- what is told of tables that were not opened for this fault: the fault, or what a look at the
 -- database may find (profile)

@@ -37,8 +37,8 @@ loaded_line count = codes "loaded " ++ (decimal count ++ codes " objects\n")
 abbrev pub uncounted_line : List ℕ
 uncounted_line = codes "loaded the dump\n"
 
--- one of the two lines was written, or could not be written whole: which of the two, this does not
--- say (profile)
+-- one of the two lines was written, or could not be written whole: no clause says which of the two
+-- (profile)
 abbrev pub TellsLoaded : ℕ → Told → Told → CommandEnd → Type 0
 TellsLoaded count old new ended =
     Tells (loaded_line count) old new ended ⊎ Tells uncounted_line old new ended
@@ -70,8 +70,8 @@ Loads g settings reader_old reader_new done =
     IsUnloaded g settings reader_old reader_new done
     ⊎ HasLoaded g settings reader_old reader_new done
 
--- the file at this path was opened, and its load did this in a database, by what its reader told
--- when it was opened and when all was done (profile)
+-- the file at this path was opened, and its load did this in a database. Its reader told
+-- `reader_old` when it was opened, and `reader_new` when all was done (profile)
 pub record LoadsFile {S : Type 0} (g : Ghosts S) (settings : SettingsParts) (files : FileCalls)
     (file : List ℕ) (done : Deed (Held S) CommandEnd) : Type 0 where
   pub reader_old : Told
@@ -86,7 +86,10 @@ LoadsIn g files file settings done =
     (FailsSilently (IsUnopenedFile files file) done × (done.after.has ≡ done.before.has))
     ⊎ LoadsFile g settings files file done
 
--- what `irrdesk load` does, by its settings file (profile)
+-- what `irrdesk load` does. If its settings file gives no settings, or the database that these name
+-- is refused, nothing is printed, and the fault says why. Otherwise the dump is loaded there or not
+-- (`LoadsIn`), and the database is closed. A fault shows the place of its trouble, and may show
+-- where in the dump (profile)
 abbrev pub LoadsBy : {D S : Type 0} → Ports D S → List ℕ → List ℕ → Deed D ProgramEnd → Type 0
 LoadsBy by file dump =
     ActsBySettings by.files file (IsAboutDump dump)

@@ -13,7 +13,7 @@ use Rattle.rr_commands.specs.Commands.{Act, ActsBySettings, CommandEnd, InDataba
 use Rattle.rr_commands.specs.Commands.{ProgramEnd}
 use Rattle.rr_commands.specs.Faults.{IsAbout}
 use Rattle.rr_commands.specs.Worlds.{Deed, Ports, ended_by, within}
-use Rattle.rr_commands.specs.Found.{is_found}
+use Rattle.rr_commands.specs.Found.{is_found_unmigrated}
 use Rattle.rr_commands.specs.Printed.{HasTold}
 use Rattle.rr_commands.specs.declared.registry_databases.Absent.TheVariants.{Refused}
 use Rattle.rr_commands.specs.declared.trouble.Trouble.{Trouble}
@@ -32,7 +32,7 @@ module _ {S : Type 0} (g : Ghosts S) (settings : SettingsParts) where
     pub silent : done.after.output ≡ done.before.output
 
   -- the rows of a registry of version 1 were made those of version 2, with the block of the other
-  -- AS numbers, at a desk that runs with the settings. The connection is given back, and the line
+  -- AS numbers. A desk runs over them with the settings. The connection is given back, and the line
   -- that says so was written, or could not be written whole (RFC 6793; profile)
   pub record HasMigrated (done : Deed (Held S) CommandEnd) : Type 0 where
     pub desk : Desk S
@@ -51,7 +51,7 @@ pub record IsFoundOut (first ended : CommandEnd) : Type 0 where
   pub fault : MigrateFault
   pub told_first : first ≡ Err (Migrating fault)
   pub trouble : Trouble
-  pub found : IsTrue (is_found fault trouble)
+  pub found : IsTrue (is_found_unmigrated fault trouble)
   pub told : ended ≡ Err trouble
 
 -- what is told of a migration: how it ended, or what a further look at the database may find
@@ -59,8 +59,8 @@ pub record IsFoundOut (first ended : CommandEnd) : Type 0 where
 abbrev pub IsDiagnosis : CommandEnd → CommandEnd → Type 0
 IsDiagnosis first ended = (ended ≡ first) ⊎ IsFoundOut first ended
 
--- a database that is not migrated for this fault is looked at: one that was refused by its error,
--- for its rows, for its version or for want of the root (profile)
+-- a database that is not migrated for this fault is looked at. It was refused by its error, for its
+-- rows, for its version or for want of the root (profile)
 abbrev pub is_looked_at : MigrateFault → Bool
 is_looked_at (migrating.Store error) = true
 is_looked_at migrating.BadRow = true
@@ -89,7 +89,10 @@ pub record IsDiagnosed {S : Type 0} (g : Ghosts S) (does : Act (Held S))
   pub looks : LooksAtRefused g first left done.after.has
   pub diagnosis : IsDiagnosis first done.ended
 
--- what `irrdesk migrate` does, by its settings file (profile)
+-- what `irrdesk migrate` does. If its settings file gives no settings, or the database that these
+-- name is refused, nothing is printed, and the fault says why. Otherwise tables are migrated there
+-- or not (`MigratesIn`). If they are not, the database may be looked at (`IsDiagnosed`). Then it is
+-- closed. A fault shows the place of its trouble (profile)
 abbrev pub MigratesBy : {D S : Type 0} → Ports D S → List ℕ → Deed D ProgramEnd → Type 0
 MigratesBy by file = ActsBySettings by.files file (IsAbout file)
     (InDatabase by.stores Refused (λ settings. IsDiagnosed by.stores.store

@@ -17,7 +17,7 @@ Tells text old new (Err fault) = (fault ≡ Unwritten) × TakesPrefix old new te
 abbrev pub HasTold : {X : Type 0} → List ℕ → Deed X CommandEnd → Type 0
 HasTold text done = Tells text done.before.output done.after.output done.ended
 
--- a text was printed, and the status of the program is 0; or the beginning of it, and not all, was
+-- a text was printed, and the status of the program is 0. Or the beginning of it, and not all, was
 -- printed before a write failed, which is its fault (profile)
 abbrev pub Prints : List ℕ → Told → Told → ProgramEnd → Type 0
 Prints text old new (Ok status) = (status ≡ 0) × Takes old new text

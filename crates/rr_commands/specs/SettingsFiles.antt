@@ -78,7 +78,7 @@ both (Ok value) (Err fault) = Err fault
 both (Ok value) (Ok other) = Ok (value, other)
 
 -- the settings and the path of the database that a table has, or the first key that is missing or
--- bad; without a table the text was not TOML (profile)
+-- bad. Without a table the text was not TOML (profile)
 abbrev pub settings_in : Option Members → Result (SettingsParts × List ℕ) SettingsFault
 settings_in None = Err BadToml
 settings_in (Some table) = both (parts_of table) (store_of table)
@@ -87,9 +87,9 @@ settings_in (Some table) = both (parts_of table) (store_of table)
 abbrev pub settings_of_text : List ℕ → Result (SettingsParts × List ℕ) SettingsFault
 settings_of_text text = settings_in (parse_document text)
 
--- why the bytes of a file are no settings: they are more than 1,048,576, no text in UTF-8, no TOML,
--- or this key is the first that is missing or bad; or memory ran out. Which line is told of a text
--- that is no TOML, this does not say (profile)
+-- why the bytes of a file are no settings. They are more than 1,048,576, no text in UTF-8, or no
+-- TOML; or this key is the first that is missing or bad; or memory ran out. No clause says which
+-- line is told of a text that is no TOML (profile)
 abbrev pub AreNoSettings : List ℕ → Trouble → Type 0
 AreNoSettings bytes trouble.SettingsTooLong = MOST_BYTES < length bytes
 AreNoSettings bytes trouble.SettingsNotText = ¬ (IsUtf8 bytes)

@@ -1,5 +1,6 @@
--- What `irrdesk submit` does, and `irrdesk` without arguments, by how it ends. What is said of rows
--- holds where the disk gives back what was written (profile).
+-- What `irrdesk submit` does, and `irrdesk` without arguments, by how it ends, for the contracts of
+-- `submit`, `plain` and what they call. What is said of rows holds where the disk gives back what
+-- was written (profile).
 use Rattle.std.specs.Prelude.{◌≡◌, ℕ, ◌==◌, ◌⊎◌, false, List, [], Result, Ok, Err, IfErr}
 use Rattle.std.specs.Prelude.{codes, if◌then◌else◌}
 use Rattle.sqlite_trees.specs.declared.store.Store.{Ghosts}
@@ -90,7 +91,10 @@ SubmitsDesk g files file done =
     (FailsSilently (IsUnopenedFile files file) done × (done.after.has ≡ done.before.has))
     ⊎ SubmitsFile g files file done
 
--- what `irrdesk submit` does, by its settings file (profile)
+-- what `irrdesk submit` does. If its settings file gives no settings, or these open no desk,
+-- nothing is printed, and the fault says why. Otherwise a file is submitted to the desk, or is not
+-- opened (`SubmitsDesk`), and its database is closed. A fault shows the place of its trouble
+-- (profile)
 abbrev pub SubmitsBy : {D S : Type 0} → Ports D S → List ℕ → List ℕ → Deed D ProgramEnd → Type 0
 SubmitsBy by file items = ActsBySettings by.files file (IsAbout items)
     (AtDesk by.stores (SubmitsDesk by.stores.store by.files items))

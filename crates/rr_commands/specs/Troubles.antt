@@ -26,8 +26,9 @@ ends_with status place = record { status = status; place = place }
 -- wrong arguments, and 3 at wrong settings. It is 4 at trouble with the database, also if SQLite
 -- lacks memory once it is open, or at a stopped desk. It is else 5, also if other memory ran out.
 -- The line is about the database at status 4, and if memory ran out as that or its registry was
--- opened. It is about the settings file at status 3, about another file at trouble with that or
--- with what it has, about standard output if a write failed, and else about nothing (profile).
+-- opened. It is about the settings file at status 3, and about another file at trouble with that or
+-- with what it has. It is about standard output if a write failed, and else about nothing
+-- (profile).
 abbrev pub trouble_end : Trouble → TroubleEnd
 trouble_end trouble.BadArguments = ends_with 2 place.Nothing
 trouble_end trouble.BadPort = ends_with 2 place.Nothing

@@ -12,7 +12,7 @@ pub record StoreCalls (D S : Type 0) : Type 1 where
   pub store : Ghosts S
   pub databases : DatabaseCalls D S
 
--- what calls do with databases and with the one of a connection, as one
+-- these two as a `StoreCalls`
 abbrev pub at : {D S : Type 0} → Ghosts S → DatabaseCalls D S → StoreCalls D S
 at store databases = record { store = store; databases = databases }
 
@@ -22,7 +22,7 @@ pub record Ports (D S : Type 0) : Type 1 where
   pub stores : StoreCalls D S
   pub files : FileCalls
 
--- what calls do with databases and with files, as one
+-- these three as `Ports`
 abbrev pub ports : {D S : Type 0} → Ghosts S → DatabaseCalls D S → FileCalls → Ports D S
 ports store databases files = record { stores = at store databases; files = files }
 
@@ -31,7 +31,7 @@ pub record Named : Type 0 where
   pub settings : SettingsParts
   pub path : List ℕ
 
--- what a settings file names, as one
+-- these two as a `Named`
 abbrev pub named : SettingsParts → List ℕ → Named
 named settings path = record { settings = settings; path = path }
 
@@ -47,7 +47,8 @@ pub record Deed (X E : Type 0) : Type 0 where
   pub after : World X
   pub ended : E
 
--- what was done to this, from one state to the next, where standard output told this
+-- what was done to what was `old` and is `new`, while standard output told `told_old` before and
+-- `told_new` after, and how it ended
 abbrev pub deed : {X E : Type 0} → X → X → Told → Told → E → Deed X E
 deed old new told_old told_new ended = record {
   before = record { has = old; output = told_old };

@@ -1,4 +1,4 @@
-//! Why a file, a socket or a database could not be used, in words of the program's own: commands
+//! Why a file, a socket or a database could not be used, in words of the program's own. Commands
 //! and `rr_cli` put it into a trouble or a fault, and `command_fault` writes it.
 
 ghost use Rattle.std.specs.Prelude.{◌≡◌, Option};
@@ -26,8 +26,8 @@ const ENFILE: u32 = 23;
 /// Linux's number for a program with too many open files.
 const EMFILE: u32 = 24;
 
-/// Why the system refused a file or a socket. Only causes that ask for different things of the
-/// reader are told apart.
+/// Why the system refused a file or a socket. Only causes that ask for different things of who
+/// reads the line are told apart.
 #[derive(Clone, Copy)]
 pub enum Cause {
     /// There is none of that name.
@@ -187,7 +187,7 @@ impl Cause {
         }
     }
 
-    /// The cause in words, before its number if it has one.
+    /// The words for the cause, before its number if [`Cause::number`] gives one.
     pub fn text(self) -> &'static str
         ensures { result.now ≡ cause_text self }
     {
@@ -205,7 +205,7 @@ impl Cause {
             Cause::TooLarge =>
                 "no file may grow so large: raise the limit, as `ulimit -f` shows it",
             Cause::Ended => "its reader has ended: let it read to the end",
-            Cause::Taken => "the address is in use: take another port",
+            Cause::Taken => "the address is in use: end what has it, or take another port",
             Cause::NoAddress => "the machine has no such address: see that 127.0.0.1 can be used",
             Cause::Exists => "something of that name is there: take another path",
             Cause::InUse => "another program uses it: end that, or try again later",
@@ -325,13 +325,14 @@ impl DatabaseCause {
         }
     }
 
-    /// The cause in words, before that of the system if it has one.
+    /// The words for the cause, before those of the system's cause in `Refused`.
     pub fn text(self) -> &'static str
         ensures { result.now ≡ database_cause_text self }
     {
         match self {
             DatabaseCause::Missing =>
-                "there is no such database: `irrdesk init` or `irrdesk load` makes it",
+                "there is no such database: correct `store`, restore a backup, or make a first one \
+                by `irrdesk init` or `irrdesk load`",
             DatabaseCause::MissingWithLog =>
                 "there is no such database, but its write-ahead log or journal (`-wal`, \
                 `-journal`): put the database back, or move that elsewhere and restore a backup",
@@ -372,7 +373,7 @@ impl DatabaseCause {
         }
     }
 
-    /// The cause in words, but these words for `NoDatabase` and `Unknown`, which tell no more.
+    /// The words for the cause, but `words` for `NoDatabase` and `Unknown`, whose own tell no more.
     pub fn text_or(self, words: &'static str) -> &'static str
         ensures { result.now ≡ text_or self words.now }
     {

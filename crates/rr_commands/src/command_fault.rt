@@ -32,8 +32,8 @@ pub enum About<'a> {
     Named(String),
 }
 
-/// Why the program fails: what it is about, what went wrong with it, and why reading or printing
-/// failed, if it is that, and else `Unnumbered`.
+/// Why the program fails: what it is about, what went wrong with it, and `stream`, why reading or
+/// printing failed. `stream` counts only for trouble that is that (`trouble_cause`).
 #[derive(Drop)]
 pub struct ProgramFault<'a> {
     about: About<'a>,
@@ -91,8 +91,8 @@ impl<'a> ProgramFault<'a> {
         }
     }
 
-    /// A fault with this trouble, whose line names standard output. It keeps `stream`: why that
-    /// took no more.
+    /// A fault with this trouble, whose line names standard output. It keeps `stream`: why standard
+    /// output took no more.
     pub fn of_output(trouble: Trouble, stream: Cause) -> ProgramFault<'a>
         ensures shows { HasTrouble trouble (ShowsOnLine (place_on_line place.Output [] [])) result }
         ensures stream { result.stream ≡ stream }
@@ -104,10 +104,10 @@ impl<'a> ProgramFault<'a> {
         }
     }
 
-    /// A fault with this trouble, of a command that reads this file and uses this database. Its
-    /// line names what the trouble is about: one of these two, standard output, or nothing.
-    /// `stream` is why reading or printing failed, for a message: no clause says what of it is
-    /// kept.
+    /// A fault with this trouble, of a command that reads `file` and uses `database`. Its line
+    /// names what the trouble is about: one of these two, standard output, or nothing. In a name it
+    /// has `?` for each control character of ASCII (profile). `stream` is why reading or printing
+    /// failed, for a message: no clause says what of it is kept.
     pub fn placed(
         trouble: Trouble,
         file: &'a str,

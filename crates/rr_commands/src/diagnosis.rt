@@ -8,7 +8,7 @@ ghost use Rattle.std.specs.Prelude.{◌≡◌, IfSome, IsTrue, Some, false, nat_
 ghost use Rattle.rr_commands.specs.Commands.{Finds, LooksAt};
 ghost use Rattle.rr_commands.specs.Found.{IsToldUnopened, is_of_old, is_of_rows, is_of_tables};
 ghost use Rattle.rr_commands.specs.Found.{is_of_unmigrated, is_of_version, keys_beside};
-ghost use Rattle.rr_commands.specs.MetaRows.{SaysVersion};
+ghost use Rattle.rr_commands.specs.MetaRows.{RowsSayVersion};
 ghost use Rattle.rr_commands.specs.Migrated.{IsDiagnosis, LooksAtRefused};
 
 use crate::meta_rows::version_in;
@@ -84,8 +84,9 @@ pub(crate) fn trouble_with<S: Alter>(
     }
 }
 
-/// What is the matter with tables that say this version and are not read, if it is found: of the
-/// version that is migrated, another row of `meta` beside it, or keys of the version that is read.
+/// What is the matter with tables that say this version and are not read, if it is found. Of the
+/// version that is migrated it is another row of `meta` beside it, or keys of the version that is
+/// read.
 fn found_in_old<S: Alter>(
     alloc: Global,
     conn: &mut IdleConnection<S>,
@@ -125,7 +126,8 @@ fn keys_beside(version: Version) -> Trouble
 }
 
 /// What is told of how a migration ended: that, or what a look at a database that was refused may
-/// find, as above. The look commits nothing, and no other database is looked at.
+/// find. Where that is to be seen is added to `found`, as by `trouble_with`. The look commits
+/// nothing, and no other database is looked at.
 pub(crate) fn told_of<S: Alter>(
     alloc: Global,
     conn: &mut IdleConnection<S>,
@@ -249,7 +251,7 @@ fn later_version<S: Alter>(conn: &mut IdleConnection<S>) -> Option<u32>
 /// The version that these rows of `meta` say, if it is a later one.
 fn later_in(rows: &[Row]) -> Option<u32>
     ensures later { IfSome result (λ version. IsTrue (nat_lt VERSION version)) }
-    ensures says { IfSome result (SaysVersion rows.now) }
+    ensures says { IfSome result (RowsSayVersion rows.now) }
 {
     match version_in(rows) {
         Some(version) if version > VERSION => Some(version),
@@ -257,8 +259,8 @@ fn later_in(rows: &[Row]) -> Option<u32>
     }
 }
 
-/// What is the matter with rows that are those of no registry of the source, if it is found: first
-/// those of `meta`, because keys are written as its version has them.
+/// What is the matter with rows that are those of no registry of the source, if it is found. The
+/// rows of `meta` come first, because keys are written as its version has them.
 fn found_in_rows<S: Alter>(
     alloc: Global,
     conn: &mut IdleConnection<S>,
@@ -292,9 +294,10 @@ fn are_other_rows(meta: Result<Vec<Row>, sqlite::Error>, version: Version) -> bo
     }
 }
 
-/// What is the matter with these rows of objects: if most are of another source, that; if more are
-/// good in the other version than in this one, that `meta` says this one; otherwise the first that
-/// is bad by itself, or else of another source, and else what is bad of all together.
+/// What is the matter with these rows of objects. If most are of another source, it is that. If
+/// more are good in the other version than in this one, it is that `meta` says this one. Otherwise
+/// it is the first that is bad by itself, or else of another source, or else what is bad of all
+/// together.
 fn judge_rows<S: Alter>(
     alloc: Global,
     conn: &mut IdleConnection<S>,
@@ -333,8 +336,8 @@ fn judge_rows<S: Alter>(
     }
 }
 
-/// What is the matter with rows of objects that are good one by one: the first whose object names a
-/// maintainer who is not there, or has a span that crosses one before it, and else `named`.
+/// What is the matter with rows of objects that are good one by one. It is the first whose object
+/// names a maintainer who is not there, or has a span that crosses one before it, and else `named`.
 fn judge_together<S: Alter>(
     alloc: Global,
     conn: &mut IdleConnection<S>,

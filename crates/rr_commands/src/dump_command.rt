@@ -1,4 +1,4 @@
-//! `irrdesk dump`: dumps, of the registry in a database.
+//! `irrdesk dump`: dumps, of the registry in a database, for `rr_cli`.
 
 ghost use Rattle.std.specs.Prelude.{◌≡◌, false};
 ghost use Rattle.rr_answer.specs.Dumps as dumps;
@@ -19,13 +19,14 @@ use rr_io::Writer;
 use sqlite::Alter;
 use std::alloc::Global;
 
-/// Prints the dump of the registry that the settings name, with all of each object if it is to be
-/// full, and else with their public forms. The status is 0. The desk stays as it was, and its
-/// database is closed then; a missing one is not made. The fault is why there are no settings, and
-/// then no database is opened, or why there is no desk, as [`open_desk`] tells it. In both cases
-/// nothing is printed. Or it is that a write failed, or that memory ran out and none failed: the
-/// beginning of the dump is printed, not all. The fault names what its trouble is about: the
-/// settings file, the database, standard output or nothing.
+/// Prints the dump of the registry in the database that the settings name: all of each object if it
+/// is to be full, and else their public forms. The status is 0. A missing database is refused
+/// (`Absent::Refused`) and not made, though of files no clause says so. The desk stays as it was,
+/// and its database is closed then. The fault is why there are no settings, and then no database is
+/// opened, or why there is no desk, as [`open_desk`] tells it. In both cases nothing is printed. Or
+/// it is that a write failed, or that memory ran out and none failed: the beginning of the dump is
+/// printed, not all. The fault names what its trouble is about: the settings file, the database,
+/// standard output or nothing.
 pub fn dump<'a, D: Databases, F: Files, W: Output>(
     host: &mut Host<'_, D, W>,
     files: &F,

@@ -1,6 +1,7 @@
-//! Standard error, for what is not a result: how far a command is, a hint, and why a database
-//! failed. `rr_cli` makes it and writes to it, as `meter` and `progress` do. Without a terminal
-//! only the last is written: the tool `irr` takes all that stands there for the line of a fault.
+//! Standard error: how far a command is, a hint, why a served database failed, and the line of a
+//! fault. `rr_cli` makes it and writes to it, as `meter` and `progress` do. Without a terminal
+//! there is neither progress nor a hint: the tool `irr` takes all that stands there for the line of
+//! a fault.
 
 use rr_io::Counted;
 use std::io::{IsTerminal, Stderr, Write};
@@ -20,23 +21,24 @@ impl<'a> ErrorStream<'a> {
         ErrorStream { rt }
     }
 
-    /// Whether it is shown on a terminal.
+    /// Whether it is shown on a terminal. No clause says so.
     pub fn is_terminal(self) -> bool {
         self.rt.stderr().is_terminal()
     }
 
-    /// Whether standard output is shown on a terminal: it is taken for the same one, although it
-    /// may be another.
+    /// Whether standard output is shown on a terminal. It then counts as the same one, although it
+    /// may be another. No clause says so.
     pub fn is_shared(self) -> bool {
         self.rt.stdout().is_terminal()
     }
 
-    /// Whether standard input is typed on a terminal.
+    /// Whether standard input is typed on a terminal. No clause says so.
     pub fn is_typed(self) -> bool {
         self.rt.stdin().is_terminal()
     }
 
-    /// Writes these bytes. A command does not fail because they are not shown.
+    /// Writes these bytes, or part of them if a write fails, which is not reported: no command
+    /// fails for it. No clause says so.
     pub fn show(self, bytes: &[u8]) {
         let _ = self.rt.stderr().write_all(bytes);
     }
@@ -47,7 +49,7 @@ impl<'a> ErrorStream<'a> {
         Counted::new(self.rt.stderr())
     }
 
-    /// The time, if the clock tells it.
+    /// The time by the system's steady clock, or `None` if it cannot be read. No clause says so.
     pub fn now(self) -> Option<Instant> {
         Instant::now(self.rt).ok()
     }

@@ -83,7 +83,8 @@ pub(crate) struct FileAt<'a, F> {
     pub(crate) path: &'a str,
 }
 
-/// Opens a file to read it. The error is that it cannot be opened, or that memory ran out.
+/// Opens the file at a path to read it. The trouble is that it cannot be opened, and why, or that
+/// memory ran out.
 pub(crate) fn open_file<F: Files>(files: &F, path: &str) -> Result<F::File, Trouble>
     ensures opened { IfOk result (λ file.
         (F.calls files.now).opens path.now (Ok (F.File.remaining file))) }
@@ -95,8 +96,8 @@ pub(crate) fn open_file<F: Files>(files: &F, path: &str) -> Result<F::File, Trou
     }
 }
 
-/// What is told of a file that cannot be opened: that memory ran out if it is that, and else this
-/// cause.
+/// What is told of a file that cannot be opened for this cause: that memory ran out if it is that,
+/// and else the cause.
 fn unopened_trouble(cause: Cause) -> Trouble
     ensures { result ≡ unopened_trouble cause }
 {

@@ -25,7 +25,8 @@ pub struct Host<'h, D, W> {
 }
 
 /// The database that settings name, and what was found in it, for a message: a row, a table, or
-/// what was added to one.
+/// what was added to one. `read_settings_file` gives it, a command adds what it found, and `ended`
+/// puts both into a fault.
 #[derive(Drop)]
 pub struct NamedDatabase {
     /// Its path.

@@ -1,4 +1,4 @@
-//! `irrdesk init`: the making of registries.
+//! `irrdesk init`: the making of registries, for `rr_cli`.
 
 ghost use Rattle.rr_commands.specs.Commands.{InDatabase};
 ghost use Rattle.rr_commands.specs.Created.{CreatesBy, CreatesIn};
@@ -17,13 +17,15 @@ use rr_store::IdleConnection;
 use sqlite::Alter;
 use std::alloc::Global;
 
-/// Makes the registry that opens with the settings of a file, in the database that they name, and
-/// says so. A missing database is made; one that exists is to have nothing in it, or the three
-/// tables and no row. At the end the database is closed as [`Desk::create`] leaves it. The status
-/// is 0. The fault is why there are no settings, and then no database is opened, or why there is no
-/// database or no registry. In these cases nothing is printed. Or it is that the line was not
-/// printed whole, and then the registry is made. The fault names what its trouble is about: the
-/// settings file, the database, standard output or nothing.
+/// Makes the registry that opens with the settings in `file`, in the database that they name, and
+/// says so. A missing database is made (`Absent::Made`), though of files no clause says so. One
+/// that exists is to have nothing in it, or the three tables and no row. At the end the database is
+/// closed as [`Desk::create`] leaves it. The status is 0. The fault is why there are no settings,
+/// and then no database is opened, or why there is no database or no registry. In these cases
+/// nothing is printed. What the database had stands while it is open, though a stop of the process
+/// may leave the tables. Or the fault is that the line was not printed whole, and then the registry
+/// is made. The fault names what its trouble is about: the settings file, the database, standard
+/// output or nothing. What is said of rows holds where the disk gives back what was written.
 pub fn init<'a, D: Databases, F: Files, W: Output>(
     host: &mut Host<'_, D, W>,
     files: &F,
@@ -59,8 +61,8 @@ fn init_at<D: Databases, W: Output>(
 
 /// Makes the registry that opens with these settings in a database, writes that it did, and gives
 /// the status 0. The trouble is why none was made, and nothing is written then; or that the line
-/// could not be written whole, and then it is made. The connection is given back, and its database
-/// is as [`Desk::create`] leaves it (profile).
+/// could not be written whole, and then the registry is made. The connection is given back, and its
+/// database is as [`Desk::create`] leaves it (profile).
 pub fn create_to<S: Alter, W: Writer>(
     alloc: Global,
     conn: IdleConnection<S>,

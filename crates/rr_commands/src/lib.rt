@@ -1,9 +1,11 @@
 //! What each command but `serve` and `probe` does, with the files that its arguments name and the
-//! database that its settings name; the databases are in files, or in whatever else keeps them.
+//! database that its settings name. Databases are in files, or in whatever else keeps them. A rule
+//! for which no other source is named is this project's own (profile).
 //!
-//! `rr_cli` calls a command by its name, as [`load`]. The calls below these, as [`load_to`], do the
-//! same over a desk or a connection; nothing outside this crate uses them. What all of them say of
-//! rows holds where the disk gives back what was written.
+//! `rr_cli` calls a command by its name, as [`load`], and [`plain`] for a run without arguments.
+//! The calls below these, as [`load_to`], do the same over a desk or a connection; nothing outside
+//! this crate uses them. What all of them say of rows holds where the disk gives back what was
+//! written.
 #![tactic(auto)]
 
 mod cause;

@@ -1,4 +1,4 @@
-//! `irrdesk load`: loads of dumps, into a new database.
+//! `irrdesk load`: loads of dumps, into a new database, for `rr_cli`.
 
 ghost use Rattle.std.specs.Prelude.{◌≡◌, IfErr, IfOk, length, string_bytes};
 ghost use Rattle.std.specs.FinMap.{values};
@@ -27,11 +27,12 @@ use rr_store::IdleConnection;
 use sqlite::Alter;
 use std::alloc::{AllocError, Global};
 
-/// Makes the registry of a dump in the database that the settings name. A missing database is made,
-/// even if the dump then cannot be opened. One that exists is to have nothing in it, or the three
-/// tables and no row. At the end the database is closed as [`Desk::load`] leaves it, or as it was
-/// if the dump cannot be opened. Says how many objects the registry has or, without memory to count
-/// them, that it was loaded: no clause says which. The status is 0.
+/// Makes the registry of the dump in `file`, in the database that the settings name. A missing
+/// database is made (`Absent::Made`), even if the dump then cannot be opened; of files no clause
+/// says so. One that exists is to have nothing in it, or the three tables and no row. At the end
+/// the database is closed as [`Desk::load`] leaves it, or as it was if the dump cannot be opened.
+/// Says how many objects the registry has or, without memory to count them, that it was loaded: no
+/// clause says which. The status is 0.
 ///
 /// The fault is why there are no settings, and then no database is opened, or why there is no
 /// database, no file or no registry. In these cases nothing is printed. Or it is that the line was
@@ -125,8 +126,8 @@ fn load_file<S: Alter, F: Files, W: Output>(
 /// Makes the registry of the dump that a reader gives in a database, and gives the status 0. Writes
 /// how many objects it has or, without memory to count them, that it was loaded: no clause says
 /// which. The trouble is why none was made, and nothing is written then; or that the line could not
-/// be written whole, and then it is made. The connection is given back, and its database is as
-/// [`Desk::load`] leaves it (profile).
+/// be written whole, and then the registry is made. The connection is given back, and its database
+/// is as [`Desk::load`] leaves it (profile).
 pub fn load_to<S: Alter, R: Reader, W: Writer>(
     alloc: Global,
     conn: IdleConnection<S>,
@@ -146,7 +147,7 @@ pub fn load_to<S: Alter, R: Reader, W: Writer>(
     }
 }
 
-/// What is told of a dump that was not loaded.
+/// What is told of a dump that was not loaded for this fault.
 fn loading_trouble(fault: DeskLoadFault) -> Trouble
     ensures { result ≡ loading_trouble fault }
 {

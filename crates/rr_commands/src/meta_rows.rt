@@ -3,15 +3,15 @@
 ghost use Rattle.std.specs.Prelude.{◌≡◌, IfSome, IsTrue, codes, decimal};
 ghost use Rattle.sqlite_value.specs.Order.{column};
 ghost use Rattle.sqlite_value.specs.declared.value.Value.TheVariants.{Text};
-ghost use Rattle.rr_commands.specs.MetaRows.{SaysVersion};
+ghost use Rattle.rr_commands.specs.MetaRows.{RowsSayVersion};
 
 use crate::obstacle::text_at;
 use rr_store::read_decimal;
 use sqlite::Row;
 
-/// The version among rows of `meta`: a row says what is given. No clause speaks of none.
+/// The version that one of these rows of `meta` says. Of `None` no clause speaks.
 pub(crate) fn version_in(rows: &[Row]) -> Option<u32>
-    ensures { IfSome result (SaysVersion rows.now) }
+    ensures { IfSome result (RowsSayVersion rows.now) }
 {
     for row in rows {
         if is_of_version(row) {
@@ -28,7 +28,7 @@ fn is_of_version(row: &Row) -> bool
     text_at(row, 0) == b"version".as_slice()
 }
 
-/// The number that a row of `meta` has in decimal digits.
+/// The number that a row of `meta` has in decimal digits. Of `None` no clause speaks.
 fn number_of(row: &Row) -> Option<u32>
     ensures { IfSome result (λ number. column row.now 1 ≡ Text (decimal number)) }
 {

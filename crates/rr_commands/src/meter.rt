@@ -1,5 +1,5 @@
 //! A count on the last line of a terminal, of the items, objects or bytes that pass: for
-//! `progress`.
+//! `progress`. No clause says what is counted or drawn.
 
 use crate::error_stream::ErrorStream;
 use itoa::Buffer;
@@ -117,8 +117,8 @@ impl<'a> Meter<'a> {
         is_in_the_way
     }
 
-    /// Counts what is in the bytes that pass, and draws the line if it is time to, or if it
-    /// had made way for them; never over a printed line that has not ended.
+    /// Counts what is in the bytes that pass, and draws the line if it is time to, or if it had
+    /// made way for them. It is never drawn over a printed line that has not ended.
     pub(crate) fn pass(&mut self, bytes: &[u8], made_way: bool) {
         if let Some(started) = self.started {
             let more = match self.things {

@@ -1,4 +1,4 @@
-//! `irrdesk migrate`: the migration of databases of version 1.
+//! `irrdesk migrate`: the migration of databases of version 1, for `rr_cli`.
 
 ghost use Rattle.rr_commands.specs.Commands.{InDatabase};
 ghost use Rattle.rr_commands.specs.Migrated.{IsDiagnosed, MigratesBy, MigratesIn};
@@ -19,16 +19,16 @@ use sqlite::Alter;
 use std::alloc::Global;
 
 /// Turns the tables of version 1, in the database that the settings name, into those of version 2,
-/// and says so. The block of the AS numbers above 65535 is added. A missing database is not made;
-/// one that is opened is closed as [`Desk::migrate`], or a further look at it, leaves it. The
-/// status is 0.
+/// and says so. The block of the AS numbers above 65535 is added (RFC 6793). A missing database is
+/// refused (`Absent::Refused`) and not made, though of files no clause says so. One that is opened
+/// is closed as [`Desk::migrate`], or a further look at it, leaves it. The status is 0.
 ///
 /// The fault is why there are no settings, and then no database is opened, or why there is no
 /// database, or why the tables were not migrated. In these cases nothing is printed. In place of
-/// the last cause it may be what a further look at the database may find, which commits nothing; no
-/// clause says that it is so. Or it is that the line was not printed whole, and then the tables are
-/// migrated. The fault names what its trouble is about: the settings file, the database, standard
-/// output or nothing.
+/// why the tables were not migrated it may be what a further look at the database may find, which
+/// commits nothing. No clause says that it is so. Or it is that the line was not printed whole, and
+/// then the tables are migrated. The fault names what its trouble is about: the settings file, the
+/// database, standard output or nothing.
 pub fn migrate<'a, D: Databases, F: Files, W: Output>(
     host: &mut Host<'_, D, W>,
     files: &F,
@@ -83,10 +83,10 @@ fn migrate_told<S: Alter, W: Writer>(
 }
 
 /// Migrates the tables of version 1 of a database, writes that it did, and gives the status 0. The
-/// block of the AS numbers above 65535 is added. The trouble is why the tables were not migrated,
-/// and nothing is written then; or that the line could not be written whole, and then they are
-/// migrated. The connection is given back, and its database is as [`Desk::migrate`] leaves it
-/// (profile).
+/// block of the AS numbers above 65535 is added (RFC 6793). The trouble is why the tables were not
+/// migrated, and nothing is written then; or that the line could not be written whole, and then
+/// they are migrated. The connection is given back, and its database is as [`Desk::migrate`] leaves
+/// it (profile).
 pub fn migrate_to<S: Alter, W: Writer>(
     alloc: Global,
     conn: IdleConnection<S>,

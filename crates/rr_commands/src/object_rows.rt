@@ -1,5 +1,5 @@
 //! The rows of objects, and why one has no object of the registry, for messages of `diagnosis`
-//! alone.
+//! alone. Of a function without `ensures` no clause says what it finds or adds.
 
 ghost use Rattle.std.specs.Prelude.{◌≡◌, IfErr, IsTrue};
 ghost use Rattle.std.specs.Option.{option_copied};
@@ -33,7 +33,7 @@ pub(crate) enum RowFault {
     Memory,
 }
 
-/// Adds the row of this number, from 1.
+/// Adds the row of this number, from 1, or nothing if there is none.
 pub(crate) fn push_numbered(found: &mut String, rows: &[Row], number: u64) {
     if let Some(row) = row_at(rows, number) {
         // Without memory, the message has a part of the row, or names the database alone.
@@ -181,7 +181,7 @@ fn keyed(alloc: Global, row: &Row, object: Object, version: Version) -> Result<O
     }
 }
 
-/// Whether a row has this key; it may if memory runs out.
+/// Whether a row has this key. If memory runs out, the answer is that it has.
 fn has_key(alloc: Global, row: &Row, key: &Key, version: Version) -> bool {
     let found: Result<String, sqlite::Error> = row.get(1);
     match (found, version.key_bytes(alloc, key)) {

@@ -1,5 +1,5 @@
 //! How the tables of a registry were made otherwise than irrdesk makes them, for messages of
-//! `diagnosis` alone: in another order, or with what keeps them from being read. `meta_rows` takes
+//! `diagnosis` alone: in another order, or with what keeps them from being read. `meta_rows` calls
 //! `text_at`, the one function here of which a clause speaks.
 
 ghost use Rattle.std.specs.Prelude.{◌≡◌, ◌≢◌, []};
@@ -119,7 +119,7 @@ fn obstacle_of(row: &Row) -> Option<Obstacle<'_>> {
     })
 }
 
-/// The text of a row at a place, or nothing.
+/// The text in column `at` of a row, from 0, or nothing.
 pub(crate) fn text_at(row: &Row, at: usize) -> &[u8]
     ensures { result.now ≢ [] → column row.now at ≡ Text result.now }
 {

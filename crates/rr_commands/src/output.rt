@@ -15,13 +15,13 @@ use crate::trouble::{Trouble, TroublePlace};
 use rr_io::{Reader, Writer, write_all};
 use std::alloc::{AllocError, Global};
 
-/// What faults of standard output are about.
+/// How the line of a fault names standard output.
 pub(crate) const STANDARD_OUTPUT: &str = "standard output";
 
 /// What commands print to, which may show on a terminal how far they are.
 pub trait Output: Writer {
-    /// Shows this from now on, on a terminal alone; no clause says what is shown. All that it tells
-    /// as a writer stays: its bytes, and the count of its failed writes.
+    /// Shows `shown` from now on, on a terminal alone; no clause says what is seen. All that it
+    /// tells as a writer stays: its bytes, and the count of its failed writes.
     fn show(&mut self, shown: Shown)
         ensures told { Self.told self.new ≡ Self.told self.old };
 
@@ -29,7 +29,7 @@ pub trait Output: Writer {
     /// contract says which it is.
     fn cause(&self) -> Cause;
 
-    /// Keeps this as the cause, which [`ended`] shows: so a command that reads a file keeps what
+    /// Keeps `cause` for [`ended`], which shows it: so a command that reads a file keeps what
     /// [`cause_of`] gives. All that it tells as a writer stays: its bytes, and the count of its
     /// failed writes.
     fn keep(&mut self, cause: Cause)
@@ -51,7 +51,8 @@ fn is_about_file(end: Result<u8, Trouble>) -> bool {
     }
 }
 
-/// The cause of how a command ended that read and printed: of what it read, or of standard output.
+/// Why reading or printing failed, for a command that ended by `end`: the cause of `input` if the
+/// trouble is about the file, and else that of `output`. No clause says so.
 pub(crate) fn cause_of<R: Input, W: Output>(
     end: Result<u8, Trouble>,
     input: &R,
@@ -64,8 +65,8 @@ pub(crate) fn cause_of<R: Input, W: Output>(
     }
 }
 
-/// Prints a text, and gives the status 0. The fault (status 5) is that a write failed: the
-/// beginning of the text was then printed, and not all.
+/// Prints a text, and gives the status 0. The fault is that a write failed, `Unwritten` (status 5
+/// by `trouble_end`): the beginning of the text was then printed, and not all.
 pub fn print<'a, W: Output>(output: &mut W, text: &[u8]) -> Result<u8, ProgramFault<'a>>
     ensures { Prints text.now (W.told output.old) (W.told output.new) result }
 {
@@ -75,7 +76,8 @@ pub fn print<'a, W: Output>(output: &mut W, text: &[u8]) -> Result<u8, ProgramFa
     }
 }
 
-/// Writes a text, and gives the status 0; the fault is that it could not be written whole.
+/// Writes a text, and gives the status 0. The trouble is `Unwritten`, that a write failed: the
+/// beginning of the text was then written, and not all.
 pub(crate) fn tell<W: Writer>(writer: &mut W, text: &[u8]) -> Result<u8, Trouble>
     ensures { Tells text.now (W.told writer.old) (W.told writer.new) result }
 {
@@ -85,11 +87,12 @@ pub(crate) fn tell<W: Writer>(writer: &mut W, text: &[u8]) -> Result<u8, Trouble
     }
 }
 
-/// How a command ended that read this file and used the database at this path: with the same
-/// status, or a fault with the same trouble. The fault names what its trouble is about: the file,
-/// the database, standard output or nothing. The database is named by its path, as a line shows it,
-/// and then what was found in it, which is to be text that a line shows. Or it is named by the path
-/// as it is: so it is without memory, but no clause says when.
+/// How the program ends by `end`, for a command that read `file` and used the database `store`:
+/// with the same status, or a fault with the same trouble. The fault names what its trouble is
+/// about: the file, the database, standard output or nothing. The database is named by its path as
+/// a line shows it, and then by what was found in it. That is to be as a line shows it, too, which
+/// no clause asks. Or it is named by its path alone, as it is: so it is without memory, but no
+/// clause says when.
 pub fn ended<'a, D, W: Output>(
     host: &Host<'_, D, W>,
     end: Result<u8, Trouble>,
@@ -109,7 +112,8 @@ pub fn ended<'a, D, W: Output>(
     }
 }
 
-/// A fault of a command that reads this file and uses this database, by what its trouble is about.
+/// The fault that [`ended`] gives for this trouble. `stream` is why reading or printing failed, for
+/// a message: no clause says what of it is kept.
 pub(crate) fn placed<'a>(
     alloc: Global,
     trouble: Trouble,

@@ -47,7 +47,8 @@ fn named_place<F: Files>(alloc: Global, files: &F, file: &str, number: u64) -> O
     }
 }
 
-/// The line, class and key of a paragraph in a file, as they stand after its name; `None` as above.
+/// The line, class and key of a paragraph in a file, as they stand after its name. `None` if the
+/// file cannot be read again up to the paragraph, or if memory ran out.
 fn place_in<F: Files>(alloc: Global, files: &F, file: &str, number: u64) -> Option<String> {
     if !files.is_kept(file) {
         return None;

@@ -39,7 +39,7 @@ pub struct Progress<'a, W> {
 }
 
 impl<'a, W: Writer> Progress<'a, W> {
-    /// The writer, of which nothing is shown so far.
+    /// `writer`, of which nothing is shown so far, though no clause says so.
     pub fn new(errors: ErrorStream<'a>, writer: W) -> Progress<'a, W>
         ensures { result.writer ≡ writer }
     {
@@ -108,7 +108,7 @@ pub struct Reading<'a, R> {
 }
 
 impl<'a, R: Reader> Reading<'a, R> {
-    /// The reader, with its bytes counted from now on.
+    /// `reader`, with its bytes counted from now on, though no clause says so.
     pub fn new(errors: ErrorStream<'a>, reader: R) -> Reading<'a, R>
         ensures { result.reader ≡ reader }
     {
@@ -119,7 +119,7 @@ impl<'a, R: Reader> Reading<'a, R> {
         }
     }
 
-    /// The reader, with nothing counted.
+    /// `reader`, with nothing counted, though no clause says so.
     pub fn silent(errors: ErrorStream<'a>, reader: R) -> Reading<'a, R>
         ensures { result.reader ≡ reader }
     {
@@ -206,7 +206,7 @@ impl<'a> Opening<'a> {
         Opening { line }
     }
 
-    /// Takes the line away.
+    /// Takes the line away; no clause says so.
     pub(crate) fn end(self) {
         let Opening { line } = self;
         if let Some(line) = line {

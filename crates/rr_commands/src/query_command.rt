@@ -1,4 +1,4 @@
-//! `irrdesk query`: queries, of the registry in a database.
+//! `irrdesk query`: queries, of the registry in a database, for `rr_cli`.
 
 ghost use Rattle.std.specs.Prelude.{◌≡◌, false};
 ghost use Rattle.rr_commands.specs.Asked.{AsksBy, HasAsked, error_status};
@@ -20,12 +20,13 @@ use std::alloc::Global;
 /// The status if the answer is an error.
 const ERROR: u8 = 1;
 
-/// Asks the registry that the settings name, and prints the answer: the status is 0, or 1 if the
-/// answer is an error. The desk stays as it was and keeps its rows, and its database is closed
-/// then; a missing one is not made. The fault is why there are no settings, and then no database is
-/// opened, or why there is no desk, as [`open_desk`] tells it. In both cases nothing is printed. Or
-/// it is that a write failed, and the beginning of the answer is printed, not all. The fault names
-/// what its trouble is about: the settings file, the database or standard output.
+/// Asks the registry in the database that the settings name, and prints the answer: the status is
+/// 0, or 1 if the answer is an error. A missing database is refused (`Absent::Refused`) and not
+/// made, though of files no clause says so. The desk stays as it was and keeps its rows, and its
+/// database is closed then. The fault is why there are no settings, and then no database is opened,
+/// or why there is no desk, as [`open_desk`] tells it. In both cases nothing is printed. Or it is
+/// that a write failed, and the beginning of the answer is printed, not all. The fault names what
+/// its trouble is about: the settings file, the database or standard output.
 pub fn query<'a, D: Databases, F: Files, W: Output>(
     host: &mut Host<'_, D, W>,
     files: &F,

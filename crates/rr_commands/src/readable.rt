@@ -8,15 +8,15 @@ use rr_io::{Counted, Reader};
 use std::io;
 use std::io::Read;
 
-/// A reader of std whose failed reads are counted, as a reader of std.
+/// A reader of std whose reads and failed reads are counted, and which is itself a reader of std.
 #[derive(Drop)]
 pub struct Readable<R> {
     counted: Counted<R>,
 }
 
 impl<R: Read> Readable<R> {
-    /// The reader, with its failed reads counted from now on; no clause says that none is counted
-    /// yet.
+    /// `reader`, with its reads and failed reads counted from now on; no clause says that none is
+    /// counted yet.
     pub fn new(reader: R) -> Readable<R>
         ensures { counted_inner result.counted ≡ reader }
     {
@@ -25,7 +25,7 @@ impl<R: Read> Readable<R> {
         }
     }
 
-    /// The reader, with the count.
+    /// The reader, with its counts.
     pub fn into_counted(self) -> Counted<R>
         ensures { result ≡ self.counted }
     {

@@ -1,5 +1,5 @@
 //! Where the databases of registries are, by their paths, and the desks that commands, and `rr_cli`
-//! to serve, open over them.
+//! for `serve` and `probe`, open over them.
 
 ghost use Rattle.std.specs.Prelude.{◌≡◌, IfErr, IfOk, Ok, false};
 ghost use Rattle.sqlite.specs.Held.{Held};
@@ -128,9 +128,9 @@ impl Databases for DatabaseFiles<'_> {
     }
 }
 
-/// Closes the database of a connection; `calls` says what is true then. Of one in a file it says
-/// nothing: what the commits left in the log goes into the file or, if that fails, stays for the
-/// next opening.
+/// Closes the database of a connection, for which `calls.closes` is true of the databases before
+/// and after. Of one in a file `closes` says nothing. What the commits left in the log goes into
+/// the file or, if that fails, stays for the next opening; no clause says so.
 pub fn close<D: Databases>(databases: &mut D, conn: IdleConnection<D::Disk>)
     ensures { D.calls.closes conn databases.old databases.new }
 {
@@ -215,7 +215,7 @@ fn joined(rt: &HostRuntime, path: &str, ending: &str) -> Result<String, Database
     }
 }
 
-/// The first bytes of a file, at most as many as this.
+/// The first bytes of a file, at most `most`.
 fn read_first(rt: &HostRuntime, path: &str, most: u64) -> io::Result<Vec<u8>> {
     let mut first = Vec::new(rt.alloc());
     fs::File::open(rt, path)?
@@ -224,10 +224,10 @@ fn read_first(rt: &HostRuntime, path: &str, most: u64) -> io::Result<Vec<u8>> {
     Ok(first)
 }
 
-/// Sees that a file may be read and written, and makes it if it is missing and that is asked for:
-/// readable by its owner alone, whatever the umask, because the digests of all secrets stand in it.
-/// Its log gets the permissions of the file. A path that the library takes for no file (`:memory:`,
-/// `file:`) is refused.
+/// Sees that a file may be read and written, and makes it if it is missing and that is asked for.
+/// It is then readable by its owner alone, whatever the umask, because the digests of all secrets
+/// stand in it. Its log gets the permissions of the file. A path that the library takes for no file
+/// (`:memory:`, `file:`) is refused.
 fn make_ready(rt: &HostRuntime, path: &str, absent: Absent) -> Result<(), DatabaseCause> {
     if path == ":memory:" || path.starts_with("file:") {
         return Err(DatabaseCause::Unopened);
@@ -275,7 +275,7 @@ fn refused(error: &io::Error) -> DatabaseCause {
 }
 
 /// Refuses a file that is empty or missing, for this cause, if its log has what was committed, or
-/// its journal what is to be applied: the library would begin that log anew, and SQLite's own
+/// its journal what is to be applied. The library would begin that log anew, and SQLite's own
 /// program would remove that journal.
 fn refuse_rest(rt: &HostRuntime, path: &str, cause: DatabaseCause) -> Result<(), DatabaseCause> {
     let log = beside(rt, path, LOG)?;
@@ -342,14 +342,15 @@ fn make_file(rt: &HostRuntime, path: &str) -> Result<(), DatabaseCause> {
     }
 }
 
-/// Opens the desk of the registry in the database at a path; if there is no database, none is made.
-/// The desk runs with these settings, and its registry is of their source. Nothing was committed;
-/// where the disk gives back what was written, the connection was open, the tables are as they
-/// were, and their rows are those of the registry. The trouble is why there is no desk: no database
-/// was given, or the registry of these settings was not opened in it, and the database is closed.
-/// The trouble may then be one that a look at the database may find, which commits nothing; no
-/// clause says that it is so. `found` is for the message, as a line on a terminal is while a large
-/// one is opened, and no clause speaks of these.
+/// Opens the desk of the registry in the database at a path. A missing database is refused
+/// (`Absent::Refused`) and not made, though of files no clause says so. The desk runs with these
+/// settings, and its registry is of their source. Nothing was committed; where the disk gives back
+/// what was written, the connection was open, the tables are as they were, and their rows are those
+/// of the registry. The trouble is why there is no desk: no database was given, or the registry of
+/// these settings was not opened in the one that was. That one is closed. The trouble may then be
+/// one that a look at the database may find, which commits nothing; no clause says that it is so.
+/// `found` is for the message, as a line on a terminal is while a large one is opened, and no
+/// clause speaks of these.
 pub fn open_desk<D: Databases>(
     tools: Tools<'_>,
     databases: &mut D,

@@ -78,9 +78,10 @@ impl From<AllocError> for SettingsFault {
 }
 
 /// The settings that a TOML text gives, and the path of the database, its key `store`: a text that
-/// is not empty. The faults are `BadToml`; `BadKey` with the first key that is missing or bad, in
-/// the order `source`, `root`, `auth`, `limit`, `store`; and that memory ran out. Which other
-/// values are bad, `Settings::read` says. Other keys are ignored (profile).
+/// is not empty. `BadToml` says that the text is not TOML. `BadKey` has the first key that is
+/// missing or bad, in the order `source`, `root`, `auth`, `limit`, `store`. The other fault is that
+/// memory ran out. Which other values are bad, `Settings::read` says. Other keys are ignored
+/// (profile).
 pub fn read_settings(alloc: Global, text: &str) -> Result<(Settings, String), SettingsFault>
     ensures ok { IfOk result
         (λ read. settings_of_text text.now ≡ Ok (read.0, string_bytes read.1)) }

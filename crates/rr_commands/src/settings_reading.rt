@@ -1,5 +1,5 @@
-//! Settings files: read within a bound, and told why one gives no settings. Each command that has
-//! settings, and `rr_cli` for `serve` and `probe`, reads them so.
+//! Settings files: the settings that one gives, read within a bound, or why it gives none. Each
+//! command that has settings reads them so, and `rr_cli` for `serve` and `probe`.
 
 ghost use Rattle.std.specs.Prelude.{◌≡◌, ◌≤◌, [], IfErr, IfOk};
 ghost use Rattle.std.specs.Prelude.{Ok, OnOk, length, string_bytes};
@@ -86,8 +86,8 @@ fn read_bytes<F: Files>(alloc: Global, files: &F, file: &str) -> io::Result<Vec<
     }
 }
 
-/// What is told of settings that cannot be read: that memory ran out if it is that, and else this
-/// cause.
+/// What is told of settings that cannot be read for this cause: that memory ran out if it is that,
+/// and else the cause.
 fn unread_trouble(cause: Cause) -> Trouble
     ensures { result ≡ unread_trouble cause }
 {
@@ -128,7 +128,7 @@ fn trouble_of(alloc: Global, text: &str, fault: SettingsFault) -> Trouble
     }
 }
 
-/// The line, from 1, at which it shows that a text is not TOML.
+/// The line, from 1, at which it shows that a text is not TOML. No clause says which that is.
 fn bad_line(alloc: Global, text: &str) -> u64 {
     let place = match toml::table_from_str(alloc, text) {
         Ok(_) => 0,

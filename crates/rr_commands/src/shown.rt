@@ -1,6 +1,7 @@
 //! What strangers wrote, as lines for a terminal show it. Keys and names in a database are for
 //! `places`, `object_rows` and `obstacle`; names of files and arguments for `output`,
-//! `command_fault` and `rr_cli`. The errors are that memory ran out: what was added by then stays.
+//! `command_fault` and `rr_cli`. The error of each function is that memory ran out; of the `push_`
+//! functions, what was added by then stays.
 
 ghost use Rattle.std.specs.Prelude.{◌≡◌, IfOk, string_bytes};
 ghost use Rattle.std.specs.List.{list_all};
@@ -15,12 +16,14 @@ const MOST_OF_KEY: usize = 80;
 /// The most characters of the name of a file, or of an argument, that are shown.
 const MOST_OF_NAME: usize = 4_096;
 
-/// Adds a key, or a name in a database, as a line shows it, 80 characters at most.
+/// Adds a key, or a name in a database, as a line shows it, 80 characters at most; no clause says
+/// so.
 pub(crate) fn push_key(line: &mut String, text: &[u8]) -> Result<(), AllocError> {
     push_shown(line, text, MOST_OF_KEY)
 }
 
-/// Adds the name of a file, or an argument, as a line shows it, 4,096 characters at most.
+/// Adds the name of a file, or an argument, as a line shows it, 4,096 characters at most; no clause
+/// says so.
 fn push_name(line: &mut String, text: &[u8]) -> Result<(), AllocError> {
     push_shown(line, text, MOST_OF_NAME)
 }
@@ -64,8 +67,9 @@ fn stands_for_itself(byte: u8) -> bool
 }
 
 /// Adds a text as a line shows it: no two texts that are not cut are shown alike. What is surely
-/// seen, and read from left to right, stands as it is; other characters are escaped, and bytes that
-/// are no text, and a backslash; what is longer than so many characters ends in two dots.
+/// seen, and read from left to right, stands as it is. Other characters, a backslash, and bytes
+/// that are no text are escaped. What is longer than `most` characters ends in two dots. No clause
+/// says any of it.
 fn push_shown(line: &mut String, text: &[u8], most: usize) -> Result<(), AllocError> {
     let mut left = most.saturating_add(1);
     for chunk in text.utf8_chunks() {
@@ -116,8 +120,8 @@ fn push_character(line: &mut String, character: char) -> Result<(), AllocError> 
     }
 }
 
-/// Whether the character of this number is surely seen, and read from left to right: one of ASCII,
-/// of Latin, Greek or Cyrillic letters, of kana, of Chinese characters or of Hangul.
+/// Whether the character of this number is surely seen, and read from left to right. It is one of
+/// ASCII, of Latin, Greek or Cyrillic letters, of kana, of Chinese characters or of Hangul.
 fn is_seen(number: u32) -> bool {
     match number {
         0x20..=0x7E

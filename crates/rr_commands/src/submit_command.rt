@@ -1,5 +1,5 @@
 //! `irrdesk submit`: submissions, of a file to the registry in a database; and `irrdesk` without
-//! arguments: of standard input to one in memory.
+//! arguments: of standard input to one in memory. Both are for `rr_cli`.
 
 ghost use Rattle.std.specs.Prelude.{◌≡◌, IfErr, IfOk, false};
 ghost use Rattle.sqlite.specs.Steps.{over_memory};
@@ -76,9 +76,10 @@ fn plain_trouble(trouble: Trouble) -> Trouble
     }
 }
 
-/// Submits a file to the registry that the settings name, and prints the report: the status is 0,
-/// or 1 if an item was refused. A missing database is not made. At the end the database is closed
-/// as [`Desk::submit`] leaves it, or as it was if the file cannot be opened. The fault is why there
+/// Submits `file` to the registry in the database that the settings name, and prints the report:
+/// the status is 0, or 1 if an item was refused. A missing database is refused (`Absent::Refused`)
+/// and not made, though of files no clause says so. At the end the database is closed as
+/// [`Desk::submit`] leaves it, or as it was if the file cannot be opened. The fault is why there
 /// are no settings, and then no database is opened; or why there is no desk (as [`open_desk`] tells
 /// it) or no file. In these cases nothing is printed. Or it is how the submission was cut short.
 /// Without settings the fault names their file. Otherwise it names what its trouble is about: the
@@ -171,7 +172,7 @@ fn submit_new<S: Alter + Drop, R: Reader, W: Writer>(
     submit_to(alloc, &mut desk, input, output)
 }
 
-/// A new desk with the built-in settings over a database with nothing in it. An error stands for
+/// A new desk with the built-in settings over a database with nothing in it. The trouble stands for
 /// lack of memory, as `plain_trouble` tells it.
 fn plain_desk<S: Alter + Drop>(alloc: Global, conn: IdleConnection<S>) -> Result<Desk<S>, Trouble>
     ensures running { IfOk result (λ desk. desk.stock.stopped ≡ false) }

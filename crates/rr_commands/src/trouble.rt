@@ -249,8 +249,8 @@ impl Trouble {
         }
     }
 
-    /// The cause in words, or nothing: why the database failed in a submission or while it was
-    /// served, and else `cause`, which the system gave.
+    /// The cause in words: why the database failed, if the ledger stopped in a submission or the
+    /// registry was served in vain. It is else the given `cause`, and no bytes without one.
     pub fn cause_words(self, cause: Option<Cause>) -> &'static str
         ensures { result.now ≡ cause_words self cause }
     {

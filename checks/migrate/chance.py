@@ -96,7 +96,8 @@ FOREIGN = [
     "organisation: ORG-1",
     "*xx: y",
 ]
-DESCRIPTIONS = ["a network", "caf\xe9 \x9b \xc3\xa9", "x # y", ""]
+# The first of them that are not ASCII is Latin-1, the other one UTF-8.
+DESCRIPTIONS = ["a network", "caf\xe9 \x9b \xc3\xa9", "caf\xc3\xa9 \xc2\x9b", "x # y", ""]
 # What may stand inside a folded value, after a line, and before a dump.
 INSIDE: list[list[str]] = [[], [], ["# inside"]]
 AFTER: list[list[str]] = [[], [], [], [], ["%inside"], ["+"], [" # more"]]

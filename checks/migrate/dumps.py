@@ -4,11 +4,13 @@ length."""
 from collections.abc import Iterator
 from typing import NamedTuple
 
+NOT_UTF8 = "a text that is not UTF-8, which is read as Latin-1"
+
 
 class Dump(NamedTuple):
     """The files of a dump, how many paragraphs of it are taken, how many are left out of which
     cause, what is mended, new names, what is found in the result, and how many items are dropped
-    from lists of which cause, and what is told of objects that are taken."""
+    from lists of which cause, and what is told of objects that are taken. The files are Latin-1."""
 
     files: dict[str, str]
     taken: int
@@ -107,7 +109,16 @@ source:         RIPE
     },
     8,
     {"class inet6num": 1, "class person": 1, "crossing": 1},
-    {"source": 8, "ipv6": 1, "scope": 1, "rename": 1, "mntner": 3, "crossing": 1, "initial": 3},
+    {
+        "source": 8,
+        "ipv6": 1,
+        "scope": 1,
+        "rename": 1,
+        "encoding": 1,
+        "mntner": 3,
+        "crossing": 1,
+        "initial": 3,
+    },
     {"1AND1-MNT": "MNT-1AND1-MNT"},
     [
         "auth:           MD5-PW # Filtered\nauth:           SSO # Filtered\n",
@@ -121,6 +132,7 @@ source:         RIPE
         ),
     ],
     {"IPv6": 2, "a registry that is not imported": 1},
+    {NOT_UTF8: 1},
 )
 
 RADB = Dump(
@@ -276,7 +288,7 @@ country:     BR
     },
     2,
     {"IPv6": 1, "a class again after the first line": 2},
-    {"source": 2, "prefix": 1, "mnt-by": 2, "initial": 4},
+    {"source": 2, "prefix": 1, "mnt-by": 2, "encoding": 1, "initial": 4},
     {},
     [
         "inetnum:        203.0.112.0/25\nstatus:         reassigned\n",
@@ -284,7 +296,7 @@ country:     BR
         "owner:          Telecomunica\xe7\xf5es de Exemplo S/A\n",
     ],
     {},
-    {"no `source`": 2},
+    {"no `source`": 2, NOT_UTF8: 1},
 )
 
 ARIN = Dump(

@@ -4,6 +4,7 @@ import re
 from collections.abc import Iterator
 from typing import Any
 
+from checks.migrate import letters
 from checks.model import numbers
 from checks.model.objects import (
     AS_BLOCK,
@@ -296,6 +297,7 @@ class Second:
             for name in lists_of(number)
         }
         items[b"mnt-by"] = items[b"mnt-by"] or [ROOT]
+        others = letters.in_utf8(others) if letters.are_other(attributes) else others
         return (number, order), [others, {name: listed for name, listed in items.items() if listed}]
 
     def key(self, number: int, text: bytes, origin: bytes | None) -> Any:

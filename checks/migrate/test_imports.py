@@ -15,6 +15,7 @@ import pytest
 
 from checks.migrate.chance import any_dump, damaged
 from checks.migrate.dumps import DUMPS, messy_objects
+from checks.migrate.letters import is_utf8
 from checks.migrate.moving import SOURCE, Second, normal
 from checks.model.registry import Registry, load
 from checks.running import (
@@ -150,7 +151,8 @@ def test_a_dump_of_another_registry_is_loaded_as_its_rules_say(
     with open(os.path.join(folder, "renamed"), encoding="latin-1") as listed:
         expect(dict(line.rstrip("\n").split("\t") for line in listed), dump.renamed, "new names")
     for text in dump.texts:
-        expect(text.encode("latin-1") in ran.printed, True, f"{text!r} in {short(ran.printed)}")
+        expect(text.encode() in ran.printed, True, f"{text!r} in {short(ran.printed)}")
+    expect(is_utf8(ran.printed), True, "whether the result is UTF-8")
     judged = load(ran.printed, SOURCE)
     expect(
         isinstance(judged, Registry) and judged.dump() == ran.printed,
@@ -281,6 +283,7 @@ def test_what_is_written_of_a_damaged_dump_is_a_dump(trial: Trial, tell: Tell) -
             ended += 1
             continue
         registry_of(result, f"dump {number} without {off}")
+        expect(is_utf8(result), True, f"dump {number} without {off}: whether the result is UTF-8")
         expect(
             {kind for kind, times in tally.mended.items() if times} & set(off),
             set(),

@@ -60,6 +60,8 @@ NO_REGISTRY = -1
 COMMENT, CR = "a line with # or % first, which is not kept", "a line with a CR first, which goes on"
 CR_INSIDE = "a line with a CR inside, which may be the end of a line"
 ITEM_NAME = "an attribute that has the form of an item, and may be one of a list before it"
+# What is odd about the whole of it.
+NOT_UTF8 = "a text that is not UTF-8, which is read as Latin-1"
 # What is odd about a maintainer, with a mntner that is taken or without one.
 OF_OTHERS = "a mntner that objects of another registry name"
 OF_SEVERAL = "a maintainer without a mntner that objects of several registries name"
@@ -349,6 +351,9 @@ class Import:
                 self.tally.note_odd(cause, own, self.text_of(place), line)
         for place in self.bare:
             self.tally.note_odd(NO_SOURCE, self.place_of(place), self.text_of(place))
+        converted = (place for place in self.places() if "encoding" in self.kinds[place])
+        for place in sorted(converted):
+            self.tally.note_odd(NOT_UTF8, self.place_of(place), self.text_of(place))
         for place in self.of_others():
             self.tally.note_odd(OF_OTHERS, self.place_of(place), self.text_of(place))
         for name, place in self.of_several().items():

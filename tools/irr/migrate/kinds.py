@@ -24,6 +24,7 @@ KINDS = {
         Kind("rename", "maintainers whose names the rules refuse get another name"),
         Kind("mnt-by", "an object without `mnt-by` gets the root maintainer"),
         Kind("auth", "an `auth` that is missing, empty or can't be read authorises nobody"),
+        Kind("encoding", "a text that is not UTF-8 is read as Latin-1, and written in UTF-8"),
         Kind("long", "blanks and comment lines of a text above 65,536 bytes are dropped"),
         Kind("mntner", "a maintainer without a mntner gets one, which authorises nobody"),
         Kind("duplicate", "of several objects with one key the first stays"),

@@ -5,7 +5,7 @@ import re
 from typing import Callable, Iterable, NamedTuple
 
 from irr.local.tables import once
-from irr.migrate import paragraphs
+from irr.migrate import encoding, paragraphs
 from irr.migrate.items import (
     IPV6,
     SCOPED,
@@ -398,8 +398,13 @@ class Mender:
         return name, attributes
 
     def written(self, names: tuple[str, ...], attributes: list[Attribute]) -> bytes:
-        """The text of an object, which has room for new names."""
+        """The text of an object, which has room for new names. One author wrote it, so all of it is
+        in one encoding."""
         text = Paragraph(attributes).text()
+        if self.is_other(text):
+            self.use("encoding")
+            attributes = list(map(encoding.in_utf8, attributes))
+            text = Paragraph(attributes).text()
         room = 0
         if "rename" in self.kinds and len(text) > syntax.LARGEST >> 1:
             bad = [
@@ -412,6 +417,10 @@ class Mender:
                 raise LeftOut("above 65,536 bytes")
             self.use("long")
         return text
+
+    def is_other(self, text: bytes) -> bool:
+        """Whether a text is in another encoding than what is written."""
+        return not encoding.is_utf8(text)
 
 
 class Grants:

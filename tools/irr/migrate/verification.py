@@ -46,7 +46,7 @@ def check(path: str | Path, source: str, root: str, auth: str, count: int) -> No
             texts = (block.text for block in syntax.blocks(syntax.chunks(found)))
             for place, (own, other) in enumerate(zip_longest(public(wanted), texts), 1):
                 if own != other:
-                    first = (own or other or b"").partition(b"\n")[0].decode("latin-1")
+                    first = (own or other or b"").partition(b"\n")[0].decode("utf-8", "replace")
                     raise Failure(
                         "--check",
                         f"object {place} of the registry differs from that of the result, "

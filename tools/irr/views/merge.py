@@ -172,6 +172,10 @@ class ViewMender(Mender):
         attributes[place : place + 1] = [Attribute(b"source", [line])]
         return self.own, attributes
 
+    def is_other(self, text: bytes) -> bool:
+        # Letters stay as the source has them.
+        return False
+
 
 def heading(part: Part) -> bytes:
     """The first line of a part and those that go on with it, in whatever letter case and with

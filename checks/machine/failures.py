@@ -283,9 +283,14 @@ class Failures:
         return told
 
     def clock(self) -> str:
-        """A backup that was made while the clock was two days ahead, and takes no place of a later
-        one."""
+        """A clock that is set two days ahead, and put right; and a backup that was made meanwhile,
+        and takes no place of a later one."""
         guest, place = self.service.guest, "/var/lib/irrdesk-backup"
+        timers = "irrdesk-backup.timer irrdesk-history.timer"
+        guest.done(f"systemctl stop {timers}")
+        jumped = self.seen("clock-jumped", "date --set '2 days'")
+        guest.done(f"date --set '2 days ago'; systemctl start {timers}")
+        self.well("the right clock")
         ahead = "$(date --utc --date='2 days' +%Y%m%dT%H%M%SZ)"
         told = self.seen("clock-ahead", f"cd {place}; cp -a $(ls -d 2* | tail -n 1) {ahead}")
         future = guest.done(f"ls -d {place}/2* | tail -n 1").strip()
@@ -295,7 +300,7 @@ class Failures:
         expect(len(made), 1, f"the backup of now: {made}")
         guest.done(f"rm -r {future}")
         self.well("once what is of the future is gone")
-        return told
+        return f"{jumped}; {told}"
 
     def replica(self) -> str:
         """Replicas that can't be renewed, because their registry is stopped: they answer, and are
@@ -415,7 +420,9 @@ class Failures:
         first = serials.serial, files.version, files.key
         for month in range(13 if is_set else 1):
             if is_set:
-                guest.done(f"date --set=@$(($(date +%s) + {28 * DAY})) > /dev/null")
+                ahead = f"date --set=@$(($(date +%s) + {28 * DAY})) > /dev/null"
+                # The remedy for a clock that went ahead and is right.
+                guest.done(f"{ahead}; systemctl restart irrdesk-check.timer")
             guest.until(f"ls {place} | grep -q ^$(date --utc +%Y%m%dT)", "a backup by its timer")
             self.signed(KEYS.get(month, ""))
             submit = "irr submit -s http://127.0.0.1:4380 -"

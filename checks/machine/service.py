@@ -4,6 +4,7 @@ what goes wrong there."""
 import json
 import os
 import re
+import tempfile
 from collections.abc import Callable, Iterator
 from typing import Any
 
@@ -78,7 +79,7 @@ class Service:
     ) -> None:
         self.trial, self.image, self.machine = trial, image, machine
         self.guest: Guest | Contained | None = None
-        self.folder = trial.place("service")
+        self.folder = tempfile.mkdtemp(prefix="service-", dir=trial.work)
         self.disk = os.path.join(self.folder, "disk")
         self.registry = Registry(auth=AUTH.encode())
         with open(os.path.join(TOP, "examples", "first.rpsl"), "rb") as opened:

@@ -141,6 +141,25 @@ def test_the_machine_does_as_it_should(
     tell(getattr(parts[part], step)())
 
 
+def test_releases_make_way_for_this_one_and_back(
+    trial: Trial, options: argparse.Namespace, image: guest.Image, package: str, tell: Tell
+) -> None:
+    """That an upgrade, and the way back, keep registry, settings and units, with the last package
+    of each minor version, in a container. In the long form the machine has each package."""
+    if options.long:
+        pytest.skip("the machine has each of them")
+    if lacking := guest.lacking(in_container=True):
+        pytest.skip(lacking)
+    service = Service(trial, image, package, Contained)
+    try:
+        service.boot()
+        made = "irr setup --yes --source TEST --save root.password --no-replicas"
+        service.guest.done(f"apt-get install --yes /run/given/irrdesk.deb; {made}", seconds=600)
+        tell(Timers(service).released(is_short=True))
+    finally:
+        service.end()
+
+
 def test_what_was_reported_stands_after_the_power_was_cut(fleet: Fleet | None, tell: Tell) -> None:
     if fleet is None:
         pytest.skip("a container has no power")

@@ -123,7 +123,8 @@ class Timers:
 
     def moved(self) -> str:
         """The lines of docs/BACKUP.md, on this machine and a second one, which has a backup from
-        the start, while a replica here answers. Then this one is the registry's again."""
+        the start, while a replica here answers all the time. Then this one is the registry's
+        again."""
         service, guest = self.service, self.service.guest
         with open(os.path.join(TOP, "docs", "BACKUP.md"), encoding="utf-8") as opened:
             text = opened.read().partition("## Move to another machine\n")[2]
@@ -133,10 +134,13 @@ class Timers:
         units = guest.done(f"systemctl enable irrdesk-backup.timer; {listed}")
         # What was made while the clock was ahead is not the last backup.
         ahead = "/var/lib/irrdesk-backup/29991231T235959Z"
-        guest.done(f"mkdir {ahead}; set -e; {lines[0]}", seconds=600)
-        guest.done(f"rmdir {ahead}")
-        replica = "curl --silent --fail http://127.0.0.1:4345/query/ROOT-MNT"
-        guest.done(replica)
+        replica = "curl --silent --fail http://127.0.0.1:4345/query/ROOT-MNT || echo none"
+        asking = f"until test -e over; do {replica}; sleep 0.2; done > asked"
+        guest.done(
+            f"systemd-run --quiet --unit=asking --working-directory=/root bash -c '{asking}'"
+        )
+        guest.done(f"mkdir {ahead}; touch {ahead}/irr.db; set -e; {lines[0]}", seconds=600)
+        guest.done(f"rm -r {ahead}")
         packed = guest.done("tar -C /root -c moved | base64").encode()
         disk = f"{service.disk}-second"
         with service.machine(
@@ -146,7 +150,6 @@ class Timers:
             new.done("base64 -d | tar -C /root -x", given=packed)
             new.done(f"set -e; {lines[1]}", seconds=600)
             new.done(ASKED)
-            guest.done(replica)
             expect(new.done(f"cat {SETTINGS}"), settings, "the settings")
             expect(new.done(listed), units, "which units are enabled")
             new.until("systemctl start irrdesk-check", "that the check finds nothing wrong", AGAIN)
@@ -159,8 +162,12 @@ class Timers:
             )
         guest.done("xargs systemctl enable --now < /root/units; rm -r /root/units /root/moved")
         guest.done("systemctl disable --now irrdesk-backup.timer")
+        guest.done("touch over; while systemctl is-active --quiet asking; do sleep 0.2; done")
+        none = guest.done("grep --count --line-regexp none asked || true").strip()
+        count = guest.done("grep --count ^mntner asked; rm over asked").strip()
+        expect(none, "0", "how often no replica answered meanwhile")
         guest.until("systemctl start irrdesk-check", "that the check finds nothing wrong", AGAIN)
-        return f"{len(wanted)} bytes of dump"
+        return f"{len(wanted)} bytes of dump, while a replica answered {count} times"
 
     def asked_on(self) -> str:
         """Clients that ask at the door while the package is upgraded: no port is closed."""
@@ -339,15 +346,18 @@ class Timers:
         seen = ended.status, "door-down: " in ended.printed
         expect(seen, (1, True), f"the check {when}: {ended.printed}{ended.reported}")
 
-    def released(self) -> str:
+    def released(self, is_short: bool = False) -> str:
         """A package of each released version in the place of this one, and this one again: the
-        registry, its settings and what is enabled stay, and whoever asks at the door is
-        answered."""
+        registry, its settings and what is enabled stay, and whoever asks at the door is answered.
+        The short form takes the last one of each minor version."""
         service, guest = self.service, self.service.guest
         looked = f"cat {SETTINGS}; stat -c '%U:%G %a' {SETTINGS}; ls /etc/systemd/system/*.wants"
         before, wanted = guest.done(looked), service.dump()
         paths = packages.released(service.trial.place("released"))
         versions = {os.path.basename(path).partition("-")[2]: path for path in paths}
+        if is_short:
+            kept = {name.rpartition(".")[0].rpartition(".")[0]: name for name in versions}
+            versions = {name: versions[name] for name in kept.values()}
         for name, path in versions.items():
             guest.done("cat > /root/older.deb", given=Path(path).read_bytes())
             install = "apt-get install --yes --allow-downgrades"

@@ -336,15 +336,14 @@ def test_a_start_has_ended_when_the_port_answers(trial: Trial, tell: Tell) -> No
 
 def test_each_unit_is_bounded_and_may_be_stopped() -> None:
     """That each service has a bound of memory, and that none which is stopped has failed: `irr`
-    ends by status 143 then, and what runs once by the signal."""
+    ends by status 143 then, what runs once or waits by the signal."""
     for path in sorted(Path(UNITS).glob("*.service")):
         lines = unit_lines(path.name)
         expect("MemoryMax" in lines, True, f"whether {path.name} has a bound of memory")
-        wanted = {"oneshot": "143 SIGTERM"}.get(lines["Type"], "143")
-        if lines["ExecStart"].startswith("/usr/bin/irr ") or lines["Type"] == "oneshot":
-            # The door ends with status 0.
-            if path.name != "irrdesk-door.service":
-                expect(lines.get("SuccessExitStatus"), wanted, f"the ends of {path.name}")
+        # While the registry's unit starts, a command waits for its port.
+        is_once = lines["Type"] == "oneshot" or path.name == "irrdesk.service"
+        wanted = "143 SIGTERM" if is_once else "143"
+        expect(lines.get("SuccessExitStatus"), wanted, f"the ends of {path.name}")
         if lines.get("Restart") == "always":
             # Clients wait for a door that can't start.
             limit = ("2min", "10") if path.name == "irrdesk-door.service" else ("1h", "100")

@@ -423,6 +423,8 @@ def test_the_package_is_taken_away_to_the_last_file(
     again += ["/etc/irrdesk/submitters.acl"]
     again += ["/var/lib/systemd/timers/stamp-irrdesk-backup.timer"]
     own = [
+        "/etc/nginx/irrdesk.users",
+        "/etc/systemd/system/irrdesk-dump.service",
         "/etc/systemd/system/irrdesk-mirror.service.d/override.conf",
         "/var/lib/irrdesk-backup/20261128T031502Z/irr.db",
         "/var/lib/irrdesk-history/.git/HEAD",
@@ -436,7 +438,6 @@ def test_the_package_is_taken_away_to_the_last_file(
         place, last = os.path.split(name)
         os.symlink(f"private/{last}", inside(root, f"/var/{place}/{last}"))
     nginx = inside(root, "/etc/nginx")
-    os.makedirs(nginx)
     write(nginx, "irr.conf", b"include /etc/irrdesk/submitters.conf;\n")
     ended = Ended(root, "dpkg --purge irrdesk")
     expect((ended.status, ended.reported), (0, ""), "the purge")
@@ -444,7 +445,8 @@ def test_the_package_is_taken_away_to_the_last_file(
     shutil.rmtree(nginx)
     kept = re.findall(r"^  (/\S+)$", ended.printed, re.MULTILINE)
     wanted = [
-        own[0].rpartition("/")[0],
+        *own[:2],
+        own[2].rpartition("/")[0],
         "/var/lib/irrdesk",
         "/var/lib/irrdesk-backup",
         "/var/lib/irrdesk-history",
@@ -454,15 +456,16 @@ def test_the_package_is_taken_away_to_the_last_file(
     expect(kept, wanted, "what the purge says that it keeps")
     left = done(root, f"find / -xdev -path '*irrdesk*' -prune -print | grep -v '^{CLONE}'")
     is_named = re.compile(
-        r"/(etc/systemd/system/irrdesk-mirror.service.d|var/lib/irrdesk(-backup|-history)?"
+        r"/(etc/systemd/system/irrdesk-(mirror.service.d|dump.service)"
+        r"|var/lib/irrdesk(-backup|-history)?"
         r"|var/lib/(private/)?irrdesk-view|var/log/(private/)?irrdesk-door"
         r"|home/visitor/.*|(proc|sys)/.*|var/lib/systemd/.*)"
     )
     expect([path for path in left.split() if not is_named.fullmatch(path)], [], "what it keeps")
-    for user in "irrdesk", "irrdesk-public":
+    for user in "irrdesk", "irrdesk-public", "irrdesk-filter":
         done(root, f"getent passwd {user}")
     links = "/var/log/irrdesk-door /var/lib/irrdesk-view"
-    done(root, f"rm -r {' '.join(kept)} {links} /var/log/private /var/lib/private")
+    done(root, f"rm -rf {' '.join(kept)} {links} /var/log/private /var/lib/private")
     done(root, f"dpkg --install {package(root)}")
     printed = done(root, "dpkg --purge irrdesk")
     expect("nginx" in printed, False, f"whether it speaks of an nginx that is not there: {printed}")

@@ -152,8 +152,13 @@ async function digestOf(text) {
     return bytes.map(byte => byte.toString(16).padStart(2, '0')).join('');
 }
 
-// Makes an auth line of a password, which stays in the password fields.
+// What NIST asks of a password that stands alone (SP 800-63B).
+const LEAST = 15;
+
+// Makes an auth line of a password, which stays in the password fields. If it is short, the button
+// has to be pressed twice.
 function digestMaker() {
+    let short = '';
     const input =
         el('input', {id: 'new-password', type: 'password', autocomplete: 'new-password',
         'aria-describedby': 'about-new fault-new-password'});
@@ -171,11 +176,16 @@ function digestMaker() {
     return el('fieldset', {}, el('legend', {}, 'A new password for it'),
         el('div', {class: 'field tall'}, el('label', {for: 'new-password'}, 'New password'), input,
         el('p', {id: 'about-new', class: 'hint'},
-            'Its hash is made on this page. Use a long random password: others may try to guess ' +
-            'it.'), faultLine('new-password')),
+            'The registry keeps a salted SHA-256 hash of it, which is made on this page. Anybody ' +
+            'who obtains the hash can try billions of passwords a second, so use a long random ' +
+            'one.'), faultLine('new-password')),
         el('button', {type: 'button', click: () => {
             const fault = !isSafe ? 'Without TLS no password is accepted.' : faultOf(input.value)
-                || (input.value ? '' : 'Enter the new password first.');
+                || (input.value ? '' : 'Enter the new password first.')
+                || (input.value.length >= LEAST || input.value === short ? ''
+                    : `A password of fewer than ${LEAST} characters is soon found from its ` +
+                    'hash. To use it nevertheless, press the button again.');
+            short = input.value;
             if (!mark(input, fault)) return make();
             send.say(fault, true);
             input.focus();

@@ -41,3 +41,24 @@ def test_the_door_gets_what_the_page_asks(
                 for path in "/abouts", "/why", "/history", "/views":
                     status, _, body = proxy.get(path)
                     expect((status, body[:2] == b"% "), (404, False), f"{path}: {body!r}")
+
+
+@pytest.mark.parametrize("kind", KINDS)
+def test_a_door_that_is_down_is_said_in_a_sentence(
+    trial: Trial, each: Each, kind: type[Nginx] | type[Haproxy]
+) -> None:
+    """That it is no page of the proxy's own, which programs could not read. The page stays."""
+    name = f"{kind.__name__.lower()}-down"
+    with Registries(trial, f"behind-{name}", worlds.DUMP, replicas=0) as registries:
+        with kind(trial, name, registries.ports[0], None) as proxy:
+            proxy.door.kill()
+            proxy.door.wait()
+            replies = [("a query", proxy.get("/query/AS1")), ("a dump", proxy.get("/dump"))]
+            replies += [("a submission", proxy.post(b"as-set: AS-X\n"))]
+            for what, (status, head, body) in replies:
+                with each(what):
+                    wanted = (503, b"% the registry does not answer\n")
+                    expect((status, body), wanted, f"the reply: {head}")
+                    expect("text/plain" in head, True, head)
+            with each("the page"):
+                expect(proxy.get("/")[0], 200, "the status")

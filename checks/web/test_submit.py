@@ -19,7 +19,7 @@ def test_forms_add_each_class_and_send_no_bad_value(stage: Stage, tell: Tell) ->
     for kind, values, passwords in FORMS:
         stage.form(kind, values, passwords)
         if kind == "mntner":
-            browser.write("new-password", "a third secret")
+            browser.write("new-password", "a third secret, longer")
             browser.click("#attributes fieldset button")
             browser.until(
                 "document.getElementById('field-auth').value.startsWith('SHA256-PW ')",
@@ -62,6 +62,21 @@ def test_forms_add_each_class_and_send_no_bad_value(stage: Stage, tell: Tell) ->
     browser.picture("submit-faults")
     expect(stage.nginx.log().count("POST /submissions"), posts, "the submissions that were sent")
     tell(f"each of the seven classes added, one deleted; {len(BAD)} bad values are not sent")
+
+
+def test_a_short_password_has_to_be_meant(stage: Stage) -> None:
+    browser, auth = stage.browser, "return document.getElementById('field-auth').value"
+    stage.form("mntner", {"mntner": "SHORT-MNT", "mnt-by": "SHORT-MNT"}, [])
+    for password in "x", "fourteen chars":
+        browser.write("new-password", password)
+        browser.click("#attributes fieldset button")
+        said = browser.text("fault-new-password")
+        expect_in("fewer than 15 characters", said, f"what is said of {password}")
+        expect(browser.js(auth), "", f"the auth line of {password}")
+    browser.click("#attributes fieldset button")
+    browser.until(
+        "document.getElementById('field-auth').value.startsWith('SHA256-PW ')", "one that is meant"
+    )
 
 
 def test_reports_have_words_colours_and_remedies(stage: Stage, tell: Tell) -> None:

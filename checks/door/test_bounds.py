@@ -134,7 +134,7 @@ def test_an_answer_has_a_bound(trial: Trial, tell: Tell) -> None:
         with Opened(trial, "above-door", registries.words, config) as door:
             for line in "inverse mnt ROOT-MNT", "!gAS1", "-i mnt-by ROOT-MNT", "more 0.0.0.0/0":
                 answer = door.whois(line)
-                named = b"%d MiB" % (largest >> 20) in answer and b"/dump" in answer
+                named = b"%d KiB" % (largest >> 10) in answer and b"/dump" in answer
                 expect((named, answer.count(b"route:")), (True, 0), f"{line}: {answer[:300]!r}")
             status, _, body = door.http("GET", "/query/inverse%20mnt%20ROOT-MNT")
             expect((status, b"/dump" in body), (422, True), f"{body!r}")

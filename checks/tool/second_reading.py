@@ -5,6 +5,8 @@ import ipaddress
 import re
 from typing import Any, Iterator, NamedTuple
 
+from checks.migrate import letters
+
 CLASSES = "mntner as-block aut-num inetnum route as-set route-set".split()
 OTHERS = """person role route6 inet6num inet-rtr filter-set peering-set rtr-set key-cert domain
     repository dictionary irt organisation organization poem poetic-form limerick as-macro community
@@ -510,7 +512,7 @@ class Registry:
             found.append(("source", [self.source]))
         if kind == "mntner" and "auth" not in piece.names:
             found.insert(1, ("auth", ["FILTERED"]))
-        return found
+        return letters.in_utf8(found) if letters.are_other(piece.attributes) else found
 
     def listed(
         self, piece: Piece, name: str, lines: list[str], granted: list[bool]
@@ -554,9 +556,9 @@ def maintainers_in(kind: str, attributes: list[tuple[str, list[str]]]) -> Iterat
 
 def odd(dump: bytes, registry: Registry) -> Iterator[tuple[object, ...]]:
     """What is odd about the objects of a registry: the lines with `#` or `%` first, or a CR that is
-    not at the end, as they are shown, and the first lines of those that have no `source`, and of
-    the mntners that objects of another registry name; and of the first that names a maintainer
-    without a mntner which one of another registry names, with this maintainer."""
+    not at the end, as they are shown, and the first lines of those that have no `source`, or are
+    not UTF-8, and of the mntners that objects of another registry name; and of the first that names
+    a maintainer without a mntner which one of another registry names, with this maintainer."""
     others = {
         ("mntner", name.upper())
         for place, attributes in registry.objects.items()
@@ -580,8 +582,8 @@ def odd(dump: bytes, registry: Registry) -> Iterator[tuple[object, ...]]:
     for piece in registry.pieces:
         if piece.line in left_out:
             continue
-        if not "".join(piece.values("source")):
-            yield (piece.line,)
+        is_bare, is_other = not "".join(piece.values("source")), letters.are_other(piece.attributes)
+        yield from [(piece.line,)] * (is_bare + is_other)
         place = piece.line
         while place < len(lines) and lines[place].strip(BLANKS):
             place += 1

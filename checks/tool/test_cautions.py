@@ -94,8 +94,8 @@ def seen(text: str, registered: str = "") -> tuple[list[tuple[str, bool]], int]:
             "10.0.0.0/8",
             False,
         ),
-        ("% nothing\n", "the text", "no object", False),
-        ("password: x\n", "the text", "no object", False),
+        ("% nothing\n", "the text", "no object", True),
+        ("password: x\n", "the text", "no object", True),
     ],
 )
 def test_seen(text: str, place: str, words: str, is_grave: bool) -> None:

@@ -5,7 +5,6 @@ import json
 import os
 import re
 import shutil
-import socket
 import stat
 import subprocess
 import time
@@ -19,7 +18,7 @@ from checks.running import TOP, Ran, Trial, expect, write
 from checks.serving import free_port
 from checks.worlds import Tool, World, answering, certificate
 from irr.local import health
-from irr.local.health import REMEDIES, UNITS, Bounds
+from irr.local.health import REMEDIES, UNITS
 from irr.local.history import Repository
 
 IN_MEMORY = True
@@ -75,8 +74,14 @@ class Machine:
     def backup(self, hours: float) -> None:
         """A backup of so many hours ago, and no other."""
         shutil.rmtree(self.backups)
+        self.one_backup(hours)
+
+    def one_backup(self, hours: float) -> Path:
+        """One more."""
         stamp = time.strftime("%Y%m%dT%H%M%SZ", time.gmtime(time.time() - hours * 3_600))
         (self.backups / stamp).mkdir(parents=True)
+        (self.backups / stamp / "irr.db").write_bytes(b"SQLite format 3")
+        return self.backups / stamp
 
     def state(self, seconds: float) -> None:
         """Gives the history a state that is so old."""
@@ -182,7 +187,7 @@ def not_renewed(machine: Machine, stack: contextlib.ExitStack) -> list[str]:
 
 @case("replicas-not-renewed")
 def view_not_renewed(machine: Machine, stack: contextlib.ExitStack) -> list[str]:
-    machine.units(unit("irrdesk-view@all.service", StatusText="NOT RENEWED: RADB: it is gone"))
+    machine.units(unit("irrdesk-view@all.service", StatusText="RADB is not renewed since 2026"))
     return []
 
 
@@ -254,6 +259,13 @@ def old_backup(machine: Machine, stack: contextlib.ExitStack) -> list[str]:
 
 
 @case("backup-old")
+def empty_backup(machine: Machine, stack: contextlib.ExitStack) -> list[str]:
+    machine.backup(27)
+    (machine.one_backup(1) / "irr.db").write_bytes(b"")
+    return []
+
+
+@case("backup-old")
 def no_backup(machine: Machine, stack: contextlib.ExitStack) -> list[str]:
     shutil.rmtree(machine.backups)
     machine.backups.mkdir()
@@ -308,6 +320,42 @@ def future(machine: Machine, stack: contextlib.ExitStack) -> list[str]:
     return []
 
 
+def timer(hours: float) -> dict[str, object]:
+    """The check's timer, which started a minute ago by a clock that went ahead since by so many
+    hours."""
+    stamp = time.strftime("%a %Y-%m-%d %H:%M:%S UTC", time.gmtime(time.time() - 60 - hours * 3_600))
+    passed = time.clock_gettime(time.CLOCK_BOOTTIME) - 60
+    began = {"ActiveEnterTimestamp": stamp, "ActiveEnterTimestampMonotonic": int(passed * 1e6)}
+    return unit("irrdesk-check.timer", **began)
+
+
+def synchronised(machine: Machine, says: str) -> None:
+    """What the system says of its clock."""
+    told = write(str(machine.place / "bin"), "timedatectl", f"#!/bin/sh\necho {says}\n".encode())
+    os.chmod(told, 0o755)
+
+
+@case("clock-jumped")
+def set_ahead(machine: Machine, stack: contextlib.ExitStack) -> list[str]:
+    synchronised(machine, "no")
+    machine.units(unit("irrdesk.service"), timer(48))
+    return []
+
+
+def test_a_clock_that_may_be_right_is_no_fault(trial: Trial, tool: Tool) -> None:
+    """One that a time server set, one that was set back, and one that nobody set."""
+    with standing(trial, tool, "clock") as machine:
+        for says, hours in ("yes", 48), ("no", -48), ("no", 0):
+            synchronised(machine, says)
+            machine.units(unit("irrdesk.service"), timer(hours))
+            ran = machine()
+            expect((ran.status, ran.printed), (0, b""), f"{hours} hours ahead, {says}")
+        synchronised(machine, "no")
+        machine.units(unit("irrdesk.service"), timer(48))
+        wanted = b"clock-jumped: the clock: it went ahead by 48.0 hours more than passed since"
+        expect(machine().printed[: len(wanted)], wanted, "two days ahead")
+
+
 @case("memory-full")
 def no_memory(machine: Machine, stack: contextlib.ExitStack) -> list[str]:
     held = {"MemoryCurrent": 95 * MEBIBYTE, "MemoryMax": 100 * MEBIBYTE}
@@ -351,45 +399,31 @@ def test_a_proxy_that_is_down_is_to_be_started(trial: Trial, tool: Tool) -> None
 
 
 def test_what_is_dated_in_the_future_is_a_line_for_each_remedy(trial: Trial, tool: Tool) -> None:
-    """Replicas renew themselves, and anything else has to be removed."""
+    """Replicas and the database get new dates, and anything else has to be removed."""
     told = json.loads(agent(age=-90_000))
     told["replicas"] += [told["replicas"][0] | {"port": 4346}]
     with standing(trial, tool, "ahead") as machine:
         machine.looked(-90_000)
         machine.state(-90_000)
         for hours in 30, 60:
-            later = time.gmtime(time.time() + 3_600 * hours)
-            (machine.backups / time.strftime("%Y%m%dT%H%M%SZ", later)).mkdir()
+            machine.one_backup(-hours)
         os.utime(machine.place / "irr.db", (time.time() + 900_000,) * 2)
         with answering(json.dumps(told).encode() + b"\n") as url:
             lines = machine("--agent", place_of(url)).printed.decode().splitlines()
     stamp = "[0-9]{4}-[-0-9T:]+Z"
     clock = f"and the clock says {stamp}"
     files = (
-        f"2 backups in {machine.backups}, {machine.history}/looked, history {machine.history},"
+        f"2 backups in {machine.backups}, {machine.history}/looked, history {machine.history}:"
+        f" dated {stamp} to {stamp}, {clock}"
+    )
+    replicas = (
+        "replica 127.0.0.1:4345, replica 127.0.0.1:4346,"
         f" {machine.place}/irr.db: dated {stamp} to {stamp}, {clock}"
     )
-    replicas = f"replica 127.0.0.1:4345, replica 127.0.0.1:4346: dated {stamp}, {clock}"
     remedies = REMEDIES["clock-ahead"], health.CASES["clock-ahead"][1]
     for line, what, remedy in zip(lines, (files, replicas), remedies, strict=True):
         is_line = re.fullmatch(f"clock-ahead: {what}; {re.escape(remedy)}", line)
         expect(bool(is_line), True, line)
-
-
-def test_a_silent_door_and_agent_keep_nobody_waiting(monkeypatch: pytest.MonkeyPatch) -> None:
-    """As while the door refuses its settings: systemd has its ports open. The registry alone may
-    take minutes."""
-    assert health.AT_ONCE <= 20 < Bounds().seconds
-    monkeypatch.setattr(health, "AT_ONCE", 0.2)
-    with socket.create_server(("127.0.0.1", 0)) as silent:
-        place = f"127.0.0.1:{silent.getsockname()[1]}"
-        looked = health.Health(health.Places(door=place, agent=place), Bounds(), {})
-        begun = time.monotonic()
-        looked.ask_agent()
-        looked.ask_door()
-        expect(time.monotonic() - begun < 20, True, "whether it is soon over")
-    found = [(fault.word, "silent" in fault.what) for fault in looked.faults]
-    expect(found, [("mirror-down", True), ("door-down", True)], "what is wrong")
 
 
 def test_replicas_are_not_renewed_since_the_oldest_was(trial: Trial, tool: Tool) -> None:
@@ -465,7 +499,7 @@ def test_irrdesk_takes_settings_with_bounds_of_the_check(trial: Trial) -> None:
     text = Path(TOP, "examples", "irr.toml").read_text(encoding="ascii")
     lines = [
         f"{name} = {json.dumps(list(value) if isinstance(value, tuple) else value)}"
-        for name, value in vars(Bounds()).items()
+        for name, value in vars(health.Bounds()).items()
     ]
     write(folder, "s.toml", f"{text}\n[check]\n{chr(10).join(lines)}\n".encode())
     ran = trial.run(folder, "init", "s.toml")

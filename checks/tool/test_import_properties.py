@@ -10,6 +10,7 @@ from typing import Any
 from hypothesis import example, given, settings
 
 from checks import rpsl
+from checks.migrate import letters
 from checks.rpsl import Registry
 from checks.tool import second_reading
 from checks.tool.importing import AUTH, made, obj
@@ -97,6 +98,7 @@ def compare(dump: bytes) -> None:
     assert sorted(odd) == sorted(second_reading.odd(dump, wanted))
     # What is written is what was read, object by object, but for what was told.
     assert all(not is_name(old) and is_name(new) for old, new in tally.renamed.items())
+    assert letters.is_utf8(text)
     found = {(piece.kind, key_of(piece)): piece for piece in second_reading.pieces(text)}
     for (kind, key), attributes in wanted.objects.items():
         piece = found.pop((kind, tally.renamed.get(key, key) if kind == "mntner" else key))
@@ -115,9 +117,10 @@ def compare(dump: bytes) -> None:
 
 @given(rpsl.registries())
 def test_a_registry_stays_as_it_is(registry: Registry) -> None:
-    text, tally, lines = imported(registry.text().encode("latin-1"))
+    """If its text is UTF-8."""
+    text, tally, lines = imported(registry.text().encode())
     own = re.sub(r"(ROOT-MNT\n)auth: .*", rf"\g<1>auth:           {AUTH}", registry.text(), 1)
-    assert without_auths(text.decode("latin-1")) == without_auths(own)
+    assert without_auths(text.decode()) == without_auths(own)
     assert (tally.taken, lines, +tally.mended) == (len(registry.objects), [], {})
 
 

@@ -17,7 +17,7 @@ class Mending(unittest.TestCase):
     def test_a_good_object_stays(self) -> None:
         text = obj(
             "route: 192.0.2.0/24",
-            "descr: caf\xe9",
+            "descr: caf\xc3\xa9",
             "origin: AS64496",
             "mnt-by: A-MNT # mine",
             "source: TEST",
@@ -398,8 +398,8 @@ class Importing(unittest.TestCase):
             (2, 1, {"text: it has a line without a colon": 1}),
         )
         self.assertIn(
-            b"aut-num:        AS1\ndescr:          caf\xe9 \x85 \xc3\xa9\n                more\n+\n"
-            b"mnt-by:         A-MNT\nsource:         TEST\n",
+            b"aut-num:        AS1\ndescr:          caf\xc3\xa9 \xe2\x80\xa6 \xc3\x83\xc2\xa9\n"
+            b"                more\n+\nmnt-by:         A-MNT\nsource:         TEST\n",
             dump,
         )
         self.assertEqual(made(gzip.compress(text[:40]) + gzip.compress(text[40:]))[0], dump)
@@ -444,6 +444,7 @@ class Importing(unittest.TestCase):
         text += obj("route-set: RS-X", "mp-members: 10.0.0.0/8, ::/0")
         text += obj("route: 10.0.0.1/8", "origin: AS1", "member-of: AS-X, RS-X")
         text += obj("aut-num: AS1", "source: RIPE", "aut-num: AS2", "source: RIPE")
+        text += obj("aut-num: AS3", "descr: caf\xe9", "source: RIPE")
         for kind in KINDS:
             with contextlib.suppress(Failure):
                 self.assertIn(kind, +made(text)[1].mended)

@@ -2,11 +2,14 @@
 
 import os
 import re
+import signal
 import subprocess
 import sys
+from pathlib import Path
 
 import pytest
 
+from checks.keeping import wait_until
 from checks.running import Tell, Trial, expect, write
 from checks.worlds import Tool, World, expect_line
 
@@ -104,9 +107,12 @@ def test_a_lost_password_is_reset_and_nothing_else(trial: Trial, tool: Tool, tel
     tell("2 resets")
 
 
-# It notes what it is asked, and has a file for a service that runs.
+# It notes what it is asked, and has a file for a service that runs, and one with its folder.
 SYSTEMCTL = """#!/bin/sh
 cd "$(dirname "$0")" && echo "$*" >>asked
+case "$*" in
+    *WorkingDirectory*) cat folder; exit ;;
+esac
 case $1 in
     show) if [ -e runs ]; then echo active; else echo inactive; fi ;;
     start) touch runs ;;
@@ -123,20 +129,51 @@ def test_a_service_is_stopped_meanwhile(trial: Trial, tool: Tool) -> None:
         pass
     folder, place = world.folder, trial.place("systemctl")
     os.chmod(write(place, "systemctl", SYSTEMCTL.encode()), 0o755)
+    write(place, "folder", folder.encode())
     at = tool.at(PATH=f"{place}:{os.environ['PATH']}")
     os.chmod(trial.work, 0o711)
     os.chmod(folder, 0o700)
     for path in [folder, *(os.path.join(folder, name) for name in os.listdir(folder))]:
         os.chown(path, 12_345, 12_345)
+    # As where root put a copy in its place.
+    os.chown(os.path.join(folder, "irr.db"), 0, 0)
     for runs, name, status in [(True, "A-MNT", 0), (False, "A-MNT", 0), (True, "C-MNT", 2)]:
         if runs:
             write(place, "runs", b"")
-        ran = at("reset", name, "--service", "--settings", "s.toml", "--auth", LINE, folder=folder)
+        # The relative `store` of the settings is in the folder of the service.
+        settings = os.path.join(folder, "s.toml")
+        ran = at("reset", name, "--service", "--settings", settings, "--auth", LINE, folder="/")
         expect(ran.status, status, f"{name}: {ran.reported!r}")
         with open(os.path.join(place, "asked"), encoding="ascii") as opened:
             asked = [line.split()[0] for line in opened]
-        expect(asked, ["show", "stop", *["reset-failed", "start"] * runs], "what was asked")
+        wanted = ["show", "stop", "show", *["reset-failed", "start"] * runs]
+        expect(asked, wanted, "what was asked")
         for left in ["asked", *["runs"] * runs]:
             os.remove(os.path.join(place, left))
         owners = {os.stat(os.path.join(folder, name)).st_uid for name in os.listdir(folder)}
         expect(owners, {12_345}, "who owns what is there")
+
+
+@pytest.mark.skipif(os.geteuid() != 0, reason="it takes root")
+@pytest.mark.parametrize("number", [signal.SIGTERM, signal.SIGINT])
+def test_a_signal_while_the_service_is_stopped_leaves_it_running(
+    trial: Trial, tool: Tool, number: signal.Signals
+) -> None:
+    place = trial.place(number.name)
+    slow = SYSTEMCTL.replace("rm -f runs ;;", "rm -f runs; touch stopped; sleep 2 ;;")
+    os.chmod(write(place, "systemctl", slow.encode()), 0o755)
+    for name in "folder", "runs":
+        write(place, name, b"/")
+    process = subprocess.Popen(
+        [sys.executable, tool.path, "reset", "A-MNT", "--service", "--auth", LINE],
+        env={**tool.environment, "PATH": f"{place}:{os.environ['PATH']}"},
+        stdout=subprocess.DEVNULL,
+        stderr=subprocess.DEVNULL,
+    )
+    try:
+        wait_until("that it is stopped", 60, Path(place, "stopped").exists)
+        process.send_signal(number)
+        expect(process.wait(60) != 0, True, "whether the signal ended it")
+    finally:
+        process.kill()
+    expect(os.path.exists(os.path.join(place, "runs")), True, "whether the service runs again")

@@ -185,6 +185,9 @@ def test_nothing_is_made_where_the_questions_are_not_answered_to_their_end(
     for words, pattern in [
         (["--limit", "0"], "limit: it takes a number from 1 .*"),
         (["--mirror", "192.0.2.1"], "--mirror: a registry in a folder has no units.*"),
+        (["--maintainer", "ROOT-MNT"], "ROOT-MNT: this is the root maintainer; .*"),
+        (["--maintainer", "A-MNT", "--maintainer-save", "p"], ".*/p: two passwords need .*"),
+        (["--save", "none/p"], "none/p: there is no such folder; .*"),
     ]:
         ran = tool(*alone, "--yes", "--source", "TEST", "--save", "p", *words, folder=place)
         expect_line(ran, 2, pattern, str(words))
@@ -441,12 +444,19 @@ def test_a_run_that_was_stopped_is_gone_on_with(
     expect_line(
         service.setup("--source", "OTHER"), 2, "--source: the run that was stopped had .*", "other"
     )
+    ran = service.setup("--save", "other")
+    expect_line(ran, 2, "--save: the run that was stopped had .*", "another file")
     service.asked()
+    if what == "init" and not (service.store / "irr.db").exists():
+        # A program that is stopped as it begins leaves an empty database.
+        for name in "irr.db", "irr.db-wal":
+            (service.store / name).touch()
+            os.chown(service.store / name, OWNER, OWNER)
     ran = service.setup()
     expect(ran.status, 0, f"the run after it: {ran.reported!r}")
     # The run that was stopped may have started the registry that it made.
-    stop = ["stop irrdesk-check.timer irrdesk.service"] * ((what, how) != ("init", "before"))
-    expect(service.asked(), [*stop, *ASKED], "the units")
+    stop = "stop irrdesk-check.timer irrdesk.service"
+    expect(service.asked(), [stop, *ASKED], "the units")
     service.made(trial)
 
 

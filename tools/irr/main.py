@@ -147,15 +147,20 @@ def end_output() -> None:
         close_output()
 
 
-def report(failure: Failure, words: list[str]) -> None:
-    """The one line of a failure, on standard error."""
+def tell(lines: list[str], words: list[str]) -> None:
+    """Lines of a command, on standard error."""
     name = words[0] if words and words[0] in BY_NAME else ""
-    line = f"irr {name}: {failure}" if name else f"irr: {failure}"
-    texts.note(line)
+    for line in lines:
+        texts.note(f"irr {name}: {line}" if name else f"irr: {line}")
+
+
+def report(failure: Failure, words: list[str]) -> None:
+    """The one line of a failure, and what the command has to say besides."""
+    tell([str(failure), *notes(failure)], words)
 
 
 def notes(error: BaseException) -> list[str]:
-    """What a command has to say of a fault of the system."""
+    """What a command has to say besides of what ends it."""
     return getattr(error, "__notes__", [])
 
 
@@ -191,8 +196,12 @@ def main(words: list[str] | None = None) -> int:
         for note in notes(error):
             report(Failure("standard output", f"nobody reads it; {note}"), words)
         end_by(signal.SIGPIPE)
-    except KeyboardInterrupt:
+    except KeyboardInterrupt as error:
+        tell(notes(error), words)
         end_by(signal.SIGINT)
+    except SystemExit as error:
+        tell(notes(error), words)
+        raise
     except OSError as error:
         is_file = error.filename is not None
         advice = [

@@ -12,16 +12,13 @@ from irr.rpsl.syntax import Attribute, Paragraph
 from irr.system import files, tomls
 from irr.terminal import prompts, texts
 
-EXAMPLES = """
+EXAMPLES = f"""
 irr auth                              an `auth` line of a new password, which the terminal shows
 irr auth --ask                        one of a password that you type
 irr auth --save my.password EXAMPLE-MNT > mntner.rpsl
 irr submit my.password mntner.rpsl    make a new maintainer, and register it
 irr auth ROOT-MNT                     in the folder of irr.toml, before the registry is served
-
-The registry keeps one SHA-256 hash of the salt and the password. Anybody who obtains it can try
-billions of passwords a second. A random password of 96 bits withstands that; a short one does not.
-"""
+{prompts.WORTH}"""
 
 
 def arguments(parser: argparse.ArgumentParser) -> None:

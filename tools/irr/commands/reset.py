@@ -16,7 +16,7 @@ from irr.rpsl.syntax import Attribute, Paragraph
 from irr.system import files, services
 from irr.terminal import prompts, texts
 
-EXAMPLES = """
+EXAMPLES = f"""
 irr reset EXAMPLE-MNT --auth 'SHA256-PW k3:ccda..'     the line that its holder made by `irr auth`
 irr reset EXAMPLE-MNT --save new.password              a new password, in a file for you alone
 irr reset EXAMPLE-MNT --settings irr.toml              a new password, which the terminal shows
@@ -25,7 +25,7 @@ irr reset EXAMPLE-MNT --service                        stop the service for that
 The server has to be stopped, which --service does. All `auth` lines of the maintainer are replaced
 by the new one. Make sure that you deal with the holder: anybody who has the new password controls
 everything that the maintainer holds.
-"""
+{prompts.WORTH}"""
 
 
 def arguments(parser: argparse.ArgumentParser) -> None:
@@ -66,7 +66,8 @@ def run(options: argparse.Namespace) -> int:
 
 
 def replace(options: argparse.Namespace, name: str) -> None:
-    settings = Settings.read(options.settings)
+    folder = services.folder() if options.service else None
+    settings = Settings.read(options.settings, folder or Path())
     if not settings.store.exists():
         raise Failure(
             str(settings.store),
@@ -76,7 +77,9 @@ def replace(options: argparse.Namespace, name: str) -> None:
             ),
             DATABASE,
         )
-    settle(settings, options.service)
+    if folder:
+        databases.give_back(settings)
+    settle(settings, folder)
     with alone_in_work(settings) as work:
         if os.path.lexists(settings.log) and settings.log.stat().st_size >= databases.EMPTY_LOG:
             raise Failure(
@@ -118,9 +121,10 @@ def alone_in_work(settings: Settings) -> Iterator[Path]:
             yield work
 
 
-def settle(settings: Settings, is_service: bool) -> None:
+def settle(settings: Settings, folder: Path | None) -> None:
     """Has the program open the registry and close it, which writes the write-ahead log into the
-    database. One that root made could not be opened by the service."""
+    database. In the folder of the service it runs as the service does, which could not open a
+    database that root made."""
     import subprocess
     from irr.local import program
 
@@ -129,10 +133,12 @@ def settle(settings: Settings, is_service: bool) -> None:
         stdin=subprocess.DEVNULL,
         capture_output=True,
         check=False,
-        **(owner_of(settings) if is_service else {}),
+        cwd=folder,
+        **(owner_of(settings) if folder else {}),
     )
     if done.returncode > 1:
-        raise Failure(str(settings.path), program.reported(done), done.returncode)
+        path = str(settings.path)
+        raise Failure(path, program.reported(done, path), done.returncode)
 
 
 def owner_of(settings: Settings) -> dict[str, Any]:

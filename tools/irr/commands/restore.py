@@ -55,6 +55,11 @@ def run(options: argparse.Namespace) -> int:
     need_backup(backup)
     with services.stopped() if is_service else contextlib.nullcontext():
         settings = settings_for(options.settings, backup)
+        if not settings.store.parent.is_dir():
+            folder = str(settings.store.parent)
+            raise Failure(folder, "there is no such folder; make it, or correct `store`", DATABASE)
+        if is_service:
+            databases.give_back(settings)
         prefix = f".{settings.store.name}.irr-restore-"
         with alone(settings, prefix), databases.working(settings.store.parent, prefix) as work:
             tried(backup, settings, work)
@@ -79,8 +84,11 @@ def need_backup(folder: Path) -> None:
         return
     if not folder.is_dir():
         raise Failure(str(folder), "there is no such folder; name one that `irr backup` made")
-    made = [one for one in folder.iterdir() if has_settings(one)]
-    inside = f"; name one of those in it, such as {max(made)}" if made else ""
+    made = sorted(one for one in folder.iterdir() if has_settings(one))
+    # What is named by the future was made by a wrong clock.
+    now = time.strftime(databases.STAMP, time.gmtime())
+    made = [one for one in made if one.name <= now] or made
+    inside = f"; name one of those in it, such as {made[-1]}" if made else ""
     raise Failure(str(folder), f"it has no irr.toml, so it is not a backup{inside}")
 
 
@@ -95,8 +103,9 @@ def is_kept(folder: Path) -> bool:
 @reading("the settings")
 def settings_for(path: str | None, backup: Path) -> Settings:
     """The settings of the registry. Where there are none yet, those of the backup are put there."""
+    folder = services.folder() if path is None else Path()
     if not has_settings(backup):
-        return Settings.read(path or databases.DEFAULT)
+        return Settings.read(path or databases.DEFAULT, folder)
     of_backup = Settings.read(str(backup / "irr.toml"))
     place = path or databases.DEFAULT
     if is_blank(place):
@@ -106,7 +115,7 @@ def settings_for(path: str | None, backup: Path) -> Settings:
         files.put(place, text, files.PRIVATE)
     if path is None:
         let_service_read(place)
-    settings = Settings.read(place)
+    settings = Settings.read(place, folder)
     if settings.source != of_backup.source:
         raise Failure(
             place,
@@ -159,7 +168,8 @@ def tried(backup: Path, settings: Settings, work: Path) -> None:
     """Opens a copy of the backup, and writes its dumps into the working folder. Its own dump has
     to be the same."""
     made, pressed = Copy(work / "made", settings.text(), backup), work / "pressed.rpsl"
-    if has_settings(backup):
+    is_backup = has_settings(backup)
+    if is_backup:
         databases.copied(databases.real(str(backup / "irr.db")), work / "single.db")
         databases.copied(work / "single.db", made.store)
     else:
@@ -167,7 +177,7 @@ def tried(backup: Path, settings: Settings, work: Path) -> None:
         databases.copied_store(backup / settings.store.name, made)
     made.dump(work / "full.rpsl", full=True)
     made.dump(work / "public.rpsl")
-    if not has_settings(backup):
+    if not is_backup:
         log = databases.beside(made.store, LOG)
         if has_records(log):
             raise Failure(str(log), "this write-ahead log is not empty; try again", DATABASE)

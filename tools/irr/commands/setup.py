@@ -14,9 +14,9 @@ from irr.local import databases, setups
 from irr.local.setups import Plan
 from irr.rpsl import keys
 from irr.system import files, tomls
-from irr.terminal import questions, texts
+from irr.terminal import prompts, questions, texts
 
-EXAMPLES = """
+EXAMPLES = f"""
 irr setup                                          the service's registry, with questions, as root
 irr setup --yes --source EXAMPLE --save root.password --maintainer OPS-MNT \\
     --maintainer-save ops.password                 the same with options
@@ -24,7 +24,7 @@ irr setup --folder registry                        a registry in a folder of you
 
 It writes the settings, makes the registry, enables the units, and prints the next steps. If a run
 was interrupted, the next one continues from there. An existing registry is left as it is.
-"""
+{prompts.WORTH}"""
 Answer = TypeVar("Answer")
 WHO = ("nobody", "users", "anybody")
 EXAMPLE_FILES = "share/doc/irrdesk/examples"
@@ -130,7 +130,10 @@ def planned(options: argparse.Namespace, settings: str) -> Plan:
     is_service = options.folder is None
     found = tomls.parsed(settings, tomls.text_of(settings))
     store = str(found.get("store") or setups.PACKAGED["store"])
-    if not is_service:
+    if is_service:
+        # A relative path begins where the service runs.
+        store = os.path.join(os.path.dirname(setups.PACKAGED["store"]), store)
+    else:
         store = os.path.join(os.path.dirname(settings), "irr.db")
     need_path(store)
     plan = Plan(settings, "", "", 0, store, is_service)
@@ -155,10 +158,15 @@ def planned(options: argparse.Namespace, settings: str) -> Plan:
     plan.limit = asker.word("limit", "Most names that an expansion may reach", limit, read_limit)
     asker.outside(plan)
     plan.maintainer = asker.word("maintainer", "First maintainer, or none", "none", read_first)
+    if plan.maintainer == plan.root:
+        raise Failure(plan.root, "this is the root maintainer; take another first one", ARGUMENTS)
     if plan.maintainer:
         plan.maintainer_save = asker.file(
             "maintainer_save", "File for its password (nothing: it is shown here, once)"
         )
+        paths = [os.path.realpath(path) for path in (plan.save, plan.maintainer_save) if path]
+        if len(paths) > len(set(paths)):
+            raise Failure(plan.save, "two passwords need a file each; name another", ARGUMENTS)
     check(plan, options, bool(found.get("auth")))
     return plan
 
@@ -276,9 +284,13 @@ def read_history(text: str) -> bool:
 
 def read_new(text: str) -> str:
     """The whole path of a file that is not there yet; nothing for none."""
-    if text:
-        files.need_new(text)
-    return os.path.abspath(text) if text else ""
+    if not text:
+        return ""
+    files.need_new(text)
+    path = os.path.abspath(text)
+    if not os.path.isdir(os.path.dirname(path)):
+        raise Failure(text, "there is no such folder; make it, or take another path", ARGUMENTS)
+    return path
 
 
 def read_who(text: str) -> list[str]:
@@ -330,21 +342,43 @@ def summary(plan: Plan, has_auth: bool) -> list[str]:
         + (f"that of `auth` in {plan.settings}" if has_auth else password),
     ]
     if plan.maintainer:
-        lines.append(f"first maintainer {plan.maintainer}")
+        password = f"in {plan.maintainer_save}" if plan.maintainer_save else "shown here, once"
+        lines.append(f"first maintainer {plan.maintainer}; its password: {password}")
+    lines.append(f"names that an expansion may reach: {plan.limit}")
+    if plan.door and plan.is_service:
+        lines.append(f"who may submit through the proxy: {' '.join(plan.submit)}")
+        lines.append(f"who may mirror: {' '.join(plan.mirrors) or 'nobody'}")
     return lines + ([f"units: {' '.join(plan.units)}"] if plan.units else [])
 
 
 def need_same(options: argparse.Namespace, plan: Plan) -> None:
     """That no option says anything else than the plan that is gone on with."""
     for name in ("source", "root", "limit", "maintainer", "door", "replicas", "backups", "history"):
-        given, planned_value = getattr(options, name), getattr(plan, name)
-        if given is not None and given != planned_value:
-            raise Failure(
-                f"--{name}",
-                f"the run that was stopped had {planned_value}; leave it out, or remove"
-                f" {setups.kept_at(plan.settings)} and what it left",
-                ARGUMENTS,
-            )
+        given = getattr(options, name)
+        if name == "maintainer" and given is not None:
+            given = read_first(given)
+        need_as_planned(name, given, getattr(plan, name), plan)
+    for name in ("save", "maintainer_save"):
+        given = getattr(options, name)
+        need_as_planned(name, given and os.path.abspath(given), getattr(plan, name), plan)
+    for name, planned_value in (("submit", plan.submit), ("mirror", plan.mirrors)):
+        given = getattr(options, name)
+        need_as_planned(
+            name, given and " ".join(given).replace(",", " ").split(), planned_value, plan
+        )
+
+
+def need_as_planned(name: str, given: Any, planned_value: Any, plan: Plan) -> None:
+    if given is not None and given != planned_value:
+        had = " ".join(planned_value) if isinstance(planned_value, list) else planned_value
+        if isinstance(had, bool):
+            had = "it" if had else ""
+        raise Failure(
+            f"--{name.replace('_', '-')}",
+            f"the run that was stopped had {had or 'none'}; leave this out, or remove"
+            f" {setups.kept_at(plan.settings)} and what it left",
+            ARGUMENTS,
+        )
 
 
 def need_tools(plan: Plan) -> None:

@@ -53,7 +53,7 @@ class Refused(Exception):
 
 
 def over(largest: int) -> Refused:
-    return Refused("long", f"the answer has over {largest >> 20} MiB; ask for less, or take /dump")
+    return Refused("long", f"the answer has over {largest >> 10} KiB; ask for less, or take /dump")
 
 
 NOBODY = "the registry does not answer"

@@ -73,7 +73,8 @@ class Settings(NamedTuple):
 
     @classmethod
     @reading("a file of the registry")
-    def read(cls, path: str) -> "Settings":
+    def read(cls, path: str, folder: Path = Path()) -> "Settings":
+        """Reads a file. A relative `store` is in the folder, or else in that of this process."""
         import tomllib
 
         try:
@@ -113,7 +114,9 @@ class Settings(NamedTuple):
                     f"`{name}` is not what irrdesk takes; correct it, see irr.toml(5)",
                     SETTINGS,
                 )
-        return cls(Path(path).resolve(), source, root, auth, limit, real(store))
+        return cls(
+            Path(path).resolve(), source, root, auth, limit, real(os.path.join(folder, store))
+        )
 
     def text(self) -> str:
         """The same settings for a database beside them."""
@@ -134,6 +137,23 @@ def real(path: str) -> Path:
 
 def beside(store: Path, suffix: str) -> Path:
     return store.with_name(store.name + suffix)
+
+
+def give_back(settings: Settings) -> None:
+    """Gives the service a database that root put into its folder, which it could not open."""
+    owner = os.stat(settings.store.parent)
+    for path in (settings.store, settings.log, beside(settings.store, JOURNAL)):
+        # What is not there, and a link, is left to what reads it.
+        with contextlib.suppress(OSError):
+            number = os.open(path, os.O_RDONLY | os.O_NOFOLLOW | os.O_NONBLOCK)
+            try:
+                found = os.fstat(number)
+                # A file with another name may be one that root has elsewhere.
+                is_own = stat.S_ISREG(found.st_mode) and found.st_nlink == 1
+                if is_own and found.st_uid == 0 != owner.st_uid:
+                    os.fchown(number, owner.st_uid, owner.st_gid)
+            finally:
+                os.close(number)
 
 
 class Copy:

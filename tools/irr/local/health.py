@@ -50,12 +50,14 @@ REMEDIES = {
     " of your own with `update-ca-certificates`",
     "disk-full": "make room: a full disk stops the registry",
     "clock-ahead": "correct the clock, and remove or rename what is dated in the future",
+    "clock-jumped": "correct the clock; if it is right now, run `systemctl restart"
+    " irrdesk-check.timer`",
     "memory-full": "remove unwanted objects, or raise its `MemoryMax`: see OPEN.md",
 }
 # Where a fault has another remedy in one case: which case that is, and what is to be done then.
 CASES = {
     "registry-down": (
-        "if its unit is started again and again",
+        "if its unit has failed, or is started again and again",
         "`journalctl --unit irrdesk` says why",
     ),
     "unit-failed": (
@@ -63,7 +65,10 @@ CASES = {
         "see with `ss -ltnp`, as root, which program has its port, end it, and start the socket",
     ),
     "certificate-bad": ("if nothing listens at its port", "start the proxy"),
-    "clock-ahead": ("for replicas", "correct the clock: they renew themselves"),
+    "clock-ahead": (
+        "for replicas and the database",
+        "correct the clock; replicas renew themselves; never remove the database, but `touch` it",
+    ),
 }
 # What a start of a unit mends, by the fault.
 RESTARTED = {
@@ -85,7 +90,8 @@ UNITS = (
     f"{VIEW}*.service",
 )
 PROPERTIES = (
-    "Id,ActiveState,NRestarts,StatusText,UnitFileState,Result,ControlGroup,MemoryCurrent,MemoryMax"
+    "Id,ActiveState,NRestarts,StatusText,UnitFileState,Result,ControlGroup,MemoryCurrent,MemoryMax,"
+    "ActiveEnterTimestamp,ActiveEnterTimestampMonotonic"
 )
 # After so many restarts by systemd, a unit that starts does so in vain.
 AGAIN = 3
@@ -206,7 +212,7 @@ class Health:
         self.faults: list[Fault] = []
         # What could not be looked at, and why.
         self.unseen: list[str] = []
-        # Times that things are dated, and those of replicas.
+        # Times that things are dated, and those of replicas and of the database.
         self.dated: list[tuple[str, float]] = []
         self.replicas: list[tuple[str, float]] = []
         self.states: dict[str, dict[str, str]] = {}
@@ -216,6 +222,8 @@ class Health:
     def look(self) -> None:
         """All of it."""
         self.ask_systemd()
+        # A wrong clock makes other things look wrong, so that it is said first.
+        self.look_at_clock()
         self.ask_registry()
         self.ask_agent()
         self.ask_door()
@@ -225,7 +233,7 @@ class Health:
             self.look_at_certificate(name)
         self.look_at_disk()
         self.look_at_memory()
-        self.look_at_clock()
+        self.look_at_dates()
 
     def fault(self, word: str, thing: str, what: str, is_case: bool = False) -> None:
         self.faults.append(Fault(word, thing, what, is_case))
@@ -283,7 +291,7 @@ class Health:
                 self.fault("unit-failed", name, f"it has failed ({result})", is_taken)
             elif name in self.enabled and state.get("ActiveState") == "inactive":
                 self.fault("unit-stopped", name, "it is enabled, and does not run")
-            elif name.startswith(VIEW) and state.get("StatusText", "").startswith("NOT RENEWED"):
+            elif name.startswith(VIEW) and "not renewed" in state.get("StatusText", "").lower():
                 # The door says so only of the views that it serves.
                 what = state["StatusText"].replace("NOT RENEWED", "not renewed", 1)
                 self.fault("replicas-not-renewed", name, what)
@@ -301,9 +309,9 @@ class Health:
             status, _ = fetched(url, self.bounds.seconds)
         except ConnectionRefusedError:
             restarts = state.get("NRestarts", "0")
-            is_starting = state.get("ActiveState") == "activating"
-            is_again = is_starting and restarts.isdigit() and int(restarts) >= AGAIN
-            self.fault("registry-down", url, "nothing listens", is_again)
+            how = state.get("ActiveState")
+            is_again = how == "activating" and restarts.isdigit() and int(restarts) >= AGAIN
+            self.fault("registry-down", url, "nothing listens", is_again or how == "failed")
         except Unasked as why:
             self.fault("registry-slow", url, f"no whole answer within {self.seconds} s ({why})")
         except (OSError, ValueError) as error:
@@ -403,7 +411,8 @@ class Health:
         with self.seeing(place):
             names: list[str] = []
             with contextlib.suppress(FileNotFoundError):
-                names = os.listdir(place)
+                names = [name for name in os.listdir(place) if (place / name / "irr.db").is_file()]
+            names = [name for name in names if (place / name / "irr.db").stat().st_size]
             times = sorted(filter(None, map(backup_time, names)))
             past = [when for when in times if when <= self.now + self.bounds.clock]
             late = times[len(past) :]
@@ -462,7 +471,9 @@ class Health:
 
     @property
     def store(self) -> Path:
-        return Path(str(self.settings.get("store", "/var/lib/irrdesk/irr.db")))
+        path = Path(str(self.settings.get("store", "/var/lib/irrdesk/irr.db")))
+        is_service = self.places.settings == databases.DEFAULT and not path.is_absolute()
+        return services.folder() / path if is_service else path
 
     def look_at_disk(self) -> None:
         """The room where the database is."""
@@ -492,17 +503,34 @@ class Health:
             if held is not None and 100 * held > self.bounds.memory * most:
                 self.fault("memory-full", name, f"{held // MEBIBYTE} MiB of {most // MEBIBYTE}")
 
-    def look_at_clock(self) -> None:
+    def look_at_dates(self) -> None:
         """Whether anything is dated later than the clock says: one fault for each remedy."""
         for path in (self.store, databases.beside(self.store, databases.LOG)):
             with contextlib.suppress(OSError):
-                self.dated.append((str(path), path.stat().st_mtime))
+                self.replicas.append((str(path), path.stat().st_mtime))
         for dated, is_case in (self.dated, False), (self.replicas, True):
             late = [(thing, at) for thing, at in dated if at > time.time() + self.bounds.clock]
             if late:
                 things, times = zip(*late)
                 what = texts.ahead(times, self.now)
                 self.fault("clock-ahead", ", ".join(dict.fromkeys(things)), what, is_case)
+
+    def look_at_clock(self) -> None:
+        """Whether the clock went further since the timer of the check was started than the time
+        that passed, suspensions included."""
+        unit = "irrdesk-check.timer"
+        state = self.states.get(unit, {})
+        began = keys.read_number(state.get("ActiveEnterTimestampMonotonic", ""), 1, 10**18 - 1)
+        if state.get("ActiveState") != "active" or began is None:
+            return
+        with contextlib.suppress(ValueError):
+            _, *day_and_time, _ = state.get("ActiveEnterTimestamp", "").split()
+            said = calendar.timegm(time.strptime(" ".join(day_and_time), "%Y-%m-%d %H:%M:%S"))
+            passed = time.clock_gettime(time.CLOCK_BOOTTIME) - began / 1e6
+            jump = time.time() - said - passed
+            if jump > self.bounds.clock and not services.is_synchronised():
+                what = f"{jump / HOUR:.1f} hours more than passed since {unit} was started"
+                self.fault("clock-jumped", "the clock", f"it went ahead by {what}")
 
 
 def backup_time(name: str) -> float | None:
@@ -552,7 +580,9 @@ def telling() -> Iterator[None]:
         raise
     except TimeoutError:
         raise Unasked("it is silent") from None
-    except (http.client.HTTPException, ConnectionError) as error:
+    except ConnectionError as error:
+        raise Unasked(system_words(error)) from None
+    except http.client.HTTPException as error:
         raise Unasked(str(error) or type(error).__name__) from None
 
 

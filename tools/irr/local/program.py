@@ -60,13 +60,14 @@ def bound() -> Callable[[], None]:
     return begin
 
 
-def reported(done: "subprocess.CompletedProcess[bytes]") -> str:
-    """What the program reported, in one line."""
+def reported(done: "subprocess.CompletedProcess[bytes]", path: str = "") -> str:
+    """What the program reported, in one line, without the path that it was given."""
     words = (
         done.stderr.decode("utf-8", "replace").strip()
         or f"irrdesk ended with status {done.returncode}"
     )
-    return words.removeprefix("irrdesk: ")
+    words = words.removeprefix("irrdesk: ")
+    return words.removeprefix(f"{path}: ") if path else words
 
 
 def free_port() -> int:

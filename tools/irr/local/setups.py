@@ -5,12 +5,13 @@ import contextlib
 import dataclasses
 import json
 import os
+import re
 import subprocess
 from pathlib import Path
 from typing import Any, Callable, Iterator
 
 from irr.errors import DATABASE, FAILED, SETTINGS, Failure
-from irr.local import program
+from irr.local import databases, program
 from irr.rpsl import hashes
 from irr.rpsl.syntax import Attribute, Paragraph
 from irr.system import files, services, tomls
@@ -140,12 +141,21 @@ def set_by_others(plan: Plan) -> Iterator[tuple[str, str, Any, Any]]:
         # That they can be put in, before anything is made.
         tomls.changed(path, text, wanted)
         for name, value in wanted.items():
-            if found.get(name, value) not in (value, packaged.get(name, value)):
+            was = found.get(name, value)
+            if name == "store":
+                # A relative path begins where the service runs.
+                was = os.path.join(os.path.dirname(PACKAGED["store"]), str(was))
+            if was not in (value, packaged.get(name, value)):
                 yield path, name, found[name], value
 
 
+# What SQLite puts beside a database, and the bytes of one without a table: its first page.
+ENDS = databases.LOG, databases.JOURNAL, "-shm"
+PAGE = 4_096
 # What systemd says of a unit that it enables.
 LINKED = "Created symlink "
+# Where it says to look, in place of which the message has its own remedy.
+SEE = re.compile('See "[^"]*"( and "[^"]*")? for details\\.?')
 
 
 class Made:
@@ -166,11 +176,11 @@ class Made:
             self.make_registry()
             self.register()
             self.enable()
-        except BaseException:
+        except BaseException as error:
             if self.left:
-                texts.note(
-                    f"irr setup: left behind: {', '.join(self.left)}; run irr setup again, and it"
-                    " goes on from there"
+                left = ", ".join(dict.fromkeys(self.left))
+                error.add_note(
+                    f"left behind: {left}; run irr setup again, and it goes on from there"
                 )
             raise
         kept_at(plan.settings).unlink()
@@ -268,26 +278,30 @@ class Made:
 
     def make_registry(self) -> None:
         """The database with its initial objects."""
-        store = self.plan.store
-        if not os.path.lexists(store):
-            done = self.run("init")
-            if done.returncode:
+        store = Path(self.plan.store)
+        if os.path.lexists(store):
+            if self.plan.is_service:
+                # The earlier run may have started it, and only one process opens the database.
+                services.systemctl("stop", "irrdesk-check.timer", services.UNIT)
+            done = self.run("probe")
+            if not done.returncode:
+                self.left.append(str(store))
+                return
+            if store.stat().st_size > PAGE:
                 raise Failure(
-                    self.plan.settings, f"irrdesk init: {program.reported(done)}", done.returncode
+                    str(store),
+                    f"what is there can't be opened: {program.reported(done)}; move it away",
+                    DATABASE,
                 )
-            self.done(done.stdout.decode("ascii", "replace").strip(), store)
-            return
-        if self.plan.is_service:
-            # The earlier run may have started it, and only one process opens the database.
-            services.systemctl("stop", "irrdesk-check.timer", services.UNIT)
-        done = self.run("probe")
+            # An `init` that was stopped, or found no room, leaves one without a table.
+            for path in store, *(databases.beside(store, end) for end in ENDS):
+                path.unlink(missing_ok=True)
+        done = self.run("init")
         if done.returncode:
             raise Failure(
-                store,
-                f"what an earlier run left can't be opened: {program.reported(done)}; remove it",
-                DATABASE,
+                self.plan.settings, f"irrdesk init: {program.reported(done)}", done.returncode
             )
-        self.left.append(store)
+        self.done(done.stdout.decode("ascii", "replace").strip(), str(store))
 
     def register(self) -> None:
         """The first maintainer, who needs nobody's password but its own."""
@@ -330,7 +344,8 @@ class Made:
         done = services.systemctl(*words)
         if done.returncode:
             unit = words[-1]
-            told = [line for line in done.stderr.splitlines() if not line.startswith(LINKED)]
+            lines = [SEE.sub("", line) for line in done.stderr.splitlines()]
+            told = [line.rstrip(". ") for line in lines if line and not line.startswith(LINKED)]
             is_socket = unit.endswith(".socket")
             port = "see with `ss -ltnp` whether another program has its port; " if is_socket else ""
             raise Failure(

@@ -23,8 +23,8 @@ SECRET_LINE = re.compile(
 GOES_ON = re.compile(rb"^[ \t\r+][ \t\r]*" + SECRET_LINE.pattern, re.I | re.M)
 PREFIX = re.compile(rb"[0-9]{1,3}(?:\.[0-9]{1,3}){3}/[0-9]{1,2}")
 HELP = (
-    "accept the text even if a maintainer would be locked out, or a mistyped `password:` line "
-    "published"
+    "accept the text even if it has no object, a maintainer would be locked out, or a mistyped "
+    "`password:` line published"
 )
 ANYWAY = "nothing was sent; correct the text, or add --anyway if it is meant so"
 
@@ -48,7 +48,7 @@ def found(front: list[Item], text: Gathered, reasons: Reasons) -> list[Caution]:
     all_of = [caution for item in items for caution in of_text(item)]
     all_of += lockouts(items, reasons)
     if not text.fault and not any(item.is_item for item in items):
-        all_of.append(Caution("the text", "it has no object, so nothing is asked for"))
+        all_of.append(Caution("the text", "it has no object, so nothing is asked for", True))
     return sorted(all_of, key=lambda caution: not caution.is_grave)
 
 

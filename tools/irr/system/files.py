@@ -1,6 +1,7 @@
 """Files that are put in place in one step, folders that one process works in, and the last few of
 many."""
 import contextlib
+import errno
 import fcntl
 import io
 import os
@@ -297,9 +298,8 @@ def opened(path: str) -> BinaryIO:
     try:
         return open(path, "rb")
     except OSError as error:
-        raise Failure(
-            path, f"it cannot be opened: {system_words(error)}; correct the path"
-        ) from None
+        remedy = "let this user read it" if error.errno == errno.EACCES else "correct the path"
+        raise Failure(path, f"it cannot be opened: {system_words(error)}; {remedy}") from None
 
 
 def need_input() -> None:

@@ -3,6 +3,7 @@ import contextlib
 import os
 import re
 import subprocess
+from pathlib import Path
 from typing import Iterator
 
 from irr.errors import FAILED, Failure
@@ -12,6 +13,7 @@ UNIT = "irrdesk.service"
 
 
 def systemctl(*words: str) -> "subprocess.CompletedProcess[str]":
+    """What systemctl says; its times are of UTC."""
     try:
         return subprocess.run(
             ["systemctl", *words],
@@ -19,13 +21,33 @@ def systemctl(*words: str) -> "subprocess.CompletedProcess[str]":
             capture_output=True,
             text=True,
             check=False,
+            env={**os.environ, "TZ": "UTC0"},
         )
     except FileNotFoundError:
         raise Failure("systemctl", "it is not here; stop and start the server yourself") from None
 
 
+def is_synchronised() -> bool:
+    """Whether the system says that its clock is that of a time server."""
+    try:
+        done = subprocess.run(
+            ["timedatectl", "show", "--property=NTPSynchronized", "--value"],
+            stdin=subprocess.DEVNULL,
+            capture_output=True,
+            check=False,
+        )
+    except FileNotFoundError:
+        return False
+    return done.stdout == b"yes\n"
+
+
 def shown(value: str) -> str:
     return systemctl("show", f"--property={value}", "--value", UNIT).stdout.strip()
+
+
+def folder() -> Path:
+    """The folder in which the service runs, from which a relative `store` is looked for."""
+    return Path(shown("WorkingDirectory").lstrip("!") or "/")
 
 
 def server() -> str:
@@ -50,9 +72,9 @@ def stopped() -> Iterator[None]:
     if os.geteuid():
         raise Failure(UNIT, "only root may stop and start it; run this as root", FAILED)
     ran = shown("ActiveState") in ("active", "activating", "reloading")
-    if systemctl("stop", UNIT).returncode:
-        raise Failure(UNIT, "it cannot be stopped; look at `systemctl status irrdesk`", FAILED)
     try:
+        if systemctl("stop", UNIT).returncode:
+            raise Failure(UNIT, "it cannot be stopped; look at `systemctl status irrdesk`", FAILED)
         yield
     except BaseException:
         if ran:
@@ -61,5 +83,12 @@ def stopped() -> Iterator[None]:
             except Failure as failure:
                 texts.note(str(failure))
         raise
-    if ran:
+    try:
+        if ran:
+            start()
+    except Failure:
+        raise
+    except BaseException:
+        # A signal ends this, and not the service.
         start()
+        raise

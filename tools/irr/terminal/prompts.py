@@ -7,6 +7,11 @@ from irr.terminal import texts
 
 # What NIST asks of a password that stands alone (SP 800-63B).
 LEAST = 15
+# What the help of each command says that makes a password.
+WORTH = """
+The registry keeps one SHA-256 hash of the salt and the password. Anybody who obtains it can try
+billions of passwords a second. A random password of 96 bits withstands that; a short one does not.
+"""
 
 
 def add_short(parser: argparse.ArgumentParser) -> None:

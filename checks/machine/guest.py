@@ -116,7 +116,16 @@ def lacking(in_container: bool) -> str:
     ]
     if missing:
         return f"{' and '.join(missing)} is not there"
-    return "it takes root" if os.geteuid() else ""
+    if os.geteuid():
+        return "it takes root"
+    if in_container:
+        with open("/proc/mounts", encoding="ascii") as mounts:
+            if not any(line.split()[2] == "cgroup2" for line in mounts):
+                return "no control groups of version 2 are mounted here"
+        apart = ["--mount", "--pid", "--net", "--ipc", "--uts", "--cgroup", "--fork"]
+        if subprocess.run(["unshare", *apart, "true"], capture_output=True, check=False).returncode:
+            return "no namespaces may be made here"
+    return ""
 
 
 class Image:
